@@ -21,12 +21,12 @@ use Rattle.requirements.specs.declared.bound.Bound.TheVariants as bounds
 use Rattle.slack_report.specs.declared.words.FindingWord.TheVariants as findings
 use Rattle.slack_report.specs.declared.words.Which.{Which}
 use Rattle.slack_report.specs.declared.words.Which.TheVariants as sorts
-use Rattle.right_report.specs.Right.At.{NextBound, greatest, least_by, which_of}
+use Rattle.right_report.specs.Right.ReportState.{NextBound, greatest, least_by, which_of}
 use Rattle.drawn.specs.declared.row.Row.{Row}
-use Rattle.right_report.specs.Right.Facts.{IsBoundOf}
+use Rattle.right_report.specs.Right.LineClaims.{IsBoundOf}
 use Rattle.right_report.specs.Shown.{ShowsBound}
 use Rattle.bounds_report.specs.declared.pair.Pair.{Pair}
-use Rattle.bounds_report.specs.Step.Kept.{AreNearby, Attain, IsWitness, IsShiftedTo, searched_pair}
+use Rattle.bounds_report.specs.Step.Witness.{AreNearby, Attain, IsWitness, IsShiftedTo, searched_pair}
 use Rattle.bounds_report.specs.Step.Searched.{bound_of, greatest_of, search_of}
 use Rattle.bounds_report.specs.Written.{HasPrintedTimes}
 use Rattle.bounds_report.proofs.Printed.{bound_times, bound_turned}
@@ -69,8 +69,8 @@ has_times search left answer a close = bound_times (greatest_of answer) (greates
 
 -- The lines of a search show a bound of a pair, in each row of this pair.
 abbrev pub ShowsIn : Net → ℕ → Pair → Which → List ProofLine → Bound → Type 0
-ShowsIn net most pair which lines value = (r : Row) (side : NextBound) → r.from ≡ pair.from → r.to ≡ pair.to → which_of side ≡ which
-    → IsBoundOf net findings.Consistent r side value × ShowsBound net most lines r side value
+ShowsIn net most pair which lines value = (r : Row) (coming : NextBound) → r.from ≡ pair.from → r.to ≡ pair.to → which_of coming ≡ which
+    → IsBoundOf net findings.Consistent r coming value × ShowsBound net most lines r coming value
 
 abbrev row_pair : Row → Pair
 row_pair r = record { from = r.from; to = r.to }
@@ -105,20 +105,20 @@ shows_least net most r first left (answers.Enclosed upper found) a count = (
       (subst (λ z. IsStoppedProof net (BoundGoal r.to r.from z) left.lines left.leaves) (sym (neg_neg found)) a.stopped),
 )
 
-shows_by : (net : Net) (most : ℕ) (r : Row) (side : NextBound) (left : Evidence) (answer : GreatestAnswer) → IsGreatestAnswer (search_of net (searched_pair (which_of side) (row_pair r)) most) left answer
-    → left.leaves ≤ most → IsBoundOf net findings.Consistent r side (bound_of (which_of side) answer) × ShowsBound net most left.lines r side (bound_of (which_of side) answer)
+shows_by : (net : Net) (most : ℕ) (r : Row) (coming : NextBound) (left : Evidence) (answer : GreatestAnswer) → IsGreatestAnswer (search_of net (searched_pair (which_of coming) (row_pair r)) most) left answer
+    → left.leaves ≤ most → IsBoundOf net findings.Consistent r coming (bound_of (which_of coming) answer) × ShowsBound net most left.lines r coming (bound_of (which_of coming) answer)
 shows_by net most r greatest left answer a count = shows_greatest net most r left answer a count
 shows_by net most r (least_by first) left answer a count = shows_least net most r first left answer a count
 
 pub shows_in : (net : Net) (most : ℕ) (pair : Pair) (which : Which) (left : Evidence) (answer : GreatestAnswer) → IsGreatestAnswer (search_of net (searched_pair which pair) most) left answer → left.leaves ≤ most
     → ShowsIn net most pair which left.lines (bound_of which answer)
-shows_in net most pair which left answer a count r side f t w =
+shows_in net most pair which left answer a count r coming f t w =
     let e : row_pair r ≡ pair = pair_is r.from r.to pair f t in
-    let b : IsGreatestAnswer (search_of net (searched_pair (which_of side) (row_pair r)) most) left answer =
+    let b : IsGreatestAnswer (search_of net (searched_pair (which_of coming) (row_pair r)) most) left answer =
     subst (λ (k : Which). IsGreatestAnswer (search_of net (searched_pair k (row_pair r)) most) left answer) (sym w)
     (subst (λ (p : Pair). IsGreatestAnswer (search_of net (searched_pair which p) most) left answer) (sym e) a) in
-    subst (λ (k : Which). IsBoundOf net findings.Consistent r side (bound_of k answer) × ShowsBound net most left.lines r side (bound_of k answer)) w
-    (shows_by net most r side left answer b count)
+    subst (λ (k : Which). IsBoundOf net findings.Consistent r coming (bound_of k answer) × ShowsBound net most left.lines r coming (bound_of k answer)) w
+    (shows_by net most r coming left answer b count)
 
 -- ---- what is kept
 

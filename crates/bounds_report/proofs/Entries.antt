@@ -16,7 +16,7 @@ use Rattle.slack_report.specs.declared.words.FindingWord.{FindingWord}
 use Rattle.slack_report.specs.declared.words.FindingWord.TheVariants as findings
 use Rattle.requirements.specs.declared.bound.Bound.{Bound as RowBound}
 use Rattle.requirements.specs.declared.bound.Bound.TheVariants as bounds
-use Rattle.right_report.specs.Right.At.{NextBound}
+use Rattle.right_report.specs.Right.ReportState.{NextBound}
 use Rattle.drawn.specs.declared.row.Row.{Row}
 use Rattle.right_report.specs.Shown.{ShowsBound, ShowsFinding, goal_of}
 use Rattle.bounds_report.specs.Written.{printed}
@@ -63,8 +63,8 @@ few_causes Early count h = h.1
 
 edge_named : (net : Net) (name : EdgeName) (e : Edge) → IsNet net → edge net name ≡ Some e → IsEdgeName name
 edge_named net name e is_net h =
-    let a = then_some (λ (c : Constraint). option_and_then (side_edge name.side c.target) (slice_get c.causes name.cause)) (slice_get net.constraints name.constraint) e h in
-    let b = then_some (side_edge name.side a.0.target) (slice_get a.0.causes name.cause) e a.2 in
+    let a = then_some (λ (c : Constraint). option_and_then (side_edge name.coming c.target) (slice_get c.causes name.cause)) (slice_get net.constraints name.constraint) e h in
+    let b = then_some (side_edge name.coming a.0.target) (slice_get a.0.causes name.cause) e a.2 in
     let c = all_get (IsConstraint net.events) net.constraints name.constraint a.0 is_net.constraints a.1 in
     let few : length a.0.causes ≤ MAX_CAUSES = few_causes a.0.kind (length a.0.causes) c.0.count in
     let cause : name.cause < length a.0.causes = some_in a.0.causes name.cause b.0 b.1 in
@@ -94,11 +94,11 @@ finding_lines net most lines findings.Consistent is_net s = proof_lines net Noth
 finding_lines net most lines findings.Inconsistent is_net s = proof_lines net Nothing _ lines _ is_net s.0
 finding_lines net most lines findings.Unsettled is_net s = proof_lines net Nothing _ lines _ is_net s.open_case.2
 
-pub bound_lines : (net : Net) (most : ℕ) (lines : List ProofLine) (r : Row) (side : NextBound) (value : RowBound) → IsNet net → ShowsBound net most lines r side value → All IsProofLine lines
-bound_lines net most lines r side (bounds.Closed value) is_net s = proof_lines net (goal_of r side value) _ lines _ is_net s.0
-bound_lines net most lines r side bounds.Unbounded is_net s = proof_lines net (goal_of r side s.0) _ lines _ is_net s.1.2.open_case.2
-bound_lines net most lines r side (bounds.Within limit None) is_net s = subst (λ (ls : List ProofLine). All IsProofLine ls) (sym s) (all_nil IsProofLine)
-bound_lines net most lines r side (bounds.Within limit (Some found)) is_net s = proof_lines net (goal_of r side found) _ lines _ is_net s.open_case.2
+pub bound_lines : (net : Net) (most : ℕ) (lines : List ProofLine) (r : Row) (coming : NextBound) (value : RowBound) → IsNet net → ShowsBound net most lines r coming value → All IsProofLine lines
+bound_lines net most lines r coming (bounds.Closed value) is_net s = proof_lines net (goal_of r coming value) _ lines _ is_net s.0
+bound_lines net most lines r coming bounds.Unbounded is_net s = proof_lines net (goal_of r coming s.0) _ lines _ is_net s.1.2.open_case.2
+bound_lines net most lines r coming (bounds.Within limit None) is_net s = subst (λ (ls : List ProofLine). All IsProofLine ls) (sym s) (all_nil IsProofLine)
+bound_lines net most lines r coming (bounds.Within limit (Some found)) is_net s = proof_lines net (goal_of r coming found) _ lines _ is_net s.open_case.2
 
 pub printed_lines : (cert : Bool) (lines : List ProofLine) → All IsProofLine lines → All IsProofLine (printed cert lines)
 printed_lines true lines h = h

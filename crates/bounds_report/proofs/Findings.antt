@@ -14,13 +14,13 @@ use Rattle.itv_base.specs.declared.names.EventId.{EventId}
 use Rattle.slack_report.specs.declared.words.FindingWord.{FindingWord}
 use Rattle.slack_report.specs.declared.words.FindingWord.TheVariants as findings
 use Rattle.slack_report.specs.Entry.{finding, times as times_line}
-use Rattle.right_report.specs.Right.At.{behind_finding}
+use Rattle.right_report.specs.Right.ReportState.{behind_finding}
 use Rattle.drawn.specs.Drawn.{Drawn}
-use Rattle.right_report.specs.Right.Facts.{IsFinding}
+use Rattle.right_report.specs.Right.LineClaims.{IsFinding}
 use Rattle.right_report.specs.Right.Following.{MayFollow}
 use Rattle.right_report.specs.Shown.{ShowsFinding}
 use Rattle.right_report.proofs.Leading.{behind_proof}
-use Rattle.bounds_report.specs.Step.Kept.{AreNearby, IsShiftedTo}
+use Rattle.bounds_report.specs.Step.Witness.{AreNearby, IsShiftedTo}
 use Rattle.bounds_report.specs.Step.Ready.{AreKnown, HasFound, behind_known, word_of}
 use Rattle.bounds_report.specs.Step.Searched.{printed_known, sized}
 use Rattle.bounds_report.specs.Written.{printed}

@@ -1,4 +1,4 @@
-pub mod Telling
+pub mod WriterSteps
 pub mod Printed
 pub mod Shifted
 pub mod Answering

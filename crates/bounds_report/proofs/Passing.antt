@@ -18,16 +18,16 @@ use Rattle.requirements.specs.declared.bound.Bound.TheVariants as bounds
 use Rattle.requirements.specs.declared.verdict.Verdict.{Verdict}
 use Rattle.requirements.specs.declared.verdict.Verdict.TheVariants as verdicts
 use Rattle.slack_report.specs.Entry.{times as times_line}
-use Rattle.right_report.specs.Right.At.{ReportState, CurrentRow, at_past, behind_past, behind_verdict, is_fail}
+use Rattle.right_report.specs.Right.ReportState.{ReportState, CurrentRow, at_past, behind_past, behind_verdict, is_fail}
 use Rattle.drawn.specs.Drawn.{Drawn, AreTimes}
 use Rattle.drawn.specs.declared.row.Row.{Row}
-use Rattle.right_report.specs.Right.Facts.{BreaksEnd}
+use Rattle.right_report.specs.Right.LineClaims.{BreaksEnd}
 use Rattle.right_report.specs.Right.Following.{MayFollow}
 use Rattle.bounds_report.specs.Step.Searched.{sized}
 use Rattle.slack_report.specs.declared.words.Which.{Which}
 use Rattle.slack_report.specs.declared.words.Which.TheVariants as sorts
 use Rattle.bounds_report.specs.declared.pair.Pair.{Pair}
-use Rattle.bounds_report.specs.Step.Kept.{ArePast, AreNearby, Attain, HasFoundValue, IsBeyond, IsWitness, IsNearby, number_on, searched_pair}
+use Rattle.bounds_report.specs.Step.Witness.{ArePast, AreNearby, Attain, HasFoundValue, IsBeyond, IsWitness, IsNearby, number_on, searched_pair}
 use Rattle.bounds_report.proofs.Shifted.{at_zero, length-shifted, satisfies-shifted, separation-shifted, time-shifted, times_nearby}
 
 -- ---- numbers of times that are raised
@@ -237,30 +237,30 @@ under r range limit list e h = subst (λ (low : Option ℤ). IsSomeAnd low (λ l
     turn_under : (a b limit : ℤ) → limit <ℤ (a -ℤ b) → (b -ℤ a) <ℤ neg_ℤ limit
     turn_under a b limit h = omega (arith, ints)
 
-module _ (net : Net) (m : ℕ) (cert : Bool) (basis : List ℤ) (drawn : Drawn) (told : CurrentRow) (range : Ends) (least most : Bound) (pair : Pair) (f : told.row.from ≡ pair.from) (t : told.row.to ≡ pair.to) where
-  are_times : (which : Which) (limit : ℤ) (list : List ℤ) → ArePast net pair which limit list → All IsPrintedTime list × AreTimes net told.row list
+module _ (net : Net) (m : ℕ) (cert : Bool) (basis : List ℤ) (drawn : Drawn) (current : CurrentRow) (range : Ends) (least most : Bound) (pair : Pair) (f : current.row.from ≡ pair.from) (t : current.row.to ≡ pair.to) where
+  are_times : (which : Which) (limit : ℤ) (list : List ℤ) → ArePast net pair which limit list → All IsPrintedTime list × AreTimes net current.row list
   are_times which limit list past = (past.within, record { satisfied = past.satisfied; at_zero = ap (λ (e : EventId). time_of list e) f ∙ past.at_zero })
 
   -- times that break the end that a fail names
-  past_may : (word : Verdict) (list : List ℤ) → is_fail word ≡ true → word ≡ verdict_of range least most → All IsPrintedTime list × AreTimes net told.row list → BreaksEnd told.row range word list
-      → MayFollow (sized net m cert basis) drawn (behind_verdict told range least most word) (times_line list) (behind_past told range least most word)
+  past_may : (word : Verdict) (list : List ℤ) → is_fail word ≡ true → word ≡ verdict_of range least most → All IsPrintedTime list × AreTimes net current.row list → BreaksEnd current.row range word list
+      → MayFollow (sized net m cert basis) drawn (behind_verdict current range least most word) (times_line list) (behind_past current range least most word)
   past_may word list fail e are breaks =
-      subst (λ (at : ReportState). MayFollow (sized net m cert basis) drawn at (times_line list) (behind_past told range least most word)) (sym (at_fail word fail))
-      (list, refl, (are.0, (are.1, subst (λ (w : Verdict). BreaksEnd told.row range w list) e breaks)), ap (behind_past told range least most) e)
+      subst (λ (at : ReportState). MayFollow (sized net m cert basis) drawn at (times_line list) (behind_past current range least most word)) (sym (at_fail word fail))
+      (list, refl, (are.0, (are.1, subst (λ (w : Verdict). BreaksEnd current.row range w list) e breaks)), ap (behind_past current range least most) e)
     where
-      at_fail : (word : Verdict) → is_fail word ≡ true → behind_verdict told range least most word ≡ at_past told range least most
+      at_fail : (word : Verdict) → is_fail word ≡ true → behind_verdict current range least most word ≡ at_past current range least most
       at_fail word fail = rw fail refl
 
   pub past_high_may : (word : Verdict) (limit read : ℤ) (list : List ℤ) → word ≡ verdicts.FailHigh → word ≡ verdict_of range least most → range.high ≡ Some limit → read ≡ limit
-      → ArePast net pair sorts.Max read list → MayFollow (sized net m cert basis) drawn (behind_verdict told range least most word) (times_line list) (behind_past told range least most word)
+      → ArePast net pair sorts.Max read list → MayFollow (sized net m cert basis) drawn (behind_verdict current range least most word) (times_line list) (behind_past current range least most word)
   past_high_may word limit read list is e high same past =
       past_may word list (ap is_fail is) e (are_times sorts.Max read list past)
-      (subst (λ (w : Verdict). BreaksEnd told.row range w list) (sym is) (above told.row range read list (high ∙ ap Some (sym same))
-      (subst (λ (p : EventId). read <ℤ separation list p told.row.to) (sym f) (subst (λ (p : EventId). read <ℤ separation list pair.from p) (sym t) past.past))))
+      (subst (λ (w : Verdict). BreaksEnd current.row range w list) (sym is) (above current.row range read list (high ∙ ap Some (sym same))
+      (subst (λ (p : EventId). read <ℤ separation list p current.row.to) (sym f) (subst (λ (p : EventId). read <ℤ separation list pair.from p) (sym t) past.past))))
 
   pub past_low_may : (word : Verdict) (limit read : ℤ) (list : List ℤ) → word ≡ verdicts.FailLow → word ≡ verdict_of range least most → range.low ≡ Some (neg_ℤ limit) → read ≡ limit
-      → ArePast net pair sorts.Min read list → MayFollow (sized net m cert basis) drawn (behind_verdict told range least most word) (times_line list) (behind_past told range least most word)
+      → ArePast net pair sorts.Min read list → MayFollow (sized net m cert basis) drawn (behind_verdict current range least most word) (times_line list) (behind_past current range least most word)
   past_low_may word limit read list is e low same past =
       past_may word list (ap is_fail is) e (are_times sorts.Min read list past)
-      (subst (λ (w : Verdict). BreaksEnd told.row range w list) (sym is) (under told.row range read list (low ∙ ap (λ z. Some (neg_ℤ z)) (sym same))
-      (subst (λ (p : EventId). read <ℤ separation list told.row.to p) (sym f) (subst (λ (p : EventId). read <ℤ separation list p pair.from) (sym t) past.past))))
+      (subst (λ (w : Verdict). BreaksEnd current.row range w list) (sym is) (under current.row range read list (low ∙ ap (λ z. Some (neg_ℤ z)) (sym same))
+      (subst (λ (p : EventId). read <ℤ separation list current.row.to p) (sym f) (subst (λ (p : EventId). read <ℤ separation list p pair.from) (sym t) past.past))))

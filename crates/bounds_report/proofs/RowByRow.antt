@@ -1,25 +1,25 @@
 -- The rows one after another.
 use Rattle.std.proofs.Common.{◌≡◌, ◌≤◌, ◌+◌, ℕ, zero, suc, List, [], ◌∷◌, length, drop, Option, Some, slice_get, refl, sym, subst, ap, ◌⊎◌, inl, inr, add-one, arith}
-use Rattle.itv_base.specs.Outside.{SinkView}
+use Rattle.itv_base.specs.Outside.{SinkState}
 use Rattle.requirements.specs.declared.verdict.Verdict.{Verdict}
 use Rattle.slack_report.specs.declared.words.FindingWord.{FindingWord}
 use Rattle.slack_report.specs.declared.words.FindingWord.TheVariants as findings
-use Rattle.right_report.specs.Right.At.{ReportTally, at_end, at_row, at_rows, course_of, end_word}
+use Rattle.right_report.specs.Right.ReportState.{ReportTally, at_end, at_row, at_rows, tally_of, end_word}
 use Rattle.drawn.specs.Drawn.{Drawn}
 use Rattle.right_report.specs.Right.Following.{LineClaims}
 use Rattle.drawn.specs.declared.row.Row.{Row}
 use Rattle.bounds_report.specs.declared.desk.Desk.{Desk}
 use Rattle.bounds_report.specs.declared.tally.Tally.{Tally}
-use Rattle.bounds_report.specs.Step.Ready.{IsReady, IsTally, behind_known, behind_rows, tally_course}
-use Rattle.bounds_report.specs.Step.Told.{WroteVerdicts}
+use Rattle.bounds_report.specs.Step.Ready.{IsReady, IsTally, behind_known, behind_rows, tally_behind}
+use Rattle.bounds_report.specs.Step.Writing.{WroteVerdicts}
 
 -- some rows are written
-pub record RowsTold (facts : LineClaims) (drawn : Drawn) (found : FindingWord) (rows : List Row) (number : ℕ) (tally : Tally) (first desk : Desk) (old new : SinkView) : Type 0 where
+pub record RowsTold (claims : LineClaims) (drawn : Drawn) (found : FindingWord) (rows : List Row) (number : ℕ) (tally : Tally) (first desk : Desk) (old new : SinkState) : Type 0 where
   pub ready : IsReady drawn.net found desk
   pub known : desk.work.known ≡ first.work.known
   pub words : List Verdict
   pub counted : IsTally tally words
-  pub lines : WroteVerdicts facts drawn (at_rows found) (at_row (tally_course found tally) number (drop number rows)) words old new
+  pub lines : WroteVerdicts claims drawn (at_rows found) (at_row (tally_behind found tally) number (drop number rows)) words old new
   pub most : (tally.passes + tally.fails + tally.undecided) ≤ number
 
 -- the next row
@@ -42,9 +42,9 @@ rows_none (row ∷ rows) zero h = absurd (omega arith)
 rows_none (row ∷ rows) (suc number) h = rows_none rows number (omega arith)
 
 -- behind an inconsistent finding there are no rows
-pub rows_skipped : (word : FindingWord) (tally : Tally) (count : ℕ) → word ≡ findings.Inconsistent → tally_course word tally ≡ course_of word → behind_known word ≡ behind_rows word tally count
+pub rows_skipped : (word : FindingWord) (tally : Tally) (count : ℕ) → word ≡ findings.Inconsistent → tally_behind word tally ≡ tally_of word → behind_known word ≡ behind_rows word tally count
 rows_skipped word tally count e h =
-    subst (λ (w : FindingWord). behind_known w ≡ behind_rows w tally count) (sym e) (ap (λ (course : ReportTally). at_end (end_word course)) (sym (subst (λ (w : FindingWord). tally_course w tally ≡ course_of w) e h)))
+    subst (λ (w : FindingWord). behind_known w ≡ behind_rows w tally count) (sym e) (ap (λ (report_tally : ReportTally). at_end (end_word report_tally)) (sym (subst (λ (w : FindingWord). tally_behind w tally ≡ tally_of w) e h)))
 
 -- behind any other finding the rows begin
 pub rows_begin : (word : FindingWord) → (word ≡ findings.Consistent) ⊎ (word ≡ findings.Unsettled) → at_rows word ≡ behind_known word
@@ -52,6 +52,6 @@ rows_begin word (inl e) = rw e refl
 rows_begin word (inr e) = rw e refl
 
 pub rows_end : (word : FindingWord) (tally : Tally) (count : ℕ) → (word ≡ findings.Consistent) ⊎ (word ≡ findings.Unsettled)
-    → at_row (tally_course word tally) count [] ≡ behind_rows word tally count
+    → at_row (tally_behind word tally) count [] ≡ behind_rows word tally count
 rows_end word tally count (inl e) = rw e refl
 rows_end word tally count (inr e) = rw e refl

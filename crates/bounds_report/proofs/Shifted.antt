@@ -12,7 +12,7 @@ use Rattle.event_graph.specs.Satisfying.{Satisfies}
 use Rattle.event_graph.specs.Times.{IsTime, raised, separation, shifted, time_of}
 use Rattle.event_graph.proofs.Moving.{raised-shifted}
 use Rattle.event_graph.proofs.Shifting.{satisfies_same}
-use Rattle.bounds_report.specs.Step.Kept.{AreNearby, IsNearby, IsShiftedTo}
+use Rattle.bounds_report.specs.Step.Witness.{AreNearby, IsNearby, IsShiftedTo}
 
 -- ---- separations
 

@@ -24,10 +24,10 @@ use Rattle.itv_base.specs.declared.row_kind.RowKind.TheVariants as kinds
 use Rattle.slack_report.specs.declared.words.FindingWord.{FindingWord}
 use Rattle.slack_report.specs.declared.words.FindingWord.TheVariants as findings
 use Rattle.slack_report.specs.Entry.{Entry, HasBoundForm, IsReportEntry, IsKind, IsName, heading, budget}
-use Rattle.right_report.specs.Right.At.{ReportState, NextBound, CurrentRow, at_heading, at_budget, at_events, at_event, at_finding, at_known, at_rows, at_row, at_bound, at_times, at_raise, at_verdict, at_past, at_slack, at_end, at_last, behind_bound, behind_finding, behind_times, behind_verdict, bounded, greatest, judged, least_by}
+use Rattle.right_report.specs.Right.ReportState.{ReportState, NextBound, CurrentRow, at_heading, at_budget, at_events, at_event, at_finding, at_known, at_rows, at_row, at_bound, at_times, at_raise, at_verdict, at_past, at_slack, at_end, at_last, behind_bound, behind_finding, behind_times, behind_verdict, bounded, greatest, judged, least_by}
 use Rattle.drawn.specs.Drawn.{Drawn, name_of, nameless, IsRowOf}
 use Rattle.drawn.specs.declared.row.Row.{Row}
-use Rattle.right_report.specs.Right.Facts.{CanRise}
+use Rattle.right_report.specs.Right.LineClaims.{CanRise}
 use Rattle.right_report.specs.Right.Following.{MayFollow, LinesLead}
 use Rattle.bounds_report.specs.Step.Searched.{sized}
 use Rattle.bounds_report.proofs.Printed.{time_printed}
@@ -92,7 +92,7 @@ IsFine net r = IsKind r.kind × (r.from.0 < net.events) × (r.to.0 < net.events)
 
 -- the current row and the later ones
 abbrev AreFine : Net → CurrentRow → Type 0
-AreFine net told = IsFine net told.row × All (IsFine net) told.later
+AreFine net current = IsFine net current.row × All (IsFine net) current.later
 
 abbrev BeforeIsFine : NextBound → Type 0
 BeforeIsFine greatest = Unit {0}
@@ -106,20 +106,20 @@ Held net (at_event number names) = All IsName names
 Held net (at_finding lines) = Unit {0}
 Held net at_known = Unit {0}
 Held net (at_rows word) = Unit {0}
-Held net (at_row course number later) = All (IsFine net) later
-Held net (at_bound told side lines) = AreFine net told × BeforeIsFine side
-Held net (at_times told side value) = AreFine net told × BeforeIsFine side × HasTimes value
-Held net (at_raise told side list) = AreFine net told × BeforeIsFine side
-Held net (at_verdict told range least first) = AreFine net told × IsRange range × HasTimes least × HasTimes first
-Held net (at_past told range least first) = AreFine net told × IsRange range × HasTimes least × HasTimes first
-Held net (at_slack course number later range least first) = All (IsFine net) later × IsRange range × HasTimes least × HasTimes first
+Held net (at_row report_tally number later) = All (IsFine net) later
+Held net (at_bound current coming lines) = AreFine net current × BeforeIsFine coming
+Held net (at_times current coming value) = AreFine net current × BeforeIsFine coming × HasTimes value
+Held net (at_raise current coming list) = AreFine net current × BeforeIsFine coming
+Held net (at_verdict current range least first) = AreFine net current × IsRange range × HasTimes least × HasTimes first
+Held net (at_past current range least first) = AreFine net current × IsRange range × HasTimes least × HasTimes first
+Held net (at_slack report_tally number later range least first) = All (IsFine net) later × IsRange range × HasTimes least × HasTimes first
 Held net (at_end word) = Unit {0}
 Held net at_last = Unit {0}
 
 -- the lines of a proof have texts
 abbrev Due : ReportState → Type 0
 Due (at_finding lines) = All IsProofLine lines
-Due (at_bound told side lines) = All IsProofLine lines
+Due (at_bound current coming lines) = All IsProofLine lines
 Due here = Unit {0}
 
 abbrev Step : Drawn → ReportState → Entry → ReportState → Type 0
@@ -129,37 +129,37 @@ as_is : (drawn : Drawn) (here : ReportState) (line line' : Entry) (next next' : 
 as_is drawn here line line' next next' e f s =
     subst (λ (l : Entry). Step drawn here l next) (sym e) (subst (λ (n : ReportState). Step drawn here line' n) (sym f) s)
 
-held_judged : (net : Net) (kind : RowKind) (told : CurrentRow) (least first : Bound) → IsKind kind → AreFine net told → HasTimes least → HasTimes first → Held net (judged kind told least first)
-held_judged net kinds.Ask told least first kind fine l m = fine.1
-held_judged net (kinds.Req range) told least first kind fine l m = (fine, kind, l, m)
+held_judged : (net : Net) (kind : RowKind) (current : CurrentRow) (least first : Bound) → IsKind kind → AreFine net current → HasTimes least → HasTimes first → Held net (judged kind current least first)
+held_judged net kinds.Ask current least first kind fine l m = fine.1
+held_judged net (kinds.Req range) current least first kind fine l m = (fine, kind, l, m)
 
-held_bounded : (net : Net) (told : CurrentRow) (side : NextBound) (value : Bound) → AreFine net told → BeforeIsFine side → HasTimes value → Held net (bounded told side value)
-held_bounded net told greatest value fine before h = (fine, h)
-held_bounded net told (least_by first) value fine before h = held_judged net told.row.kind told value first fine.0.0 fine h before
+held_bounded : (net : Net) (current : CurrentRow) (coming : NextBound) (value : Bound) → AreFine net current → BeforeIsFine coming → HasTimes value → Held net (bounded current coming value)
+held_bounded net current greatest value fine before h = (fine, h)
+held_bounded net current (least_by first) value fine before h = held_judged net current.row.kind current value first fine.0.0 fine h before
 
-held_bound : (net : Net) (told : CurrentRow) (side : NextBound) (value : Bound) → AreFine net told → BeforeIsFine side → HasTimes value → Held net (behind_bound told side value)
-held_bound net told side (bounds.Closed value) fine before h = (fine, before, h)
-held_bound net told side bounds.Unbounded fine before h = (fine, before, h)
-held_bound net told side (bounds.Within limit None) fine before h = held_bounded net told side (bounds.Within limit None) fine before h
-held_bound net told side (bounds.Within limit (Some found)) fine before h = (fine, before, h)
+held_bound : (net : Net) (current : CurrentRow) (coming : NextBound) (value : Bound) → AreFine net current → BeforeIsFine coming → HasTimes value → Held net (behind_bound current coming value)
+held_bound net current coming (bounds.Closed value) fine before h = (fine, before, h)
+held_bound net current coming bounds.Unbounded fine before h = (fine, before, h)
+held_bound net current coming (bounds.Within limit None) fine before h = held_bounded net current coming (bounds.Within limit None) fine before h
+held_bound net current coming (bounds.Within limit (Some found)) fine before h = (fine, before, h)
 
-held_times : (net : Net) (told : CurrentRow) (side : NextBound) (value : Bound) (list : List ℤ) → AreFine net told → BeforeIsFine side → HasTimes value → Held net (behind_times told side value list)
-held_times net told side (bounds.Closed value) list fine before h = held_bounded net told side (bounds.Closed value) fine before h
-held_times net told side bounds.Unbounded list fine before h = (fine, before)
-held_times net told side (bounds.Within limit attained) list fine before h = held_bounded net told side (bounds.Within limit attained) fine before h
+held_times : (net : Net) (current : CurrentRow) (coming : NextBound) (value : Bound) (list : List ℤ) → AreFine net current → BeforeIsFine coming → HasTimes value → Held net (behind_times current coming value list)
+held_times net current coming (bounds.Closed value) list fine before h = held_bounded net current coming (bounds.Closed value) fine before h
+held_times net current coming bounds.Unbounded list fine before h = (fine, before)
+held_times net current coming (bounds.Within limit attained) list fine before h = held_bounded net current coming (bounds.Within limit attained) fine before h
 
 held_finding : (net : Net) (word : FindingWord) → Held net (behind_finding word)
 held_finding net findings.Consistent = tt
 held_finding net findings.Inconsistent = tt
 held_finding net findings.Unsettled = tt
 
-held_verdict : (net : Net) (told : CurrentRow) (range : Ends) (least first : Bound) (word : Verdict) → Held net (at_past told range least first) → Held net (behind_verdict told range least first word)
-held_verdict net told range least first verdicts.Pass h = (h.0.1, h.1, h.2, h.3)
-held_verdict net told range least first verdicts.FailHigh h = h
-held_verdict net told range least first verdicts.FailLow h = h
-held_verdict net told range least first verdicts.Undecided h = (h.0.1, h.1, h.2, h.3)
+held_verdict : (net : Net) (current : CurrentRow) (range : Ends) (least first : Bound) (word : Verdict) → Held net (at_past current range least first) → Held net (behind_verdict current range least first word)
+held_verdict net current range least first verdicts.Pass h = (h.0.1, h.1, h.2, h.3)
+held_verdict net current range least first verdicts.FailHigh h = h
+held_verdict net current range least first verdicts.FailLow h = h
+held_verdict net current range least first verdicts.Undecided h = (h.0.1, h.1, h.2, h.3)
 
-set_count : (net : Net) (r : Row) (side : NextBound) (list : List ℤ) (set : List Bool) → CanRise net r side list set → length set ≡ net.events
+set_count : (net : Net) (r : Row) (coming : NextBound) (list : List ℤ) (set : List Bool) → CanRise net r coming list set → length set ≡ net.events
 set_count net r greatest list set ray = ray.count
 set_count net r (least_by first) list set ray = ray.count
 
@@ -173,10 +173,10 @@ module _ (drawn : Drawn) (most : ℕ) (cert : Bool) (basis : List ℤ) (is_net :
       let p = fact.1 in
       subst (λ (ls : List ProofLine). All IsProofLine ls) (sym p.1) (printed_lines cert p.0 (finding_lines drawn.net most p.0 word is_net p.2.0))
 
-  bound_due : (found : FindingWord) (r : Row) (side : NextBound) (lines : List ProofLine) (value : Bound) → (sized drawn.net most cert basis).bound found r side lines value → All IsProofLine lines
-  bound_due found r side lines value fact =
+  bound_due : (found : FindingWord) (r : Row) (coming : NextBound) (lines : List ProofLine) (value : Bound) → (sized drawn.net most cert basis).bound found r coming lines value → All IsProofLine lines
+  bound_due found r coming lines value fact =
       let p = fact.0.2 in
-      subst (λ (ls : List ProofLine). All IsProofLine ls) (sym p.1) (printed_lines cert p.0 (bound_lines drawn.net most p.0 r side value is_net p.2.0))
+      subst (λ (ls : List ProofLine). All IsProofLine ls) (sym p.1) (printed_lines cert p.0 (bound_lines drawn.net most p.0 r coming value is_net p.2.0))
 
   step : (here : ReportState) (line : Entry) (next : ReportState) → Held drawn.net here → MayFollow (sized drawn.net most cert basis) drawn here line next → Step drawn here line next
   step at_heading line next held m = absurd held
@@ -193,24 +193,24 @@ module _ (drawn : Drawn) (most : ℕ) (cert : Bool) (basis : List ℤ) (is_net :
   step at_known line next held m =
       as_is drawn at_known line _ next _ m.1 m.3 (tt, λ due. (tt, (m.2.2.0.count ∙ sym count, longs m.0 m.2.1)))
   step (at_rows word) line next held m = as_is drawn (at_rows word) line _ next _ m.0 m.1 (fine, λ due. (tt, few_rows))
-  step (at_row course number []) line next held m = as_is drawn (at_row course number []) line _ next _ m.0 m.1 (tt, λ due. (tt, tt))
-  step (at_row course number (r ∷ later)) line next held m =
+  step (at_row report_tally number []) line next held m = as_is drawn (at_row report_tally number []) line _ next _ m.0 m.1 (tt, λ due. (tt, tt))
+  step (at_row report_tally number (r ∷ later)) line next held m =
       let f : IsFine drawn.net r = all_head (IsFine drawn.net) r later held in
-      as_is drawn (at_row course number (r ∷ later)) line _ next _ m.0 m.1 (((f, all_tail (IsFine drawn.net) r later held), tt), λ due. (tt, (f.0, name_at r.from f.1, name_at r.to f.2)))
-  step (at_bound told side lines) line next held (inl (more, e, f)) =
-      as_is drawn (at_bound told side lines) line _ next _ e f (held, λ due. all_last lines more due)
-  step (at_bound told side lines) line next held (inr (value, e, fact, f)) =
-      as_is drawn (at_bound told side lines) line _ next _ e f (held_bound drawn.net told side value held.0 held.1 fact.1, λ due. (bound_due told.course.found told.row side lines value fact, long_bound value fact.1))
-  step (at_times told side value) line next held m =
-      as_is drawn (at_times told side value) line _ next _ m.1 m.3 (held_times drawn.net told side value m.0 held.0 held.1 held.2, λ due. (tt, (m.2.1.0.satisfied.count ∙ sym count, longs m.0 m.2.0)))
-  step (at_raise told side list) line next held m =
-      as_is drawn (at_raise told side list) line _ next _ m.1 m.3 (held_bounded drawn.net told side bounds.Unbounded held.0 held.1 tt, λ due. (tt, set_count drawn.net told.row side list m.0 m.2 ∙ sym count))
-  step (at_verdict told range least first) line next held m =
-      as_is drawn (at_verdict told range least first) line _ next _ m.0 m.1 (held_verdict drawn.net told range least first (verdict_of range least first) held, λ due. (tt, tt))
-  step (at_past told range least first) line next held m =
-      as_is drawn (at_past told range least first) line _ next _ m.1 m.3 ((held.0.1, held.1, held.2, held.3), λ due. (tt, (m.2.1.0.satisfied.count ∙ sym count, longs m.0 m.2.0)))
-  step (at_slack course number later range least first) line next held m =
-      as_is drawn (at_slack course number later range least first) line _ next _ m.0 m.1 (held.0, λ due. (tt, (long_low range.low least held.1.0 held.2, long_high range.high first held.1.1 held.3)))
+      as_is drawn (at_row report_tally number (r ∷ later)) line _ next _ m.0 m.1 (((f, all_tail (IsFine drawn.net) r later held), tt), λ due. (tt, (f.0, name_at r.from f.1, name_at r.to f.2)))
+  step (at_bound current coming lines) line next held (inl (more, e, f)) =
+      as_is drawn (at_bound current coming lines) line _ next _ e f (held, λ due. all_last lines more due)
+  step (at_bound current coming lines) line next held (inr (value, e, fact, f)) =
+      as_is drawn (at_bound current coming lines) line _ next _ e f (held_bound drawn.net current coming value held.0 held.1 fact.1, λ due. (bound_due current.tally.found current.row coming lines value fact, long_bound value fact.1))
+  step (at_times current coming value) line next held m =
+      as_is drawn (at_times current coming value) line _ next _ m.1 m.3 (held_times drawn.net current coming value m.0 held.0 held.1 held.2, λ due. (tt, (m.2.1.0.satisfied.count ∙ sym count, longs m.0 m.2.0)))
+  step (at_raise current coming list) line next held m =
+      as_is drawn (at_raise current coming list) line _ next _ m.1 m.3 (held_bounded drawn.net current coming bounds.Unbounded held.0 held.1 tt, λ due. (tt, set_count drawn.net current.row coming list m.0 m.2 ∙ sym count))
+  step (at_verdict current range least first) line next held m =
+      as_is drawn (at_verdict current range least first) line _ next _ m.0 m.1 (held_verdict drawn.net current range least first (verdict_of range least first) held, λ due. (tt, tt))
+  step (at_past current range least first) line next held m =
+      as_is drawn (at_past current range least first) line _ next _ m.1 m.3 ((held.0.1, held.1, held.2, held.3), λ due. (tt, (m.2.1.0.satisfied.count ∙ sym count, longs m.0 m.2.0)))
+  step (at_slack report_tally number later range least first) line next held m =
+      as_is drawn (at_slack report_tally number later range least first) line _ next _ m.0 m.1 (held.0, λ due. (tt, (long_low range.low least held.1.0 held.2, long_high range.high first held.1.1 held.3)))
   step (at_end word) line next held m = as_is drawn (at_end word) line _ next _ m.0 m.1 (tt, λ due. (tt, tt))
   step at_last line next held m = absurd m
 

@@ -8,11 +8,11 @@ use Rattle.requirements.specs.declared.bound.Bound.{Bound}
 use Rattle.requirements.specs.declared.bound.Bound.TheVariants as bounds
 use Rattle.slack_report.specs.declared.words.FindingWord.{FindingWord}
 use Rattle.slack_report.specs.declared.words.FindingWord.TheVariants as findings
-use Rattle.right_report.specs.Right.At.{NextBound, at_heading, at_last}
+use Rattle.right_report.specs.Right.ReportState.{NextBound, at_heading, at_last}
 use Rattle.slack_report.specs.Entry.{Entry}
 use Rattle.drawn.specs.Drawn.{Drawn}
 use Rattle.drawn.specs.declared.row.Row.{Row}
-use Rattle.right_report.specs.Right.Facts.{IsBoundOf, IsFinding, IsRightReport, right}
+use Rattle.right_report.specs.Right.LineClaims.{IsBoundOf, IsFinding, IsRightReport, right}
 use Rattle.right_report.specs.Right.Following.{Implies}
 use Rattle.right_report.proofs.RightOrder.{reads_weaker}
 use Rattle.right_report.specs.Checked.{ProvesBound, ProvesFinding, checked}
@@ -31,9 +31,9 @@ shown_of : (net : Net) (most : ℕ) (known : List ℤ) → Implies (written net 
 shown_of net most known = record {
   finding = λ lines word h. (h.0, (all_printed lines (λ searched. ShowsFinding net most searched word × AtEachSplit net (IsNeededToFind net) searched) h.1).0);
   known = λ list h. h.2;
-  bound = λ found r side lines value h. (h.1, (all_printed lines (λ searched. ShowsBound net most searched r side value × IsEachNeeded net known r side searched) h.2).0);
+  bound = λ found r coming lines value h. (h.1, (all_printed lines (λ searched. ShowsBound net most searched r coming value × IsEachNeeded net known r coming searched) h.2).0);
   times = λ r value list h. h.1;
-  raise = λ r side list set h. h;
+  raise = λ r coming list set h. h;
   past = λ r range word list h. h.1;
 }
 
@@ -41,9 +41,9 @@ bare_of : (net : Net) (most : ℕ) (known : List ℤ) → Implies (written net m
 bare_of net most known = record {
   finding = λ lines word h. (h.0, h.1.1, (h.1.0, h.1.2.0));
   known = λ list h. h.2;
-  bound = λ found r side lines value h. (h.1, h.2.1, (h.2.0, h.2.2.0));
+  bound = λ found r coming lines value h. (h.1, h.2.1, (h.2.0, h.2.2.0));
   times = λ r value list h. h.1;
-  raise = λ r side list set h. h;
+  raise = λ r coming list set h. h;
   past = λ r range word list h. h.1;
 }
 
@@ -51,9 +51,9 @@ right_of : (net : Net) (most : ℕ) (cert : Bool) (known : List ℤ) → Implies
 right_of net most cert known = record {
   finding = λ lines word h. h.0;
   known = λ list h. h.2;
-  bound = λ found r side lines value h. h.1;
+  bound = λ found r coming lines value h. h.1;
   times = λ r value list h. h.1;
-  raise = λ r side list set h. h;
+  raise = λ r coming list set h. h;
   past = λ r range word list h. h.1;
 }
 
@@ -62,29 +62,29 @@ proves_finding net most lines findings.Consistent f s = tt
 proves_finding net most lines findings.Inconsistent f s = s.0
 proves_finding net most lines findings.Unsettled f s = f
 
-proves_bound : (net : Net) (most : ℕ) (found : FindingWord) (r : Row) (side : NextBound) (lines : List ProofLine) (value : Bound) → IsBoundOf net found r side value → ShowsBound net most lines r side value
-    → ProvesBound net found r side lines value
-proves_bound net most found r side lines (bounds.Closed value) b s = (b.0, s.0)
-proves_bound net most found r side lines bounds.Unbounded b s = b
-proves_bound net most found r side lines (bounds.Within limit attained) b s = b
+proves_bound : (net : Net) (most : ℕ) (found : FindingWord) (r : Row) (coming : NextBound) (lines : List ProofLine) (value : Bound) → IsBoundOf net found r coming value → ShowsBound net most lines r coming value
+    → ProvesBound net found r coming lines value
+proves_bound net most found r coming lines (bounds.Closed value) b s = (b.0, s.0)
+proves_bound net most found r coming lines bounds.Unbounded b s = b
+proves_bound net most found r coming lines (bounds.Within limit attained) b s = b
 
 checked_of : (net : Net) (most : ℕ) (known : List ℤ) → Implies (written net most true known) (checked net)
 checked_of net most known = record {
   finding = λ lines word h. proves_finding net most lines word h.0 ((shown_of net most known).finding lines word h).1;
   known = λ list h. (times_printed list h.1, h.2);
-  bound = λ found r side lines value h. (bound_within value h.0, proves_bound net most found r side lines value h.1 ((shown_of net most known).bound found r side lines value h).1);
+  bound = λ found r coming lines value h. (bound_within value h.0, proves_bound net most found r coming lines value h.1 ((shown_of net most known).bound found r coming lines value h).1);
   times = λ r value list h. (times_printed list h.0, h.1);
-  raise = λ r side list set h. h;
+  raise = λ r coming list set h. h;
   past = λ r range word list h. (times_printed list h.0, h.1);
 }
 
 pub written_is_shown : WrittenIsShown
 written_is_shown drawn most lines w =
-    record { reads = reads_weaker (written drawn.net most true w.known) (shown drawn.net most) drawn lines at_heading at_last (shown_of drawn.net most w.known) w.reads; tells = w.tells }
+    record { reads = reads_weaker (written drawn.net most true w.known) (shown drawn.net most) drawn lines at_heading at_last (shown_of drawn.net most w.known) w.reads; has_budget = w.has_budget }
 
 pub written_is_bare : WrittenIsBare
 written_is_bare drawn most lines w =
-    record { reads = reads_weaker (written drawn.net most false w.known) (bare drawn.net most) drawn lines at_heading at_last (bare_of drawn.net most w.known) w.reads; tells = w.tells }
+    record { reads = reads_weaker (written drawn.net most false w.known) (bare drawn.net most) drawn lines at_heading at_last (bare_of drawn.net most w.known) w.reads; has_budget = w.has_budget }
 
 pub written_is_checked : WrittenIsChecked
 written_is_checked drawn most lines w = reads_weaker (written drawn.net most true w.known) (checked drawn.net) drawn lines at_heading at_last (checked_of drawn.net most w.known) w.reads

@@ -3,7 +3,7 @@ use Rattle.std.specs.Prelude.{◌≡◌, ℕ, Bool, true, false, List, All}
 use Rattle.slack_report.specs.Entry.{Entry, IsName}
 use Rattle.slack_report.specs.Text.{report_text}
 use Rattle.drawn.specs.Drawn.{Drawn}
-use Rattle.right_report.specs.Right.Facts.{BeginsRightReport}
+use Rattle.right_report.specs.Right.LineClaims.{BeginsRightReport}
 use Rattle.right_report.specs.Checked.{IsChecked}
 use Rattle.right_report.specs.Shown.{IsBareReport, IsShownReport}
 use Rattle.right_report.specs.Texts.{IsAcceptedText}

@@ -4,12 +4,12 @@ use Rattle.requirements.specs.declared.verdict.Verdict.{Verdict}
 use Rattle.requirements.specs.declared.verdict.Verdict.TheVariants as verdicts
 use Rattle.slack_report.specs.Entry.{Entry, IsReportEntry, IsKind, IsName, budget, verdict}
 use Rattle.slack_report.specs.Text.{report_text}
-use Rattle.right_report.specs.Right.At.{ReportState, at_heading, at_last, is_fail}
+use Rattle.right_report.specs.Right.ReportState.{ReportState, at_heading, at_last, is_fail}
 use Rattle.drawn.specs.Drawn.{Drawn}
 use Rattle.drawn.specs.declared.row.Row.{Row}
 use Rattle.right_report.specs.Right.Following.{LinesLead}
-use Rattle.right_report.specs.Shown.{TellsBudget}
-use Rattle.right_report.specs.Told.{end_in}
+use Rattle.right_report.specs.Shown.{HasBudget}
+use Rattle.right_report.specs.ReportContents.{end_in}
 use Rattle.bounds_report.specs.Written.{written}
 use Rattle.bounds_report.specs.declared.summary.Summary.{Summary}
 
@@ -47,7 +47,7 @@ HasRowRanges drawn = All (λ (r : Row). IsKind r.kind) drawn.rows
 pub record IsWrittenReport (drawn : Drawn) (most : ℕ) (cert : Bool) (lines : List Entry) : Type 0 where
   pub known : List ℤ
   pub reads : LinesLead (written drawn.net most cert known) drawn at_heading lines at_last
-  pub tells : TellsBudget most lines
+  pub has_budget : HasBudget most lines
   pub texts : All IsName drawn.names → HasRowRanges drawn → All (IsReportEntry (length drawn.names)) lines
 
 -- what a summary says of the lines of a report
@@ -70,5 +70,5 @@ pub record MayHaveBegun (drawn : Drawn) (most : ℕ) (cert : Bool) (text : List 
   pub last : ReportState
   pub known : List ℤ
   pub reads : LinesLead (written drawn.net most cert known) drawn at_heading lines last
-  pub tells : IfSome (slice_get lines 1) (λ line. line ≡ budget most)
+  pub has_budget : IfSome (slice_get lines 1) (λ line. line ≡ budget most)
   pub is_text : text ≡ report_text lines

@@ -1,5 +1,5 @@
 -- Words of contracts within this crate.
-pub mod Kept
+pub mod Witness
 pub mod Searched
-pub mod Told
+pub mod Writing
 pub mod Ready

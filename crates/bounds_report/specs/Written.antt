@@ -10,8 +10,8 @@ use Rattle.event_graph.specs.Reading.{AtEachSplit}
 use Rattle.event_graph.specs.Times.{separation}
 use Rattle.requirements.specs.declared.bound.Bound.{Bound}
 use Rattle.requirements.specs.declared.bound.Bound.TheVariants as bounds
-use Rattle.right_report.specs.Right.At.{NextBound, greatest, least_by}
-use Rattle.right_report.specs.Right.Facts.{right}
+use Rattle.right_report.specs.Right.ReportState.{NextBound, greatest, least_by}
+use Rattle.right_report.specs.Right.LineClaims.{right}
 use Rattle.right_report.specs.Right.Following.{LineClaims}
 use Rattle.right_report.specs.Shown.{ShowsBound, ShowsFinding}
 
@@ -41,9 +41,9 @@ written net most cert known = record {
   finding = λ lines word. (right net).finding lines word
       × ArePrinted cert lines (λ searched. ShowsFinding net most searched word × AtEachSplit net (IsNeededToFind net) searched);
   known = λ list. (list ≡ known) × All IsPrintedTime list × (right net).known list;
-  bound = λ found r side lines value. HasPrintedTimes value × (right net).bound found r side lines value
-      × ArePrinted cert lines (λ searched. ShowsBound net most searched r side value × IsEachNeeded net known r side searched);
+  bound = λ found r coming lines value. HasPrintedTimes value × (right net).bound found r coming lines value
+      × ArePrinted cert lines (λ searched. ShowsBound net most searched r coming value × IsEachNeeded net known r coming searched);
   times = λ r value list. All IsPrintedTime list × (right net).times r value list;
-  raise = λ r side list set. (right net).raise r side list set;
+  raise = λ r coming list set. (right net).raise r coming list set;
   past = λ r range word list. All IsPrintedTime list × (right net).past r range word list;
 }

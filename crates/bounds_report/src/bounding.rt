@@ -8,14 +8,14 @@ ghost use Rattle.event_graph.specs.Proof.{ProofLine};
 ghost use Rattle.event_graph.specs.Satisfying.{Satisfies};
 ghost use Rattle.event_graph.specs.Times.{separation};
 ghost use Rattle.requirements.specs.Bounds.{HasTimes};
-ghost use Rattle.right_report.specs.Right.At.{NextBound, CurrentRow, at_bound, bounded};
+ghost use Rattle.right_report.specs.Right.ReportState.{NextBound, CurrentRow, at_bound, bounded};
 ghost use Rattle.drawn.specs.Drawn.{Drawn};
 ghost use Rattle.slack_report.specs.declared.words.FindingWord.{FindingWord};
-ghost use Rattle.bounds_report.specs.Step.Kept.{IsWitness, IsRoomFor, searched_pair};
+ghost use Rattle.bounds_report.specs.Step.Witness.{IsWitness, IsRoomFor, searched_pair};
 ghost use Rattle.bounds_report.specs.Step.Searched.{bound_of, greatest_of as greatest_by, printed_known, search_of, sized};
-ghost use Rattle.bounds_report.specs.Step.Told.{WritesVerdicts, IsOf};
+ghost use Rattle.bounds_report.specs.Step.Writing.{WritesVerdicts, IsOf};
 
-use crate::kept::{BoundWitness, take_times};
+use crate::bound_witness::{BoundWitness, take_times};
 use crate::pair::{Extreme, Pair};
 use crate::search::greatest_of;
 use crate::wanted::Wanted;
@@ -28,7 +28,7 @@ use slack_report::{Item, Which, write_item};
 
 /// Searches for the bound of an extreme, and writes its lines: the lines of its proof if `wanted` asks for them, the bound, the times that attain it,
 /// and, if it is unbounded, the set of events that shows this. `kept` has the times and the set from then on.
-pub fn tell_bound<K: Sink>(
+pub fn print_bound<K: Sink>(
     extreme: Extreme,
     net: &Network,
     wanted: Wanted,
@@ -48,10 +48,10 @@ pub fn tell_bound<K: Sink>(
     ensures room { OnOk result (IsRoomFor net.now kept.new) }
     ensures times { IfOk result HasTimes }
     ensures kept { IfOk result (λ value. IsWitness net.now extreme.pair extreme.which value kept.new.times.items kept.new.set.items) }
-    ensures goes { (times : List ℤ) (drawn : Drawn) (told : CurrentRow) (side : NextBound) → times ≡ printed_known work.old.known
-        → told.course.found ≡ FindingWord.Consistent → IsOf told side extreme.pair extreme.which
-        → WritesVerdicts (sized net.now wanted.budget wanted.cert times) drawn (at_bound told side []) (λ value. bounded told side value) (λ _. [])
-        (K.told sink.old) (K.told sink.new) result }
+    ensures goes { (times : List ℤ) (drawn : Drawn) (current : CurrentRow) (coming : NextBound) → times ≡ printed_known work.old.known
+        → current.tally.found ≡ FindingWord.Consistent → IsOf current coming extreme.pair extreme.which
+        → WritesVerdicts (sized net.now wanted.budget wanted.cert times) drawn (at_bound current coming []) (λ value. bounded current coming value) (λ _. [])
+        (K.state sink.old) (K.state sink.new) result }
 {
     let Extreme { which, pair } = extreme;
     let answer = greatest_of(work, net, pair.searched(which), wanted, buffer, sink)?;
@@ -126,11 +126,11 @@ fn put_bound<K: Sink>(
     buffer: &mut LineBuffer,
     sink: &mut K,
 ) -> Result<(), PutFailed>
-    ensures goes { (net : Net) (most : ℕ) (cert : Bool) (times : List ℤ) (drawn : Drawn) (told : CurrentRow) (side : NextBound) (lines : List ProofLine) (pair : Pair)
-        → IsOf told side pair which → (sized net most cert times).bound told.course.found told.row side lines value
+    ensures goes { (net : Net) (most : ℕ) (cert : Bool) (times : List ℤ) (drawn : Drawn) (current : CurrentRow) (coming : NextBound) (lines : List ProofLine) (pair : Pair)
+        → IsOf current coming pair which → (sized net most cert times).bound current.tally.found current.row coming lines value
         → IsWitness net pair which value kept.now.times.items kept.now.set.items
-        → WritesVerdicts (sized net most cert times) drawn (at_bound told side lines) (λ _. bounded told side value) (λ _. [])
-        (K.told sink.old) (K.told sink.new) result }
+        → WritesVerdicts (sized net most cert times) drawn (at_bound current coming lines) (λ _. bounded current coming value) (λ _. [])
+        (K.state sink.old) (K.state sink.new) result }
 {
     write_item(
         &Item::Bound {

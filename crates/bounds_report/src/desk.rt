@@ -3,7 +3,7 @@
 ghost use Rattle.std.specs.Prelude.{◌≡◌, IfOk};
 ghost use Rattle.bounds_report.specs.Step.Ready.{IsSet};
 
-use crate::kept::BoundWitness;
+use crate::bound_witness::BoundWitness;
 use branch::Work;
 use event_graph::Network;
 use itv_base::NoMemory;

@@ -3,15 +3,15 @@
 ghost use Rattle.std.specs.Prelude.{◌≡◌, ◌<◌, ℕ, ℤ, Bool, [], List, All, IfOk, IfSome, IsSomeAnd};
 ghost use Rattle.branch.specs.Work.{IsClose};
 ghost use Rattle.event_graph.specs.Satisfying.{Satisfies};
-ghost use Rattle.right_report.specs.Right.At.{at_event, behind_finding};
+ghost use Rattle.right_report.specs.Right.ReportState.{at_event, behind_finding};
 ghost use Rattle.drawn.specs.Drawn.{Drawn};
-ghost use Rattle.bounds_report.specs.Step.Kept.{IsRoomFor};
+ghost use Rattle.bounds_report.specs.Step.Witness.{IsRoomFor};
 ghost use Rattle.bounds_report.specs.Step.Ready.{AreKnown, IsReady, IsSet, behind_known, word_of};
 ghost use Rattle.bounds_report.specs.Step.Searched.{printed_known, sized};
-ghost use Rattle.bounds_report.specs.Step.Told.{WritesVerdicts};
+ghost use Rattle.bounds_report.specs.Step.Writing.{WritesVerdicts};
 
+use crate::bound_witness::{BoundWitness, take_times};
 use crate::desk::Desk;
-use crate::kept::{BoundWitness, take_times};
 use crate::search::find_times;
 use crate::wanted::Wanted;
 use branch::{SearchFinding, Work};
@@ -20,7 +20,7 @@ use itv_base::{EventId, PutFailed, Sink};
 use slack_report::{FindingWord, Item, write_item};
 
 /// Looks for times that satisfy a network. Writes the finding and the times, if there are any.
-pub fn tell_finding<K: Sink>(
+pub fn print_finding<K: Sink>(
     net: &Network,
     wanted: Wanted,
     desk: &mut Desk,
@@ -31,12 +31,12 @@ pub fn tell_finding<K: Sink>(
     ensures ready { IfOk result (λ word. IsReady net.now word desk.new) }
     ensures goes { (times : List ℤ) (drawn : Drawn) (number : ℕ) → times ≡ printed_known desk.new.work.known
         → WritesVerdicts (sized net.now wanted.budget wanted.cert times) drawn (at_event number []) behind_known (λ _. [])
-        (K.told sink.old) (K.told sink.new) result }
+        (K.state sink.old) (K.state sink.new) result }
 {
     let found = find_times(&mut desk.work, net, wanted, &mut desk.buffer, sink)?;
     let word = word_of(found);
     write_item(&Item::Finding(word), &mut desk.buffer, sink)?;
-    tell_times(word, net, desk, sink)?;
+    print_times(word, net, desk, sink)?;
     Ok(word)
 }
 
@@ -52,7 +52,7 @@ fn word_of(found: SearchFinding) -> FindingWord
 }
 
 // Writes the known times behind a consistent finding.
-fn tell_times<K: Sink>(
+fn print_times<K: Sink>(
     word: FindingWord,
     net: &Network,
     desk: &mut Desk,
@@ -64,7 +64,7 @@ fn tell_times<K: Sink>(
     ensures known { desk.new.work.known ≡ desk.old.work.known }
     ensures goes { (most : ℕ) (cert : Bool) (times : List ℤ) (drawn : Drawn) → times ≡ printed_known desk.old.work.known
         → WritesVerdicts (sized net.now most cert times) drawn (behind_finding word) (λ _. behind_known word) (λ _. [])
-        (K.told sink.old) (K.told sink.new) result }
+        (K.state sink.old) (K.state sink.new) result }
 {
     match word {
         FindingWord::Consistent => {

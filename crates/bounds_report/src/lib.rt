@@ -2,10 +2,10 @@
 //! of proofs, printed or left out, show its finding and its bounds. Where a put failed, a front of such a report is written.
 #![tactic(auto)]
 
+mod bound_witness;
 mod bounding;
 mod desk;
 mod finding;
-mod kept;
 pub mod laws;
 mod limits;
 mod pair;

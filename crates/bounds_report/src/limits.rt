@@ -5,12 +5,12 @@ ghost use Rattle.branch.specs.Work.{IsMadeFor};
 ghost use Rattle.event_graph.specs.Network.{Net};
 ghost use Rattle.event_graph.specs.RootBound.{MeetsAlways};
 ghost use Rattle.requirements.specs.Bounds.{HasTimes};
-ghost use Rattle.right_report.specs.Right.At.{NextBound, CurrentRow, at_bound, bounded, greatest, least_by};
+ghost use Rattle.right_report.specs.Right.ReportState.{NextBound, CurrentRow, at_bound, bounded, greatest, least_by};
 ghost use Rattle.drawn.specs.Drawn.{Drawn};
 ghost use Rattle.slack_report.specs.declared.words.FindingWord.{FindingWord};
-ghost use Rattle.bounds_report.specs.Step.Kept.{HasFoundValue, IsOpenBound};
+ghost use Rattle.bounds_report.specs.Step.Witness.{HasFoundValue, IsOpenBound};
 ghost use Rattle.bounds_report.specs.Step.Searched.{sized};
-ghost use Rattle.bounds_report.specs.Step.Told.{WritesVerdicts, IsOf};
+ghost use Rattle.bounds_report.specs.Step.Writing.{WritesVerdicts, IsOf};
 
 use crate::pair::Pair;
 use branch::{Root, Work, root_bound};
@@ -21,7 +21,7 @@ use requirements::{BothBounds, Bound};
 use slack_report::{Item, Which, write_item};
 
 /// Writes both bounds of a pair by its root bounds alone, without a search.
-pub fn tell_limits<K: Sink>(
+pub fn print_limits<K: Sink>(
     pair: Pair,
     net: &Network,
     work: &mut Work,
@@ -36,10 +36,10 @@ pub fn tell_limits<K: Sink>(
     ensures known { OnOk result (work.new.known ≡ work.old.known) }
     ensures greatest { IfOk result (λ both. HasTimes both.greatest × (HasFoundValue both.greatest → ⊥)) }
     ensures least { IfOk result (λ both. HasTimes both.least × (HasFoundValue both.least → ⊥)) }
-    ensures goes { (most : ℕ) (cert : Bool) (times : List ℤ) (drawn : Drawn) (told : CurrentRow) → told.course.found ≡ FindingWord.Unsettled
-        → told.row.from ≡ pair.from → told.row.to ≡ pair.to
-        → WritesVerdicts (sized net.now most cert times) drawn (at_bound told greatest []) (λ both. bounded told (least_by both.greatest) both.least) (λ _. [])
-        (K.told sink.old) (K.told sink.new) result }
+    ensures goes { (most : ℕ) (cert : Bool) (times : List ℤ) (drawn : Drawn) (current : CurrentRow) → current.tally.found ≡ FindingWord.Unsettled
+        → current.row.from ≡ pair.from → current.row.to ≡ pair.to
+        → WritesVerdicts (sized net.now most cert times) drawn (at_bound current greatest []) (λ both. bounded current (least_by both.greatest) both.least) (λ _. [])
+        (K.state sink.old) (K.state sink.new) result }
 {
     let greatest = limit_of(Which::Max, pair, net, work);
     put_limit(Which::Max, greatest, buffer, sink)?;
@@ -81,10 +81,10 @@ fn put_limit<K: Sink>(
     buffer: &mut LineBuffer,
     sink: &mut K,
 ) -> Result<(), PutFailed>
-    ensures goes { (net : Net) (most : ℕ) (cert : Bool) (times : List ℤ) (drawn : Drawn) (told : CurrentRow) (side : NextBound) (pair : Pair)
-        → told.course.found ≡ FindingWord.Unsettled → IsOf told side pair which → IsOpenBound net pair which value
-        → WritesVerdicts (sized net most cert times) drawn (at_bound told side []) (λ _. bounded told side value) (λ _. [])
-        (K.told sink.old) (K.told sink.new) result }
+    ensures goes { (net : Net) (most : ℕ) (cert : Bool) (times : List ℤ) (drawn : Drawn) (current : CurrentRow) (coming : NextBound) (pair : Pair)
+        → current.tally.found ≡ FindingWord.Unsettled → IsOf current coming pair which → IsOpenBound net pair which value
+        → WritesVerdicts (sized net most cert times) drawn (at_bound current coming []) (λ _. bounded current coming value) (λ _. [])
+        (K.state sink.old) (K.state sink.new) result }
 {
     write_item(
         &Item::Bound {

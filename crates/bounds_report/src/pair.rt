@@ -1,7 +1,7 @@
 //! Pairs of events.
 
 ghost use Rattle.std.specs.Prelude.{◌≡◌};
-ghost use Rattle.bounds_report.specs.Step.Kept.{searched_pair};
+ghost use Rattle.bounds_report.specs.Step.Witness.{searched_pair};
 
 use itv_base::EventId;
 use slack_report::Which;

@@ -6,16 +6,16 @@ ghost use Rattle.itv_base.specs.Outside.{Puts};
 ghost use Rattle.itv_base.specs.Range.{IsEnd};
 ghost use Rattle.slack_report.specs.Entry.{times as entry_times};
 ghost use Rattle.slack_report.specs.Text.{entry_text};
-ghost use Rattle.right_report.specs.Right.At.{CurrentRow, behind_past, behind_verdict};
+ghost use Rattle.right_report.specs.Right.ReportState.{CurrentRow, behind_past, behind_verdict};
 ghost use Rattle.drawn.specs.Drawn.{Drawn};
 ghost use Rattle.requirements.specs.Verdicts.{verdict_of};
-ghost use Rattle.bounds_report.specs.Step.Kept.{ArePast, HasFoundValue, IsBeyond, IsWitness, IsRoomFor};
+ghost use Rattle.bounds_report.specs.Step.Witness.{ArePast, HasFoundValue, IsBeyond, IsWitness, IsRoomFor};
 ghost use Rattle.bounds_report.specs.Step.Ready.{IsSet};
 ghost use Rattle.bounds_report.specs.Step.Searched.{sized};
-ghost use Rattle.bounds_report.specs.Step.Told.{WritesVerdicts};
+ghost use Rattle.bounds_report.specs.Step.Writing.{WritesVerdicts};
 
+use crate::bound_witness::BoundWitness;
 use crate::desk::Desk;
-use crate::kept::BoundWitness;
 use crate::pair::{Extreme, Pair};
 use event_graph::{Network, move_all};
 use itv_base::{PutFailed, Range, Sink};
@@ -24,7 +24,7 @@ use requirements::{BothBounds, Bound, Verdict, raise_past};
 use slack_report::{Item, Which, write_item};
 
 /// Behind a verdict that is a fail, writes times that break the requirement. Behind any other verdict writes nothing.
-pub fn tell_past<K: Sink>(
+pub fn print_past<K: Sink>(
     word: Verdict,
     range: Range,
     pair: Pair,
@@ -41,13 +41,13 @@ pub fn tell_past<K: Sink>(
     requires least { HasFoundValue both.now.least → IsWitness net.now pair Which.Min both.now.least desk.old.least.times.items desk.old.least.set.items }
     ensures set { IsSet net.now desk.new }
     ensures known { desk.new.work.known ≡ desk.old.work.known }
-    ensures goes { (most : ℕ) (cert : Bool) (times : List ℤ) (drawn : Drawn) (told : CurrentRow) → told.row.from ≡ pair.from → told.row.to ≡ pair.to
-        → WritesVerdicts (sized net.now most cert times) drawn (behind_verdict told range both.now.least both.now.greatest word)
-        (λ _. behind_past told range both.now.least both.now.greatest word) (λ _. [])
-        (K.told sink.old) (K.told sink.new) result }
+    ensures goes { (most : ℕ) (cert : Bool) (times : List ℤ) (drawn : Drawn) (current : CurrentRow) → current.row.from ≡ pair.from → current.row.to ≡ pair.to
+        → WritesVerdicts (sized net.now most cert times) drawn (behind_verdict current range both.now.least both.now.greatest word)
+        (λ _. behind_past current range both.now.least both.now.greatest word) (λ _. [])
+        (K.state sink.old) (K.state sink.new) result }
 {
     match word {
-        Verdict::FailHigh => tell_passed(
+        Verdict::FailHigh => print_passed(
             Extreme {
                 which: Which::Max,
                 pair,
@@ -59,7 +59,7 @@ pub fn tell_past<K: Sink>(
             &mut desk.buffer,
             sink,
         ),
-        Verdict::FailLow => tell_passed(
+        Verdict::FailLow => print_passed(
             Extreme {
                 which: Which::Min,
                 pair,
@@ -81,7 +81,7 @@ fn broken_high(range: Range, both: &BothBounds) -> i64
     ensures end { range.high ≡ Some result }
     ensures limit { IsEnd (Some result) }
     ensures beyond { IsBeyond Which.Max both.now.greatest result }
-    ensures told { HasFoundValue both.now.greatest }
+    ensures current { HasFoundValue both.now.greatest }
 {
     match range.high() {
         Some(high) => high,
@@ -95,7 +95,7 @@ fn broken_low(range: Range, both: &BothBounds) -> i64
     ensures end { range.low ≡ Some (neg_ℤ result) }
     ensures limit { IsEnd (Some result) }
     ensures beyond { IsBeyond Which.Min both.now.least result }
-    ensures told { HasFoundValue both.now.least }
+    ensures current { HasFoundValue both.now.least }
 {
     match range.low() {
         Some(low) => negated(low),
@@ -113,7 +113,7 @@ fn negated(end: i64) -> i64
 }
 
 // Writes times past a limit on the separation of the searched pair.
-fn tell_passed<K: Sink>(
+fn print_passed<K: Sink>(
     extreme: Extreme,
     limit: i64,
     value: Bound,
@@ -129,7 +129,7 @@ fn tell_passed<K: Sink>(
     requires kept { IsWitness net.now extreme.pair extreme.which value kept.old.times.items kept.old.set.items }
     ensures room { IsRoomFor net.now kept.new }
     ensures puts { (list : List ℤ) × ArePast net.now extreme.pair extreme.which limit list
-        × Puts (K.told sink.old) (K.told sink.new) (entry_text (entry_times list)) result }
+        × Puts (K.state sink.old) (K.state sink.new) (entry_text (entry_times list)) result }
 {
     pass_limit(extreme.which, limit, value, extreme.pair, net, kept);
     write_item(&Item::Times(&kept.times), buffer, sink)

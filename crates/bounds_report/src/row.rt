@@ -3,21 +3,21 @@
 ghost use Rattle.std.specs.Prelude.{◌≡◌, ◌<◌, ◌+◌, ◌||◌, ◌∷◌, ℕ, ℤ, Bool, [], List, IfOk, IsSomeAnd, OnOk};
 ghost use Rattle.std.specs.Option.{option_to_list};
 ghost use Rattle.requirements.specs.Bounds.{HasTimes};
-ghost use Rattle.right_report.specs.Right.At.{ReportTally, CurrentRow, at_bound, at_row, bounded, greatest, is_within, judged, least_by, with_bounds};
+ghost use Rattle.right_report.specs.Right.ReportState.{ReportTally, CurrentRow, at_bound, at_row, bounded, greatest, is_within, judged, least_by, with_bounds};
 ghost use Rattle.drawn.specs.Drawn.{Drawn, IsRowOf};
 ghost use Rattle.drawn.specs.declared.row.Row.{Row};
-ghost use Rattle.bounds_report.specs.Step.Kept.{HasFoundValue, IsWitness};
-ghost use Rattle.bounds_report.specs.Step.Ready.{IsReady, IsSet, course_after, course_with};
+ghost use Rattle.bounds_report.specs.Step.Witness.{HasFoundValue, IsWitness};
+ghost use Rattle.bounds_report.specs.Step.Ready.{IsReady, IsSet, tally_after, tally_with};
 ghost use Rattle.bounds_report.specs.Step.Searched.{printed_known, sized};
-ghost use Rattle.bounds_report.specs.Step.Told.{WritesVerdicts};
+ghost use Rattle.bounds_report.specs.Step.Writing.{WritesVerdicts};
 ghost use Rattle.event_graph.specs.Satisfying.{Satisfies};
 
-use crate::bounding::tell_bound;
+use crate::bounding::print_bound;
 use crate::desk::Desk;
-use crate::limits::tell_limits;
+use crate::limits::print_limits;
 use crate::pair::{Extreme, Pair};
 use crate::tally::RowEnd;
-use crate::verdict::tell_verdict;
+use crate::verdict::print_verdict;
 use crate::wanted::Wanted;
 use drawn::{DrawnNetwork, Row};
 use event_graph::Network;
@@ -28,7 +28,7 @@ use right_report::is_within;
 use slack_report::{FindingWord, Which};
 
 /// Writes a row: its own line, both bounds, and for a requirement the verdict.
-pub fn tell_row<K: Sink>(
+pub fn print_row<K: Sink>(
     number: u32,
     row: &Row,
     found: FindingWord,
@@ -43,18 +43,18 @@ pub fn tell_row<K: Sink>(
     requires row { IsRowOf drawn.now.net row.now }
     ensures ready { OnOk result (IsReady drawn.now.net found desk.new) }
     ensures known { OnOk result (desk.new.work.known ≡ desk.old.work.known) }
-    ensures goes { (times : List ℤ) (course : ReportTally) (later : List Row) → times ≡ printed_known desk.old.work.known → course.found ≡ found
-        → WritesVerdicts (sized drawn.now.net wanted.budget wanted.cert times) drawn.now (at_row course number (row.now ∷ later))
-        (λ end. at_row (course_after course end) (number + 1) later) (λ end. option_to_list end.verdict)
-        (K.told sink.old) (K.told sink.new) result }
+    ensures goes { (times : List ℤ) (report_tally : ReportTally) (later : List Row) → times ≡ printed_known desk.old.work.known → report_tally.found ≡ found
+        → WritesVerdicts (sized drawn.now.net wanted.budget wanted.cert times) drawn.now (at_row report_tally number (row.now ∷ later))
+        (λ end. at_row (tally_after report_tally end) (number + 1) later) (λ end. option_to_list end.verdict)
+        (K.state sink.old) (K.state sink.new) result }
 {
     put_row(number, row, drawn, &mut desk.buffer, sink)?;
     let pair = Pair {
         from: row.from,
         to: row.to,
     };
-    let both = tell_bounds(found, pair, drawn.network(), wanted, desk, sink)?;
-    let verdict = tell_demand(&row.kind, pair, drawn.network(), &both, desk, sink)?;
+    let both = print_bounds(found, pair, drawn.network(), wanted, desk, sink)?;
+    let verdict = print_demand(&row.kind, pair, drawn.network(), &both, desk, sink)?;
     Ok(RowEnd {
         verdict,
         is_within: is_left_open(&both),
@@ -62,7 +62,7 @@ pub fn tell_row<K: Sink>(
 }
 
 // Writes the verdict of a row, if the row is a requirement.
-fn tell_demand<K: Sink>(
+fn print_demand<K: Sink>(
     kind: &RowKind,
     pair: Pair,
     net: &Network,
@@ -79,15 +79,15 @@ fn tell_demand<K: Sink>(
     requires least { HasFoundValue both.now.least → IsWitness net.now pair Which.Min both.now.least desk.old.least.times.items desk.old.least.set.items }
     ensures set { OnOk result (IsSet net.now desk.new) }
     ensures known { OnOk result (desk.new.work.known ≡ desk.old.work.known) }
-    ensures goes { (most : ℕ) (cert : Bool) (times : List ℤ) (drawn : Drawn) (told : CurrentRow) → told.row.from ≡ pair.from → told.row.to ≡ pair.to
-        → WritesVerdicts (sized net.now most cert times) drawn (judged kind.now told both.now.least both.now.greatest)
-        (λ verdict. at_row (course_with (with_bounds told.course both.now.least both.now.greatest) verdict) (told.number + 1) told.later)
-        (λ verdict. option_to_list verdict) (K.told sink.old) (K.told sink.new) result }
+    ensures goes { (most : ℕ) (cert : Bool) (times : List ℤ) (drawn : Drawn) (current : CurrentRow) → current.row.from ≡ pair.from → current.row.to ≡ pair.to
+        → WritesVerdicts (sized net.now most cert times) drawn (judged kind.now current both.now.least both.now.greatest)
+        (λ verdict. at_row (tally_with (with_bounds current.tally both.now.least both.now.greatest) verdict) (current.number + 1) current.later)
+        (λ verdict. option_to_list verdict) (K.state sink.old) (K.state sink.new) result }
 {
     match kind {
         RowKind::Ask => Ok(None),
         RowKind::Req(range) => {
-            let word = tell_verdict(*range, pair, net, both, desk, sink)?;
+            let word = print_verdict(*range, pair, net, both, desk, sink)?;
             Ok(Some(word))
         }
     }
@@ -101,7 +101,7 @@ fn is_left_open(both: &BothBounds) -> bool
 }
 
 // Writes both bounds of a pair.
-fn tell_bounds<K: Sink>(
+fn print_bounds<K: Sink>(
     found: FindingWord,
     pair: Pair,
     net: &Network,
@@ -122,21 +122,21 @@ fn tell_bounds<K: Sink>(
         → IsWitness net.now pair Which.Max both.greatest desk.new.greatest.times.items desk.new.greatest.set.items) }
     ensures least { IfOk result (λ both. HasFoundValue both.least
         → IsWitness net.now pair Which.Min both.least desk.new.least.times.items desk.new.least.set.items) }
-    ensures goes { (times : List ℤ) (drawn : Drawn) (told : CurrentRow) → times ≡ printed_known desk.old.work.known
-        → told.course.found ≡ found → told.row.from ≡ pair.from → told.row.to ≡ pair.to
-        → WritesVerdicts (sized net.now wanted.budget wanted.cert times) drawn (at_bound told greatest [])
-        (λ both. bounded told (least_by both.greatest) both.least) (λ _. [])
-        (K.told sink.old) (K.told sink.new) result }
+    ensures goes { (times : List ℤ) (drawn : Drawn) (current : CurrentRow) → times ≡ printed_known desk.old.work.known
+        → current.tally.found ≡ found → current.row.from ≡ pair.from → current.row.to ≡ pair.to
+        → WritesVerdicts (sized net.now wanted.budget wanted.cert times) drawn (at_bound current greatest [])
+        (λ both. bounded current (least_by both.greatest) both.least) (λ _. [])
+        (K.state sink.old) (K.state sink.new) result }
 {
     match found {
-        FindingWord::Consistent => tell_searched(pair, net, wanted, desk, sink),
-        FindingWord::Unsettled => tell_limits(pair, net, &mut desk.work, &mut desk.buffer, sink),
+        FindingWord::Consistent => print_searched(pair, net, wanted, desk, sink),
+        FindingWord::Unsettled => print_limits(pair, net, &mut desk.work, &mut desk.buffer, sink),
         FindingWord::Inconsistent => unreachable!(),
     }
 }
 
 // Writes both bounds of a pair, each by a search.
-fn tell_searched<K: Sink>(
+fn print_searched<K: Sink>(
     pair: Pair,
     net: &Network,
     wanted: Wanted,
@@ -156,13 +156,13 @@ fn tell_searched<K: Sink>(
         → IsWitness net.now pair Which.Max both.greatest desk.new.greatest.times.items desk.new.greatest.set.items) }
     ensures least { IfOk result (λ both. HasFoundValue both.least
         → IsWitness net.now pair Which.Min both.least desk.new.least.times.items desk.new.least.set.items) }
-    ensures goes { (times : List ℤ) (drawn : Drawn) (told : CurrentRow) → times ≡ printed_known desk.old.work.known
-        → told.course.found ≡ FindingWord.Consistent → told.row.from ≡ pair.from → told.row.to ≡ pair.to
-        → WritesVerdicts (sized net.now wanted.budget wanted.cert times) drawn (at_bound told greatest [])
-        (λ both. bounded told (least_by both.greatest) both.least) (λ _. [])
-        (K.told sink.old) (K.told sink.new) result }
+    ensures goes { (times : List ℤ) (drawn : Drawn) (current : CurrentRow) → times ≡ printed_known desk.old.work.known
+        → current.tally.found ≡ FindingWord.Consistent → current.row.from ≡ pair.from → current.row.to ≡ pair.to
+        → WritesVerdicts (sized net.now wanted.budget wanted.cert times) drawn (at_bound current greatest [])
+        (λ both. bounded current (least_by both.greatest) both.least) (λ _. [])
+        (K.state sink.old) (K.state sink.new) result }
 {
-    let greatest = tell_bound(
+    let greatest = print_bound(
         Extreme {
             which: Which::Max,
             pair,
@@ -174,7 +174,7 @@ fn tell_searched<K: Sink>(
         &mut desk.buffer,
         sink,
     )?;
-    let least = tell_bound(
+    let least = print_bound(
         Extreme {
             which: Which::Min,
             pair,

@@ -3,13 +3,13 @@
 ghost use Rattle.std.specs.Prelude.{◌≡◌, ◌<◌, [], List, IfOk, OnErr, length};
 ghost use Rattle.requirements.specs.declared.verdict.Verdict.{Verdict};
 ghost use Rattle.right_report.specs.Writing.{WroteFront};
-ghost use Rattle.right_report.specs.Right.At.{at_row, at_rows};
-ghost use Rattle.bounds_report.specs.Step.Ready.{IsReady, IsTally, behind_known, behind_rows, tally_course};
+ghost use Rattle.right_report.specs.Right.ReportState.{at_row, at_rows};
+ghost use Rattle.bounds_report.specs.Step.Ready.{IsReady, IsTally, behind_known, behind_rows, tally_behind};
 ghost use Rattle.bounds_report.specs.Step.Searched.{printed_known, sized};
-ghost use Rattle.bounds_report.specs.Step.Told.{WroteVerdicts};
+ghost use Rattle.bounds_report.specs.Step.Writing.{WroteVerdicts};
 
 use crate::desk::Desk;
-use crate::row::tell_row;
+use crate::row::print_row;
 use crate::tally::Tally;
 use crate::wanted::Wanted;
 use drawn::DrawnNetwork;
@@ -18,7 +18,7 @@ use jobs::row_at;
 use slack_report::{FindingWord, Item, write_item};
 
 /// Writes how many rows there are, and each row. Behind an inconsistent finding writes nothing.
-pub fn tell_rows<K: Sink>(
+pub fn print_rows<K: Sink>(
     found: FindingWord,
     drawn: &DrawnNetwork,
     wanted: Wanted,
@@ -27,22 +27,22 @@ pub fn tell_rows<K: Sink>(
 ) -> Result<Tally, PutFailed>
     requires budget { 0 < wanted.budget }
     requires ready { IsReady drawn.now.net found desk.old }
-    ensures tells { IfOk result (λ tally. (words : List Verdict) × IsTally tally words
+    ensures counts { IfOk result (λ tally. (words : List Verdict) × IsTally tally words
         × WroteVerdicts (sized drawn.now.net wanted.budget wanted.cert (printed_known desk.old.work.known)) drawn.now (behind_known found)
-        (behind_rows found tally (length drawn.now.rows)) words (K.told sink.old) (K.told sink.new)) }
+        (behind_rows found tally (length drawn.now.rows)) words (K.state sink.old) (K.state sink.new)) }
     ensures stops { OnErr result (WroteFront (sized drawn.now.net wanted.budget wanted.cert (printed_known desk.old.work.known)) drawn.now (behind_known found)
-        (K.told sink.old) (K.told sink.new)) }
+        (K.state sink.old) (K.state sink.new)) }
 {
     match found {
         FindingWord::Inconsistent => Ok(Tally::start()),
         FindingWord::Consistent | FindingWord::Unsettled => {
-            tell_each(found, drawn, wanted, desk, sink)
+            print_each(found, drawn, wanted, desk, sink)
         }
     }
 }
 
 // Writes how many rows there are, and each row.
-fn tell_each<K: Sink>(
+fn print_each<K: Sink>(
     found: FindingWord,
     drawn: &DrawnNetwork,
     wanted: Wanted,
@@ -52,18 +52,18 @@ fn tell_each<K: Sink>(
     requires budget { 0 < wanted.budget }
     requires found { found ≡ FindingWord.Inconsistent → ⊥ }
     requires ready { IsReady drawn.now.net found desk.old }
-    ensures tells { IfOk result (λ tally. (words : List Verdict) × IsTally tally words
+    ensures counts { IfOk result (λ tally. (words : List Verdict) × IsTally tally words
         × WroteVerdicts (sized drawn.now.net wanted.budget wanted.cert (printed_known desk.old.work.known)) drawn.now (at_rows found)
-        (at_row (tally_course found tally) (length drawn.now.rows) []) words (K.told sink.old) (K.told sink.new)) }
+        (at_row (tally_behind found tally) (length drawn.now.rows) []) words (K.state sink.old) (K.state sink.new)) }
     ensures stops { OnErr result (WroteFront (sized drawn.now.net wanted.budget wanted.cert (printed_known desk.old.work.known)) drawn.now (at_rows found)
-        (K.told sink.old) (K.told sink.new)) }
+        (K.state sink.old) (K.state sink.new)) }
 {
     let count = drawn.rows().len() as u32;
     write_item(&Item::Rows { count }, &mut desk.buffer, sink)?;
     let mut tally = Tally::start();
     for number in 0..count {
         let row = row_at(drawn, number);
-        let end = tell_row(number, row, found, drawn, wanted, desk, sink)?;
+        let end = print_row(number, row, found, drawn, wanted, desk, sink)?;
         tally = tally.after(end);
     }
     Ok(tally)

@@ -29,10 +29,10 @@ pub fn find_times<K: Sink>(
     ensures made { IsMadeFor net.now work.new }
     ensures known { IsSome work.new.known ↔ (result ≡ Ok SearchFinding.Consistent) }
     ensures close { IfSome work.new.known (All IsClose) }
-    ensures finds { IfOk result (λ found. WroteProof wanted.cert (K.told sink.old) (K.told sink.new)
+    ensures finds { IfOk result (λ found. WroteProof wanted.cert (K.state sink.old) (K.state sink.new)
         (λ lines. FindsBy net.now wanted.budget lines work.new.leaves work.new.known found)) }
     ensures count { OnOk result (IsCounted net.now wanted.budget work.new.leaves) }
-    ensures cut { OnErr result (WasCut (K.told sink.old) (K.told sink.new)) }
+    ensures cut { OnErr result (WasCut (K.state sink.old) (K.state sink.new)) }
 {
     if wanted.cert {
         find_printing(work, net, wanted.budget, buffer, sink)
@@ -57,13 +57,13 @@ pub fn greatest_of<K: Sink>(
     requires budget { 0 < wanted.budget }
     ensures made { IsMadeFor net.now work.new }
     ensures known { work.new.known ≡ work.old.known }
-    ensures answers { IfOk result (λ answer. WroteProof wanted.cert (K.told sink.old) (K.told sink.new)
+    ensures answers { IfOk result (λ answer. WroteProof wanted.cert (K.state sink.old) (K.state sink.new)
         (λ lines. AnswersSearch (search_of net.now pair wanted.budget) (known_separation work.old pair.from pair.to) (evidence lines work.new) answer)) }
     ensures count { OnOk result (IsCounted net.now wanted.budget work.new.leaves) }
     ensures times { OnOk result (Satisfies work.new.times net.now) }
     ensures close { OnOk result (All IsClose work.new.times) }
     ensures reached { OnOk result (IsKnownReach (separation work.new.times pair.from pair.to)) }
-    ensures cut { OnErr result (WasCut (K.told sink.old) (K.told sink.new)) }
+    ensures cut { OnErr result (WasCut (K.state sink.old) (K.state sink.new)) }
 {
     if wanted.cert {
         greatest_printing(work, net, pair, wanted.budget, buffer, sink)
@@ -86,10 +86,10 @@ fn find_printing<K: Sink>(
     ensures made { IsMadeFor net.now work.new }
     ensures known { IsSome work.new.known ↔ (result ≡ Ok SearchFinding.Consistent) }
     ensures close { IfSome work.new.known (All IsClose) }
-    ensures finds { IfOk result (λ found. WroteProof true (K.told sink.old) (K.told sink.new)
+    ensures finds { IfOk result (λ found. WroteProof true (K.state sink.old) (K.state sink.new)
         (λ lines. FindsBy net.now budget lines work.new.leaves work.new.known found)) }
     ensures count { OnOk result (IsCounted net.now budget work.new.leaves) }
-    ensures cut { OnErr result (WasCut (K.told sink.old) (K.told sink.new)) }
+    ensures cut { OnErr result (WasCut (K.state sink.old) (K.state sink.new)) }
 {
     let mut scribe = SinkScribe { buffer, sink };
     match find(work, net, budget, &mut scribe) {
@@ -113,13 +113,13 @@ fn greatest_printing<K: Sink>(
     requires budget { 0 < budget }
     ensures made { IsMadeFor net.now work.new }
     ensures known { work.new.known ≡ work.old.known }
-    ensures answers { IfOk result (λ answer. WroteProof true (K.told sink.old) (K.told sink.new)
+    ensures answers { IfOk result (λ answer. WroteProof true (K.state sink.old) (K.state sink.new)
         (λ lines. AnswersSearch (search_of net.now pair budget) (known_separation work.old pair.from pair.to) (evidence lines work.new) answer)) }
     ensures count { OnOk result (IsCounted net.now budget work.new.leaves) }
     ensures times { OnOk result (Satisfies work.new.times net.now) }
     ensures close { OnOk result (All IsClose work.new.times) }
     ensures reached { OnOk result (IsKnownReach (separation work.new.times pair.from pair.to)) }
-    ensures cut { OnErr result (WasCut (K.told sink.old) (K.told sink.new)) }
+    ensures cut { OnErr result (WasCut (K.state sink.old) (K.state sink.new)) }
 {
     let mut scribe = SinkScribe { buffer, sink };
     match greatest(work, net, pair.from, pair.to, budget, &mut scribe) {

@@ -2,10 +2,10 @@
 
 ghost use Rattle.std.specs.Prelude.{◌≡◌, ◌<◌, ◌≤◌, ◌+◌, ◌-◌, ◌^◌, ◌++◌, [], List};
 ghost use Rattle.std.specs.Option.{option_to_list};
-ghost use Rattle.bounds_report.specs.Step.Ready.{IsTally, course_after, tally_course};
+ghost use Rattle.bounds_report.specs.Step.Ready.{IsTally, tally_after, tally_behind};
 ghost use Rattle.requirements.specs.declared.verdict.Verdict.{Verdict as Word};
 ghost use Rattle.slack_report.specs.declared.words.FindingWord.{FindingWord as Found};
-ghost use Rattle.right_report.specs.Right.At.{course_of, end_word};
+ghost use Rattle.right_report.specs.Right.ReportState.{tally_of, end_word};
 
 use requirements::Verdict;
 use slack_report::{EndWord, FindingWord};
@@ -30,7 +30,7 @@ impl Tally {
     /// Before the first row.
     pub fn start() -> Tally
         ensures counted { IsTally result [] }
-        ensures course { (found : Found) → tally_course found result ≡ course_of found }
+        ensures report_tally { (found : Found) → tally_behind found result ≡ tally_of found }
         ensures none { result.passes + result.fails + result.undecided ≡ 0 }
     {
         Tally {
@@ -46,7 +46,7 @@ impl Tally {
         requires room { self.passes + self.fails + self.undecided < 2 ^ 32 - 1 }
         ensures counted { (words : List Word) → IsTally self words
             → IsTally result (words ++ option_to_list end.verdict) }
-        ensures course { (found : Found) → tally_course found result ≡ course_after (tally_course found self) end }
+        ensures report_tally { (found : Found) → tally_behind found result ≡ tally_after (tally_behind found self) end }
         ensures most { result.passes + result.fails + result.undecided
             ≤ self.passes + self.fails + self.undecided + 1 }
     {
@@ -76,7 +76,7 @@ impl Tally {
 
     /// The word at the end of a report with this finding and these rows.
     pub fn end_word(self, found: FindingWord) -> EndWord
-        ensures word { result ≡ end_word (tally_course found self) }
+        ensures word { result ≡ end_word (tally_behind found self) }
     {
         if self.fails > 0 {
             return EndWord::Fail;

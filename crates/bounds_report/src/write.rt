@@ -4,19 +4,19 @@ ghost use Rattle.std.specs.Prelude.{◌≡◌, ◌≤◌, ◌∷◌, ℕ, ℤ, B
 ghost use Rattle.itv_base.specs.declared.limits.TheConstants.{MAX_BUDGET, MAX_ROWS};
 ghost use Rattle.itv_base.specs.Outside.{CutShort, Puts, grown};
 ghost use Rattle.slack_report.specs.Entry.{heading, budget as entry_budget};
-ghost use Rattle.right_report.specs.Right.At.{at_event, at_events};
+ghost use Rattle.right_report.specs.Right.ReportState.{at_event, at_events};
 ghost use Rattle.event_graph.specs.Network.{Net};
 ghost use Rattle.bounds_report.specs.Step.Searched.{sized};
 ghost use Rattle.slack_report.specs.Text.{report_text};
 ghost use Rattle.bounds_report.specs.Step.Ready.{IsSet};
-ghost use Rattle.bounds_report.specs.Step.Told.{WritesVerdicts};
-ghost use Rattle.jobs.specs.Works.{JobWrote};
+ghost use Rattle.bounds_report.specs.Step.Writing.{WritesVerdicts};
+ghost use Rattle.jobs.specs.JobWrote.{JobWrote};
 ghost use Rattle.drawn.specs.Drawn.{IsRowOf};
 ghost use Rattle.bounds_report.specs.Reports.{MayHaveBegun, Reports};
 
 use crate::desk::Desk;
-use crate::finding::tell_finding;
-use crate::rows::tell_rows;
+use crate::finding::print_finding;
+use crate::rows::print_rows;
 use crate::summary::Summary;
 use crate::wanted::Wanted;
 use drawn::DrawnNetwork;
@@ -38,17 +38,17 @@ pub fn write_bounds<K: Sink>(
     requires least { 1 ≤ budget }
     requires most { budget ≤ MAX_BUDGET }
     ensures works { JobWrote (Reports drawn.now budget cert) (MayHaveBegun drawn.now budget cert)
-        (K.told sink.old) (K.told sink.new) result }
+        (K.state sink.old) (K.state sink.new) result }
 {
     let mut desk = Desk::new(alloc, drawn.network())?;
     // The rows are between events, and within their limit.
     let _rows = drawn.rows();
     let wanted = Wanted { budget, cert };
-    Ok(tell_report(drawn, wanted, &mut desk, sink)?)
+    Ok(print_report(drawn, wanted, &mut desk, sink)?)
 }
 
 // Writes the whole report.
-fn tell_report<K: Sink>(
+fn print_report<K: Sink>(
     drawn: &DrawnNetwork,
     wanted: Wanted,
     desk: &mut Desk,
@@ -60,14 +60,14 @@ fn tell_report<K: Sink>(
     requires within { All (IsRowOf drawn.now.net) drawn.now.rows }
     requires set { IsSet drawn.now.net desk.old }
     ensures reports { IfOk result (λ summary. (text : List ℕ) × Reports drawn.now wanted.budget wanted.cert summary text
-        × (K.told sink.new ≡ grown (K.told sink.old) text)) }
+        × (K.state sink.new ≡ grown (K.state sink.old) text)) }
     ensures begins { OnErr result ((text : List ℕ) × MayHaveBegun drawn.now wanted.budget wanted.cert text
-        × CutShort (K.told sink.old) (K.told sink.new) text) }
+        × CutShort (K.state sink.old) (K.state sink.new) text) }
 {
     put_front(wanted.budget, &mut desk.buffer, sink)?;
     put_events(drawn, &mut desk.buffer, sink)?;
-    let found = tell_finding(drawn.network(), wanted, desk, sink)?;
-    let tally = tell_rows(found, drawn, wanted, desk, sink)?;
+    let found = print_finding(drawn.network(), wanted, desk, sink)?;
+    let tally = print_rows(found, drawn, wanted, desk, sink)?;
     let word = tally.end_word(found);
     write_item(&Item::End(word), &mut desk.buffer, sink)?;
     Ok(Summary {
@@ -80,7 +80,7 @@ fn tell_report<K: Sink>(
 
 // Writes the heading, and how many cases each search may close.
 fn put_front<K: Sink>(budget: u64, buffer: &mut LineBuffer, sink: &mut K) -> Result<(), PutFailed>
-    ensures puts { Puts (K.told sink.old) (K.told sink.new) (report_text (heading ∷ entry_budget budget ∷ [])) result }
+    ensures puts { Puts (K.state sink.old) (K.state sink.new) (report_text (heading ∷ entry_budget budget ∷ [])) result }
 {
     write_item(&Item::Heading, buffer, sink)?;
     write_item(&Item::Budget { budget }, buffer, sink)
@@ -94,7 +94,7 @@ fn put_events<K: Sink>(
 ) -> Result<(), PutFailed>
     ensures goes { (net : Net) (most : ℕ) (cert : Bool) (times : List ℤ) → WritesVerdicts (sized net most cert times) drawn.now at_events
         (λ _. at_event drawn.now.net.events []) (λ _. [])
-        (K.told sink.old) (K.told sink.new) result }
+        (K.state sink.old) (K.state sink.new) result }
 {
     // There is a name for each event.
     let _network = drawn.network();

@@ -1,4 +1,4 @@
 mod Ordering
 mod Lining
-mod Telling
+mod RowLines
 mod Whole

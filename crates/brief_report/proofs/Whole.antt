@@ -1,7 +1,7 @@
 -- The whole text of the job.
 use Rattle.std.proofs.Common.{◌≡◌, ◌≤◌, ℕ, List, [], ◌∷◌, ◌++◌, length, refl, arith}
 use Rattle.std.specs.Prelude.{OnErr, Result, Ok, Err, codes}
-use Rattle.itv_base.specs.Outside.{CutShort, SinkView}
+use Rattle.itv_base.specs.Outside.{CutShort, SinkState}
 use Rattle.line_words.specs.Lines.{ended}
 use Rattle.slack_report.specs.Entry as line
 use Rattle.slack_report.specs.Text.{entry_text}
@@ -32,10 +32,10 @@ few_found drawn Consistent found are = few_rows drawn _ drawn.rows found are
 few_found drawn (Inconsistent set) found are = rw are (omega arith)
 few_found drawn Unsettled found are = few_rows drawn _ drawn.rows found are
 
-pub brief_is : (noted : Noted) (drawn : Drawn) (finding : Finding) (rows found : List RowFound) (told : FindingWord) (word : EndWord) → rows ≡ found → told ≡ word_of finding
+pub brief_is : (noted : Noted) (drawn : Drawn) (finding : Finding) (rows found : List RowFound) (numbered : FindingWord) (word : EndWord) → rows ≡ found → numbered ≡ word_of finding
     → word ≡ ending_of drawn.rows finding found
-    → ended (codes "itv brief 1") ++ (entry_text (line.finding told) ++ (rows_text noted drawn (numbered_rows drawn rows) ++ entry_text (line.ending word))) ≡ brief_text noted drawn finding found
-brief_is noted drawn finding rows found told word is_rows is_told is_word = rw (is_rows, is_told, is_word) refl
+    → ended (codes "itv brief 1") ++ (entry_text (line.finding numbered) ++ (rows_text noted drawn (numbered_rows drawn rows) ++ entry_text (line.ending word))) ≡ brief_text noted drawn finding found
+brief_is noted drawn finding rows found numbered word is_rows is_told is_word = rw (is_rows, is_told, is_word) refl
 
 module _ (noted : Noted) (drawn : Drawn) (budget : ℕ) (finding : Finding) (found : List RowFound) (f : IsFindingFound drawn.net finding) (a : AreFound drawn finding found) (s : SettlesWithin drawn.net budget finding found) where
   -- the text says what was found
@@ -43,7 +43,7 @@ module _ (noted : Noted) (drawn : Drawn) (budget : ℕ) (finding : Finding) (fou
   answers_brief answer is = record { finding = finding; found = found; is_finding = f; are_found = a; settles = s; is_text = refl; is_answer = is }
 
   -- and a front of this text is what the job may have begun
-  pub begins_brief : {B E : Type 0} (result : Result B E) (old new : SinkView) → CutShort old new (brief_text noted drawn finding found)
+  pub begins_brief : {B E : Type 0} (result : Result B E) (old new : SinkState) → CutShort old new (brief_text noted drawn finding found)
       → OnErr result ((text : List ℕ) × BeginsBrief noted drawn budget text × CutShort old new text)
   begins_brief (Ok x) old new cut = tt
   begins_brief (Err e) old new cut = (brief_text noted drawn finding found, (answer_of (ending_of drawn.rows finding found), answers_brief _ refl), cut)

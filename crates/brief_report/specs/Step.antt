@@ -11,13 +11,13 @@ use Rattle.drawn.specs.Drawn.{Drawn}
 use Rattle.explained.specs.Answers.{bound_of, verdict_in}
 use Rattle.explained.specs.declared.row.RowFound.{RowFound}
 use Rattle.why_report.specs.Step.{by_words}
-use Rattle.brief_report.specs.declared.counts.RowCounts.{RowCounts}
+use Rattle.brief_report.specs.declared.row_counts.RowCounts.{RowCounts}
 use Rattle.brief_report.specs.declared.judged.Judged.{Judged}
 use Rattle.brief_report.specs.declared.line.Line.{Line}
 use Rattle.brief_report.specs.declared.line.Line.TheVariants as lines
 use Rattle.brief_report.specs.declared.line.RowLine.{RowLine}
-use Rattle.brief_report.specs.declared.place.RowRank.{RowRank}
-use Rattle.brief_report.specs.Text.{NumberedRow, is_worse, lesser, rank_of, told_from, verdict_rank, worst_of}
+use Rattle.brief_report.specs.declared.row_rank.RowRank.{RowRank}
+use Rattle.brief_report.specs.Text.{NumberedRow, is_worse, lesser, rank_of, numbered_from, verdict_rank, worst_of}
 
 -- ---- the judgement of rows
 
@@ -31,7 +31,7 @@ judged_in (kinds.Req range) found =
 
 -- the place of a row
 abbrev pub place_of : NumberedRow → RowRank
-place_of told = record { number = told.number; rank = rank_of told; worst = worst_of told }
+place_of numbered = record { number = numbered.number; rank = rank_of numbered; worst = worst_of numbered }
 
 -- the place of a row with a number, by its judgement
 abbrev pub place_by : ℕ → Option Judged → RowRank
@@ -53,7 +53,7 @@ place_count rank places = count_by (λ (place : RowRank). place.rank == rank) pl
 
 -- the rows of which something is found
 abbrev pub numbered_rows : Drawn → List RowFound → List NumberedRow
-numbered_rows drawn found = told_from 0 drawn.rows found
+numbered_rows drawn found = numbered_from 0 drawn.rows found
 
 -- ---- lines
 

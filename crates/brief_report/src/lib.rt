@@ -3,13 +3,13 @@
 //! front of such a text.
 #![tactic(auto)]
 
-mod counts;
 mod judged;
 mod line;
 mod order;
-mod place;
 mod put_line;
 mod put_rows;
+mod row_counts;
+mod row_rank;
 mod write;
 
 pub use write::write_brief;

@@ -1,7 +1,7 @@
 //! The lines of this job.
 
-use crate::counts::RowCounts;
 use crate::judged::Judged;
+use crate::row_counts::RowCounts;
 use itv_base::{EventName, RowKind};
 use requirements::BothBounds;
 use why_report::DrawnBy;

@@ -8,9 +8,9 @@ ghost use Rattle.line_words.specs.Lines.{ended, line_of, spaced};
 ghost use Rattle.slack_report.specs.Text.{bound_words};
 ghost use Rattle.brief_report.specs.Step.{back_words, counts_words, front_words, judgement_words, line_words, order_word, row_line_words};
 
-use crate::counts::RowCounts;
 use crate::judged::Judged;
 use crate::line::{Line, RowLine};
+use crate::row_counts::RowCounts;
 use itoa::Buffer;
 use itv_base::{PutFailed, Sink, end_text, number_text, put_all};
 use line_words::LineBuffer;
@@ -23,7 +23,7 @@ pub fn put_line<K: Sink>(
     buffer: &mut LineBuffer,
     sink: &mut K,
 ) -> Result<(), PutFailed>
-    ensures puts { Puts (K.told sink.old) (K.told sink.new) (ended (line_of (line_words line.now))) result }
+    ensures puts { Puts (K.state sink.old) (K.state sink.new) (ended (line_of (line_words line.now))) result }
 {
     buffer.clear();
     match put_pieces(line, buffer) {
@@ -34,7 +34,7 @@ pub fn put_line<K: Sink>(
 
 // Puts a line piece by piece.
 fn put_pieces<K: Sink>(line: &Line<'_>, sink: &mut K) -> Result<(), PutFailed>
-    ensures { Puts (K.told sink.old) (K.told sink.new) (ended (line_of (line_words line.now))) result }
+    ensures { Puts (K.state sink.old) (K.state sink.new) (ended (line_of (line_words line.now))) result }
 {
     match line {
         Line::Row(row) => put_row(row, sink),
@@ -43,7 +43,7 @@ fn put_pieces<K: Sink>(line: &Line<'_>, sink: &mut K) -> Result<(), PutFailed>
 }
 
 fn put_row<K: Sink>(row: &RowLine<'_>, sink: &mut K) -> Result<(), PutFailed>
-    ensures { Puts (K.told sink.old) (K.told sink.new) (ended (line_of (row_line_words row.now))) result }
+    ensures { Puts (K.state sink.old) (K.state sink.new) (ended (line_of (row_line_words row.now))) result }
 {
     put_front(row, sink)?;
     put_back(row, sink)
@@ -51,7 +51,7 @@ fn put_row<K: Sink>(row: &RowLine<'_>, sink: &mut K) -> Result<(), PutFailed>
 
 // The line of a row up to and with its bounds.
 fn put_front<K: Sink>(row: &RowLine<'_>, sink: &mut K) -> Result<(), PutFailed>
-    ensures { Puts (K.told sink.old) (K.told sink.new) (line_of (codes "row" ∷ number_text row.now.number ∷ front_words row.now)) result }
+    ensures { Puts (K.state sink.old) (K.state sink.new) (line_of (codes "row" ∷ number_text row.now.number ∷ front_words row.now)) result }
 {
     put_asked(row.number, &row.kind, row.from, row.to, sink)?;
     put_bounds(&row.both, sink)
@@ -59,7 +59,7 @@ fn put_front<K: Sink>(row: &RowLine<'_>, sink: &mut K) -> Result<(), PutFailed>
 
 // The least and the greatest separation.
 fn put_bounds<K: Sink>(both: &BothBounds, sink: &mut K) -> Result<(), PutFailed>
-    ensures { Puts (K.told sink.old) (K.told sink.new)
+    ensures { Puts (K.state sink.old) (K.state sink.new)
         (flat_map spaced (bound_words both.now.least ++ bound_words both.now.greatest)) result }
 {
     put_bound_words(both.least, sink)?;
@@ -68,7 +68,7 @@ fn put_bounds<K: Sink>(both: &BothBounds, sink: &mut K) -> Result<(), PutFailed>
 
 // The line of a row behind its bounds, and its end.
 fn put_back<K: Sink>(row: &RowLine<'_>, sink: &mut K) -> Result<(), PutFailed>
-    ensures { Puts (K.told sink.old) (K.told sink.new) (flat_map spaced (back_words row.now) ++ 10 ∷ []) result }
+    ensures { Puts (K.state sink.old) (K.state sink.new) (flat_map spaced (back_words row.now) ++ 10 ∷ []) result }
 {
     put_judged(row.judged, sink)?;
     put_by(&row.by, sink)?;
@@ -77,7 +77,7 @@ fn put_back<K: Sink>(row: &RowLine<'_>, sink: &mut K) -> Result<(), PutFailed>
 
 // The judgement of a row, nothing for an ask.
 fn put_judged<K: Sink>(judged: Option<Judged>, sink: &mut K) -> Result<(), PutFailed>
-    ensures { Puts (K.told sink.old) (K.told sink.new) (flat_map spaced (judgement_words judged)) result }
+    ensures { Puts (K.state sink.old) (K.state sink.new) (flat_map spaced (judgement_words judged)) result }
 {
     match judged {
         None => Ok(()),
@@ -87,7 +87,7 @@ fn put_judged<K: Sink>(judged: Option<Judged>, sink: &mut K) -> Result<(), PutFa
 
 // A verdict and its slacks.
 fn put_verdict<K: Sink>(judged: &Judged, sink: &mut K) -> Result<(), PutFailed>
-    ensures { Puts (K.told sink.old) (K.told sink.new) (flat_map spaced (judgement_words (Some judged.now))) result }
+    ensures { Puts (K.state sink.old) (K.state sink.new) (flat_map spaced (judgement_words (Some judged.now))) result }
 {
     put_verdict_words(judged.word, sink)?;
     put_slack(&judged.slack, sink)
@@ -95,7 +95,7 @@ fn put_verdict<K: Sink>(judged: &Judged, sink: &mut K) -> Result<(), PutFailed>
 
 // A space and a word for each of two slacks.
 fn put_slack<K: Sink>(slack: &Slack, sink: &mut K) -> Result<(), PutFailed>
-    ensures { Puts (K.told sink.old) (K.told sink.new) (flat_map spaced (end_text slack.now.low ∷ end_text slack.now.high ∷ [])) result }
+    ensures { Puts (K.state sink.old) (K.state sink.new) (flat_map spaced (end_text slack.now.low ∷ end_text slack.now.high ∷ [])) result }
 {
     let mut low = Buffer::new();
     let mut high = Buffer::new();
@@ -112,7 +112,7 @@ fn put_slack<K: Sink>(slack: &Slack, sink: &mut K) -> Result<(), PutFailed>
 
 // A word for an order that a verdict rests on, and the end of the line.
 fn put_order<K: Sink>(rests_on_order: bool, sink: &mut K) -> Result<(), PutFailed>
-    ensures { Puts (K.told sink.old) (K.told sink.new) (flat_map spaced (order_word rests_on_order) ++ 10 ∷ []) result }
+    ensures { Puts (K.state sink.old) (K.state sink.new) (flat_map spaced (order_word rests_on_order) ++ 10 ∷ []) result }
 {
     if rests_on_order {
         sink.put(b" order\n")
@@ -122,7 +122,7 @@ fn put_order<K: Sink>(rests_on_order: bool, sink: &mut K) -> Result<(), PutFaile
 }
 
 fn put_counts<K: Sink>(counts: &RowCounts, sink: &mut K) -> Result<(), PutFailed>
-    ensures { Puts (K.told sink.old) (K.told sink.new) (ended (line_of (counts_words counts.now))) result }
+    ensures { Puts (K.state sink.old) (K.state sink.new) (ended (line_of (counts_words counts.now))) result }
 {
     put_passes(counts.rows, counts.pass, sink)?;
     put_fails(counts.fail, counts.undecided, sink)
@@ -130,7 +130,7 @@ fn put_counts<K: Sink>(counts: &RowCounts, sink: &mut K) -> Result<(), PutFailed
 
 // The line of counts up to the requirements that pass.
 fn put_passes<K: Sink>(rows: u64, pass: u64, sink: &mut K) -> Result<(), PutFailed>
-    ensures { Puts (K.told sink.old) (K.told sink.new)
+    ensures { Puts (K.state sink.old) (K.state sink.new)
         (line_of (codes "rows" ∷ number_text rows ∷ codes "pass" ∷ number_text pass ∷ [])) result }
 {
     let mut rows_digits = Buffer::new();
@@ -148,7 +148,7 @@ fn put_passes<K: Sink>(rows: u64, pass: u64, sink: &mut K) -> Result<(), PutFail
 
 // The line of counts behind the requirements that pass, and its end.
 fn put_fails<K: Sink>(fail: u64, undecided: u64, sink: &mut K) -> Result<(), PutFailed>
-    ensures { Puts (K.told sink.old) (K.told sink.new)
+    ensures { Puts (K.state sink.old) (K.state sink.new)
         (flat_map spaced (codes "fail" ∷ number_text fail ∷ codes "undecided" ∷ number_text undecided ∷ []) ++ 10 ∷ []) result }
 {
     let mut fail_digits = Buffer::new();

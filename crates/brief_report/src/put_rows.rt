@@ -8,11 +8,11 @@ ghost use Rattle.explained.specs.Answers.{HasRowTimes};
 ghost use Rattle.brief_report.specs.Step.{place_of, numbered_rows};
 ghost use Rattle.brief_report.specs.Text.{ordered, rows_text, numbered_row_text};
 
-use crate::counts::counts_of;
 use crate::judged::judged_of;
 use crate::line::{Line, RowLine};
-use crate::place::RowRank;
 use crate::put_line::put_line;
+use crate::row_counts::counts_of;
+use crate::row_rank::RowRank;
 use drawn::{DrawnNetwork, Row};
 use explained::RowFound;
 use itv_base::{PutFailed, Sink};
@@ -33,7 +33,7 @@ pub fn put_rows<N: Notes, K: Sink>(
     requires count { length found.now ≤ length drawn.now.rows }
     requires times { All HasRowTimes found.now }
     requires places { places.now ≡ map place_of (ordered (numbered_rows drawn.now found.now)) }
-    ensures puts { Puts (K.told sink.old) (K.told sink.new)
+    ensures puts { Puts (K.state sink.old) (K.state sink.new)
         (rows_text (N.noted notes.now) drawn.now (numbered_rows drawn.now found.now)) result }
 {
     put_each(notes, drawn, found, places, buffer, sink)?;
@@ -52,7 +52,7 @@ fn put_each<N: Notes, K: Sink>(
     requires count { length found.now ≤ length drawn.now.rows }
     requires times { All HasRowTimes found.now }
     requires places { places.now ≡ map place_of (ordered (numbered_rows drawn.now found.now)) }
-    ensures puts { Puts (K.told sink.old) (K.told sink.new)
+    ensures puts { Puts (K.state sink.old) (K.state sink.new)
         (flat_map (numbered_row_text (N.noted notes.now) drawn.now) (ordered (numbered_rows drawn.now found.now))) result }
 {
     for at in 0..places.len() {
@@ -76,7 +76,7 @@ fn put_row<N: Notes, K: Sink>(
 ) -> Result<(), PutFailed>
     requires row { IsRowOf drawn.now.net row.now }
     requires times { HasRowTimes found.now }
-    ensures puts { Puts (K.told sink.old) (K.told sink.new)
+    ensures puts { Puts (K.state sink.old) (K.state sink.new)
         (numbered_row_text (N.noted notes.now) drawn.now (record { number = number; row = row.now; found = found.now })) result }
 {
     let from = drawn.name(row.from);

@@ -3,7 +3,7 @@
 ghost use Rattle.std.specs.Prelude.{◌≡◌, ◌≤◌, ℕ, List, All, IfOk, OnErr, length, map};
 ghost use Rattle.itv_base.specs.Outside.{CutShort, Puts, grown};
 ghost use Rattle.itv_base.specs.declared.limits.TheConstants.{MAX_BUDGET};
-ghost use Rattle.jobs.specs.Works.{JobWrote};
+ghost use Rattle.jobs.specs.JobWrote.{JobWrote};
 ghost use Rattle.explained.specs.Answers.{AreFound, HasRowTimes, IsFindingFound, SettlesWithin};
 ghost use Rattle.why_report.specs.Text.{ending_of};
 ghost use Rattle.brief_report.specs.Brief.{AnswersBrief, BeginsBrief};
@@ -11,8 +11,8 @@ ghost use Rattle.brief_report.specs.Step.{place_of, numbered_rows};
 ghost use Rattle.brief_report.specs.Text.{brief_text, ordered};
 
 use crate::order::places_of;
-use crate::place::RowRank;
 use crate::put_rows::put_rows;
+use crate::row_rank::RowRank;
 use drawn::DrawnNetwork;
 use explained::{NetworkFound, explain};
 use itv_base::{PutFailed, Sink};
@@ -36,7 +36,7 @@ pub fn write_brief<N: Notes, K: Sink>(
     requires least { 1 ≤ budget }
     requires most { budget ≤ MAX_BUDGET }
     ensures works { JobWrote (AnswersBrief (N.noted notes.now) drawn.now budget) (BeginsBrief (N.noted notes.now) drawn.now budget)
-        (K.told sink.old) (K.told sink.new) result }
+        (K.state sink.old) (K.state sink.new) result }
 {
     let found = explain(alloc, drawn, budget)?;
     let places = places_of(alloc, drawn, &found.rows)?;
@@ -59,10 +59,10 @@ fn put_found<N: Notes, K: Sink>(
     requires places { places.now ≡ map place_of (ordered (numbered_rows drawn.now found.now.rows.items)) }
     ensures answers { (budget : ℕ) → SettlesWithin drawn.now.net budget found.now.finding found.now.rows.items
         → IfOk result (λ answer. (text : List ℕ) × AnswersBrief (N.noted notes.now) drawn.now budget answer text
-        × (K.told sink.new ≡ grown (K.told sink.old) text)) }
+        × (K.state sink.new ≡ grown (K.state sink.old) text)) }
     ensures begins { (budget : ℕ) → SettlesWithin drawn.now.net budget found.now.finding found.now.rows.items
         → OnErr result ((text : List ℕ) × BeginsBrief (N.noted notes.now) drawn.now budget text
-        × CutShort (K.told sink.old) (K.told sink.new) text) }
+        × CutShort (K.state sink.old) (K.state sink.new) text) }
 {
     let word = ending_of(drawn, &found.finding, &found.rows);
     put_text(notes, drawn, found, places, word, buffer, sink)?;
@@ -83,7 +83,7 @@ fn put_text<N: Notes, K: Sink>(
     requires times { All HasRowTimes found.now.rows.items }
     requires places { places.now ≡ map place_of (ordered (numbered_rows drawn.now found.now.rows.items)) }
     requires word { word ≡ ending_of drawn.now.rows found.now.finding found.now.rows.items }
-    ensures puts { Puts (K.told sink.old) (K.told sink.new)
+    ensures puts { Puts (K.state sink.old) (K.state sink.new)
         (brief_text (N.noted notes.now) drawn.now found.now.finding found.now.rows.items) result }
 {
     let finding = finding_word(&found.finding);

@@ -1,5 +1,5 @@
 pub mod Deciding
 pub mod Reading
-pub mod Telling
+pub mod ChosenCauses
 pub mod Splitting
 pub mod Walking

@@ -2,7 +2,7 @@
 use Rattle.std.specs.Prelude.{◌≡◌, List, [], ◌∷◌, ◌++◌, refl}
 use Rattle.std.proofs.Common.{sym, ap, subst, ◌∙◌, append_assoc, append-nil}
 use Rattle.event_graph.specs.Proof.{ProofLine}
-use Rattle.itv_base.specs.Outside.{CutShort, SinkView, grown, one_more_fault}
+use Rattle.itv_base.specs.Outside.{CutShort, SinkState, grown, one_more_fault}
 use Rattle.itv_base.proofs.Written.{cut_then, grown-append, grown-nil}
 use Rattle.certificate.specs.Text.{proof_line_text, proof_text}
 use Rattle.certificate.specs.Scribing.{SinkGrew, SinkWasCut, Tree, TreeGrew, TreeWasCut}
@@ -13,14 +13,14 @@ pub proof_text-append : (xs ys : List ProofLine) → proof_text (xs ++ ys) ≡ p
 proof_text-append [] ys = refl
 proof_text-append (line ∷ xs) ys = ap (λ x. proof_line_text line ++ x) (proof_text-append xs ys) ∙ sym (append_assoc (proof_line_text line) (proof_text xs) (proof_text ys))
 
-pub sink_none : (told : SinkView) → SinkGrew told [] told
-sink_none told = grown-nil told
+pub sink_none : (state : SinkState) → SinkGrew state [] state
+sink_none state = grown-nil state
 
-pub sink_more : (old mid new : SinkView) (xs ys : List ProofLine) → SinkGrew old xs mid → SinkGrew mid ys new → SinkGrew old (xs ++ ys) new
+pub sink_more : (old mid new : SinkState) (xs ys : List ProofLine) → SinkGrew old xs mid → SinkGrew mid ys new → SinkGrew old (xs ++ ys) new
 sink_more old mid new xs ys p q =
     q ∙ ap (λ m. grown m (proof_text ys)) p ∙ grown-append old (proof_text xs) (proof_text ys) ∙ ap (grown old) (sym (proof_text-append xs ys))
 
-pub sink_cut : (old mid new : SinkView) (xs ys : List ProofLine) → SinkGrew old xs mid → SinkWasCut mid ys new → SinkWasCut old (xs ++ ys) new
+pub sink_cut : (old mid new : SinkState) (xs ys : List ProofLine) → SinkGrew old xs mid → SinkWasCut mid ys new → SinkWasCut old (xs ++ ys) new
 sink_cut old mid new xs ys p q =
     subst (CutShort old new) (sym (proof_text-append xs ys)) (cut_then old mid new (proof_text xs) (proof_text ys) p q)
 

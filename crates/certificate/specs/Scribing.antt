@@ -2,17 +2,17 @@
 use Rattle.std.specs.Prelude.{◌≡◌, ◌≤◌, ℕ, List, [], ◌∷◌, ◌++◌, length}
 use Rattle.std.specs.List.{sum_by}
 use Rattle.event_graph.specs.Proof.{Loop, Path, ProofLine, Split}
-use Rattle.itv_base.specs.Outside.{CutShort, SinkView, grown, one_more_fault}
+use Rattle.itv_base.specs.Outside.{CutShort, SinkState, grown, one_more_fault}
 use Rattle.certificate.specs.Text.{proof_text}
 
 -- ---- writing them
 
 -- the view of a sink grew by just the texts of the lines
-abbrev pub SinkGrew : SinkView → List ProofLine → SinkView → Type 0
+abbrev pub SinkGrew : SinkState → List ProofLine → SinkState → Type 0
 SinkGrew old lines new = new ≡ grown old (proof_text lines)
 
 -- the view of a sink grew by a front of their texts, and its count of faults rose
-abbrev pub SinkWasCut : SinkView → List ProofLine → SinkView → Type 0
+abbrev pub SinkWasCut : SinkState → List ProofLine → SinkState → Type 0
 SinkWasCut old lines new = CutShort old new (proof_text lines)
 
 -- ---- keeping them

@@ -2,7 +2,7 @@
 
 ghost use Rattle.std.specs.Prelude.{◌≡◌};
 ghost use Rattle.std.proofs.Common.{ap, refl, ◌∙◌};
-ghost use Rattle.itv_base.specs.Outside.{Puts, SinkView};
+ghost use Rattle.itv_base.specs.Outside.{Puts, SinkState};
 ghost use Rattle.event_graph.specs.Lines.{lent_line};
 ghost use Rattle.certificate.specs.Text.{proof_line_text};
 ghost use Rattle.certificate.specs.Scribing.{SinkGrew, SinkWasCut};
@@ -26,7 +26,7 @@ fn put_line<K: Sink>(
     buffer: &mut LineBuffer,
     sink: &mut K,
 ) -> Result<(), PutFailed>
-    ensures { Puts (K.told sink.old) (K.told sink.new) (proof_line_text (lent_line line.now)) result }
+    ensures { Puts (K.state sink.old) (K.state sink.new) (proof_line_text (lent_line line.now)) result }
 {
     buffer.clear();
     match write_line(line, buffer) {
@@ -40,7 +40,7 @@ impl<'a, K: Sink> SinkScribe<'a, K> {
     fn put(&mut self, line: &Line<'_>) -> Result<(), ScribeFailed>
         ensures sink { self.new.sink.ghost_name ≡ self.old.sink.ghost_name }
         ensures buffer { self.new.buffer.ghost_name ≡ self.old.buffer.ghost_name }
-        ensures puts { Puts (K.told self.old.sink.now) (K.told self.new.sink.now)
+        ensures puts { Puts (K.state self.old.sink.now) (K.state self.new.sink.now)
             (proof_line_text (lent_line line.now)) result }
     {
         match put_line(line, self.buffer, self.sink) {
@@ -51,11 +51,11 @@ impl<'a, K: Sink> SinkScribe<'a, K> {
 }
 
 impl<'a, K: Sink> Scribe for SinkScribe<'a, K> {
-    ghost faults = { λ s. (K.told s.sink.now).faults };
+    ghost faults = { λ s. (K.state s.sink.now).faults };
 
-    ghost Grew = { λ s lines t. (t.sink.ghost_name ≡ s.sink.ghost_name) × (t.buffer.ghost_name ≡ s.buffer.ghost_name) × SinkGrew (K.told s.sink.now) lines (K.told t.sink.now) };
+    ghost Grew = { λ s lines t. (t.sink.ghost_name ≡ s.sink.ghost_name) × (t.buffer.ghost_name ≡ s.buffer.ghost_name) × SinkGrew (K.state s.sink.now) lines (K.state t.sink.now) };
 
-    ghost WasCut = { λ s lines t. (t.sink.ghost_name ≡ s.sink.ghost_name) × (t.buffer.ghost_name ≡ s.buffer.ghost_name) × SinkWasCut (K.told s.sink.now) lines (K.told t.sink.now) };
+    ghost WasCut = { λ s lines t. (t.sink.ghost_name ≡ s.sink.ghost_name) × (t.buffer.ghost_name ≡ s.buffer.ghost_name) × SinkWasCut (K.state s.sink.now) lines (K.state t.sink.now) };
 
     fn split(&mut self, constraint: u32) -> Result<(), ScribeFailed> {
         self.put(&Line::Split(constraint))
@@ -69,11 +69,11 @@ impl<'a, K: Sink> Scribe for SinkScribe<'a, K> {
         self.put(&Line::Loop(edges))
     }
 
-    ghost grew_none = { λ s. (refl, refl, sink_none (K.told s.sink.now)) };
+    ghost grew_none = { λ s. (refl, refl, sink_none (K.state s.sink.now)) };
 
-    ghost grew_more = { λ s t u xs ys p q. (q.0 ∙ p.0, q.1 ∙ p.1, sink_more (K.told s.sink.now) (K.told t.sink.now) (K.told u.sink.now) xs ys p.2 q.2) };
+    ghost grew_more = { λ s t u xs ys p q. (q.0 ∙ p.0, q.1 ∙ p.1, sink_more (K.state s.sink.now) (K.state t.sink.now) (K.state u.sink.now) xs ys p.2 q.2) };
 
-    ghost cut_after = { λ s t u xs ys p q. (q.0 ∙ p.0, q.1 ∙ p.1, sink_cut (K.told s.sink.now) (K.told t.sink.now) (K.told u.sink.now) xs ys p.2 q.2) };
+    ghost cut_after = { λ s t u xs ys p q. (q.0 ∙ p.0, q.1 ∙ p.1, sink_cut (K.state s.sink.now) (K.state t.sink.now) (K.state u.sink.now) xs ys p.2 q.2) };
 
-    ghost grew_faults = { λ s t xs p. ap (λ (told : SinkView). told.faults) p.2 };
+    ghost grew_faults = { λ s t xs p. ap (λ (state : SinkState). state.faults) p.2 };
 }

@@ -25,7 +25,7 @@ pub fn side_letter(side: Side) -> &'static [u8]
 
 /// Puts a space and an edge. If a put failed, a front of them was put, and the sink's count of faults rose.
 pub fn put_edge<K: Sink>(edge: EdgeName, sink: &mut K) -> Result<(), PutFailed>
-    ensures puts { Puts (K.told sink.old) (K.told sink.new) (spaced (edge_word edge)) result }
+    ensures puts { Puts (K.state sink.old) (K.state sink.new) (spaced (edge_word edge)) result }
 {
     let mut constraint = Buffer::new();
     let mut cause = Buffer::new();
@@ -43,7 +43,7 @@ pub fn put_edge<K: Sink>(edge: EdgeName, sink: &mut K) -> Result<(), PutFailed>
 
 // Puts a space and an edge, for each edge.
 fn put_edges<K: Sink>(edges: &[EdgeName], sink: &mut K) -> Result<(), PutFailed>
-    ensures { Puts (K.told sink.old) (K.told sink.new) (flat_map spaced (map edge_word edges.now)) result }
+    ensures { Puts (K.state sink.old) (K.state sink.new) (flat_map spaced (map edge_word edges.now)) result }
 {
     for edge in edges {
         put_edge(*edge, sink)?;
@@ -52,7 +52,7 @@ fn put_edges<K: Sink>(edges: &[EdgeName], sink: &mut K) -> Result<(), PutFailed>
 }
 
 fn put_split<K: Sink>(constraint: u32, sink: &mut K) -> Result<(), PutFailed>
-    ensures { Puts (K.told sink.old) (K.told sink.new) (proof_line_text (Split constraint)) result }
+    ensures { Puts (K.state sink.old) (K.state sink.new) (proof_line_text (Split constraint)) result }
 {
     let mut digits = Buffer::new();
     put_words(
@@ -64,7 +64,7 @@ fn put_split<K: Sink>(constraint: u32, sink: &mut K) -> Result<(), PutFailed>
 
 // Puts a line of a word and edges.
 fn put_edge_line<K: Sink>(word: &[u8], edges: &[EdgeName], sink: &mut K) -> Result<(), PutFailed>
-    ensures { Puts (K.told sink.old) (K.told sink.new) (ended (line_of (word.now ∷ map edge_word edges.now))) result }
+    ensures { Puts (K.state sink.old) (K.state sink.new) (ended (line_of (word.now ∷ map edge_word edges.now))) result }
 {
     sink.put(word)?;
     put_edges(edges, sink)?;
@@ -73,7 +73,7 @@ fn put_edge_line<K: Sink>(word: &[u8], edges: &[EdgeName], sink: &mut K) -> Resu
 
 /// Writes a line of a proof and its line end. If a put failed, a front of it was written, and the sink's count of faults rose.
 pub fn write_line<K: Sink>(line: &Line<'_>, sink: &mut K) -> Result<(), PutFailed>
-    ensures puts { Puts (K.told sink.old) (K.told sink.new) (proof_line_text (lent_line line.now)) result }
+    ensures puts { Puts (K.state sink.old) (K.state sink.new) (proof_line_text (lent_line line.now)) result }
 {
     match line {
         Line::Split(constraint) => put_split(*constraint, sink),

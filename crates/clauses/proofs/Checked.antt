@@ -8,7 +8,7 @@ use Rattle.itv_base.specs.declared.names.EventId.{EventId}
 use Rattle.event_graph.specs.Network.{Net}
 use Rattle.event_graph.specs.Times.{time_of}
 use Rattle.falling.specs.Cap.{cap}
-use Rattle.falling.specs.Course.{AreLimits}
+use Rattle.falling.specs.DerivationEnds.{AreLimits}
 use Rattle.falling.specs.Derivation.{starting_values}
 use Rattle.falling.proofs.Bounding.{length-starting, past_end, replicated, set_at, some_and}
 use Rattle.clauses.specs.declared.way.Way.{Way}

@@ -7,7 +7,7 @@ use Rattle.event_graph.specs.Satisfying.{Satisfies}
 use Rattle.event_graph.specs.Times.{separation}
 use Rattle.falling.specs.Cap.{far_line}
 use Rattle.falling.specs.Kinds.{negated}
-use Rattle.falling.specs.Course.{AreLimits}
+use Rattle.falling.specs.DerivationEnds.{AreLimits}
 use Rattle.clauses.specs.declared.basis.Basis.{Basis}
 use Rattle.clauses.specs.declared.basis.WalkStep.{WalkStep}
 use Rattle.clauses.specs.declared.fault.AssumeFault.{AssumeFault}

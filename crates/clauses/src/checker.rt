@@ -1,7 +1,7 @@
 //! The checker of proofs by clauses.
 
 ghost use Rattle.std.specs.Prelude.{◌≡◌, ◌↔◌, ◌⊎◌, ◌<◌, ◌≤ℤ◌, IsTrue, IfOk, IfErr, OnOk, OnErr};
-ghost use Rattle.falling.specs.Course.{AreLimits};
+ghost use Rattle.falling.specs.DerivationEnds.{AreLimits};
 ghost use Rattle.clauses.specs.declared.fault.CloseFault.TheVariants.{NoMemory as CloseWantsMemory, NotEnded};
 ghost use Rattle.clauses.specs.Checking.{IsAssumeFault, IsChecking, IsCloseFault, IsFallLineFault, IsKnowFault, IsLoopFault, TakesLine};
 ghost use Rattle.clauses.specs.Laws.{claiming};

@@ -3,7 +3,7 @@
 ghost use Rattle.std.specs.Prelude.{◌≡◌, ◌↔◌, ◌^◌, ◌<◌, ℕ, ℤ, pos, neg_ℤ, ◌+ℤ◌, ◌-ℤ◌, ◌≤ℤ◌, ◌<ℤ◌, IsTrue, IsFalse, All, Contains, Some, IfSome, IfNone, IfOk, IfErr, OnOk, slice_get};
 ghost use Rattle.event_graph.specs.Network.{IsNet};
 ghost use Rattle.event_graph.specs.Times.{time_of};
-ghost use Rattle.falling.specs.Course.{AreLimits};
+ghost use Rattle.falling.specs.DerivationEnds.{AreLimits};
 ghost use Rattle.clauses.specs.Checking.{GivesMost, HasShape, IsFallLineFault, IsFirstMore, IsFirstWithout, IsFrameValue, IsKnowFault, IsNearClause, IsThisOrRefused, MayFall, MayKnow, OfClause};
 ghost use Rattle.clauses.specs.Lines.{IsAddable, IsKnownFalse};
 

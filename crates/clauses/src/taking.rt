@@ -2,7 +2,7 @@
 
 ghost use Rattle.std.specs.Prelude.{◌≡◌, ◌∷◌, ◌++◌, ◌<◌, [], All, IsSome, IfSome, IfNone, IfOk, IfErr, OnOk, OnErr, length, map, set, take};
 ghost use Rattle.event_graph.specs.Network.{IsNet};
-ghost use Rattle.falling.specs.Course.{AreLimits};
+ghost use Rattle.falling.specs.DerivationEnds.{AreLimits};
 ghost use Rattle.clauses.specs.declared.fault.AssumeFault.TheVariants.{NoMemory as AssumeWantsMemory};
 ghost use Rattle.clauses.specs.declared.fault.CloseFault.TheVariants.{NoMemory as CloseWantsMemory};
 ghost use Rattle.clauses.specs.declared.literal.Literal.{Literal};

@@ -3,9 +3,9 @@ use Rattle.std.proofs.Common.{◌≡◌, ℕ, List, map, Result, Ok, Err, ap}
 use Rattle.itv_base.specs.Reading.{◌>>=◌, IsReadingFault}
 use Rattle.itv_base.proofs.Faults.{IsReadingFault-first, IsReadingFault-on}
 use Rattle.netlist.specs.declared.part.Part.{Part}
-use Rattle.netlist.specs.Contents.{NetlistContents as Netlist}
+use Rattle.netlist.specs.NetlistContents.{NetlistContents as Netlist}
 use Rattle.sheet.specs.declared.row.SheetRow.{SheetRow}
-use Rattle.sheet.specs.Contents.{SheetContents}
+use Rattle.sheet.specs.SheetContents.{SheetContents}
 use Rattle.sheet.specs.Links.{Link, link_rows, link_rules}
 use Rattle.sheet.specs.Rule.{SheetRule}
 use Rattle.compose.specs.declared.fault.JoinFault.{JoinFault}

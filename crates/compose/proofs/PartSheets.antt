@@ -4,7 +4,7 @@ use Rattle.std.specs.Prelude.{filter_map, slice_get}
 use Rattle.std.proofs.lemmas.List.{take_more, map_push}
 use Rattle.std.proofs.lemmas.List.Sums.{sum_by-cons}
 use Rattle.std.proofs.lemmas.List.Elements.{All-push, filter_map-append}
-use Rattle.sheet.specs.Contents.{SheetContents}
+use Rattle.sheet.specs.SheetContents.{SheetContents}
 use Rattle.sheet.specs.Whole.{IsWhole}
 use Rattle.compose.specs.declared.terminal.Terminal.{Terminal}
 use Rattle.compose.specs.Nets.{kinds_fit, kind_at, marks_at, pins_at}

@@ -14,12 +14,12 @@ use Rattle.itv_base.proofs.Faults.{IfOk-bind, IfOk-walk}
 use Rattle.netlist.specs.declared.part.Part.{Part}
 use Rattle.netlist.specs.declared.pin.PinText.{PinText}
 use Rattle.netlist.specs.declared.wire.Wire.{Wire}
-use Rattle.netlist.specs.Contents.{JoinedPins}
-use Rattle.netlist.specs.Contents.{NetlistContents as Netlist}
+use Rattle.netlist.specs.NetlistContents.{JoinedPins}
+use Rattle.netlist.specs.NetlistContents.{NetlistContents as Netlist}
 use Rattle.netlist.specs.Whole.{IsNetlist, IsWholeWire}
 use Rattle.sheet.specs.declared.mark.Mark.{Mark}
 use Rattle.sheet.specs.declared.pin.Pin.{Pin}
-use Rattle.sheet.specs.Contents.{SheetContents}
+use Rattle.sheet.specs.SheetContents.{SheetContents}
 use Rattle.sheet.specs.Links.{Link, is_full, open_ends}
 use Rattle.sheet.specs.Whole.{IsWhole}
 use Rattle.sheet.proofs.WholeSheets.{AreWhole, AreWhole-none, IsWholeLink, few_push, link_rows_whole, link_rules_whole}

@@ -7,8 +7,8 @@ use Rattle.netlist.specs.declared.wire.Wire.{Wire}
 use Rattle.sheet.specs.declared.groups.GroupFault.{GroupFault}
 use Rattle.sheet.specs.declared.groups.GroupFault.TheVariants.{TooManyCauses, NoMemory}
 use Rattle.sheet.specs.declared.row.SheetRow.{SheetRow}
-use Rattle.sheet.specs.Contents.{SheetContents}
-use Rattle.sheet.specs.Groups.{Places, RepresentsRules, TellsFull}
+use Rattle.sheet.specs.SheetContents.{SheetContents}
+use Rattle.sheet.specs.Groups.{Places, RepresentsRules, IsFullFault}
 use Rattle.sheet.specs.Links.{Link, is_full, link_rows}
 use Rattle.sheet.specs.Rule.{SheetRule}
 use Rattle.compose.specs.declared.fault.JoinFault.{JoinFault}
@@ -25,7 +25,7 @@ pub record WiresRead (parts : List Part) (sheets : List SheetContents) (wires : 
   pub left : walk (with_wire parts sheets) n links (drop n wires) ≡ wire_links parts sheets wires
 
 full_fault : (parts : List Part) (sheets : List SheetContents) (links : List Link) (n : ℕ) (wire : Wire) (ends : WireEnds) (fault : GroupFault) → ends_of parts sheets n wire ≡ Ok ends
-    → TellsFull n (is_full links (wire_link sheets n wire ends)) fault → IsReadingFault is_memory (with_wire parts sheets n links (Some wire)) (join_fault fault)
+    → IsFullFault n (is_full links (wire_link sheets n wire ends)) fault → IsReadingFault is_memory (with_wire parts sheets n links (Some wire)) (join_fault fault)
 full_fault parts sheets links n wire ends (TooManyCauses m) found full = rw (found, full.1, full.0) refl
 full_fault parts sheets links n wire ends NoMemory found full = tt
 
@@ -40,7 +40,7 @@ module _ (parts : List Part) (sheets : List SheetContents) (wires : List (Option
     wire-fault fault h = walk_fault is_memory (with_wire parts sheets) n n links wires wire fault within read (rw is (IsReadingFault-first is_memory (ends_of parts sheets n some) _ fault h))
 
     module _ (ends : WireEnds) (found : ends_of parts sheets n some ≡ Ok ends) where
-      pub wire-full : (fault : GroupFault) → TellsFull n (is_full links (wire_link sheets n some ends)) fault → IsReadingFault is_memory (walk (with_wire parts sheets) n links (drop n wires)) (join_fault fault)
+      pub wire-full : (fault : GroupFault) → IsFullFault n (is_full links (wire_link sheets n some ends)) fault → IsReadingFault is_memory (walk (with_wire parts sheets) n links (drop n wires)) (join_fault fault)
       wire-full fault full =
           walk_fault is_memory (with_wire parts sheets) n n links wires wire (join_fault fault) within read (rw is (full_fault parts sheets links n some ends fault found full))
 

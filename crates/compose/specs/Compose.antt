@@ -2,8 +2,8 @@
 use Rattle.std.specs.Prelude.{map, List, Result, Ok}
 use Rattle.itv_base.specs.Reading.{◌>>=◌}
 use Rattle.netlist.specs.declared.part.Part.{Part}
-use Rattle.netlist.specs.Contents.{NetlistContents}
-use Rattle.sheet.specs.Contents as sheet
+use Rattle.netlist.specs.NetlistContents.{NetlistContents}
+use Rattle.sheet.specs.SheetContents as sheet
 use Rattle.sheet.specs.Links.{link_rules, link_rows}
 use Rattle.compose.specs.declared.fault.JoinFault.{JoinFault}
 use Rattle.compose.specs.Design.{Composed}

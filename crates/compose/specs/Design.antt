@@ -1,7 +1,7 @@
 -- What a design has, and what holds for every design.
 use Rattle.std.specs.Prelude.{◌≡◌, ◌<◌, ◌≤◌, ℕ, List, length, All, IsSomeAnd, slice_get}
 use Rattle.itv_base.specs.declared.limits.TheConstants.{MAX_CYCLES, MAX_PARTS}
-use Rattle.sheet.specs.Contents.{SheetContents}
+use Rattle.sheet.specs.SheetContents.{SheetContents}
 use Rattle.sheet.specs.Rule.{SheetRule}
 use Rattle.sheet.specs.Whole.{IsWhole, IsWholeRow, IsWholeRule}
 use Rattle.sheet.specs.declared.row.SheetRow.{SheetRow}

@@ -8,11 +8,11 @@ use Rattle.wave_string.specs.declared.mark_kind.MarkKind.TheVariants.{Bare}
 use Rattle.wave_string.specs.Kinds.{may_join}
 use Rattle.sheet.specs.declared.mark.Mark.{Mark}
 use Rattle.sheet.specs.declared.pin.Pin.{Pin}
-use Rattle.sheet.specs.Contents.{SheetContents}
+use Rattle.sheet.specs.SheetContents.{SheetContents}
 use Rattle.origin.specs.declared.origin.Origin.TheVariants.{Pin as FromPin}
 use Rattle.netlist.specs.declared.part.Part.{Part}
 use Rattle.netlist.specs.declared.pin.PinText.{PinText}
-use Rattle.netlist.specs.Contents.{JoinedPins}
+use Rattle.netlist.specs.NetlistContents.{JoinedPins}
 use Rattle.compose.specs.declared.fault.JoinFault.{JoinFault}
 use Rattle.compose.specs.declared.fault.JoinFault.TheVariants.{NoPart, NoPin, MarkCounts, KindsDiffer}
 use Rattle.compose.specs.declared.joins.Join.{Join}

@@ -3,7 +3,7 @@
 use Rattle.std.specs.Prelude.{ℕ, ◌+◌, List, [], ◌∷◌, length, sum_by, take}
 use Rattle.itv_base.specs.declared.names.RuleKind.TheVariants.{Lin}
 use Rattle.sheet.specs.Rule.{SheetRule}
-use Rattle.sheet.specs.Contents.{SheetContents}
+use Rattle.sheet.specs.SheetContents.{SheetContents}
 use Rattle.compose.specs.declared.mark.DesignMark.{DesignMark}
 use Rattle.compose.specs.declared.joins.Join.{Join}
 

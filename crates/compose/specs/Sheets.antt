@@ -7,7 +7,7 @@ use Rattle.std.specs.declared.hash.FoldHasher.{FoldHasher}
 use Rattle.std.specs.declared.hash.BuildHasherDefault.{BuildHasherDefault}
 use Rattle.indexmap.specs.IndexMap.{IndexMap, get}
 use Rattle.netlist.specs.declared.part.Part.{Part}
-use Rattle.sheet.specs.Contents.{SheetContents}
+use Rattle.sheet.specs.SheetContents.{SheetContents}
 use Rattle.compose.specs.declared.sheet_key.SheetKey.{SheetKey}
 
 -- the key of the sheet of a part

@@ -4,7 +4,7 @@ use Rattle.itv_base.specs.Reading.{◌>>=◌, walk}
 use Rattle.itv_base.specs.Range.{Ends}
 use Rattle.label_grammar.specs.Label.{LooseLabel}
 use Rattle.sheet.specs.declared.mark.Mark.{Mark}
-use Rattle.sheet.specs.Contents.{SheetContents}
+use Rattle.sheet.specs.SheetContents.{SheetContents}
 use Rattle.sheet.specs.Links.{Link, is_full}
 use Rattle.netlist.specs.declared.part.Part.{Part}
 use Rattle.netlist.specs.declared.wire.Wire.{Wire}

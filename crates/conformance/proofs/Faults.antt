@@ -3,12 +3,12 @@ use Rattle.std.proofs.Common.{◌≡◌, ◌∙◌, ℕ, Bool, List, [], ◌++�
 use Rattle.std.proofs.lemmas.List.{take-append-drop}
 use Rattle.std.proofs.lemmas.Option.{same_Some}
 use Rattle.std.specs.Option.{option_map_or}
-use Rattle.itv_base.specs.Memory.{MemSink, sink_told}
+use Rattle.itv_base.specs.Memory.{MemSink, sink_state}
 use Rattle.itv_base.specs.Outside.{CutShort, Files, FaultCounted, file_of}
 use Rattle.drawn.specs.Drawn.{Drawn}
-use Rattle.reading.specs.declared.place.RefusalPlace.{RefusalPlace}
+use Rattle.reading.specs.declared.refusal_place.RefusalPlace.{RefusalPlace}
 use Rattle.reading.specs.Design.{design_at}
-use Rattle.reading.specs.Opening.{FileReading, gives, refuses, fetches, ◌>>=◌, End, ready, refused, unread, told_end}
+use Rattle.reading.specs.FileReading.{FileReading, gives, refuses, fetches, ◌>>=◌, End, ready, refused, unread, end_over}
 use Rattle.reading.specs.Refusal.{unread_text}
 use Rattle.bounds_report.specs.Reports.{MayHaveBegun}
 use Rattle.bounds_report.proofs.WrittenLaws.{begun_is_right}
@@ -20,35 +20,35 @@ use Rattle.itv_cli.specs.declared.outcome.Outcome.TheVariants as ends
 use Rattle.itv_cli.specs.declared.ready.Ready.{Ready}
 use Rattle.itv_cli.specs.declared.ready.Ready.TheVariants as given
 use Rattle.conformance.specs.Clients.{Asks, Draws, IsFrontOf, IsFrontOfRight, IsUnreadOf}
-use Rattle.conformance.proofs.Telling.{came_over, ready_over, refused_over, same_ready}
+use Rattle.conformance.proofs.KnownFiles.{came_over, ready_over, refused_over, same_ready}
 
 -- ---- an output that failed
 
 -- a reading that goes on behind another comes to what it goes on to
 on_by : {A B : Type 0} (files : Files) (next : List ℕ → FileReading A) (k : A → FileReading B) (most : ℕ) (place : RefusalPlace) (name : List ℕ) (x : A) (file : Option (List ℕ))
-    → ((bytes : List ℕ) → told_end files (next bytes) ≡ ready x → told_end files (next bytes >>= k) ≡ told_end files (k x))
-    → option_map_or (λ bytes. told_end files (next (take most bytes))) file (unread place name) ≡ ready x
-    → option_map_or (λ bytes. told_end files (next (take most bytes) >>= k)) file (unread place name) ≡ told_end files (k x)
+    → ((bytes : List ℕ) → end_over files (next bytes) ≡ ready x → end_over files (next bytes >>= k) ≡ end_over files (k x))
+    → option_map_or (λ bytes. end_over files (next (take most bytes))) file (unread place name) ≡ ready x
+    → option_map_or (λ bytes. end_over files (next (take most bytes) >>= k)) file (unread place name) ≡ end_over files (k x)
 on_by files next k most place name x None more e = absurd (cc e)
 on_by files next k most place name x (Some bytes) more e = more (take most bytes) e
 
-told_on : {A B : Type 0} (files : Files) (o : FileReading A) (k : A → FileReading B) (x : A) → told_end files o ≡ ready x → told_end files (o >>= k) ≡ told_end files (k x)
-told_on files (gives y) k x e = ap (λ z. told_end files (k z)) (same_ready y x e)
+told_on : {A B : Type 0} (files : Files) (o : FileReading A) (k : A → FileReading B) (x : A) → end_over files o ≡ ready x → end_over files (o >>= k) ≡ end_over files (k x)
+told_on files (gives y) k x e = ap (λ z. end_over files (k z)) (same_ready y x e)
 told_on files (refuses place why) k x e = absurd (cc e)
 told_on files (fetches place name most next) k x e = on_by files next k most place name x (file_of files name) (λ bytes h. told_on files (next bytes) k x h) e
 
 -- if the files of job bounds draw a network, they are all there
-bounds_ready : (files : Files) (design : List ℕ) (budget : ℕ) (cert : Bool) (drawn : Drawn) → Draws files design drawn → told_end files (opening (bounds design budget cert)) ≡ ready (given.Bounds drawn budget cert)
+bounds_ready : (files : Files) (design : List ℕ) (budget : ℕ) (cert : Bool) (drawn : Drawn) → Draws files design drawn → end_over files (opening (bounds design budget cert)) ≡ ready (given.Bounds drawn budget cert)
 bounds_ready files design budget cert drawn draws = told_on files (design_at design) (λ d. gives (given.Bounds d budget cert)) drawn draws
 
-module _ (call : Call) (files : Files) (asked : Task) (told : call.shelf_before.files ≡ Some files) (asks : Asks call.words asked) (quiet : ¬ (FaultCounted call.shelf_before.faults call.shelf_after.faults)) where
+module _ (call : Call) (files : Files) (asked : Task) (current : call.shelf_before.files ≡ Some files) (asks : Asks call.words asked) (quiet : ¬ (FaultCounted call.shelf_before.faults call.shelf_after.faults)) where
   -- if no fetch failed, the reading came to the end that the files say
-  told_is : (end : End Ready) → HasRead call end → told_end files (opening asked) ≡ end
-  told_is (ready given) came = ready_over call files asked given told asks came
-  told_is (refused place why) came = refused_over call files asked place why told asks came
+  told_is : (end : End Ready) → HasRead call end → end_over files (opening asked) ≡ end
+  told_is (ready given) came = ready_over call files asked given current asks came
+  told_is (refused place why) came = refused_over call files asked place why current asks came
   told_is (unread place name) came = absurd (quiet (came_over call asked (unread place name) asks came).1.rose)
 
-  wanted_over : (text : List ℕ) → IntendedText call text → ToWrite (told_end files (opening asked)) text
+  wanted_over : (text : List ℕ) → IntendedText call text → ToWrite (end_over files (opening asked)) text
   wanted_over text (for_help is kept) = absurd (cc (is, asks.words))
   wanted_over text (for_bad_words is kept same) = absurd (cc (is, asks.words))
   wanted_over text (at_end end came wants) = subst (λ e. ToWrite e text) (sym (told_is end came)) wants
@@ -64,7 +64,7 @@ front_right files design budget cert drawn bytes draws f =
     record { lines = lines; begins_right = right; rest = f.rest; text = sym same ∙ f.front }
 
 -- what a sink in memory holds that was empty before a text was cut short
-pub sink_cut : (old new : MemSink) (text : List ℕ) (cut : CutShort (sink_told old) (sink_told new) text) → old.bytes ≡ [] → take cut.front.0 text ≡ new.bytes
+pub sink_cut : (old new : MemSink) (text : List ℕ) (cut : CutShort (sink_state old) (sink_state new) text) → old.bytes ≡ [] → take cut.front.0 text ≡ new.bytes
 sink_cut old new text cut fresh = sym (same_Some new.bytes (old.bytes ++ take cut.front.0 text) cut.front.2 ∙ ap (λ before. before ++ take cut.front.0 text) fresh)
 
 -- ---- a file that could not be read

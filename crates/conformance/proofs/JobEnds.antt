@@ -5,7 +5,7 @@ use Rattle.std.proofs.lemmas.List.{length-take, take_all}
 use Rattle.std.specs.Option.{option_map_or}
 use Rattle.event_graph.specs.Bounds.{IsInconsistent}
 use Rattle.event_graph.specs.RootBound.{HasNoRoot}
-use Rattle.itv_base.specs.Outside.{Files, ShelfView, file_of, grown}
+use Rattle.itv_base.specs.Outside.{Files, ShelfState, file_of, grown}
 use Rattle.itv_base.specs.declared.limits.TheConstants.{MAX_MATRIX_EVENTS, REPORT_LIMIT}
 use Rattle.design_gen.specs.Files.{design_files}
 use Rattle.jobs.specs.Ending.{answer_of}
@@ -14,19 +14,19 @@ use Rattle.jobs.specs.declared.answer.Answer.TheVariants as answers
 use Rattle.slack_report.specs.declared.words.EndWord.{EndWord}
 use Rattle.slack_report.specs.declared.words.EndWord.TheVariants as endings
 use Rattle.right_report.specs.Laws.{AllMet, SomeBroken, SomeSatisfy}
-use Rattle.right_report.specs.Right.At.{at_last}
-use Rattle.right_report.specs.Right.Facts.{BeginsRightReport}
+use Rattle.right_report.specs.Right.ReportState.{at_last}
+use Rattle.right_report.specs.Right.LineClaims.{BeginsRightReport}
 use Rattle.right_report.specs.Texts.{IsAcceptedText, IsRefusedText}
 use Rattle.right_report.proofs.Ending.{fail_end_is_so, inconsistent_end_is_so, pass_end_is_so}
 use Rattle.right_report.proofs.Refusing.{accepted_text_is_right, one_refused_line}
 use Rattle.drawn.specs.Drawn.{Drawn}
 use Rattle.drawn_names.proofs.Designs.{drawn_names_have_form, drawn_ranges_have_form}
-use Rattle.reading.specs.declared.place.RefusalPlace.{RefusalPlace}
-use Rattle.reading.specs.declared.place.RefusalPlace.TheVariants.{Report}
+use Rattle.reading.specs.declared.refusal_place.RefusalPlace.{RefusalPlace}
+use Rattle.reading.specs.declared.refusal_place.RefusalPlace.TheVariants.{Report}
 use Rattle.reading.specs.Design.{design_at}
 use Rattle.reading.specs.declared.refusal.Refusal.{Refusal}
 use Rattle.reading.specs.declared.refusal.Refusal.TheVariants.{TooLong}
-use Rattle.reading.specs.Opening.{RunsTo, End, FileReading, gives, refuses, fetches, ◌>>=◌, ready, unread, told_end, file_at, within_limit}
+use Rattle.reading.specs.FileReading.{RunsTo, End, FileReading, gives, refuses, fetches, ◌>>=◌, ready, unread, end_over, file_at, within_limit}
 use Rattle.bounds_report.proofs.WrittenLaws.{written_is_accepted, written_is_right}
 use Rattle.matrix_report.specs.Matrix.{AnswersMatrix, IsMatrixText}
 use Rattle.report_check.specs.Check.{AnswersCheck, refused_text}
@@ -41,7 +41,7 @@ use Rattle.itv_cli.specs.declared.outcome.Outcome.TheVariants as ends
 use Rattle.itv_cli.specs.declared.ready.Ready.{Ready}
 use Rattle.itv_cli.specs.declared.ready.Ready.TheVariants as given
 use Rattle.conformance.specs.Clients.{AsksBounds, AsksCheck, AsksConfirm, AsksMatrix, AsksSettle, IsReportEnd, IsRightFile, IsSettledFile, IsSummaryOf, IsWrongFile}
-use Rattle.conformance.proofs.Telling.{answer_over, never_refused, reported_over, same_asked, same_ready, told_behind, told_then}
+use Rattle.conformance.proofs.KnownFiles.{answer_over, never_refused, reported_over, same_asked, same_ready, told_behind, told_then}
 
 -- ---- what was answered
 
@@ -57,17 +57,17 @@ pub answered_by : (call : Call) (result : Outcome) (answer : Answer) → (answer
 answered_by call result answer other means e = means_answered call answer other (subst (λ end. OutcomeMeans call end) e means)
 
 -- if the end over known files is a value, a reading comes to it
-told_shelf : Files → ShelfView
+told_shelf : Files → ShelfState
 told_shelf files = record { files = Some files; faults = 0; last = codes ""; is_faithful = true }
 
 comes_by : {A : Type 0} (files : Files) (next : List ℕ → FileReading A) (most : ℕ) (place : RefusalPlace) (name : List ℕ) (x : A) (file : Option (List ℕ)) → file_of files name ≡ file
-    → ((bytes : List ℕ) → told_end files (next bytes) ≡ ready x → RunsTo (told_shelf files) (next bytes) (ready x))
-    → option_map_or (λ bytes. told_end files (next (take most bytes))) file (unread place name) ≡ ready x → RunsTo (told_shelf files) (fetches place name most next) (ready x)
+    → ((bytes : List ℕ) → end_over files (next bytes) ≡ ready x → RunsTo (told_shelf files) (next bytes) (ready x))
+    → option_map_or (λ bytes. end_over files (next (take most bytes))) file (unread place name) ≡ ready x → RunsTo (told_shelf files) (fetches place name most next) (ready x)
 unfolding told_shelf
 comes_by files next most place name x None is more e = absurd (cc e)
 comes_by files next most place name x (Some bytes) is more e = inr (take most bytes, rw is refl, more (take most bytes) e)
 
-told_comes : {A : Type 0} (files : Files) (o : FileReading A) (x : A) → told_end files o ≡ ready x → RunsTo (told_shelf files) o (ready x)
+told_comes : {A : Type 0} (files : Files) (o : FileReading A) (x : A) → end_over files o ≡ ready x → RunsTo (told_shelf files) o (ready x)
 told_comes files (gives y) x e = sym e
 told_comes files (refuses place why) x e = absurd (cc e)
 told_comes files (fetches place name most next) x e = comes_by files next most place name x (file_of files name) refl (λ bytes h. told_comes files (next bytes) x h) e
@@ -92,10 +92,10 @@ none_word endings.Fail e = absurd (cc e)
 none_word endings.Inconsistent e = refl
 none_word endings.Undecided e = absurd (cc e)
 
-module _ (call : Call) (files : Files) (budget : ℕ) (cert : Bool) (drawn : Drawn) (told : call.shelf_before.files ≡ Some files) (asks : AsksBounds call.words files budget cert drawn) where
+module _ (call : Call) (files : Files) (budget : ℕ) (cert : Bool) (drawn : Drawn) (current : call.shelf_before.files ≡ Some files) (asks : AsksBounds call.words files budget cert drawn) where
   bounds_said : (answer : Answer) (m : HasAnswered call answer) → AnswersBounds drawn budget cert answer m.text
   bounds_said answer m =
-      let h = reported_over files asks.design budget cert answer m.text (answer_over call files (bounds asks.design budget cert) answer m.text told m refl (record { words = asks.words; own = refl })) in
+      let h = reported_over files asks.design budget cert answer m.text (answer_over call files (bounds asks.design budget cert) answer m.text current m refl (record { words = asks.words; own = refl })) in
       subst (λ (d : Drawn). AnswersBounds d budget cert answer m.text) (same_ready h.drawn drawn (sym h.draws ∙ asks.draws)) h.answers
 
   begins : (answer : Answer) (text : List ℕ) (a : AnswersBounds drawn budget cert answer text) → BeginsRightReport drawn a.reports.lines
@@ -122,10 +122,10 @@ module _ (call : Call) (files : Files) (budget : ℕ) (cert : Bool) (drawn : Dra
 -- with the lines of proofs the text is accepted
 pub bounds_accepted : (call : Call) (files : Files) (budget : ℕ) (drawn : Drawn) (result : Outcome) → call.shelf_before.files ≡ Some files → AsksBounds call.words files budget true drawn → OutcomeMeans call result → IsReportEnd result
     → (text : List ℕ) × IsAcceptedText drawn text × (call.sink_after ≡ grown call.sink_before text)
-bounds_accepted call files budget drawn result told asks means end =
+bounds_accepted call files budget drawn result current asks means end =
     let answer = answer_of end.0 in
     let m = answered_by call result answer (λ same. never_refused end.0 (sym same)) means end.1 in
-    let a = bounds_said call files budget true drawn told asks answer m in
+    let a = bounds_said call files budget true drawn current asks answer m in
     let comes = told_comes files (design_at asks.design) drawn asks.draws in
     let accepted = written_is_accepted drawn budget a.reports.lines a.reports.is_written (drawn_names_have_form (told_shelf files) asks.design drawn comes) (drawn_ranges_have_form (told_shelf files) asks.design drawn comes) in
     (m.text, subst (IsAcceptedText drawn) (sym a.reports.is_text) accepted, m.wrote)
@@ -134,7 +134,7 @@ bounds_accepted call files budget drawn result told asks means end =
 
 -- bytes within a limit are the whole file
 whole_by : (place : RefusalPlace) (limit : ℕ) (file bytes : List ℕ) (test : Bool) → nat_lt limit (length (take (limit + 1) file)) ≡ test → (files : Files)
-    → told_end files (if test then refuses place TooLong else gives (take (limit + 1) file)) ≡ ready bytes → file ≡ bytes
+    → end_over files (if test then refuses place TooLong else gives (take (limit + 1) file)) ≡ ready bytes → file ≡ bytes
 whole_by place limit file bytes true is files e = absurd (cc e)
 whole_by place limit file bytes false is files e =
     let short : length (take (limit + 1) file) ≤ limit = not_less limit (length (take (limit + 1) file)) is in
@@ -145,11 +145,11 @@ whole_by place limit file bytes false is files e =
     not_less a b e = ltb-false a b e
 
 file_by : (files : Files) (place : RefusalPlace) (name : List ℕ) (limit : ℕ) (bytes : List ℕ) (file : Option (List ℕ)) → file_of files name ≡ file
-    → option_map_or (λ whole. told_end files (within_limit place limit (take (limit + 1) whole))) file (unread place name) ≡ ready bytes → file_of files name ≡ Some bytes
+    → option_map_or (λ whole. end_over files (within_limit place limit (take (limit + 1) whole))) file (unread place name) ≡ ready bytes → file_of files name ≡ Some bytes
 file_by files place name limit bytes None is e = absurd (cc e)
 file_by files place name limit bytes (Some whole) is e = is ∙ ap (λ all. Some all) (whole_by place limit whole bytes (nat_lt limit (length (take (limit + 1) whole))) refl files e)
 
-file_had : (files : Files) (place : RefusalPlace) (name : List ℕ) (limit : ℕ) (bytes : List ℕ) → told_end files (file_at place name limit) ≡ ready bytes → file_of files name ≡ Some bytes
+file_had : (files : Files) (place : RefusalPlace) (name : List ℕ) (limit : ℕ) (bytes : List ℕ) → end_over files (file_at place name limit) ≡ ready bytes → file_of files name ≡ Some bytes
 file_had files place name limit bytes e = file_by files place name limit bytes (file_of files name) refl e
 
 record HasChecked (files : Files) (report : List ℕ) (drawn : Drawn) (answer : Answer) (text : List ℕ) : Type 0 where
@@ -157,10 +157,10 @@ record HasChecked (files : Files) (report : List ℕ) (drawn : Drawn) (answer : 
   is_file : file_of files report ≡ Some bytes
   answers : AnswersCheck drawn bytes answer text
 
-module _ (call : Call) (files : Files) (report : List ℕ) (drawn : Drawn) (told : call.shelf_before.files ≡ Some files) (asks : AsksCheck call.words files report drawn) where
+module _ (call : Call) (files : Files) (report : List ℕ) (drawn : Drawn) (current : call.shelf_before.files ≡ Some files) (asks : AsksCheck call.words files report drawn) where
   check_said : (answer : Answer) (m : HasAnswered call answer) → HasChecked files report drawn answer m.text
   check_said answer m =
-      let a = answer_over call files (check asks.design report) answer m.text told m refl (record { words = asks.words; own = refl }) in
+      let a = answer_over call files (check asks.design report) answer m.text current m refl (record { words = asks.words; own = refl }) in
       let (other, draws, more) = told_behind files (design_at asks.design) (λ d. file_at Report report REPORT_LIMIT >>= (λ bytes. gives (given.Check d bytes))) a.given a.reads in
       let (bytes, had, is) = told_then files (file_at Report report REPORT_LIMIT) (λ bytes. given.Check other bytes) a.given more in
       let same : other ≡ drawn = same_ready other drawn (sym draws ∙ asks.draws) in
@@ -197,11 +197,11 @@ module _ (call : Call) (files : Files) (report : List ℕ) (drawn : Drawn) (told
 
 -- ---- jobs settle and confirm
 
-module _ (call : Call) (files : Files) (report : List ℕ) (drawn : Drawn) (told : call.shelf_before.files ≡ Some files) (asks : AsksConfirm call.words files report drawn) where
+module _ (call : Call) (files : Files) (report : List ℕ) (drawn : Drawn) (current : call.shelf_before.files ≡ Some files) (asks : AsksConfirm call.words files report drawn) where
   pub confirm_right : (result : Outcome) → OutcomeMeans call result → result ≡ ends.AllPass → IsSettledFile files report drawn
   confirm_right result means e =
       let m = answered_by call result answers.AllPass (λ same. cc same) means e in
-      let a = answer_over call files (confirm asks.design report) answers.AllPass m.text told m refl (record { words = asks.words; own = refl }) in
+      let a = answer_over call files (confirm asks.design report) answers.AllPass m.text current m refl (record { words = asks.words; own = refl }) in
       let (other, draws, more) = told_behind files (design_at asks.design) (λ d. file_at Report report REPORT_LIMIT >>= (λ bytes. gives (given.Confirm d bytes))) a.given a.reads in
       let (bytes, had, is) = told_then files (file_at Report report REPORT_LIMIT) (λ bytes. given.Confirm other bytes) a.given more in
       let same : other ≡ drawn = same_ready other drawn (sym draws ∙ asks.draws) in
@@ -209,10 +209,10 @@ module _ (call : Call) (files : Files) (report : List ℕ) (drawn : Drawn) (told
       subst (λ (d : Drawn). AnswersConfirm d bytes answers.AllPass m.text) same (subst (λ g. Answers g answers.AllPass m.text) (sym is) a.answers) in
       record { bytes = bytes; is_file = file_had files Report report REPORT_LIMIT bytes had; is_settled = said.0 }
 
-module _ (call : Call) (files : Files) (budget : ℕ) (cert : Bool) (drawn : Drawn) (told : call.shelf_before.files ≡ Some files) (asks : AsksSettle call.words files budget cert drawn) where
+module _ (call : Call) (files : Files) (budget : ℕ) (cert : Bool) (drawn : Drawn) (current : call.shelf_before.files ≡ Some files) (asks : AsksSettle call.words files budget cert drawn) where
   settle_said : (answer : Answer) (m : HasAnswered call answer) → AnswersSettle drawn cert answer m.text
   settle_said answer m =
-      let a = answer_over call files (settle asks.design budget cert) answer m.text told m refl (record { words = asks.words; own = refl }) in
+      let a = answer_over call files (settle asks.design budget cert) answer m.text current m refl (record { words = asks.words; own = refl }) in
       let (other, draws, is) = told_then files (design_at asks.design) (λ d. given.Settle d budget cert) a.given a.reads in
       let same : other ≡ drawn = same_ready other drawn (sym draws ∙ asks.draws) in
       subst (λ (d : Drawn). AnswersSettle d cert answer m.text) same (subst (λ g. Answers g answer m.text) (sym is) a.answers)
@@ -224,14 +224,14 @@ module _ (call : Call) (files : Files) (budget : ℕ) (cert : Bool) (drawn : Dra
 -- ---- job matrix
 
 -- a network that is not refused is given
-matrix_had : (files : Files) (drawn : Drawn) (to : Ready) (test : Bool) (place : RefusalPlace) (why : Refusal) → told_end files (if test then refuses place why else gives (given.Matrix drawn)) ≡ ready to → given.Matrix drawn ≡ to
+matrix_had : (files : Files) (drawn : Drawn) (to : Ready) (test : Bool) (place : RefusalPlace) (why : Refusal) → end_over files (if test then refuses place why else gives (given.Matrix drawn)) ≡ ready to → given.Matrix drawn ≡ to
 matrix_had files drawn to true place why e = absurd (cc e)
 matrix_had files drawn to false place why e = same_ready (given.Matrix drawn) to e
 
-module _ (call : Call) (files : Files) (drawn : Drawn) (told : call.shelf_before.files ≡ Some files) (asks : AsksMatrix call.words files drawn) where
+module _ (call : Call) (files : Files) (drawn : Drawn) (current : call.shelf_before.files ≡ Some files) (asks : AsksMatrix call.words files drawn) where
   matrix_said : (answer : Answer) (m : HasAnswered call answer) → AnswersMatrix drawn answer m.text
   matrix_said answer m =
-      let a = answer_over call files (matrix asks.design) answer m.text told m refl (record { words = asks.words; own = refl }) in
+      let a = answer_over call files (matrix asks.design) answer m.text current m refl (record { words = asks.words; own = refl }) in
       let (other, draws, more) = told_behind files (design_at asks.design) matrix_at a.given a.reads in
       let is : given.Matrix other ≡ a.given = matrix_had files other a.given (nat_lt MAX_MATRIX_EVENTS other.net.events) _ _ more in
       subst (λ (d : Drawn). AnswersMatrix d answer m.text) (same_ready other drawn (sym draws ∙ asks.draws)) (subst (λ g. Answers g answer m.text) (sym is) a.answers)
@@ -245,7 +245,7 @@ module _ (call : Call) (files : Files) (drawn : Drawn) (told : call.shelf_before
 -- ---- job self
 
 -- the end of a reading over made files is the end that these files give
-pub came_made : (call : Call) (size budget : ℕ) (end : End Ready) → taken call.words ≡ task (generated size budget) → HasRead call end → end ≡ told_end (design_files size) (opening (generated size budget))
+pub came_made : (call : Call) (size budget : ℕ) (end : End Ready) → taken call.words ≡ task (generated size budget) → HasRead call end → end ≡ end_over (design_files size) (opening (generated size budget))
 came_made call size budget end is came =
     (subst (λ t. ReadsOver (made_for t) call.shelf_before call.shelf_after t end) (same_asked call.words (generated size budget) came.asked is came.words) came.ends).0
 

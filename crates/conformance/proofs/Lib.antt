@@ -1,4 +1,4 @@
-mod Telling
+mod KnownFiles
 mod Faults
 mod JobEnds
 mod PlannedEnds

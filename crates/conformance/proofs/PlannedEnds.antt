@@ -23,7 +23,7 @@ use Rattle.slack_report.specs.declared.words.FindingWord.{FindingWord}
 use Rattle.slack_report.specs.declared.words.FindingWord.TheVariants as findings
 use Rattle.requirements.specs.declared.bound.Bound.{Bound}
 use Rattle.requirements.specs.declared.bound.Bound.TheVariants as bounds
-use Rattle.right_report.specs.Right.At.{ReportTally, course_of, end_word, is_within, undecided_or_pass}
+use Rattle.right_report.specs.Right.ReportState.{ReportTally, tally_of, end_word, is_within, undecided_or_pass}
 use Rattle.plan.specs.Notes.{plan_note}
 use Rattle.plan.specs.Plan.{Planned, sheets_on}
 use Rattle.explained.specs.declared.finding.Finding.{Finding}
@@ -37,7 +37,7 @@ use Rattle.warnings.specs.Warnings.{warnings_of}
 use Rattle.warnings.specs.declared.warning.Warning.{Warning}
 use Rattle.lint_report.specs.Lint.{AnswersLint, answer_by}
 use Rattle.lint_report.specs.Text.{is_clean, is_over}
-use Rattle.reading.specs.Opening.{◌>>=◌, gives, ready, told_end}
+use Rattle.reading.specs.FileReading.{◌>>=◌, gives, ready, end_over}
 use Rattle.words.specs.Task as tasks
 use Rattle.words.specs.Task.{Task}
 use Rattle.itv_cli.specs.Job.{Answers, made_for, opening, planned_at}
@@ -48,18 +48,18 @@ use Rattle.itv_cli.specs.declared.ready.Ready.{Ready}
 use Rattle.itv_cli.specs.declared.ready.Ready.TheVariants as given
 use Rattle.conformance.specs.Clients.{AsksBrief, AsksLint, AsksPlanned, AsksWhy, HasNoWarning, IsReportEnd}
 use Rattle.conformance.proofs.JobEnds.{answered_by}
-use Rattle.conformance.proofs.Telling.{answer_over, never_refused, same_ready, told_then}
+use Rattle.conformance.proofs.KnownFiles.{answer_over, never_refused, same_ready, told_then}
 
 -- ---- jobs of a plan
 
 -- A job that is opened by a plan answers for the plan and the network that the files give.
 module _ (job : List ℕ → ℕ → Task) (made : Planned × Drawn → ℕ → Ready) (opens : (design : List ℕ) (budget : ℕ) → opening (job design budget) ≡ (planned_at design >>= (λ both. gives (made both budget))))
     (own : (design : List ℕ) (budget : ℕ) → made_for (job design budget) ≡ None) where
-  module _ (call : Call) (files : Files) (budget : ℕ) (plan : Planned) (drawn : Drawn) (told : call.shelf_before.files ≡ Some files) (asks : AsksPlanned job call.words files budget plan drawn) where
+  module _ (call : Call) (files : Files) (budget : ℕ) (plan : Planned) (drawn : Drawn) (current : call.shelf_before.files ≡ Some files) (asks : AsksPlanned job call.words files budget plan drawn) where
     planned_said : (answer : Answer) (m : HasAnswered call answer) → Answers (made (plan, drawn) budget) answer m.text
     planned_said answer m =
-        let a = answer_over call files (job asks.design budget) answer m.text told m refl (record { words = asks.words; own = own asks.design budget }) in
-        let reads = subst (λ o. told_end files o ≡ ready a.given) (opens asks.design budget) a.reads in
+        let a = answer_over call files (job asks.design budget) answer m.text current m refl (record { words = asks.words; own = own asks.design budget }) in
+        let reads = subst (λ o. end_over files o ≡ ready a.given) (opens asks.design budget) a.reads in
         let (other, plans, is) = told_then files (planned_at asks.design) (λ (p : Planned × Drawn). made p budget) a.given reads in
         let same : other ≡ (plan, drawn) = same_ready other (plan, drawn) (sym plans ∙ asks.plans) in
         subst (λ (p : Planned × Drawn). Answers (made p budget) answer m.text) same (subst (λ g. Answers g answer m.text) (sym is) a.answers)
@@ -73,14 +73,14 @@ module _ (job : List ℕ → ℕ → Task) (made : Planned × Drawn → ℕ → 
 -- ---- job why
 
 -- rows leave the finding as it is
-row_keeps : (course : ReportTally) (kind : RowKind) (found : RowFound) → (with_row course kind found).found ≡ course.found
-row_keeps course kinds.Ask found = refl
-row_keeps course (kinds.Req range) found = refl
+row_keeps : (tally : ReportTally) (kind : RowKind) (found : RowFound) → (with_row tally kind found).found ≡ tally.found
+row_keeps tally kinds.Ask found = refl
+row_keeps tally (kinds.Req range) found = refl
 
-rows_keep : (course : ReportTally) (rows : List Row) (found : List RowFound) → (with_rows course rows found).found ≡ course.found
-rows_keep course [] found = refl
-rows_keep course (row ∷ rows) [] = refl
-rows_keep course (row ∷ rows) (found ∷ others) = rows_keep (with_row course row.kind found) rows others ∙ row_keeps course row.kind found
+rows_keep : (tally : ReportTally) (rows : List Row) (found : List RowFound) → (with_rows tally rows found).found ≡ tally.found
+rows_keep tally [] found = refl
+rows_keep tally (row ∷ rows) [] = refl
+rows_keep tally (row ∷ rows) (found ∷ others) = rows_keep (with_row tally row.kind found) rows others ∙ row_keeps tally row.kind found
 
 never_none : (fails : Bool) (found : FindingWord) (within : Bool) → (found ≡ findings.Inconsistent → ⊥)
     → answers.Inconsistent ≡ answer_of (if fails then endings.Fail else undecided_or_pass found within) → ⊥
@@ -91,10 +91,10 @@ never_none false findings.Inconsistent within other e = other refl
 never_none false findings.Unsettled within other e = cc e
 
 no_end : (word : FindingWord) (rows : List Row) (found : List RowFound) → (word ≡ findings.Inconsistent → ⊥)
-    → answers.Inconsistent ≡ answer_of (end_word (with_rows (course_of word) rows found)) → ⊥
+    → answers.Inconsistent ≡ answer_of (end_word (with_rows (tally_of word) rows found)) → ⊥
 no_end word rows found other e =
-    let course : ReportTally = with_rows (course_of word) rows found in
-    never_none course.fails course.found course.within (λ same. other (sym (rows_keep (course_of word) rows found) ∙ same)) e
+    let tally : ReportTally = with_rows (tally_of word) rows found in
+    never_none tally.fails tally.found tally.within (λ same. other (sym (rows_keep (tally_of word) rows found) ∙ same)) e
 
 -- if the answer is that the network is inconsistent, it is
 none_found : (net : Net) (rows : List Row) (finding : Finding) (found : List RowFound) → IsFindingFound net finding → answers.Inconsistent ≡ answer_of (ending_of rows finding found)
@@ -113,26 +113,26 @@ within_none bounds.Unbounded (bounds.Within limit attained) l m = absurd m
 within_none bounds.Unbounded (bounds.Closed other) l m = refl
 within_none bounds.Unbounded bounds.Unbounded l m = refl
 
-row_within : (course : ReportTally) (kind : RowKind) (found : RowFound) → IsRowSettled found → course.within ≡ false → (with_row course kind found).within ≡ false
-row_within course kinds.Ask found settled none = rw (none, within_none (bound_of found.least) (bound_of found.greatest) settled.least settled.greatest) refl
-row_within course (kinds.Req range) found settled none = rw (none, within_none (bound_of found.least) (bound_of found.greatest) settled.least settled.greatest) refl
+row_within : (tally : ReportTally) (kind : RowKind) (found : RowFound) → IsRowSettled found → tally.within ≡ false → (with_row tally kind found).within ≡ false
+row_within tally kinds.Ask found settled none = rw (none, within_none (bound_of found.least) (bound_of found.greatest) settled.least settled.greatest) refl
+row_within tally (kinds.Req range) found settled none = rw (none, within_none (bound_of found.least) (bound_of found.greatest) settled.least settled.greatest) refl
 
-rows_within : (course : ReportTally) (rows : List Row) (found : List RowFound) → All IsRowSettled found → course.within ≡ false → (with_rows course rows found).within ≡ false
-rows_within course [] found all none = none
-rows_within course (row ∷ rows) [] all none = none
-rows_within course (row ∷ rows) (found ∷ others) all none =
-    rows_within (with_row course row.kind found) rows others (All-tail IsRowSettled found others all) (row_within course row.kind found (All-head IsRowSettled found others all) none)
+rows_within : (tally : ReportTally) (rows : List Row) (found : List RowFound) → All IsRowSettled found → tally.within ≡ false → (with_rows tally rows found).within ≡ false
+rows_within tally [] found all none = none
+rows_within tally (row ∷ rows) [] all none = none
+rows_within tally (row ∷ rows) (found ∷ others) all none =
+    rows_within (with_row tally row.kind found) rows others (All-tail IsRowSettled found others all) (row_within tally row.kind found (All-head IsRowSettled found others all) none)
 
 never_open : (fails within : Bool) → within ≡ false → answers.Undecided ≡ answer_of (if fails then endings.Fail else undecided_or_pass findings.Consistent within) → ⊥
 never_open true within none e = cc e
 never_open false true none e = cc none
 never_open false false none e = cc e
 
-consistent_end : (rows : List Row) (found : List RowFound) → All IsRowSettled found → answers.Undecided ≡ answer_of (end_word (with_rows (course_of findings.Consistent) rows found)) → ⊥
+consistent_end : (rows : List Row) (found : List RowFound) → All IsRowSettled found → answers.Undecided ≡ answer_of (end_word (with_rows (tally_of findings.Consistent) rows found)) → ⊥
 consistent_end rows found all e =
-    let course : ReportTally = with_rows (course_of findings.Consistent) rows found in
-    never_open course.fails course.within (rows_within (course_of findings.Consistent) rows found all refl)
-    (subst (λ (w : FindingWord). answers.Undecided ≡ answer_of (if course.fails then endings.Fail else undecided_or_pass w course.within)) (rows_keep (course_of findings.Consistent) rows found) e)
+    let tally : ReportTally = with_rows (tally_of findings.Consistent) rows found in
+    never_open tally.fails tally.within (rows_within (tally_of findings.Consistent) rows found all refl)
+    (subst (λ (w : FindingWord). answers.Undecided ≡ answer_of (if tally.fails then endings.Fail else undecided_or_pass w tally.within)) (rows_keep (tally_of findings.Consistent) rows found) e)
 
 -- if all is settled, the answer is not that something is undecided
 settled_end : (rows : List Row) (finding : Finding) (found : List RowFound) → (finding ≡ Unsettled → ⊥) → All IsRowSettled found → answers.Undecided ≡ answer_of (ending_of rows finding found) → ⊥
@@ -143,13 +143,13 @@ settled_end rows Unsettled found settled all e = settled refl
 below_choices : (choices budget : ℕ) → (choices ≤ budget → ⊥) → budget < choices
 below_choices choices budget past = omega (arith, past)
 
-module _ (call : Call) (files : Files) (budget : ℕ) (plan : Planned) (drawn : Drawn) (told : call.shelf_before.files ≡ Some files) (asks : AsksWhy call.words files budget plan drawn) where
+module _ (call : Call) (files : Files) (budget : ℕ) (plan : Planned) (drawn : Drawn) (current : call.shelf_before.files ≡ Some files) (asks : AsksWhy call.words files budget plan drawn) where
   why_said : (answer : Answer) (m : HasAnswered call answer) → AnswersWhy (plan_note plan) drawn budget answer m.text
-  why_said answer m = planned_said tasks.why (λ p b. given.Why p.0 p.1 b) (λ design b. refl) (λ design b. refl) call files budget plan drawn told asks answer m
+  why_said answer m = planned_said tasks.why (λ p b. given.Why p.0 p.1 b) (λ design b. refl) (λ design b. refl) call files budget plan drawn current asks answer m
 
   pub why_wrote : (result : Outcome) → OutcomeMeans call result → (end : IsReportEnd result)
       → (text : List ℕ) × AnswersWhy (plan_note plan) drawn budget (answer_of end.0) text × (call.sink_after ≡ grown call.sink_before text)
-  why_wrote result means end = planned_wrote tasks.why (λ p b. given.Why p.0 p.1 b) (λ design b. refl) (λ design b. refl) call files budget plan drawn told asks result means end
+  why_wrote result means end = planned_wrote tasks.why (λ p b. given.Why p.0 p.1 b) (λ design b. refl) (λ design b. refl) call files budget plan drawn current asks result means end
 
   pub why_none : (result : Outcome) → OutcomeMeans call result → result ≡ ends.Inconsistent → IsInconsistent drawn.net
   why_none result means e =
@@ -166,13 +166,13 @@ module _ (call : Call) (files : Files) (budget : ℕ) (plan : Planned) (drawn : 
 
 -- ---- job brief
 
-module _ (call : Call) (files : Files) (budget : ℕ) (plan : Planned) (drawn : Drawn) (told : call.shelf_before.files ≡ Some files) (asks : AsksBrief call.words files budget plan drawn) where
+module _ (call : Call) (files : Files) (budget : ℕ) (plan : Planned) (drawn : Drawn) (current : call.shelf_before.files ≡ Some files) (asks : AsksBrief call.words files budget plan drawn) where
   brief_said : (answer : Answer) (m : HasAnswered call answer) → AnswersBrief (plan_note plan) drawn budget answer m.text
-  brief_said answer m = planned_said tasks.brief (λ p b. given.Brief p.0 p.1 b) (λ design b. refl) (λ design b. refl) call files budget plan drawn told asks answer m
+  brief_said answer m = planned_said tasks.brief (λ p b. given.Brief p.0 p.1 b) (λ design b. refl) (λ design b. refl) call files budget plan drawn current asks answer m
 
   pub brief_wrote : (result : Outcome) → OutcomeMeans call result → (end : IsReportEnd result)
       → (text : List ℕ) × AnswersBrief (plan_note plan) drawn budget (answer_of end.0) text × (call.sink_after ≡ grown call.sink_before text)
-  brief_wrote result means end = planned_wrote tasks.brief (λ p b. given.Brief p.0 p.1 b) (λ design b. refl) (λ design b. refl) call files budget plan drawn told asks result means end
+  brief_wrote result means end = planned_wrote tasks.brief (λ p b. given.Brief p.0 p.1 b) (λ design b. refl) (λ design b. refl) call files budget plan drawn current asks result means end
 
   pub brief_decides : (result : Outcome) → OutcomeMeans call result → result ≡ ends.Undecided → budget < cause_choices drawn.net.constraints
   brief_decides result means e =
@@ -202,13 +202,13 @@ none_warned drawn warnings found e = no_length warnings (eqb-true (length warnin
 same_ok : {A E : Type 0} (r : Result A E) (one two : A) → r ≡ Ok one → r ≡ Ok two → one ≡ two
 same_ok r one two is also = cc (is, also)
 
-module _ (call : Call) (files : Files) (budget : ℕ) (plan : Planned) (drawn : Drawn) (told : call.shelf_before.files ≡ Some files) (asks : AsksLint call.words files budget plan drawn) where
+module _ (call : Call) (files : Files) (budget : ℕ) (plan : Planned) (drawn : Drawn) (current : call.shelf_before.files ≡ Some files) (asks : AsksLint call.words files budget plan drawn) where
   lint_said : (answer : Answer) (m : HasAnswered call answer) → AnswersLint plan drawn budget answer m.text
-  lint_said answer m = planned_said tasks.lint (λ p b. given.Lint p.0 p.1 b) (λ design b. refl) (λ design b. refl) call files budget plan drawn told asks answer m
+  lint_said answer m = planned_said tasks.lint (λ p b. given.Lint p.0 p.1 b) (λ design b. refl) (λ design b. refl) call files budget plan drawn current asks answer m
 
   pub lint_wrote : (result : Outcome) → OutcomeMeans call result → (end : IsReportEnd result)
       → (text : List ℕ) × AnswersLint plan drawn budget (answer_of end.0) text × (call.sink_after ≡ grown call.sink_before text)
-  lint_wrote result means end = planned_wrote tasks.lint (λ p b. given.Lint p.0 p.1 b) (λ design b. refl) (λ design b. refl) call files budget plan drawn told asks result means end
+  lint_wrote result means end = planned_wrote tasks.lint (λ p b. given.Lint p.0 p.1 b) (λ design b. refl) (λ design b. refl) call files budget plan drawn current asks result means end
 
   pub lint_clean : (result : Outcome) → OutcomeMeans call result → result ≡ ends.AllPass → HasNoWarning plan
   lint_clean result means e =

@@ -3,12 +3,12 @@ use Rattle.std.proofs.Common.{◌≡◌, ◌<◌, ◌≤◌, ◌∙◌, ◌⊎�
 use Rattle.std.specs.FinMap as finite
 use Rattle.std.specs.Option.{option_map_or}
 use Rattle.std.proofs.lemmas.Cmp.{eq_by_cmp_equiv, nat_list_cmp_total}
-use Rattle.itv_base.specs.Memory.{MemShelf, shelf_told}
+use Rattle.itv_base.specs.Memory.{MemShelf, shelf_state}
 use Rattle.words.proofs.Limits.{taken_limits}
 use Rattle.event_graph.proofs.EdgesMet.{All-found}
 use Rattle.falling.proofs.Near.{below_or_not}
 use Rattle.falling.proofs.Removed.{is_le}
-use Rattle.itv_base.specs.Outside.{Files, IsMissing, ShelfView, file_of}
+use Rattle.itv_base.specs.Outside.{Files, IsMissing, ShelfState, file_of}
 use Rattle.itv_base.specs.Range.{Allows, Ends, IsEnd, IsRange}
 use Rattle.itv_base.specs.declared.limits.TheConstants.{END_LIMIT}
 use Rattle.itv_base.specs.declared.row_kind.RowKind.{RowKind}
@@ -26,16 +26,16 @@ use Rattle.jobs.specs.declared.answer.Answer.TheVariants as answers
 use Rattle.jobs.specs.Ending.{answer_of}
 use Rattle.drawn.specs.Drawn.{Drawn}
 use Rattle.drawn.specs.declared.row.Row.{Row}
-use Rattle.right_report.specs.Right.At.{at_last}
-use Rattle.right_report.specs.Right.Facts.{BeginsRightReport, BreaksEnd}
-use Rattle.right_report.specs.Told.{end_in}
+use Rattle.right_report.specs.Right.ReportState.{at_last}
+use Rattle.right_report.specs.Right.LineClaims.{BeginsRightReport, BreaksEnd}
+use Rattle.right_report.specs.ReportContents.{end_in}
 use Rattle.right_report.proofs.Ending.{inconsistent_end_is_so, pass_end_is_so}
 use Rattle.bounds_report.proofs.WrittenLaws.{written_is_right}
-use Rattle.reading.specs.declared.place.RefusalPlace.{RefusalPlace}
-use Rattle.reading.specs.declared.place.RefusalPlace.TheVariants.{Design}
+use Rattle.reading.specs.declared.refusal_place.RefusalPlace.{RefusalPlace}
+use Rattle.reading.specs.declared.refusal_place.RefusalPlace.TheVariants.{Design}
 use Rattle.reading.specs.declared.refusal.Refusal.TheVariants.{Wide}
 use Rattle.reading.specs.Design.{design_at}
-use Rattle.reading.specs.Opening.{RunsTo, FileReading, gives, refuses, fetches, ◌>>=◌, ready, told_end, unread}
+use Rattle.reading.specs.FileReading.{RunsTo, FileReading, gives, refuses, fetches, ◌>>=◌, ready, end_over, unread}
 use Rattle.reading.specs.Refusal.{refusal_text}
 use Rattle.reading.proofs.Opens.{told_unread}
 use Rattle.drawn_names.proofs.Designs.{drawn_names_differ, drawn_names_have_form, drawn_ranges_have_form}
@@ -57,21 +57,21 @@ use Rattle.itv_cli.specs.declared.outcome.Outcome.TheVariants.{AllPass, Help, So
 use Rattle.itv_cli.specs.declared.ready.Ready.{Ready}
 use Rattle.itv_cli.specs.declared.ready.Ready.TheVariants as given
 use Rattle.conformance.specs.Clients.{Asks, IsAnswerOf}
-use Rattle.conformance.proofs.Telling.{answer_over, came_over, refused_over, reported_over, same_ready, told_then}
+use Rattle.conformance.proofs.KnownFiles.{answer_over, came_over, refused_over, reported_over, same_ready, told_then}
 
 -- ---- a reading over known files, step by step
 
-abbrev told_by : Files → ShelfView
+abbrev told_by : Files → ShelfState
 told_by files = record { files = Some files; faults = 0; last = []; is_faithful = true }
 
 by_file : {A : Type 0} (files : Files) (place : RefusalPlace) (most : ℕ) (next : List ℕ → FileReading A) (name : List ℕ) (x : A) (file : Option (List ℕ)) → file_of files name ≡ file
-    → ((bytes : List ℕ) → told_end files (next bytes) ≡ ready x → RunsTo (told_by files) (next bytes) (ready x))
-    → option_map_or (λ bytes. told_end files (next (take most bytes))) file (unread place name) ≡ ready x → RunsTo (told_by files) (fetches place name most next) (ready x)
+    → ((bytes : List ℕ) → end_over files (next bytes) ≡ ready x → RunsTo (told_by files) (next bytes) (ready x))
+    → option_map_or (λ bytes. end_over files (next (take most bytes))) file (unread place name) ≡ ready x → RunsTo (told_by files) (fetches place name most next) (ready x)
 by_file files place most next name x None is more e = absurd (cc e)
 by_file files place most next name x (Some bytes) is more e = inr (take most bytes, ap (option_map (take most)) is, more (take most bytes) e)
 
 -- what a reading over known files comes to
-comes_of : {A : Type 0} (files : Files) (o : FileReading A) (x : A) → told_end files o ≡ ready x → RunsTo (told_by files) o (ready x)
+comes_of : {A : Type 0} (files : Files) (o : FileReading A) (x : A) → end_over files o ≡ ready x → RunsTo (told_by files) o (ready x)
 comes_of files (gives y) x e = sym e
 comes_of files (refuses place why) x e = absurd (cc e)
 comes_of files (fetches place name most next) x e = by_file files place most next name x (file_of files name) refl (λ bytes h. comes_of files (next bytes) x h) e
@@ -165,8 +165,8 @@ range_of : (rows : List Row) (row : ℕ) (asked : Row) (range : Ends) → All (�
 range_of rows row asked range all there demands = subst IsKind demands (All-found (λ (r : Row). IsKind r.kind) rows row asked there all)
 
 -- the drawing, as a file of some name, is read as a design that always breaks its requirement
-pub drawn_again : (files others : Files) (design name : List ℕ) (drawn : Drawn) (budget : ℕ) (text : List ℕ) → told_end files (design_at design) ≡ ready drawn → AnswersRedraw drawn budget answers.SomeFail text
-    → file_of others name ≡ Some text → (again : Drawn) × (told_end others (design_at name) ≡ ready again) × AlwaysBreaks again
+pub drawn_again : (files others : Files) (design name : List ℕ) (drawn : Drawn) (budget : ℕ) (text : List ℕ) → end_over files (design_at design) ≡ ready drawn → AnswersRedraw drawn budget answers.SomeFail text
+    → file_of others name ≡ Some text → (again : Drawn) × (end_over others (design_at name) ≡ ready again) × AlwaysBreaks again
 drawn_again files others design name drawn budget text reads a there =
     let d = draws_by drawn a.lines a.word text a.says in
     let b = d.broken in
@@ -196,7 +196,7 @@ drawn_again files others design name drawn budget text reads a there =
 -- ---- runs
 
 redrawn_over : (files : Files) (design : List ℕ) (budget : ℕ) (answer : Answer) (bytes : List ℕ) → IsAnswerOf files (redraw design budget) answer bytes
-    → (drawn : Drawn) × (told_end files (design_at design) ≡ ready drawn) × AnswersRedraw drawn budget answer bytes
+    → (drawn : Drawn) × (end_over files (design_at design) ≡ ready drawn) × AnswersRedraw drawn budget answer bytes
 redrawn_over files design budget answer bytes h =
     let (drawn, draws, is) = told_then files (design_at design) (λ drawn. given.Redraw drawn budget) h.given h.reads in
     (drawn, draws, (subst (λ g. Answers g answer bytes) (sym is) h.answers).0)
@@ -204,35 +204,35 @@ redrawn_over files design budget answer bytes h =
 -- a design that always breaks its requirement is read
 pub record IsDrawnAgain (files : Files) (name : List ℕ) : Type 0 where
   again : Drawn
-  reads : told_end files (design_at name) ≡ ready again
+  reads : end_over files (design_at name) ≡ ready again
   always : AlwaysBreaks again
 
 -- the answer that a run gives to such a design
 fails_so : (call : Call) (files : Files) (name : List ℕ) (budget : ℕ) (cert : Bool) (answer : Answer) → call.shelf_before.files ≡ Some files → taken call.words ≡ task (bounds name budget cert) → 1 ≤ budget
     → IsDrawnAgain files name → HasAnswered call answer → answer ≡ answers.SomeFail
-fails_so call files name budget cert answer told words some d m =
-    let r = reported_over files name budget cert answer m.text (answer_over call files (bounds name budget cert) answer m.text told m refl (record { words = words; own = refl })) in
+fails_so call files name budget cert answer current words some d m =
+    let r = reported_over files name budget cert answer m.text (answer_over call files (bounds name budget cert) answer m.text current m refl (record { words = words; own = refl })) in
     let same : r.drawn ≡ d.again = same_ready r.drawn d.again (sym r.draws ∙ d.reads) in
     bounds_fails d.again budget cert answer m.text some d.always (subst (λ (x : Drawn). AnswersBounds x budget cert answer m.text) same r.answers)
 
 -- the reading of the task gives the drawn network
-gives_again : (files : Files) (o : FileReading Drawn) (f : Drawn → Ready) (x : Drawn) → told_end files o ≡ ready x → told_end files (o >>= (λ d. gives (f d))) ≡ ready (f x)
+gives_again : (files : Files) (o : FileReading Drawn) (f : Drawn → Ready) (x : Drawn) → end_over files o ≡ ready x → end_over files (o >>= (λ d. gives (f d))) ≡ ready (f x)
 gives_again files (gives y) f x e = ap (λ d. ready (f d)) (same_ready y x e)
 gives_again files (refuses place why) f x e = absurd (cc e)
 gives_again files (fetches place name most next) f x e = given_file files most next f x place name (file_of files name) (λ bytes h. gives_again files (next bytes) f x h) e where
   given_file : (files : Files) (most : ℕ) (next : List ℕ → FileReading Drawn) (f : Drawn → Ready) (x : Drawn) (place : RefusalPlace) (name : List ℕ) (file : Option (List ℕ))
-      → ((bytes : List ℕ) → told_end files (next bytes) ≡ ready x → told_end files (next bytes >>= (λ d. gives (f d))) ≡ ready (f x))
-      → option_map_or (λ bytes. told_end files (next (take most bytes))) file (unread place name) ≡ ready x
-      → option_map_or (λ bytes. told_end files (next (take most bytes) >>= (λ d. gives (f d)))) file (unread place name) ≡ ready (f x)
+      → ((bytes : List ℕ) → end_over files (next bytes) ≡ ready x → end_over files (next bytes >>= (λ d. gives (f d))) ≡ ready (f x))
+      → option_map_or (λ bytes. end_over files (next (take most bytes))) file (unread place name) ≡ ready x
+      → option_map_or (λ bytes. end_over files (next (take most bytes) >>= (λ d. gives (f d)))) file (unread place name) ≡ ready (f x)
   given_file files most next f x place name None more e = absurd (cc e)
   given_file files most next f x place name (Some bytes) more e = more (take most bytes) e
 
-module _ (call : Call) (files : Files) (name : List ℕ) (budget : ℕ) (cert : Bool) (told : call.shelf_before.files ≡ Some files) (faithful : call.shelf_before.is_faithful ≡ true)
+module _ (call : Call) (files : Files) (name : List ℕ) (budget : ℕ) (cert : Bool) (current : call.shelf_before.files ≡ Some files) (faithful : call.shelf_before.is_faithful ≡ true)
     (words : taken call.words ≡ task (bounds name budget cert)) (some : 1 ≤ budget) (d : IsDrawnAgain files name) where
   asks : Asks call.words (bounds name budget cert)
   asks = record { words = words; own = refl }
 
-  reads_it : told_end files (opening (bounds name budget cert)) ≡ ready (given.Bounds d.again budget cert)
+  reads_it : end_over files (opening (bounds name budget cert)) ≡ ready (given.Bounds d.again budget cert)
   reads_it = gives_again files (design_at name) (λ drawn. given.Bounds drawn budget cert) d.again d.reads
 
   missing_in : (o : Option Files) (n : List ℕ) → o ≡ Some files → IsMissing o n → IsNone (file_of files n)
@@ -240,21 +240,21 @@ module _ (call : Call) (files : Files) (name : List ℕ) (budget : ℕ) (cert : 
 
   -- the end of such a run
   pub ends_with_fail : (result : ends.Outcome) → OutcomeMeans call result → (result ≡ SomeFail) ⊎ ((result ≡ WriteFault) ⊎ (result ≡ NoMemory))
-  ends_with_fail AllPass m = absurd (cc (fails_so call files name budget cert answers.AllPass told words some d m))
+  ends_with_fail AllPass m = absurd (cc (fails_so call files name budget cert answers.AllPass current words some d m))
   ends_with_fail Help m = absurd (cc (m.words, words))
   ends_with_fail SomeFail m = inl refl
-  ends_with_fail Inconsistent m = absurd (cc (fails_so call files name budget cert answers.Inconsistent told words some d m))
-  ends_with_fail Undecided m = absurd (cc (fails_so call files name budget cert answers.Undecided told words some d m))
-  ends_with_fail Refused (inl m) = absurd (cc (reads_it, refused_over call files (bounds name budget cert) m.place m.why told asks m.came))
-  ends_with_fail Refused (inr m) = absurd (cc (fails_so call files name budget cert answers.DesignRefused told words some d m))
+  ends_with_fail Inconsistent m = absurd (cc (fails_so call files name budget cert answers.Inconsistent current words some d m))
+  ends_with_fail Undecided m = absurd (cc (fails_so call files name budget cert answers.Undecided current words some d m))
+  ends_with_fail Refused (inl m) = absurd (cc (reads_it, refused_over call files (bounds name budget cert) m.place m.why current asks m.came))
+  ends_with_fail Refused (inr m) = absurd (cc (fails_so call files name budget cert answers.DesignRefused current words some d m))
   ends_with_fail ReadFault m =
       let over = came_over call (bounds name budget cert) (unread m.place m.name) asks m.came in
-      let none = missing_in call.shelf_before.files m.name told (over.1.missing faithful) in
-      absurd (cc (reads_it, told_unread call.shelf_before files (opening (bounds name budget cert)) m.place m.name told none over.0))
+      let none = missing_in call.shelf_before.files m.name current (over.1.missing faithful) in
+      absurd (cc (reads_it, told_unread call.shelf_before files (opening (bounds name budget cert)) m.place m.name current none over.0))
   ends_with_fail WriteFault m = inr (inl refl)
   ends_with_fail NoMemory m = inr (inr refl)
   ends_with_fail BadWords m = absurd (cc (m.words, words))
-  ends_with_fail CheckRefused m = absurd (cc (fails_so call files name budget cert answers.CheckRefused told words some d m))
+  ends_with_fail CheckRefused m = absurd (cc (fails_so call files name budget cert answers.CheckRefused current words some d m))
 
 -- ---- a run of job redraw, and a run of job bounds on what it drew
 
@@ -262,18 +262,18 @@ there : (files : Files) (name bytes : List ℕ) → file_of (finite.insert files
 there files name bytes =
     finite.get-insert nat_list_cmp_total files name bytes name ∙ ap (λ (b : Bool). cond b (Some bytes) (file_of files name)) ((eq_by_cmp_equiv nat_list_cmp_total).refl name)
 
-faithful_by : (shelf fresh : MemShelf) (name bytes : List ℕ) → shelf ≡ record fresh { files = finite.insert fresh.files name bytes } → fresh.failing ≡ [] → (shelf_told shelf).is_faithful ≡ true
+faithful_by : (shelf fresh : MemShelf) (name bytes : List ℕ) → shelf ≡ record fresh { files = finite.insert fresh.files name bytes } → fresh.failing ≡ [] → (shelf_state shelf).is_faithful ≡ true
 faithful_by shelf fresh name bytes added none = ap (λ (s : MemShelf). length s.failing == 0) added ∙ ap (λ (l : List ℕ). length l == 0) none
 
 pub redrawn_ends : (first second : Call) (files : Files) (shelf fresh : MemShelf) (design name bytes : List ℕ) (budget most : ℕ) (cert : Bool) (result : ends.Outcome)
     → first.shelf_before.files ≡ Some files → (m : HasAnswered first answers.SomeFail) → m.text ≡ bytes → taken first.words ≡ task (redraw design budget)
-    → second.shelf_before ≡ shelf_told shelf → shelf ≡ record fresh { files = finite.insert fresh.files name bytes } → fresh.failing ≡ [] → taken second.words ≡ task (bounds name most cert)
+    → second.shelf_before ≡ shelf_state shelf → shelf ≡ record fresh { files = finite.insert fresh.files name bytes } → fresh.failing ≡ [] → taken second.words ≡ task (bounds name most cert)
     → OutcomeMeans second result → (result ≡ SomeFail) ⊎ ((result ≡ WriteFault) ⊎ (result ≡ NoMemory))
-redrawn_ends first second files shelf fresh design name bytes budget most cert result told m is words on added none again means =
-    let (drawn, draws, a) = redrawn_over files design budget answers.SomeFail bytes (answer_over first files (redraw design budget) answers.SomeFail bytes told m is (record { words = words; own = refl })) in
+redrawn_ends first second files shelf fresh design name bytes budget most cert result current m is words on added none again means =
+    let (drawn, draws, a) = redrawn_over files design budget answers.SomeFail bytes (answer_over first files (redraw design budget) answers.SomeFail bytes current m is (record { words = words; own = refl })) in
     let (network, reads, always) = drawn_again files (finite.insert fresh.files name bytes) design name drawn budget bytes draws a (there fresh.files name bytes) in
     let holds : second.shelf_before.files ≡ Some (finite.insert fresh.files name bytes) =
-    ap (λ (t : ShelfView). t.files) on ∙ ap (λ (s : MemShelf). Some s.files) added in
-    let faithful : second.shelf_before.is_faithful ≡ true = ap (λ (t : ShelfView). t.is_faithful) on ∙ faithful_by shelf fresh name bytes added none in
+    ap (λ (t : ShelfState). t.files) on ∙ ap (λ (s : MemShelf). Some s.files) added in
+    let faithful : second.shelf_before.is_faithful ≡ true = ap (λ (t : ShelfState). t.is_faithful) on ∙ faithful_by shelf fresh name bytes added none in
     let limits = subst KeepsLimits again (taken_limits second.words) in
     ends_with_fail second (finite.insert fresh.files name bytes) name most cert holds faithful again limits.low (record { again = network; reads = reads; always = always }) result means

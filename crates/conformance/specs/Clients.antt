@@ -1,7 +1,7 @@
 -- What callers of `run` know of files and a sink in memory, from its clauses alone.
 use Rattle.std.specs.Prelude.{◌≡◌, ℕ, Bool, true, List, [], ◌++◌, Some, None, Ok, codes}
 use Rattle.itv_base.specs.Memory.{MemSink}
-use Rattle.itv_base.specs.Outside.{FailedFor, Files, ShelfView, file_of}
+use Rattle.itv_base.specs.Outside.{FailedFor, Files, ShelfState, file_of}
 use Rattle.design_gen.specs.Files.{design_files}
 use Rattle.bounds_report.specs.Reports.{Sums}
 use Rattle.bounds_report.specs.declared.summary.Summary.{Summary}
@@ -11,14 +11,14 @@ use Rattle.jobs.specs.declared.answer.Answer.{Answer}
 use Rattle.slack_report.specs.Entry.{Entry}
 use Rattle.slack_report.specs.declared.words.EndWord.{EndWord}
 use Rattle.slack_report.specs.Text.{report_text}
-use Rattle.right_report.specs.Right.Facts.{BeginsRightReport, IsRightReport}
+use Rattle.right_report.specs.Right.LineClaims.{BeginsRightReport, IsRightReport}
 use Rattle.right_report.specs.Texts.{IsRefusedText, IsRightText}
 use Rattle.drawn.specs.Drawn.{Drawn}
-use Rattle.reading.specs.declared.place.RefusalPlace.{RefusalPlace}
+use Rattle.reading.specs.declared.refusal_place.RefusalPlace.{RefusalPlace}
 use Rattle.reading.specs.declared.refusal.Refusal.{Refusal}
 use Rattle.reading.specs.Design.{design_at}
 use Rattle.plan.specs.Plan.{Planned}
-use Rattle.reading.specs.Opening.{RunsTo, ready, refused, told_end, unread}
+use Rattle.reading.specs.FileReading.{RunsTo, ready, refused, end_over, unread}
 use Rattle.reading.specs.Refusal.{refusal_text, unread_text}
 use Rattle.settle_report.specs.Settle.{IsSettleText}
 use Rattle.words.specs.Task.{Task, bounds, check, confirm, matrix, settle, taken, task}
@@ -34,7 +34,7 @@ use Rattle.itv_cli.specs.declared.ready.Ready.{Ready}
 
 -- the network that the design of a file draws, over some files
 abbrev pub Draws : Files → List ℕ → Drawn → Type 0
-Draws files design drawn = told_end files (design_at design) ≡ ready drawn
+Draws files design drawn = end_over files (design_at design) ≡ ready drawn
 
 -- the design of a file draws a network, and the bytes are the text of a right report of it
 pub record IsRightReportOf (files : Files) (design bytes : List ℕ) : Type 0 where
@@ -52,20 +52,20 @@ pub record Asks (given : List (List ℕ)) (asked : Task) : Type 0 where
 -- the files of a task are all there, and the bytes are what its job writes with an answer
 pub record IsAnswerOf (files : Files) (asked : Task) (answer : Answer) (bytes : List ℕ) : Type 0 where
   pub given : Ready
-  pub reads : told_end files (opening asked) ≡ ready given
+  pub reads : end_over files (opening asked) ≡ ready given
   pub answers : Answers given answer bytes
 
 -- the files of a task are refused, and the bytes are the line of the first refusal
 pub record IsRefusalOf (files : Files) (asked : Task) (bytes : List ℕ) : Type 0 where
   pub place : RefusalPlace
   pub why : Refusal
-  pub reads : told_end files (opening asked) ≡ refused place why
+  pub reads : end_over files (opening asked) ≡ refused place why
   pub text : bytes ≡ refusal_text place why
 
 -- the bytes are a front of what is to be written for a task with these files
 pub record IsFrontOf (files : Files) (asked : Task) (bytes : List ℕ) : Type 0 where
   pub text : List ℕ
-  pub wanted : ToWrite (told_end files (opening asked)) text
+  pub wanted : ToWrite (end_over files (opening asked)) text
   pub rest : List ℕ
   pub front : text ≡ bytes ++ rest
 
@@ -78,7 +78,7 @@ pub record IsFrontOfRight (drawn : Drawn) (bytes : List ℕ) : Type 0 where
 
 -- the reading of a task came to a file whose fetch failed. The name of this file is the last that failed. The bytes are the line for the place of the
 -- file.
-pub record IsUnreadOf (old new : ShelfView) (asked : Task) (bytes : List ℕ) : Type 0 where
+pub record IsUnreadOf (old new : ShelfState) (asked : Task) (bytes : List ℕ) : Type 0 where
   pub place : RefusalPlace
   pub name : List ℕ
   pub reads : RunsTo old (opening asked) (unread place name)
@@ -129,7 +129,7 @@ pub record AsksMatrix (given : List (List ℕ)) (files : Files) (drawn : Drawn) 
 pub record AsksPlanned (job : List ℕ → ℕ → Task) (given : List (List ℕ)) (files : Files) (budget : ℕ) (plan : Planned) (drawn : Drawn) : Type 0 where
   pub design : List ℕ
   pub words : taken given ≡ task (job design budget)
-  pub plans : told_end files (planned_at design) ≡ ready (plan, drawn)
+  pub plans : end_over files (planned_at design) ≡ ready (plan, drawn)
 
 -- the words ask why each bound of a design is what it is
 abbrev pub AsksWhy : List (List ℕ) → Files → ℕ → Planned → Drawn → Type 0

@@ -1,16 +1,16 @@
 -- Laws on what the jobs write.
 use Rattle.std.specs.Prelude.{ℕ, true, List}
-use Rattle.itv_base.specs.Outside.{ShelfView}
+use Rattle.itv_base.specs.Outside.{ShelfState}
 use Rattle.slack_report.specs.Entry.{Entry}
 use Rattle.slack_report.specs.Text.{report_text}
 use Rattle.right_report.specs.Texts.{IsAcceptedText}
 use Rattle.drawn.specs.Drawn.{Drawn}
 use Rattle.reading.specs.Design.{design_at}
-use Rattle.reading.specs.Opening.{RunsTo, ready}
+use Rattle.reading.specs.FileReading.{RunsTo, ready}
 use Rattle.bounds_report.specs.Reports.{IsWrittenReport}
 
 -- if the reading of a design comes to a drawn network, and job bounds writes a report for it with the lines of proofs, job check accepts the text of
 -- this report for the network
 abbrev pub OwnReportIsAccepted : Type 0
-OwnReportIsAccepted = (shelf : ShelfView) (design : List ℕ) (drawn : Drawn) (most : ℕ) (lines : List Entry) → RunsTo shelf (design_at design) (ready drawn)
+OwnReportIsAccepted = (shelf : ShelfState) (design : List ℕ) (drawn : Drawn) (most : ℕ) (lines : List Entry) → RunsTo shelf (design_at design) (ready drawn)
     → IsWrittenReport drawn most true lines → IsAcceptedText drawn (report_text lines)

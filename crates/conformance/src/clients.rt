@@ -5,11 +5,11 @@ ghost use Rattle.std.specs.Prelude.{◌≡◌, ◌<◌, ◌⊎◌, ℕ, Bool, Li
 ghost use Rattle.event_graph.specs.Bounds.{IsInconsistent};
 ghost use Rattle.event_graph.specs.Edges.{cause_choices};
 ghost use Rattle.falling.specs.Cap.{enough_turns};
-ghost use Rattle.itv_base.specs.Memory.{shelf_told, sink_told};
+ghost use Rattle.itv_base.specs.Memory.{shelf_state, sink_state};
 ghost use Rattle.itv_base.specs.Outside.{FaultCounted};
 ghost use Rattle.jobs.specs.declared.answer.Answer.TheVariants as answers;
-ghost use Rattle.reading.specs.declared.place.RefusalPlace.{RefusalPlace};
-ghost use Rattle.reading.specs.Opening.{told_end};
+ghost use Rattle.reading.specs.declared.refusal_place.RefusalPlace.{RefusalPlace};
+ghost use Rattle.reading.specs.FileReading.{end_over};
 ghost use Rattle.reading.specs.Refusal.{unread_text};
 ghost use Rattle.drawn.specs.Drawn.{Drawn};
 ghost use Rattle.words.specs.Task.{Task, bad_words, bounds, fall, help, redraw, taken, task};
@@ -98,7 +98,7 @@ pub fn unread_of(
     ensures line { IfOk result (λ unread. IfSome unread (λ bytes. (place : RefusalPlace) × (bytes.items ≡ unread_text place))) }
     ensures fetch { IfOk result (λ unread. IfSome unread (λ bytes.
         (asked : Task) → Asks words.now asked
-        → IsUnreadOf (shelf_told shelf.old) (shelf_told shelf.new) asked bytes.items)) }
+        → IsUnreadOf (shelf_state shelf.old) (shelf_state shelf.new) asked bytes.items)) }
 {
     let mut sink = SinkMem::new(alloc, room)?;
     match run(alloc, words, shelf, &mut sink) {
@@ -115,8 +115,8 @@ pub fn untouched_of(
     shelf: &mut ShelfMem,
     sink: &mut SinkMem,
 ) -> Outcome
-    ensures output { result ≡ Outcome.NoMemory → sink_told sink.new ≡ sink_told sink.old }
-    ensures files { result ≡ Outcome.NoMemory → shelf_told shelf.new ≡ shelf_told shelf.old }
+    ensures output { result ≡ Outcome.NoMemory → sink_state sink.new ≡ sink_state sink.old }
+    ensures files { result ≡ Outcome.NoMemory → shelf_state shelf.new ≡ shelf_state shelf.old }
 {
     run(alloc, words, shelf, sink)
 }
@@ -141,7 +141,7 @@ pub fn run_twice(
 pub fn end_of(alloc: Global, words: &Texts, shelf: &mut ShelfMem, sink: &mut SinkMem) -> Outcome
     ensures ends { (asked : Task) → Asks words.now asked
         → ¬ (FaultCounted shelf.old.faults shelf.new.faults) → ¬ (FaultCounted sink.old.faults sink.new.faults)
-        → (result ≡ Outcome.NoMemory) ⊎ OutcomeBy (told_end shelf.old.files (opening asked)) result }
+        → (result ≡ Outcome.NoMemory) ⊎ OutcomeBy (end_over shelf.old.files (opening asked)) result }
     ensures bad_words { taken words.now ≡ bad_words → ¬ (FaultCounted sink.old.faults sink.new.faults)
         → (result ≡ Outcome.NoMemory) ⊎ (result ≡ Outcome.BadWords) }
     ensures help { taken words.now ≡ help → ¬ (FaultCounted sink.old.faults sink.new.faults)

@@ -10,7 +10,7 @@ ghost use Rattle.right_report.specs.Laws.{AllMet, SomeBroken, SomeSatisfy};
 ghost use Rattle.right_report.specs.Texts.{IsAcceptedText};
 ghost use Rattle.drawn.specs.Drawn.{Drawn};
 ghost use Rattle.reading.specs.declared.refusal.Refusal.{Refusal};
-ghost use Rattle.reading.specs.declared.place.RefusalPlace.{RefusalPlace};
+ghost use Rattle.reading.specs.declared.refusal_place.RefusalPlace.{RefusalPlace};
 ghost use Rattle.reading.specs.Refusal.{refusal_text};
 ghost use Rattle.words.specs.Task.{bounds, generated, redraw, taken, task};
 ghost use Rattle.plan.specs.Notes.{plan_note};

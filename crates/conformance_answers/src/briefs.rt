@@ -8,7 +8,7 @@ use std::test::Fail;
 const BRIEF: [&str; 3] = ["--job", "brief", "s"];
 
 // The job on a sheet with these nodes and edges ends in this way, and writes just this behind its heading.
-fn tells(alloc: Global, nodes: &str, edges: &str, wanted: (Outcome, &str)) -> Result<(), Fail> {
+fn reports(alloc: Global, nodes: &str, edges: &str, wanted: (Outcome, &str)) -> Result<(), Fail> {
     let (end, rest) = wanted;
     let file = sheet_of(alloc, nodes, edges)?;
     let text = format!(in alloc; "itv brief 1\n{rest}")?;
@@ -17,9 +17,9 @@ fn tells(alloc: Global, nodes: &str, edges: &str, wanted: (Outcome, &str)) -> Re
 }
 
 // The same on several sheets.
-fn each_tells(alloc: Global, cases: &[(&str, &str, (Outcome, &str))]) -> Result<(), Fail> {
+fn each_reports(alloc: Global, cases: &[(&str, &str, (Outcome, &str))]) -> Result<(), Fail> {
     for (nodes, edges, (end, rest)) in cases {
-        tells(alloc, nodes, edges, (*end, rest))?;
+        reports(alloc, nodes, edges, (*end, rest))?;
     }
     Ok(())
 }
@@ -70,7 +70,7 @@ const IN_ORDER: [(&str, &str, (Outcome, &str)); 3] = [
 
 #[test]
 fn rows_in_their_order(rt: HostRuntime) -> Result<(), Fail> {
-    each_tells(rt.alloc(), &IN_ORDER)
+    each_reports(rt.alloc(), &IN_ORDER)
 }
 
 // v comes before z on their lane, and z not behind h.

@@ -237,7 +237,7 @@ fn edits_are_as_if_drawn(rt: HostRuntime) -> Result<(), Fail> {
 // ---- refusals
 
 #[test]
-fn the_first_faulty_line_is_told(rt: HostRuntime) -> Result<(), Fail> {
+fn the_first_faulty_line_is_reported(rt: HostRuntime) -> Result<(), Fail> {
     for (edits, line) in [
         ("set 7.0 [0,1]\n", "refused edits NoSuch 1\n"),
         ("set 1.0 [0,1]\nset 1.1 [0,1]\n", "refused edits NoSuch 2\n"),

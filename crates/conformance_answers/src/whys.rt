@@ -11,7 +11,7 @@ use std::test::Fail;
 const WHY: [&str; 3] = ["--job", "why", "s"];
 
 // The job on a file ends in this way, and writes just this behind its heading.
-fn tells(alloc: Global, file: &str, wanted: (Outcome, &str)) -> Result<(), Fail> {
+fn reports(alloc: Global, file: &str, wanted: (Outcome, &str)) -> Result<(), Fail> {
     let (end, rest) = wanted;
     let text = format!(in alloc; "itv why 1\n{rest}")?;
     let mut shelf = shelf_with(alloc, "s", file.as_bytes())?;
@@ -21,7 +21,7 @@ fn tells(alloc: Global, file: &str, wanted: (Outcome, &str)) -> Result<(), Fail>
 // The same on a sheet with these nodes and edges, each node on a lane of its own.
 fn explains(alloc: Global, nodes: &str, edges: &str, wanted: (Outcome, &str)) -> Result<(), Fail> {
     let file = sheet_of(alloc, nodes, edges)?;
-    tells(alloc, file.as_str(), wanted)
+    reports(alloc, file.as_str(), wanted)
 }
 
 // ---- chains
@@ -180,7 +180,7 @@ fn a_processor_and_its_memory(rt: HostRuntime) -> Result<(), Fail> {
 // is met by its own rule.
 #[test]
 fn a_requirement_that_passes_by_an_order(rt: HostRuntime) -> Result<(), Fail> {
-    tells(
+    reports(
         rt.alloc(),
         r#"{"signal":[{"name":"ADDR","wave":"x=....","node":".a"},{"name":"OE#","wave":"1.0.1.","node":"....h"},
         {"name":"DQ","wave":"z..=.z","node":"...v.z"}],
@@ -201,7 +201,7 @@ fn a_requirement_that_passes_by_an_order(rt: HostRuntime) -> Result<(), Fail> {
 
 // A note with a letter beyond ASCII is left out, and so is a note with a tab. A note of a wire is printed. A comment keeps its number.
 #[test]
-fn notes_that_are_told(rt: HostRuntime) -> Result<(), Fail> {
+fn notes_that_are_printed(rt: HostRuntime) -> Result<(), Fail> {
     let alloc = rt.alloc();
     explains(
         alloc,

@@ -4,7 +4,7 @@ use conformance_kit::all_refused;
 use std::test::Fail;
 
 #[test]
-fn the_first_fault_of_a_tree_is_told(rt: HostRuntime) -> Result<(), Fail> {
+fn the_first_fault_of_a_tree_is_reported(rt: HostRuntime) -> Result<(), Fail> {
     all_refused(
         rt.alloc(),
         &[

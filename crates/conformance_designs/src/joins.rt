@@ -25,7 +25,7 @@ fn joins_end(alloc: Global, table: &[(&str, &str)]) -> Result<(), Fail> {
 }
 
 #[test]
-fn the_first_fault_of_the_joins_is_told(rt: HostRuntime) -> Result<(), Fail> {
+fn the_first_fault_of_the_joins_is_reported(rt: HostRuntime) -> Result<(), Fail> {
     joins_end(
         rt.alloc(),
         &[

@@ -218,7 +218,7 @@ fn labels_out_of_form_are_refused(rt: HostRuntime) -> Result<(), Fail> {
 }
 
 #[test]
-fn the_first_faulty_edge_is_told(rt: HostRuntime) -> Result<(), Fail> {
+fn the_first_faulty_edge_is_reported(rt: HostRuntime) -> Result<(), Fail> {
     edges_end(
         rt.alloc(),
         &[

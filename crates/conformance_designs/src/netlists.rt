@@ -265,7 +265,7 @@ fn wires_have_their_form(rt: HostRuntime) -> Result<(), Fail> {
 
 // Each list is checked before the next one, and the whole netlist before the sheets.
 #[test]
-fn the_first_fault_of_a_netlist_is_told(rt: HostRuntime) -> Result<(), Fail> {
+fn the_first_fault_of_a_netlist_is_reported(rt: HostRuntime) -> Result<(), Fail> {
     netlists_end(
         rt.alloc(),
         &[

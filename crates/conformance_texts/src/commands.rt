@@ -201,7 +201,7 @@ fn words_have_their_form(rt: HostRuntime) -> Result<(), Fail> {
 
 // The help names each job, each exit status and an example.
 #[test]
-fn help_tells_what_a_person_needs(rt: HostRuntime) -> Result<(), Fail> {
+fn help_says_what_a_person_needs(rt: HostRuntime) -> Result<(), Fail> {
     let mut texts = Texts::new(rt.alloc())?;
     texts.push(rt.alloc(), "--help")?;
     match read_words(rt.alloc(), &texts)? {

@@ -81,7 +81,7 @@ fn groups_nest_deep(rt: HostRuntime) -> Result<(), Fail> {
 }
 
 #[test]
-fn the_first_fault_is_told(rt: HostRuntime) -> Result<(), Fail> {
+fn the_first_fault_is_reported(rt: HostRuntime) -> Result<(), Fail> {
     let rows = [
         ("[]", DiagramFault::NotObject),
         (r#""signal""#, DiagramFault::NotObject),

@@ -145,7 +145,7 @@ fn split_into<K: Sink>(
     buffer: &mut LineBuffer,
     sink: &mut K,
 ) -> Result<(), ScribeFailed>
-    ensures { OnOk result (K.told sink.new ≡ grown (K.told sink.old) (proof_text (Split constraint ∷ []))) }
+    ensures { OnOk result (K.state sink.new ≡ grown (K.state sink.old) (proof_text (Split constraint ∷ []))) }
 {
     let mut scribe = SinkScribe { buffer, sink };
     split_once(&mut scribe, constraint)

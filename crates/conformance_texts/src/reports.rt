@@ -205,8 +205,8 @@ fn a_report_with_a_forged_line_is_refused_there(rt: HostRuntime) -> Result<(), F
         (WIDE, 17, "verdict pass", 18),
         (WIDE, 19, "slack 0", 19),
     ];
-    for (text, number, line, told) in forged {
-        expect_forged(&rt, text, number, line, told)?;
+    for (text, number, line, reported) in forged {
+        expect_forged(&rt, text, number, line, reported)?;
     }
     Ok(())
 }
@@ -232,10 +232,10 @@ fn expect_forged(
     text: &str,
     number: usize,
     line: &str,
-    told: u64,
+    reported: u64,
 ) -> Result<(), Fail> {
     let whole = with_line(rt.alloc(), text, number, line)?;
-    expect_refused(rt, whole.as_str().as_bytes(), told);
+    expect_refused(rt, whole.as_str().as_bytes(), reported);
     Ok(())
 }
 

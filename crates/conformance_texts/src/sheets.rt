@@ -129,7 +129,7 @@ fn causes_are_grouped_by_kind_target_and_tag(rt: HostRuntime) -> Result<(), Fail
 }
 
 #[test]
-fn the_first_fault_is_told(rt: HostRuntime) -> Result<(), Fail> {
+fn the_first_fault_is_reported(rt: HostRuntime) -> Result<(), Fail> {
     let rows = [
         (
             r#"{"signal":[{"node":"aa"},{"node":"é"}]}"#,

@@ -2,7 +2,7 @@
 use Rattle.std.proofs.Common.{◌≡◌, ◌<◌, ◌||◌, ℕ, zero, suc, Bool, true, false, List, [], ◌∷◌, ◌++◌, length, map, get_or, Option, Some, None, cond, refl, sym, ap, ◌∙◌, arith}
 use Rattle.std.specs.List.{list_any}
 use Rattle.itv_base.specs.Names.{Name}
-use Rattle.sheet.specs.Contents.{SheetContents}
+use Rattle.sheet.specs.SheetContents.{SheetContents}
 use Rattle.sheet.specs.Lanes.{first_repeated}
 use Rattle.sheet.specs.declared.mark.Mark.{Mark}
 use Rattle.unroll.specs.Cycles.{in_cycles}

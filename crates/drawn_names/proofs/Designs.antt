@@ -11,11 +11,11 @@ use Rattle.grades.specs.Grades.{AreRanges, grades_of}
 use Rattle.grades.proofs.WholeGrades.{grades_whole}
 use Rattle.itv_base.specs.Characters.{is_name}
 use Rattle.itv_base.specs.Names.{Name}
-use Rattle.itv_base.specs.Outside.{ShelfView}
+use Rattle.itv_base.specs.Outside.{ShelfState}
 use Rattle.itv_base.specs.declared.limits.TheConstants.{MAX_CYCLES}
-use Rattle.sheet.specs.Contents as sheet
+use Rattle.sheet.specs.SheetContents as sheet
 use Rattle.sheet.specs.declared.mark.Mark.{Mark}
-use Rattle.netlist.specs.Contents.{NetlistContents}
+use Rattle.netlist.specs.NetlistContents.{NetlistContents}
 use Rattle.netlist.specs.Netlist.{netlist_of, sheet_names}
 use Rattle.compose.specs.declared.fault.JoinFault.{JoinFault}
 use Rattle.netlist.specs.declared.part.Part.{Part}
@@ -34,11 +34,11 @@ use Rattle.unroll.specs.Drawn.{drawn_of, names_in}
 use Rattle.unroll.specs.Limits.{counts_of, first_passed, unrolled, within}
 use Rattle.unroll.specs.declared.counted.Counted.{Counted}
 use Rattle.slack_report.specs.Entry.{IsName}
-use Rattle.reading.specs.declared.place.RefusalPlace.{RefusalPlace}
-use Rattle.reading.specs.declared.place.RefusalPlace.TheVariants.{Design, File}
+use Rattle.reading.specs.declared.refusal_place.RefusalPlace.{RefusalPlace}
+use Rattle.reading.specs.declared.refusal_place.RefusalPlace.TheVariants.{Design, File}
 use Rattle.reading.specs.declared.refusal.Refusal.TheVariants.{Diagram, Grades, Joins, Limits, Netlist, Sheet}
-use Rattle.reading.specs.Opening.{RunsTo, at, each, gives, ready}
-use Rattle.reading.specs.Opening as openings
+use Rattle.reading.specs.FileReading.{RunsTo, at, each, gives, ready}
+use Rattle.reading.specs.FileReading as openings
 use Rattle.plan.specs.Plan.{NamedSheets, Planned, sheets_on}
 use Rattle.reading.specs.Design.{design_at, drawn_at, grades_in, is_unread, lone_at, netlist_at, plan_at, sheets_at, sheets_in, sheets_of_files, tree_in, with_part, with_sheet}
 use Rattle.reading.specs.Step.Lone.{lone_plan, plain_key, plain_sheet_at}
@@ -118,7 +118,7 @@ record IsDrawnFrom (drawn : Drawn) : Type 0 where
   named : IsNamedDesign design
   draws : drawn_of design ≡ drawn
 
-drawn_at_holds : (shelf : ShelfView) (netlist : NetlistContents) (sheets : NamedSheets) (drawn : Drawn) → IsNamedNetlist netlist → AreMarked sheets
+drawn_at_holds : (shelf : ShelfState) (netlist : NetlistContents) (sheets : NamedSheets) (drawn : Drawn) → IsNamedNetlist netlist → AreMarked sheets
     → RunsTo shelf (drawn_at netlist sheets) (ready drawn) → IsDrawnFrom drawn
 unfolding drawn_at unrolled
 drawn_at_holds shelf netlist sheets drawn named marked comes =
@@ -133,13 +133,13 @@ sheet_by_formed : (grades : Option (List Grade)) (name : Option (List ℕ)) (dra
 sheet_by_formed grades name drawing found ranges read =
     (sheet_by_holds grades name drawing found read, IfOk-at_ok IsWhole read (sheet_by_whole grades name drawing ranges))
 
-plain_sheet_holds : (shelf : ShelfView) (place : RefusalPlace) (tree : Data) (found : sheet.SheetContents) → RunsTo shelf (plain_sheet_at place tree) (ready found) → IsFormed found
+plain_sheet_holds : (shelf : ShelfState) (place : RefusalPlace) (tree : Data) (found : sheet.SheetContents) → RunsTo shelf (plain_sheet_at place tree) (ready found) → IsFormed found
 plain_sheet_holds shelf place tree found comes =
     let (drawing, first, rest) = opening_then shelf (at place (λ why. Diagram why) (diagram_of tree)) _ found comes in
     sheet_by_formed None None drawing found tt (at_gave shelf place (λ why. Sheet why) _ found rest)
 
 -- the grades that are read from a file give ranges
-grades_in_hold : (shelf : ShelfView) (version : ℕ) (place : RefusalPlace) (tree : Data) (grades : Option (List Grade)) → RunsTo shelf (grades_in version place tree) (ready grades) → IfSome grades AreRanges
+grades_in_hold : (shelf : ShelfState) (version : ℕ) (place : RefusalPlace) (tree : Data) (grades : Option (List Grade)) → RunsTo shelf (grades_in version place tree) (ready grades) → IfSome grades AreRanges
 grades_in_hold shelf version place tree grades comes = by (version == 2) comes
   where
     by : (b : Bool) → RunsTo shelf (if b then openings.◌>>=◌ (at place (λ why. Grades why) (grades_of tree)) (λ grades. gives (Some grades)) else gives None) (ready grades) → IfSome grades AreRanges
@@ -149,7 +149,7 @@ grades_in_hold shelf version place tree grades comes = by (version == 2) comes
         subst (λ o. IfSome o AreRanges) (gave shelf (Some read) grades rest) (grades_whole tree read (at_gave shelf place (λ why. Grades why) _ read first))
 
 -- the sheets with the sheet of one part more
-with_part_holds : (shelf : ShelfView) (place : RefusalPlace) (name : List ℕ) (grades : Option (List Grade)) (drawing : Drawing) → IfSome grades AreRanges → (n : ℕ) (sheets more : NamedSheets) (part : Part)
+with_part_holds : (shelf : ShelfState) (place : RefusalPlace) (name : List ℕ) (grades : Option (List Grade)) (drawing : Drawing) → IfSome grades AreRanges → (n : ℕ) (sheets more : NamedSheets) (part : Part)
     → AreMarked sheets → RunsTo shelf (with_part place name grades drawing n sheets part) (ready more) → AreMarked more
 with_part_holds shelf place name grades drawing ranges n sheets more part marked comes = by (is_unread sheets name part) comes
   where
@@ -161,25 +161,25 @@ with_part_holds shelf place name grades drawing ranges n sheets more part marked
         (with_sheet_holds sheets (key_of part) found marked (sheet_by_formed grades part.grade drawing found ranges (at_gave shelf place (λ why. Sheet why) _ found first)))
 
 -- the sheets with the sheets of one file more
-sheets_in_hold : (shelf : ShelfView) (netlist : NetlistContents) (number : ℕ) (sheets more : NamedSheets) (name : List ℕ) → AreMarked sheets → RunsTo shelf (sheets_in netlist number sheets name) (ready more) → AreMarked more
+sheets_in_hold : (shelf : ShelfState) (netlist : NetlistContents) (number : ℕ) (sheets more : NamedSheets) (name : List ℕ) → AreMarked sheets → RunsTo shelf (sheets_in netlist number sheets name) (ready more) → AreMarked more
 sheets_in_hold shelf netlist number sheets more name marked comes =
     let (tree, fetched, read) = opening_then shelf (tree_in (File number) name) (λ tree. sheets_at netlist number sheets name tree) more comes in
     let (drawing, drawn, rest) = opening_then shelf (at (File number) (λ why. Diagram why) (diagram_of tree)) _ more read in
-    let (grades, told, last) = opening_then shelf (grades_in netlist.version (File number) tree) (λ grades. each (with_part (File number) name grades drawing) 0 sheets netlist.parts) more rest in
-    each_keeps AreMarked shelf (with_part (File number) name grades drawing) (with_part_holds shelf (File number) name grades drawing (grades_in_hold shelf netlist.version (File number) tree grades told)) 0 sheets more netlist.parts marked last
+    let (grades, shown, last) = opening_then shelf (grades_in netlist.version (File number) tree) (λ grades. each (with_part (File number) name grades drawing) 0 sheets netlist.parts) more rest in
+    each_keeps AreMarked shelf (with_part (File number) name grades drawing) (with_part_holds shelf (File number) name grades drawing (grades_in_hold shelf netlist.version (File number) tree grades shown)) 0 sheets more netlist.parts marked last
 
 -- the netlist is named, and its sheets have marks
 record IsNamedPlan (plan : Planned) : Type 0 where
   netlist : IsNamedNetlist plan.netlist
   sheets : AreMarked plan.sheets
 
-lone_at_holds : (shelf : ShelfView) (name : List ℕ) (tree : Data) (plan : Planned) → RunsTo shelf (lone_at name tree) (ready plan) → IsNamedPlan plan
+lone_at_holds : (shelf : ShelfState) (name : List ℕ) (tree : Data) (plan : Planned) → RunsTo shelf (lone_at name tree) (ready plan) → IsNamedPlan plan
 lone_at_holds shelf name tree plan comes =
     let (found, first, rest) = opening_then shelf (plain_sheet_at (File 0) tree) _ plan (subst (λ reading. RunsTo shelf reading (ready plan)) (lone_is name tree) comes) in
     subst IsNamedPlan (gave shelf (lone_plan name found) plan rest)
     (record { netlist = lone_holds name; sheets = with_sheet_holds [] (plain_key name) found (All-nil HoldsMarks) (plain_sheet_holds shelf (File 0) tree found first) })
 
-netlist_at_holds : (shelf : ShelfView) (tree : Data) (plan : Planned) → RunsTo shelf (netlist_at tree) (ready plan) → IsNamedPlan plan
+netlist_at_holds : (shelf : ShelfState) (tree : Data) (plan : Planned) → RunsTo shelf (netlist_at tree) (ready plan) → IsNamedPlan plan
 netlist_at_holds shelf tree plan comes =
     let (netlist, first, rest) = opening_then shelf (at (File 0) (λ why. Netlist why) (netlist_of tree)) _ plan comes in
     let (sheets, fetched, last) = opening_then shelf (sheets_of_files netlist (sheet_names netlist.parts)) _ plan rest in
@@ -187,16 +187,16 @@ netlist_at_holds shelf tree plan comes =
     subst IsNamedPlan (gave shelf (record { netlist = netlist; sheets = sheets }) plan last)
     (record { netlist = netlist_holds tree netlist read; sheets = each_keeps AreMarked shelf (sheets_in netlist) (sheets_in_hold shelf netlist) 1 [] sheets (sheet_names netlist.parts) (All-nil HoldsMarks) fetched })
 
-either_holds : (shelf : ShelfView) (b : Bool) (name : List ℕ) (tree : Data) (plan : Planned) → RunsTo shelf (if b then lone_at name tree else netlist_at tree) (ready plan) → IsNamedPlan plan
+either_holds : (shelf : ShelfState) (b : Bool) (name : List ℕ) (tree : Data) (plan : Planned) → RunsTo shelf (if b then lone_at name tree else netlist_at tree) (ready plan) → IsNamedPlan plan
 either_holds shelf true name tree plan comes = lone_at_holds shelf name tree plan comes
 either_holds shelf false name tree plan comes = netlist_at_holds shelf tree plan comes
 
-plan_from : (shelf : ShelfView) (name : List ℕ) (plan : Planned) → RunsTo shelf (plan_at name) (ready plan) → IsNamedPlan plan
+plan_from : (shelf : ShelfState) (name : List ℕ) (plan : Planned) → RunsTo shelf (plan_at name) (ready plan) → IsNamedPlan plan
 plan_from shelf name plan comes =
     let (tree, first, rest) = opening_then shelf (tree_in (File 0) name) _ plan comes in
     either_holds shelf (is_some (as_object tree) && is_none (get (codes "itv") tree)) name tree plan rest
 
-drawn_from : (shelf : ShelfView) (name : List ℕ) (drawn : Drawn) → RunsTo shelf (design_at name) (ready drawn) → IsDrawnFrom drawn
+drawn_from : (shelf : ShelfState) (name : List ℕ) (drawn : Drawn) → RunsTo shelf (design_at name) (ready drawn) → IsDrawnFrom drawn
 drawn_from shelf name drawn comes =
     let (plan, first, rest) = opening_then shelf (plan_at name) (λ plan. drawn_at plan.netlist plan.sheets) drawn comes in
     let named = plan_from shelf name plan first in

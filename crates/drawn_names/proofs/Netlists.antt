@@ -11,7 +11,7 @@ use Rattle.itv_base.specs.Reading.{walk}
 use Rattle.itv_base.specs.declared.limits.TheConstants.{MAX_CYCLES, MAX_PARTS, MAX_SHEET_NAMES}
 use Rattle.netlist.specs.declared.part.Part.{Part}
 use Rattle.netlist.specs.declared.fault.NetlistFault.{NetlistFault}
-use Rattle.netlist.specs.Contents.{NetlistContents}
+use Rattle.netlist.specs.NetlistContents.{NetlistContents}
 use Rattle.netlist.specs.declared.fault.NetlistFault.TheVariants.{PartsNotList, TooManyParts, DoublePart, TooManySheets}
 use Rattle.netlist.specs.declared.fault.NetlistFault.TheVariants.{Part as PartFault}
 use Rattle.json_tree.specs.Words.{list_at, text_at}

@@ -9,7 +9,7 @@ use Rattle.label_grammar.specs.declared.label.Kind.TheVariants.{Lin, Late, Early
 use Rattle.itv_base.specs.declared.row_kind.RowKind.{RowKind}
 use Rattle.itv_base.specs.declared.row_kind.RowKind.TheVariants as asked
 use Rattle.sheet.specs.declared.row.SheetRow.{SheetRow}
-use Rattle.sheet.specs.Contents as sheet
+use Rattle.sheet.specs.SheetContents as sheet
 use Rattle.sheet.specs.Links.{Link, is_full, link_rows, open_ends, row_by}
 use Rattle.sheet.specs.Whole.{IsWhole, IsWholeKind, IsWholeRow}
 use Rattle.netlist.specs.Whole.{IsWholeWire}

@@ -8,7 +8,7 @@ use Rattle.wavejson.specs.Drawing.{Drawing}
 use Rattle.wavejson.specs.declared.lane_text.LaneText.{LaneText}
 use Rattle.netlist.specs.declared.part.Part.{Part}
 use Rattle.sheet.specs.declared.mark.Mark.{Mark}
-use Rattle.sheet.specs.Contents.{SheetContents}
+use Rattle.sheet.specs.SheetContents.{SheetContents}
 use Rattle.sheet.specs.declared.fault.SheetFault.{SheetFault}
 use Rattle.sheet.specs.declared.fault.SheetFault.TheVariants.{BadNode, DoubleMark}
 use Rattle.itv_base.specs.Reading.{unless}

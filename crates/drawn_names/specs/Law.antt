@@ -1,22 +1,22 @@
 -- What holds of every network that a design draws.
 use Rattle.std.specs.Prelude.{◌≡◌, ◌<◌, ℕ, List, length, All, slice_index_or}
-use Rattle.itv_base.specs.Outside.{ShelfView}
+use Rattle.itv_base.specs.Outside.{ShelfState}
 use Rattle.drawn.specs.Drawn.{Drawn, nameless}
 use Rattle.drawn.specs.declared.row.Row.{Row}
 use Rattle.slack_report.specs.Entry.{IsKind, IsName}
-use Rattle.reading.specs.Opening.{RunsTo, ready}
+use Rattle.reading.specs.FileReading.{RunsTo, ready}
 use Rattle.reading.specs.Design.{design_at}
 
 -- if reading a design gives a drawn network, each of its names is a part's name, a mark and a cycle within the limit
 abbrev pub DrawnNamesHaveForm : Type 0
-DrawnNamesHaveForm = (shelf : ShelfView) (name : List ℕ) (drawn : Drawn) → RunsTo shelf (design_at name) (ready drawn) → All IsName drawn.names
+DrawnNamesHaveForm = (shelf : ShelfState) (name : List ℕ) (drawn : Drawn) → RunsTo shelf (design_at name) (ready drawn) → All IsName drawn.names
 
 -- no two of the names are the same
 abbrev pub DrawnNamesDiffer : Type 0
-DrawnNamesDiffer = (shelf : ShelfView) (name : List ℕ) (drawn : Drawn) → RunsTo shelf (design_at name) (ready drawn)
+DrawnNamesDiffer = (shelf : ShelfState) (name : List ℕ) (drawn : Drawn) → RunsTo shelf (design_at name) (ready drawn)
     → (i j : ℕ) → i < j → j < length drawn.names → slice_index_or drawn.names i nameless ≡ slice_index_or drawn.names j nameless → ⊥
 
 -- the ends of each requirement are a range
 abbrev pub DrawnRangesHaveForm : Type 0
 DrawnRangesHaveForm =
-    (shelf : ShelfView) (name : List ℕ) (drawn : Drawn) → RunsTo shelf (design_at name) (ready drawn) → All (λ (row : Row). IsKind row.kind) drawn.rows
+    (shelf : ShelfState) (name : List ℕ) (drawn : Drawn) → RunsTo shelf (design_at name) (ready drawn) → All (λ (row : Row). IsKind row.kind) drawn.rows

@@ -109,14 +109,14 @@ unless_is : (b : Bool) (P : Type 0) → P → UnlessTrue b P
 unless_is true P p = tt
 unless_is false P p = p
 
-pub told : (total : Result (List RangeEdit) EditsFault) (fault : EditsFault) → total ≡ Err fault → IsReadingFault is_memory total fault
-told total fault is = unless_is (is_memory fault) (total ≡ Err fault) is
+pub shown : (total : Result (List RangeEdit) EditsFault) (fault : EditsFault) → total ≡ Err fault → IsReadingFault is_memory total fault
+shown total fault is = unless_is (is_memory fault) (total ≡ Err fault) is
 
 -- what the exit of a `?` returns
 pub stops_by : (total result : Result (List RangeEdit) EditsFault) (fault : EditsFault) → IsErrAnd result (λ other. other ≡ fault) → total ≡ Err fault
     → AgreesWith is_memory (λ (edits : List RangeEdit). edits) result total
 stops_by total (Ok edits) fault out is = absurd out
-stops_by total (Err other) fault out is = rw out (told total fault is)
+stops_by total (Err other) fault out is = rw out (shown total fault is)
 
 -- ---- the end
 

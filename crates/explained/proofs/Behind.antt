@@ -22,8 +22,8 @@ use Rattle.requirements.specs.declared.bound.Bound.{Bound}
 use Rattle.requirements.specs.declared.bound.Bound.TheVariants as bounds
 use Rattle.slack_report.specs.declared.words.FindingWord.{FindingWord}
 use Rattle.slack_report.specs.declared.words.FindingWord.TheVariants as findings
-use Rattle.right_report.specs.Right.At.{greatest, least_by}
-use Rattle.right_report.specs.Right.Facts.{HasAttained, IsBoundOf}
+use Rattle.right_report.specs.Right.ReportState.{greatest, least_by}
+use Rattle.right_report.specs.Right.LineClaims.{HasAttained, IsBoundOf}
 use Rattle.drawn.specs.declared.row.Row.{Row}
 use Rattle.explained.specs.Answers.{AreRowBounds, Explains, IsBoundFound, bound_of}
 use Rattle.explained.specs.declared.bound.BoundFound.{BoundFound}
@@ -78,7 +78,7 @@ answered search left (answers.Closed value) a sat close = record {
   within = times_close left.times close;
 }
 answered search left answers.Unbounded a sat close = record { found = refl; satisfied = sat; ray = a.raised }
-answered search left (answers.Enclosed upper found) a sat close = record { root = a.root; told = refl; attained = (left.times, sat, a.attains) }
+answered search left (answers.Enclosed upper found) a sat close = record { root = a.root; rests = refl; attained = (left.times, sat, a.attains) }
 
 pub answer_times : (search : PairSearch) (left : Evidence) (answer : GreatestAnswer) → IsGreatestAnswer search left answer → All IsClose left.times → HasTimes (bound_by answer)
 answer_times search left (answers.Closed value) a close = subst IsTime a.attained (separation_time left.times search.from search.to close)
@@ -126,7 +126,7 @@ pub greatest_of : (net : Net) (word : FindingWord) (row : Row) (value : Bound) (
     → IsGreatestBy net word (record { from = row.from; to = row.to }) value times set → IsBoundOf net word row greatest value
 greatest_of net word row (bounds.Closed value) times set is = (is.found, is.greatest)
 greatest_of net word row bounds.Unbounded times set is = is.found
-greatest_of net word row (bounds.Within limit attained) times set is = (is.root, is.told)
+greatest_of net word row (bounds.Within limit attained) times set is = (is.root, is.rests)
 
 -- a least bound of a row, by the reversed pair
 pub least_of : (net : Net) (word : FindingWord) (row : Row) (most value : Bound) (times : List ℤ) (set : List Bool)
@@ -135,14 +135,14 @@ least_of net word row most (bounds.Closed value) times set is =
     (is.found, (least_is_reversed_greatest net row.from row.to (neg_ℤ value)).1 (subst (IsGreatest net row.to row.from) (sym (neg_neg value)) is.greatest))
 least_of net word row most bounds.Unbounded times set is = is.found
 least_of net word row most (bounds.Within limit attained) times set is =
-    (subst (IsRootBound net row.to row.from) (no_neg limit) is.root, attained_turned word attained is.told)
+    (subst (IsRootBound net row.to row.from) (no_neg limit) is.root, attained_turned word attained is.rests)
 
 -- both with what stands behind them
 pub greatest_found : (net : Net) (word : FindingWord) (row : Row) (found : BoundFound) → IsExplained net word (record { from = row.from; to = row.to }) found
     → IsBoundFound net word row greatest found
 greatest_found net word row (Closed value chain) is = record { holds = explained_holds net word row.from row.to (Closed value chain) is; right = (is.0, is.1); behind = is.2 }
 greatest_found net word row (Unbounded set) is = record { holds = explained_holds net word row.from row.to (Unbounded set) is; right = is.0; behind = is.1 }
-greatest_found net word row (Within limit attained) is = record { holds = explained_holds net word row.from row.to (Within limit attained) is; right = (is.root, is.told); behind = tt }
+greatest_found net word row (Within limit attained) is = record { holds = explained_holds net word row.from row.to (Within limit attained) is; right = (is.root, is.rests); behind = tt }
 
 pub least_found : (net : Net) (word : FindingWord) (row : Row) (most : Bound) (found : BoundFound) → IsExplained net word (record { from = row.to; to = row.from }) found
     → IsBoundFound net word row (least_by most) (reversed_found found)
@@ -154,7 +154,7 @@ least_found net word row most (Closed value chain) is = record {
 least_found net word row most (Unbounded set) is = record { holds = least_holds net word row.from row.to (Unbounded set) is; right = is.0; behind = is.1 }
 least_found net word row most (Within limit attained) is = record {
   holds = least_holds net word row.from row.to (Within limit attained) is;
-  right = (subst (IsRootBound net row.to row.from) (no_neg limit) is.root, attained_turned word attained is.told);
+  right = (subst (IsRootBound net row.to row.from) (no_neg limit) is.root, attained_turned word attained is.rests);
   behind = tt;
 }
 

@@ -7,7 +7,7 @@ use Rattle.itv_base.specs.declared.row_kind.RowKind.TheVariants as kinds
 use Rattle.event_graph.specs.Network.{Net}
 use Rattle.requirements.specs.declared.bound.BothBounds.{BothBounds}
 use Rattle.slack_report.specs.declared.words.FindingWord.{FindingWord}
-use Rattle.right_report.specs.Right.At.{greatest, least_by}
+use Rattle.right_report.specs.Right.ReportState.{greatest, least_by}
 use Rattle.drawn.specs.Drawn.{Drawn}
 use Rattle.drawn.specs.declared.row.Row.{Row}
 use Rattle.explained.specs.Answers.{AreRowBounds, AreRowsFound, HasRowTimes, IsApartOf, IsBoundFound, IsRowFound, bound_of}
@@ -18,15 +18,15 @@ use Rattle.explained.specs.declared.pair.Pair.{Pair}
 use Rattle.explained.specs.declared.row.RowFound.{RowFound}
 use Rattle.explained.specs.Step.Bounding.{IsExplained, reversed_found}
 use Rattle.explained.specs.Step.Standing.{FindingAllows, IsReady}
-use Rattle.explained.specs.Step.Telling.{IsRowTold}
+use Rattle.explained.specs.Step.Resting.{AreBoundsApart}
 use Rattle.explained.proofs.Behind.{greatest_found, least_found}
 use Rattle.explained.proofs.Standing.{is_finding}
 
 -- the bounds apart that are right by both bounds of a row are right in what is found of it
-pub told_of : (apart : Net) (row : Row) (kind : RowKind) (found : RowFound) → IsRowTold apart row kind (record { least = bound_of found.least; greatest = bound_of found.greatest }) found.apart
+pub told_of : (apart : Net) (row : Row) (kind : RowKind) (found : RowFound) → AreBoundsApart apart row kind (record { least = bound_of found.least; greatest = bound_of found.greatest }) found.apart
     → IsApartOf apart row kind found
-told_of apart row kinds.Ask found told = told
-told_of apart row (kinds.Req range) found told = told
+told_of apart row kinds.Ask found rests = rests
+told_of apart row (kinds.Req range) found rests = rests
 
 -- both bounds of a row, as they are found
 both_found : (net : Net) (word : FindingWord) (row : Row) (most fewest : BoundFound) → FindingAllows net word → IsBoundFound net word row greatest most
@@ -40,12 +40,12 @@ both_found net word row most fewest allows first second = record {
 }
 
 -- what is found of a row: by the searches of its pair and of the reversed one, and by its bounds in the network apart
-pub row_found : (drawn : Drawn) (net apart : Net) (word later : FindingWord) (row : Row) (turned : Pair) (most searched fewest : BoundFound) (both : BothBounds) (told : Option BothBounds)
+pub row_found : (drawn : Drawn) (net apart : Net) (word later : FindingWord) (row : Row) (turned : Pair) (most searched fewest : BoundFound) (both : BothBounds) (rests : Option BothBounds)
     → net ≡ drawn.net → apart ≡ net_apart drawn → later ≡ word → turned ≡ record { from = row.to; to = row.from } → fewest ≡ reversed_found searched
     → both ≡ record { least = bound_of fewest; greatest = bound_of most } → FindingAllows drawn.net word
     → IsExplained net word (record { from = row.from; to = row.to }) most → IsExplained net later turned searched
-    → (AreRowBounds drawn.net row both → IsRowTold apart row row.kind both told) → IsRowFound drawn word row (record { greatest = most; least = fewest; apart = told })
-row_found drawn net apart word later row turned most searched fewest both told same_net same_apart same_word same_turned same_fewest same_both allows first second tells =
+    → (AreRowBounds drawn.net row both → AreBoundsApart apart row row.kind both rests) → IsRowFound drawn word row (record { greatest = most; least = fewest; apart = rests })
+row_found drawn net apart word later row turned most searched fewest both rests same_net same_apart same_word same_turned same_fewest same_both allows first second tells =
     let one : IsBoundFound drawn.net word row greatest most =
     greatest_found drawn.net word row most (subst (λ (n : Net). IsExplained n word (record { from = row.from; to = row.to }) most) same_net first) in
     let there : IsExplained drawn.net word (record { from = row.to; to = row.from }) searched =
@@ -55,10 +55,10 @@ row_found drawn net apart word later row turned most searched fewest both told s
     let two : IsBoundFound drawn.net word row (least_by (bound_of most)) fewest =
     subst (λ (f : BoundFound). IsBoundFound drawn.net word row (least_by (bound_of most)) f) (sym same_fewest) (least_found drawn.net word row (bound_of most) searched there) in
     let bounds : AreRowBounds drawn.net row both = subst (λ (b : BothBounds). AreRowBounds drawn.net row b) (sym same_both) (both_found drawn.net word row most fewest allows one two) in
-    let is_told : IsRowTold (net_apart drawn) row row.kind (record { least = bound_of fewest; greatest = bound_of most }) told =
-    subst (λ (n : Net). IsRowTold n row row.kind (record { least = bound_of fewest; greatest = bound_of most }) told) same_apart
-    (subst (λ (b : BothBounds). IsRowTold apart row row.kind b told) same_both (tells bounds)) in
-    record { greatest = one; least = two; apart = told_of (net_apart drawn) row row.kind (record { greatest = most; least = fewest; apart = told }) is_told }
+    let is_told : AreBoundsApart (net_apart drawn) row row.kind (record { least = bound_of fewest; greatest = bound_of most }) rests =
+    subst (λ (n : Net). AreBoundsApart n row row.kind (record { least = bound_of fewest; greatest = bound_of most }) rests) same_apart
+    (subst (λ (b : BothBounds). AreBoundsApart apart row row.kind b rests) same_both (tells bounds)) in
+    record { greatest = one; least = two; apart = told_of (net_apart drawn) row row.kind (record { greatest = most; least = fewest; apart = rests }) is_told }
 
 -- one row more
 pub rows_more : (drawn : Drawn) (word : FindingWord) (rows : List Row) (found : List RowFound) (row : Row) (last : RowFound) → AreRowsFound drawn word rows found

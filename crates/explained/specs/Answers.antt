@@ -22,8 +22,8 @@ use Rattle.requirements.specs.declared.verdict.Verdict.{Verdict}
 use Rattle.requirements.specs.declared.verdict.Verdict.TheVariants as verdicts
 use Rattle.slack_report.specs.declared.words.FindingWord.{FindingWord}
 use Rattle.slack_report.specs.declared.words.FindingWord.TheVariants as findings
-use Rattle.right_report.specs.Right.At.{NextBound, greatest, least_by}
-use Rattle.right_report.specs.Right.Facts.{IsBoundOf, IsFinding}
+use Rattle.right_report.specs.Right.ReportState.{NextBound, greatest, least_by}
+use Rattle.right_report.specs.Right.LineClaims.{IsBoundOf, IsFinding}
 use Rattle.drawn.specs.Drawn.{Drawn}
 use Rattle.drawn.specs.declared.row.Row.{Row}
 use Rattle.explained.specs.Apart.{net_apart}
@@ -108,10 +108,10 @@ RestsOnOrder apart row range None = (both : BothBounds) × AreRowBounds apart ro
 RestsOnOrder apart row range (Some both) = AreRowBounds apart row both × (verdict_by range both ≡ verdicts.Pass → ⊥)
 
 abbrev pub IsApart : Net → Row → Ends → Verdict → Option BothBounds → Type 0
-IsApart apart row range verdicts.Pass told = RestsOnOrder apart row range told
-IsApart apart row range verdicts.FailHigh told = told ≡ None
-IsApart apart row range verdicts.FailLow told = told ≡ None
-IsApart apart row range verdicts.Undecided told = told ≡ None
+IsApart apart row range verdicts.Pass rests = RestsOnOrder apart row range rests
+IsApart apart row range verdicts.FailHigh rests = rests ≡ None
+IsApart apart row range verdicts.FailLow rests = rests ≡ None
+IsApart apart row range verdicts.Undecided rests = rests ≡ None
 
 -- a row that only asks has no bounds apart
 abbrev pub IsApartOf : Net → Row → RowKind → RowFound → Type 0

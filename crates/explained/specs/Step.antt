@@ -1,5 +1,5 @@
 -- Words of contracts within this crate.
 pub mod Standing
 pub mod Bounding
-pub mod Telling
+pub mod Resting
 pub mod Settling

@@ -12,10 +12,10 @@ mod finding;
 pub mod laws;
 mod network;
 mod pair;
+mod resting;
 mod row;
 mod rows;
 mod searches;
-mod telling;
 
 pub use bound::BoundFound;
 pub use finding::Finding;

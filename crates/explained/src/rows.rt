@@ -9,8 +9,8 @@ ghost use Rattle.explained.specs.Step.Standing.{IsDeskFor, IsReady, IsNotInconsi
 use crate::desk::{Desk, settle_apart};
 use crate::explaining::explain_greatest;
 use crate::pair::Pair;
+use crate::resting::bounds_apart;
 use crate::row::RowFound;
-use crate::telling::told_apart;
 use drawn::{DrawnNetwork, Row};
 use itv_base::NoMemory;
 use requirements::BothBounds;
@@ -87,7 +87,7 @@ fn explain_row(
         least: least.bound(),
         greatest: greatest.bound(),
     };
-    let apart = told_apart(row, &both, &mut desk.apart);
+    let apart = bounds_apart(row, &both, &mut desk.apart);
     Ok(RowFound {
         greatest,
         least,

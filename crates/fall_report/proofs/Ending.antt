@@ -27,8 +27,8 @@ record IsEarned (job : Job) (word : EndWord) : Type 0 where
 abbrev IsKnown : Job → TextState → Type 0
 IsKnown job at_finding = Unit {0}
 IsKnown job at_rows = Unit {0}
-IsKnown job (at_row told) = told.spent ≡ true → Few job
-IsKnown job (at_bound told which) = told.spent ≡ true → Few job
+IsKnown job (at_row current) = current.spent ≡ true → Few job
+IsKnown job (at_bound current which) = current.spent ≡ true → Few job
 IsKnown job (at_end word) = IsEarned job word
 IsKnown job (at_last word) = IsEarned job word
 
@@ -49,16 +49,16 @@ spent_bound job which r lines (closed number list) false shows few e = absurd (c
 spent_bound job which r lines (unbounded list set) false shows few e = absurd (cc e)
 spent_bound job which r lines bound_spent false shows few e = shows.few
 
-known_bound : (job : Job) (told : FallRow) (which : Which) (lines : List FallLine) (value : FallBound) → IsFallBound job.view job.drawn.net job.turns which told.row lines value → (told.spent ≡ true → Few job)
-    → IsKnown job (behind_bound told which (is_spent value))
-known_bound job told Max lines value shows few = spent_bound job Max told.row lines value told.spent shows few
-known_bound job told Min lines value shows few = known_rows job (told.spent || is_spent value) (told.number + 1) told.later (spent_bound job Min told.row lines value told.spent shows few)
+known_bound : (job : Job) (current : FallRow) (which : Which) (lines : List FallLine) (value : FallBound) → IsFallBound job.view job.drawn.net job.turns which current.row lines value → (current.spent ≡ true → Few job)
+    → IsKnown job (behind_bound current which (is_spent value))
+known_bound job current Max lines value shows few = spent_bound job Max current.row lines value current.spent shows few
+known_bound job current Min lines value shows few = known_rows job (current.spent || is_spent value) (current.number + 1) current.later (spent_bound job Min current.row lines value current.spent shows few)
 
 known_next : (job : Job) (here next : TextState) (piece : List ℕ) → IsKnown job here → PieceMayFollow job here piece next → IsKnown job next
 known_next job at_finding next piece known (lines, few, found, shows, text, e) = subst (IsKnown job) (sym e) (known_finding job lines found shows)
 known_next job at_rows next piece known (text, e) = subst (IsKnown job) (sym e) (known_rows job false 0 job.drawn.rows (λ e. absurd (cc e)))
-known_next job (at_row told) next piece known (text, e) = subst (IsKnown job) (sym e) known
-known_next job (at_bound told which) next piece known (lines, few, value, shows, text, e) = subst (IsKnown job) (sym e) (known_bound job told which lines value shows known)
+known_next job (at_row current) next piece known (text, e) = subst (IsKnown job) (sym e) known
+known_next job (at_bound current which) next piece known (lines, few, value, shows, text, e) = subst (IsKnown job) (sym e) (known_bound job current which lines value shows known)
 known_next job (at_end word) next piece known (text, e) = subst (IsKnown job) (sym e) known
 known_next job (at_last word) next piece known may = absurd may
 

@@ -1,6 +1,6 @@
 -- Which pieces may follow in the text of a job, and which lines begin what comes next.
 use Rattle.std.proofs.Common.{◌≡◌, ◌+◌, ◌||◌, ◌≤◌, ℕ, zero, suc, ℤ, Bool, true, false, List, [], ◌∷◌, ◌++◌, drop, length, map, Option, Some, slice_get, refl, sym, subst, ap, add-one, arith}
-use Rattle.itv_base.specs.Outside.{SinkView}
+use Rattle.itv_base.specs.Outside.{SinkState}
 use Rattle.event_graph.specs.Network.{Net}
 use Rattle.falling.specs.declared.answer.Fallen.{Fallen}
 use Rattle.falling.specs.declared.answer.Fallen.TheVariants.{Closed, Inconsistent, Spent, Unbounded}
@@ -18,7 +18,7 @@ use Rattle.falling.specs.declared.view.View.{View}
 use Rattle.fall_report.specs.declared.wanted.Wanted.{Wanted}
 use Rattle.fall_report.specs.Fall.{AreBegun, Job, PieceMayFollow, FallRow, at_bound, at_finding, at_rows, before_rows, behind_bound, behind_finding, is_spent}
 use Rattle.fall_report.specs.Shows.{IsFallBound, IsFinding, first_event}
-use Rattle.fall_report.specs.Step.{BeginsFrom, IsJobOf, IsSet, ShowsFinding, WrotePieces, asked, behind_found, told_bound, told_finding, was_spent}
+use Rattle.fall_report.specs.Step.{BeginsFrom, IsJobOf, IsSet, ShowsFinding, WrotePieces, asked, behind_found, shown_bound, shown_finding, was_spent}
 use Rattle.fall_report.specs.Text.{FallBound, Finding, bound_text, finding_text, printed}
 use Rattle.falling.specs.View.{IsViewOf}
 use Rattle.fall_report.specs.View.{seen, source}
@@ -50,36 +50,36 @@ module _ {net : Net} {wanted : Wanted} {job : Job} (of : IsJobOf net wanted job)
 
   -- ---- a bound of a row
 
-  pub begun_bound : (told : FallRow) (which : Which) (r : Row) (lines : List FallLine) → told.row ≡ r → BeginsFrom net wanted.turns (λ view. source view which r) lines
-      → AreBegun job (at_bound told which) (printed wanted.cert lines)
-  begun_bound told which r lines same begin =
+  pub begun_bound : (current : FallRow) (which : Which) (r : Row) (lines : List FallLine) → current.row ≡ r → BeginsFrom net wanted.turns (λ view. source view which r) lines
+      → AreBegun job (at_bound current which) (printed wanted.cert lines)
+  begun_bound current which r lines same begin =
       let (values, d) = begin.1 job.view of.view in (
         lines,
         in_turns lines begin.0,
         in_job lines,
         values,
-        subst (λ (n : Net). IsDerivation (seen job.view n) (source job.view which told.row) lines values) (sym of.net_is)
+        subst (λ (n : Net). IsDerivation (seen job.view n) (source job.view which current.row) lines values) (sym of.net_is)
             (subst (λ (row : Row). IsDerivation (seen job.view net) (source job.view which row) lines values) (sym same) d),
       )
 
-  pub bound_may : (told : FallRow) (which : Which) (r : Row) (lines : List FallLine) (value : FallBound) → told.row ≡ r → length lines ≤ wanted.turns → IsFallBound job.view net wanted.turns which r lines value
-      → PieceMayFollow job (at_bound told which) (fall_text (printed wanted.cert lines) ++ bound_text which value) (behind_bound told which (is_spent value))
-  bound_may told which r lines value same few shows = (
+  pub bound_may : (current : FallRow) (which : Which) (r : Row) (lines : List FallLine) (value : FallBound) → current.row ≡ r → length lines ≤ wanted.turns → IsFallBound job.view net wanted.turns which r lines value
+      → PieceMayFollow job (at_bound current which) (fall_text (printed wanted.cert lines) ++ bound_text which value) (behind_bound current which (is_spent value))
+  bound_may current which r lines value same few shows = (
     lines,
     in_turns lines few,
     value,
-    subst (λ (n : Net). IsFallBound job.view n job.turns which told.row lines value) (sym of.net_is)
-        (subst (λ turns. IsFallBound job.view net turns which told.row lines value) (sym of.turns) (subst (λ (row : Row). IsFallBound job.view net wanted.turns which row lines value) (sym same) shows)),
+    subst (λ (n : Net). IsFallBound job.view n job.turns which current.row lines value) (sym of.net_is)
+        (subst (λ turns. IsFallBound job.view net turns which current.row lines value) (sym of.turns) (subst (λ (row : Row). IsFallBound job.view net wanted.turns which row lines value) (sym same) shows)),
     ap (λ (ls : List FallLine). fall_text ls ++ bound_text which value) (in_job lines),
     refl,
   )
 
-pub behind_told : (found : FallFinding) (times : List ℤ) → behind_finding (told_finding found times) ≡ behind_found found
+pub behind_told : (found : FallFinding) (times : List ℤ) → behind_finding (shown_finding found times) ≡ behind_found found
 behind_told founds.Consistent times = refl
 behind_told founds.Inconsistent times = refl
 behind_told founds.Spent times = refl
 
-pub spent_told : (which : Which) (from : EventId) (times : List ℤ) (ray : List Bool) (fallen : Fallen) → (fallen ≡ Inconsistent → ⊥) → is_spent (told_bound which from times ray fallen) ≡ was_spent fallen
+pub spent_told : (which : Which) (from : EventId) (times : List ℤ) (ray : List Bool) (fallen : Fallen) → (fallen ≡ Inconsistent → ⊥) → is_spent (shown_bound which from times ray fallen) ≡ was_spent fallen
 spent_told which from times ray (Closed value) other = refl
 spent_told which from times ray Unbounded other = refl
 spent_told which from times ray Inconsistent other = absurd (other refl)
@@ -96,7 +96,7 @@ pub job_of : (drawn : Drawn) (wanted : Wanted) (view : View) (net : Net) → net
 job_of drawn wanted view net same v = record { net_is = sym same; view = subst (λ (n : Net). IsViewOf n view) (sym same) v; turns = refl; cert = refl }
 
 -- rows up to a number were written
-pub record RowsTold (drawn : Drawn) (wanted : Wanted) (number : ℕ) (spent : Bool) (desk : Desk) (old now : SinkView) : Type 0 where
+pub record RowsTold (drawn : Drawn) (wanted : Wanted) (number : ℕ) (spent : Bool) (desk : Desk) (old now : SinkState) : Type 0 where
   pub set : IsSet drawn.net desk
   pub pieces : (view : View) → IsViewOf drawn.net view → WrotePieces (asked drawn view wanted) at_rows (before_rows spent number (drop number drawn.rows)) old now
 

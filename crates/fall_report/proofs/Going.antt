@@ -2,7 +2,7 @@
 use Rattle.std.proofs.Common.{◌≡◌, ◌≤◌, ℕ, Bool, true, false, List, [], ◌∷◌, ◌++◌, Result, Ok, Err, IsErr, refl, sym, subst, ap, ◌∙◌, append-nil, append_assoc, arith}
 use Rattle.std.specs.List.{concat}
 use Rattle.std.proofs.lemmas.List.Folds.{concat-append}
-use Rattle.itv_base.specs.Outside.{CutShort, SinkView, grown}
+use Rattle.itv_base.specs.Outside.{CutShort, SinkState, grown}
 use Rattle.itv_base.proofs.Written.{cut_then, grown-append, grown-nil}
 use Rattle.falling.specs.Derivation.{starting_values}
 use Rattle.falling.specs.declared.line.FallLine.{FallLine}
@@ -28,37 +28,37 @@ printed_none false = refl
 pub none_begun : (job : Job) (place : TextState) → AreBegun job place []
 none_begun job at_finding = ([], zero-≤ job.turns, printed_none job.cert, starting_values (seen job.view job.drawn.net) first_event, refl)
 none_begun job at_rows = refl
-none_begun job (at_row told) = refl
-none_begun job (at_bound told which) = ([], zero-≤ job.turns, printed_none job.cert, starting_values (seen job.view job.drawn.net) (source job.view which told.row), refl)
+none_begun job (at_row current) = refl
+none_begun job (at_bound current which) = ([], zero-≤ job.turns, printed_none job.cert, starting_values (seen job.view job.drawn.net) (source job.view which current.row), refl)
 none_begun job (at_end word) = refl
 none_begun job (at_last word) = refl
 
 module _ {job : Job} where
   -- ---- pieces that were put
 
-  pub told_none : (here : TextState) (told : SinkView) → WrotePieces job here here told told
-  told_none here told = record { pieces = []; reads = refl; grew = grown-nil told }
+  pub told_none : (here : TextState) (current : SinkState) → WrotePieces job here here current current
+  told_none here current = record { pieces = []; reads = refl; grew = grown-nil current }
 
   -- one piece that may follow is put
-  pub told_piece : {here : TextState} {old new : SinkView} (next : TextState) (piece : List ℕ) → PieceMayFollow job here piece next → new ≡ grown old piece → WrotePieces job here next old new
+  pub told_piece : {here : TextState} {old new : SinkState} (next : TextState) (piece : List ℕ) → PieceMayFollow job here piece next → new ≡ grown old piece → WrotePieces job here next old new
   told_piece {old = old} next piece may put = record { pieces = piece ∷ []; reads = (next, may, refl); grew = put ∙ ap (grown old) (sym (append-nil piece)) }
 
-  pub told_then : {here mid last : TextState} {old now new : SinkView} → WrotePieces job here mid old now → WrotePieces job mid last now new → WrotePieces job here last old new
+  pub told_then : {here mid last : TextState} {old now new : SinkState} → WrotePieces job here mid old now → WrotePieces job mid last now new → WrotePieces job here last old new
   told_then {here = here} {mid = mid} {last = last} {old = old} a b = record {
     pieces = a.pieces ++ b.pieces;
     reads = reads-append job a.pieces b.pieces here mid last a.reads b.reads;
-    grew = b.grew ∙ ap (λ told. grown told (concat b.pieces)) a.grew ∙ grown-append old (concat a.pieces) (concat b.pieces)
+    grew = b.grew ∙ ap (λ current. grown current (concat b.pieces)) a.grew ∙ grown-append old (concat a.pieces) (concat b.pieces)
         ∙ ap (grown old) (sym (concat-append a.pieces b.pieces));
   }
 
   -- pieces lead to an equal state
-  pub told_at : {here mid last : TextState} {old new : SinkView} → mid ≡ last → WrotePieces job here mid old new → WrotePieces job here last old new
+  pub told_at : {here mid last : TextState} {old new : SinkState} → mid ≡ last → WrotePieces job here mid old new → WrotePieces job here last old new
   told_at {here = here} {old = old} {new = new} e t = subst (λ (at : TextState). WrotePieces job here at old new) e t
 
   -- ---- a put that failed
 
   -- a front of one piece that may follow is put
-  pub stopped_piece : {here : TextState} {old new : SinkView} (next : TextState) (piece : List ℕ) → PieceMayFollow job here piece next → CutShort old new piece → WrotePieceFront job here old new
+  pub stopped_piece : {here : TextState} {old new : SinkState} (next : TextState) (piece : List ℕ) → PieceMayFollow job here piece next → CutShort old new piece → WrotePieceFront job here old new
   stopped_piece {old = old} {new = new} next piece may cut = record {
     pieces = piece ∷ [];
     last = next;
@@ -69,11 +69,11 @@ module _ {job : Job} where
   }
 
   -- a search fails in the lines of its derivation
-  pub stopped_search : {here : TextState} {old new : SinkView} (begun : List FallLine) → AreBegun job here begun → SinkWasCut old begun new → WrotePieceFront job here old new
+  pub stopped_search : {here : TextState} {old new : SinkState} (begun : List FallLine) → AreBegun job here begun → SinkWasCut old begun new → WrotePieceFront job here old new
   stopped_search {here = here} begun are cut = record { pieces = []; last = here; reads = refl; begun = begun; are_begun = are; cut = cut }
 
   -- pieces are put, and then a front of other pieces
-  pub stops_then : {here mid : TextState} {old now new : SinkView} → WrotePieces job here mid old now → WrotePieceFront job mid now new → WrotePieceFront job here old new
+  pub stops_then : {here mid : TextState} {old now new : SinkState} → WrotePieces job here mid old now → WrotePieceFront job mid now new → WrotePieceFront job here old new
   stops_then {here = here} {mid = mid} {old = old} {now = now} {new = new} a b = record {
     pieces = a.pieces ++ b.pieces;
     last = b.last;
@@ -90,32 +90,32 @@ module _ {job : Job} where
   -- ---- steps
 
   -- if a step fails, its caller fails in the same way
-  pub goes_up : {B E : Type 0} {here : TextState} {old new : SinkView} (to : B → TextState) (result : Result B E) → IsErr result → WrotePieceFront job here old new → WritesPieces job here to old new result
+  pub goes_up : {B E : Type 0} {here : TextState} {old new : SinkState} (to : B → TextState) (result : Result B E) → IsErr result → WrotePieceFront job here old new → WritesPieces job here to old new result
   goes_up to (Ok x) is stopped = absurd (cc is)
   goes_up to (Err e) is stopped = stopped
 
   -- pieces are put, and then a step is done
-  pub goes_then : {B E : Type 0} {here mid : TextState} {old now : SinkView} (to : B → TextState) (new : SinkView) (result : Result B E) → WrotePieces job here mid old now
+  pub goes_then : {B E : Type 0} {here mid : TextState} {old now : SinkState} (to : B → TextState) (new : SinkState) (result : Result B E) → WrotePieces job here mid old now
       → WritesPieces job mid to now new result → WritesPieces job here to old new result
   goes_then to new (Ok x) a b = told_then a b
   goes_then to new (Err e) a b = stops_then a b
 
   -- the lines of a search are put, and then the text of what they show
-  pub told_shown : {here : TextState} {old now new : SinkView} (next : TextState) (lines : List FallLine) (text : List ℕ) → PieceMayFollow job here (fall_text lines ++ text) next → SinkGrew old lines now
+  pub told_shown : {here : TextState} {old now new : SinkState} (next : TextState) (lines : List FallLine) (text : List ℕ) → PieceMayFollow job here (fall_text lines ++ text) next → SinkGrew old lines now
       → new ≡ grown now text → WrotePieces job here next old new
   told_shown {old = old} next lines text may grew put =
-      told_piece next (fall_text lines ++ text) may (put ∙ ap (λ told. grown told text) grew ∙ grown-append old (fall_text lines) text)
+      told_piece next (fall_text lines ++ text) may (put ∙ ap (λ current. grown current text) grew ∙ grown-append old (fall_text lines) text)
 
-  pub stopped_shown : {here : TextState} {old now new : SinkView} (next : TextState) (lines : List FallLine) (text : List ℕ) → PieceMayFollow job here (fall_text lines ++ text) next → SinkGrew old lines now
+  pub stopped_shown : {here : TextState} {old now new : SinkState} (next : TextState) (lines : List FallLine) (text : List ℕ) → PieceMayFollow job here (fall_text lines ++ text) next → SinkGrew old lines now
       → CutShort now new text → WrotePieceFront job here old new
   stopped_shown {old = old} {now = now} {new = new} next lines text may grew cut =
       stopped_piece next (fall_text lines ++ text) may (cut_then old now new (fall_text lines) text grew cut)
 
 -- if the lines are not wanted, nothing is put
-pub quiet : (cert : Bool) (told : SinkView) (lines : List FallLine) → cert ≡ false → SinkGrew told (printed cert lines) told
-quiet true told lines e = absurd (cc e)
-quiet false told lines e = grown-nil told
+pub quiet : (cert : Bool) (current : SinkState) (lines : List FallLine) → cert ≡ false → SinkGrew current (printed cert lines) current
+quiet true current lines e = absurd (cc e)
+quiet false current lines e = grown-nil current
 
-pub quiet_none : (cert : Bool) (told : SinkView) → SinkGrew told (printed cert []) told
-quiet_none true told = grown-nil told
-quiet_none false told = grown-nil told
+pub quiet_none : (cert : Bool) (current : SinkState) → SinkGrew current (printed cert []) current
+quiet_none true current = grown-nil current
+quiet_none false current = grown-nil current

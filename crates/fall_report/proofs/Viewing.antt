@@ -14,7 +14,7 @@ use Rattle.falling.specs.declared.answer.Fallen.{Fallen}
 use Rattle.falling.specs.declared.answer.Fallen.TheVariants.{Closed, Unbounded, Inconsistent, Spent}
 use Rattle.falling.specs.declared.limits.Limits.{Limits}
 use Rattle.falling.specs.declared.line.FallLine.{FallLine}
-use Rattle.falling.specs.Course.{AreLimits}
+use Rattle.falling.specs.DerivationEnds.{AreLimits}
 use Rattle.falling.specs.Derivation.{IsDerivation, starting_values}
 use Rattle.falling.specs.Kinds.{negated, negated_times}
 use Rattle.falling.specs.Fallen.{asked_of}
@@ -31,7 +31,7 @@ use Rattle.fall_report.specs.declared.finding.FallFinding.TheVariants as founds
 use Rattle.falling.specs.declared.view.View.{View}
 use Rattle.falling.specs.declared.view.View.TheVariants.{Plain, Negated}
 use Rattle.fall_report.specs.Shows.{CanRise, IsFallBound, IsExtreme, IsFinding, first_event, shown_by}
-use Rattle.fall_report.specs.Step.{BeginsFrom, HasFound, ShowsFinding, found_by, told_bound, told_finding}
+use Rattle.fall_report.specs.Step.{BeginsFrom, HasFound, ShowsFinding, found_by, shown_bound, shown_finding}
 use Rattle.fall_report.specs.Text.{consistent}
 use Rattle.falling.specs.View.{IsViewOf}
 use Rattle.falling.specs.Cap.{IsNearValue}
@@ -129,7 +129,7 @@ no_events some none = omega arith
 -- the finding of a network with events in a view, by the answer for event 0 and event 0
 finding_in : (net : Net) (negation : Option Net) (turns : ℕ) (lines : List FallLine) (times : List ℤ) (ray : List Bool) (fallen : Fallen) (view : View) → 0 < net.events
     → IsNegationOf net negation → AnswersAs negation net (asked_of first_event first_event turns) lines times ray fallen → (HasTimes fallen → All IsNearValue times) → IsViewOf net view
-    → IsFinding view net turns lines (told_finding (found_by fallen) times)
+    → IsFinding view net turns lines (shown_finding (found_by fallen) times)
 finding_in net None turns lines times ray fallen Negated some is a near v = absurd (one_view net is v)
 finding_in net (Some n) turns lines times ray fallen Plain some is a near v = absurd (one_view net v is.1)
 finding_in net None turns lines times ray (Closed value) Plain some is a near v = record {
@@ -158,7 +158,7 @@ finding_in net (Some n) turns lines times ray Spent Negated some is a near v = r
 -- the finding in each view, with at most as many lines as turns
 pub shows_finding : (net : Net) (negation : Option Net) (turns : ℕ) (lines : List FallLine) (times : List ℤ) (ray : List Bool) (fallen : Fallen) → 0 < net.events
     → IsNegationOf net negation → length lines ≤ turns → AnswersAs negation net (asked_of first_event first_event turns) lines times ray fallen → (HasTimes fallen → All IsNearValue times)
-    → ShowsFinding net turns lines (told_finding (found_by fallen) times)
+    → ShowsFinding net turns lines (shown_finding (found_by fallen) times)
 shows_finding net negation turns lines times ray fallen some is few a near = (few, λ view v. finding_in net negation turns lines times ray fallen view some is a near v)
 
 -- without events an empty list of times satisfies, and no line is needed
@@ -276,7 +276,7 @@ module _ (net : Net) (which : Which) (r : Row) (is_net : IsNet net) (in_from : r
   -- what an answer for the searched pair of a row says of its bound, if some times satisfy
   pub shows_row : (negation : Option Net) (turns : ℕ) (lines : List FallLine) (times : List ℤ) (ray : List Bool) (fallen : Fallen) (view : View) → IsViewOf net view
       → IsNegationOf net negation → (some : List ℤ) → Satisfies some net → AnswersAs negation net (asked_of (source Plain which r) (target Plain which r) turns) lines times ray fallen
-      → (HasTimes fallen → All IsNearValue times) → IsFallBound view net turns which r lines (told_bound which r.from times ray fallen)
+      → (HasTimes fallen → All IsNearValue times) → IsFallBound view net turns which r lines (shown_bound which r.from times ray fallen)
   shows_row None turns lines times ray fallen Negated v is some satisfied a near = absurd (one_view net is v)
   shows_row (Some n) turns lines times ray fallen Plain v is some satisfied a near = absurd (one_view net v is.1)
   shows_row None turns lines times ray (Closed value) Plain v is some satisfied a near = record {

@@ -2,7 +2,7 @@
 use Rattle.std.proofs.Common.{◌≡◌, ℕ, Bool, List, [], ◌++◌, refl, sym, ap, ◌∙◌, append-nil}
 use Rattle.std.specs.List.{concat}
 use Rattle.std.specs.Prelude.{OnErr, Result, Ok, Err}
-use Rattle.itv_base.specs.Outside.{CutShort, SinkView, grown}
+use Rattle.itv_base.specs.Outside.{CutShort, SinkState, grown}
 use Rattle.itv_base.proofs.Written.{cut_then, grown-append}
 use Rattle.fall_report.specs.FallText.{fall_text}
 use Rattle.jobs.specs.declared.answer.Answer.{Answer}
@@ -21,7 +21,7 @@ job_of drawn view turns cert = record { drawn = drawn; view = view; turns = turn
 
 module _ (drawn : Drawn) (view : View) (turns : ℕ) (cert : Bool) (v : IsViewOf drawn.net view) where
   -- the put of the front was cut short
-  pub begins_front : (old new : SinkView) → CutShort old new (front_text drawn view) → (text : List ℕ) × BeginsFall drawn turns cert text × CutShort old new text
+  pub begins_front : (old new : SinkState) → CutShort old new (front_text drawn view) → (text : List ℕ) × BeginsFall drawn turns cert text × CutShort old new text
   begins_front old new cut = (
     front_text drawn view,
     record {
@@ -38,7 +38,7 @@ module _ (drawn : Drawn) (view : View) (turns : ℕ) (cert : Bool) (v : IsViewOf
   )
 
   -- a later put was cut short
-  pub begins_rest : (old now new : SinkView) → now ≡ grown old (front_text drawn view) → WrotePieceFront (job_of drawn view turns cert) at_finding now new
+  pub begins_rest : (old now new : SinkState) → now ≡ grown old (front_text drawn view) → WrotePieceFront (job_of drawn view turns cert) at_finding now new
       → (text : List ℕ) × BeginsFall drawn turns cert text × CutShort old new text
   begins_rest old now new put s = (
     front_text drawn view ++ (concat s.pieces ++ fall_text s.begun),
@@ -47,12 +47,12 @@ module _ (drawn : Drawn) (view : View) (turns : ℕ) (cert : Bool) (v : IsViewOf
   )
 
   -- all was put
-  pub answers_fall : (old now new : SinkView) (word : EndWord) (answer : Answer) → now ≡ grown old (front_text drawn view) → WrotePieces (job_of drawn view turns cert) at_finding (at_last word) now new
+  pub answers_fall : (old now new : SinkState) (word : EndWord) (answer : Answer) → now ≡ grown old (front_text drawn view) → WrotePieces (job_of drawn view turns cert) at_finding (at_last word) now new
       → answer ≡ answer_of word → (text : List ℕ) × AnswersFall drawn turns cert answer text × (new ≡ grown old text)
   answers_fall old now new word answer put t is = (
     front_text drawn view ++ concat t.pieces,
     record { view = view; is_view = v; pieces = t.pieces; word = word; reads = t.reads; is_text = refl; is_answer = is },
-    t.grew ∙ ap (λ told. grown told (concat t.pieces)) put ∙ grown-append old (front_text drawn view) (concat t.pieces),
+    t.grew ∙ ap (λ current. grown current (concat t.pieces)) put ∙ grown-append old (front_text drawn view) (concat t.pieces),
   )
 
 -- ---- clauses

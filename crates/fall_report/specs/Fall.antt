@@ -62,8 +62,8 @@ is_spent bound_spent = true
 
 -- the state behind a bound of a row: the least bound comes behind the greatest, and the rows that are left come behind the least
 abbrev pub behind_bound : FallRow → Which → Bool → TextState
-behind_bound told Max spent = at_bound (record told { spent = told.spent || spent }) Min
-behind_bound told Min spent = before_rows (told.spent || spent) (told.number + 1) told.later
+behind_bound current Max spent = at_bound (record current { spent = current.spent || spent }) Min
+behind_bound current Min spent = before_rows (current.spent || spent) (current.number + 1) current.later
 
 -- a piece of text leads from one state to another. A derivation has at most as many lines as there are turns
 abbrev pub PieceMayFollow : Job → TextState → List ℕ → TextState → Type 0
@@ -71,11 +71,11 @@ PieceMayFollow job at_finding piece next =
     (lines : List FallLine) × (length lines ≤ job.turns) × (found : Finding) × IsFinding job.view job.drawn.net job.turns lines found
     × (piece ≡ fall_text (printed job.cert lines) ++ finding_text found) × (next ≡ behind_finding found)
 PieceMayFollow job at_rows piece next = (piece ≡ entry_text (line.rows (length job.drawn.rows))) × (next ≡ before_rows false 0 job.drawn.rows)
-PieceMayFollow job (at_row told) piece next =
-    (piece ≡ entry_text (line.row told.number told.row.kind (name_of job.drawn told.row.from) (name_of job.drawn told.row.to))) × (next ≡ at_bound told Max)
-PieceMayFollow job (at_bound told which) piece next =
-    (lines : List FallLine) × (length lines ≤ job.turns) × (value : FallBound) × IsFallBound job.view job.drawn.net job.turns which told.row lines value
-    × (piece ≡ fall_text (printed job.cert lines) ++ bound_text which value) × (next ≡ behind_bound told which (is_spent value))
+PieceMayFollow job (at_row current) piece next =
+    (piece ≡ entry_text (line.row current.number current.row.kind (name_of job.drawn current.row.from) (name_of job.drawn current.row.to))) × (next ≡ at_bound current Max)
+PieceMayFollow job (at_bound current which) piece next =
+    (lines : List FallLine) × (length lines ≤ job.turns) × (value : FallBound) × IsFallBound job.view job.drawn.net job.turns which current.row lines value
+    × (piece ≡ fall_text (printed job.cert lines) ++ bound_text which value) × (next ≡ behind_bound current which (is_spent value))
 PieceMayFollow job (at_end word) piece next = (piece ≡ entry_text (line.ending word)) × (next ≡ at_last word)
 PieceMayFollow job (at_last word) piece next = ⊥
 
@@ -92,7 +92,7 @@ BeginAt job from begun =
 -- these are the printed lines of a front of the derivation that comes at a state, if one does
 abbrev pub AreBegun : Job → TextState → List FallLine → Type 0
 AreBegun job at_finding begun = BeginAt job first_event begun
-AreBegun job (at_bound told which) begun = BeginAt job (source job.view which told.row) begun
+AreBegun job (at_bound current which) begun = BeginAt job (source job.view which current.row) begun
 AreBegun job _ begun = begun ≡ []
 
 -- what the job answers and writes: the front, and then pieces up to the last one, whose word is the answer

@@ -7,7 +7,7 @@ use Rattle.event_graph.specs.Network.{Net}
 use Rattle.event_graph.specs.Satisfying.{Satisfies}
 use Rattle.event_graph.specs.Times.{moved, separation, time_of}
 use Rattle.falling.specs.Cap.{enough_turns}
-use Rattle.falling.specs.Course.{IsSpent}
+use Rattle.falling.specs.DerivationEnds.{IsSpent}
 use Rattle.falling.specs.Derivation.{IsDerivation, IsEnded}
 use Rattle.falling.specs.declared.line.FallLine.{FallLine}
 use Rattle.slack_report.specs.declared.words.Which.{Which}

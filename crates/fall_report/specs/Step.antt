@@ -2,7 +2,7 @@
 use Rattle.std.specs.Prelude.{◌≡◌, ◌≤◌, ◌||◌, ◌+◌, ℕ, ℤ, Bool, false, true, if◌then◌else◌, List, ◌++◌, length, Result, Ok, Err}
 use Rattle.std.specs.List.{concat}
 use Rattle.itv_base.specs.declared.names.EventId.{EventId}
-use Rattle.itv_base.specs.Outside.{CutShort, SinkView, grown}
+use Rattle.itv_base.specs.Outside.{CutShort, SinkState, grown}
 use Rattle.event_graph.specs.Network.{IsNet, Net}
 use Rattle.event_graph.specs.Satisfying.{Satisfies}
 use Rattle.event_graph.specs.Times.{moved}
@@ -31,11 +31,11 @@ use Rattle.falling.specs.View.{IsViewOf}
 use Rattle.fall_report.specs.View.{seen, source, target}
 
 -- the sink's text grew by exactly the texts of the lines
-abbrev pub SinkGrew : SinkView → List FallLine → SinkView → Type 0
+abbrev pub SinkGrew : SinkState → List FallLine → SinkState → Type 0
 SinkGrew old lines new = new ≡ grown old (fall_text lines)
 
 -- the sink's text grew by a front of the lines' texts, and the count of faults rose
-abbrev pub SinkWasCut : SinkView → List FallLine → SinkView → Type 0
+abbrev pub SinkWasCut : SinkState → List FallLine → SinkState → Type 0
 SinkWasCut old lines new = CutShort old new (fall_text lines)
 
 -- the memory is made for a network
@@ -47,11 +47,11 @@ pub record IsSet (net : Net) (desk : Desk) : Type 0 where
 -- ---- searches
 
 -- a search wrote the lines of a derivation to a sink, if they are printed, and `Shows` holds of the lines
-abbrev pub WroteDerivation : Bool → SinkView → SinkView → (List FallLine → Type 0) → Type 0
+abbrev pub WroteDerivation : Bool → SinkState → SinkState → (List FallLine → Type 0) → Type 0
 WroteDerivation cert old new Shows = (lines : List FallLine) × SinkGrew old (printed cert lines) new × Shows lines
 
 -- a search was cut short in lines that begin a derivation, as `Begin` says
-abbrev pub WasCut : Bool → SinkView → SinkView → (List FallLine → Type 0) → Type 0
+abbrev pub WasCut : Bool → SinkState → SinkState → (List FallLine → Type 0) → Type 0
 WasCut cert old new Begin = (lines : List FallLine) × SinkWasCut old (printed cert lines) new × Begin lines
 
 -- the lines begin a derivation from the event that `from` gives for the view. There are at most as many lines as turns
@@ -76,10 +76,10 @@ found_by fallen.Unbounded = founds.Consistent
 found_by fallen.Inconsistent = founds.Inconsistent
 found_by fallen.Spent = founds.Spent
 
-abbrev pub told_finding : FallFinding → List ℤ → Finding
-told_finding founds.Consistent list = consistent list
-told_finding founds.Inconsistent list = inconsistent
-told_finding founds.Spent list = finding_spent
+abbrev pub shown_finding : FallFinding → List ℤ → Finding
+shown_finding founds.Consistent list = consistent list
+shown_finding founds.Inconsistent list = inconsistent
+shown_finding founds.Spent list = finding_spent
 
 -- if the finding is consistent, some times satisfy
 abbrev pub HasFound : Net → FallFinding → Type 0
@@ -88,11 +88,11 @@ HasFound net founds.Inconsistent = Unit {0}
 HasFound net founds.Spent = Unit {0}
 
 -- the bound of a row with this from-event, by an answer. For a consistent network no answer is inconsistent
-abbrev pub told_bound : Which → EventId → List ℤ → List Bool → Fallen → FallBound
-told_bound which from times ray (fallen.Closed value) = closed (shown_by which value) (moved from times)
-told_bound which from times ray fallen.Unbounded = unbounded (moved from times) ray
-told_bound which from times ray fallen.Inconsistent = bound_spent
-told_bound which from times ray fallen.Spent = bound_spent
+abbrev pub shown_bound : Which → EventId → List ℤ → List Bool → Fallen → FallBound
+shown_bound which from times ray (fallen.Closed value) = closed (shown_by which value) (moved from times)
+shown_bound which from times ray fallen.Unbounded = unbounded (moved from times) ray
+shown_bound which from times ray fallen.Inconsistent = bound_spent
+shown_bound which from times ray fallen.Spent = bound_spent
 
 abbrev pub was_spent : Fallen → Bool
 was_spent (fallen.Closed value) = false
@@ -114,17 +114,17 @@ pub record IsJobOf (net : Net) (wanted : Wanted) (job : Job) : Type 0 where
   pub cert : job.cert ≡ wanted.cert
 
 -- a row that is being written
-abbrev pub telling : Bool → ℕ → Row → List Row → FallRow
-telling spent number r later = record { spent = spent; number = number; row = r; later = later }
+abbrev pub fall_row : Bool → ℕ → Row → List Row → FallRow
+fall_row spent number r later = record { spent = spent; number = number; row = r; later = later }
 
 -- pieces that lead from one state to another were put as a whole
-pub record WrotePieces (job : Job) (here last : TextState) (old new : SinkView) : Type 0 where
+pub record WrotePieces (job : Job) (here last : TextState) (old new : SinkState) : Type 0 where
   pub pieces : List (List ℕ)
   pub reads : PiecesLead job here pieces last
   pub grew : new ≡ grown old (concat pieces)
 
 -- a put failed. Pieces lead from a state to some other state, and lines of a derivation begin there. A front of all this was put
-pub record WrotePieceFront (job : Job) (here : TextState) (old new : SinkView) : Type 0 where
+pub record WrotePieceFront (job : Job) (here : TextState) (old new : SinkState) : Type 0 where
   pub pieces : List (List ℕ)
   pub last : TextState
   pub reads : PiecesLead job here pieces last
@@ -133,7 +133,7 @@ pub record WrotePieceFront (job : Job) (here : TextState) (old new : SinkView) :
   pub cut : CutShort old new (concat pieces ++ fall_text begun)
 
 -- a step puts pieces that lead to a state that its answer names, or a front of such pieces
-abbrev pub WritesPieces : {B E : Type 0} → Job → TextState → (B → TextState) → SinkView → SinkView → Result B E → Type 0
+abbrev pub WritesPieces : {B E : Type 0} → Job → TextState → (B → TextState) → SinkState → SinkState → Result B E → Type 0
 WritesPieces job here to old new (Ok x) = WrotePieces job here (to x) old new
 WritesPieces job here to old new (Err e) = WrotePieceFront job here old new
 
@@ -145,7 +145,7 @@ behind_found founds.Spent = at_end endings.Undecided
 
 -- the state behind both bounds of a row. It depends on whether the turns of one of them were spent
 abbrev pub behind_row : FallRow → Bool → TextState
-behind_row told spent = before_rows (told.spent || spent) (told.number + 1) told.later
+behind_row current spent = before_rows (current.spent || spent) (current.number + 1) current.later
 
 -- the word at the end behind all rows
 abbrev pub end_word : Bool → EndWord

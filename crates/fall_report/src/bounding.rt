@@ -9,7 +9,7 @@ ghost use Rattle.itv_base.specs.Outside.{Puts};
 ghost use Rattle.drawn.specs.Drawn.{IsRowOf};
 ghost use Rattle.fall_report.specs.Fall.{Job, FallRow, at_bound, behind_bound};
 ghost use Rattle.fall_report.specs.Shows.{shown_by};
-ghost use Rattle.fall_report.specs.Step.{AnswersRow, BeginsFrom, WritesPieces, IsJobOf, IsSet, WroteDerivation, WasCut, told_bound, was_spent};
+ghost use Rattle.fall_report.specs.Step.{AnswersRow, BeginsFrom, WritesPieces, IsJobOf, IsSet, WroteDerivation, WasCut, shown_bound, was_spent};
 ghost use Rattle.fall_report.specs.Text.{bound_spent, bound_text, closed, unbounded};
 ghost use Rattle.fall_report.specs.View.{source};
 
@@ -27,7 +27,7 @@ use slack_report::{Item, Which, write_item};
 
 /// Searches for a bound of a row and writes it. Some times must satisfy the network. Returns whether the turns of the
 /// bound were spent.
-pub fn tell_bound<K: Sink>(
+pub fn print_bound<K: Sink>(
     which: Which,
     row: &Row,
     net: &Network,
@@ -39,8 +39,8 @@ pub fn tell_bound<K: Sink>(
     requires consistent { (times : List ℤ) × Satisfies times net.now }
     requires row { IsRowOf net.now row.now }
     ensures set { IsSet net.now desk.new }
-    ensures goes { (job : Job) (told : FallRow) → IsJobOf net.now wanted job → told.row ≡ row.now
-        → WritesPieces job (at_bound told which) (behind_bound told which) (K.told sink.old) (K.told sink.new) result }
+    ensures goes { (job : Job) (current : FallRow) → IsJobOf net.now wanted job → current.row ≡ row.now
+        → WritesPieces job (at_bound current which) (behind_bound current which) (K.state sink.old) (K.state sink.new) result }
 {
     let fallen = search_bound(which, row, net, wanted, &mut desk.solver, sink)?;
     put_bound(which, row, fallen, net, desk, sink)?;
@@ -68,9 +68,9 @@ fn search_bound<K: Sink>(
     requires made { IsMadeFor net.now solver.old }
     requires row { IsRowOf net.now row.now }
     ensures made { IsMadeFor net.now solver.new }
-    ensures answers { IfOk result (λ fallen. WroteDerivation wanted.cert (K.told sink.old) (K.told sink.new)
+    ensures answers { IfOk result (λ fallen. WroteDerivation wanted.cert (K.state sink.old) (K.state sink.new)
         (λ lines. AnswersRow net.now which row.now wanted.turns lines solver.new fallen)) }
-    ensures cut { OnErr result (WasCut wanted.cert (K.told sink.old) (K.told sink.new)
+    ensures cut { OnErr result (WasCut wanted.cert (K.state sink.old) (K.state sink.new)
         (BeginsFrom net.now wanted.turns (λ view. source view which row.now))) }
 {
     match which {
@@ -96,8 +96,8 @@ fn put_bound<K: Sink>(
     requires answers { (turns : ℕ) × (lines : List FallLine)
         × AnswersRow net.now which row.now turns lines desk.old.solver fallen }
     ensures set { IsSet net.now desk.new }
-    ensures puts { Puts (K.told sink.old) (K.told sink.new)
-        (bound_text which (told_bound which row.now.from desk.old.solver.times desk.old.solver.ray fallen)) result }
+    ensures puts { Puts (K.state sink.old) (K.state sink.new)
+        (bound_text which (shown_bound which row.now.from desk.old.solver.times desk.old.solver.ray fallen)) result }
 {
     match fallen {
         Fallen::Closed(value) => {
@@ -134,7 +134,7 @@ fn put_number<K: Sink>(
     buffer: &mut LineBuffer,
     sink: &mut K,
 ) -> Result<(), PutFailed>
-    ensures { Puts (K.told sink.old) (K.told sink.new) (bound_text which (closed value times.now)) result }
+    ensures { Puts (K.state sink.old) (K.state sink.new) (bound_text which (closed value times.now)) result }
 {
     let bound = Bound::Closed(value);
     write_item(&Item::Bound { which, bound }, buffer, sink)?;
@@ -149,7 +149,7 @@ fn put_unbounded<K: Sink>(
     buffer: &mut LineBuffer,
     sink: &mut K,
 ) -> Result<(), PutFailed>
-    ensures { Puts (K.told sink.old) (K.told sink.new) (bound_text which (unbounded times.now ray.now)) result }
+    ensures { Puts (K.state sink.old) (K.state sink.new) (bound_text which (unbounded times.now ray.now)) result }
 {
     let bound = Bound::Unbounded;
     write_item(&Item::Bound { which, bound }, buffer, sink)?;
@@ -159,7 +159,7 @@ fn put_unbounded<K: Sink>(
 
 // Puts that the turns were spent.
 fn put_spent<K: Sink>(which: Which, sink: &mut K) -> Result<(), PutFailed>
-    ensures { Puts (K.told sink.old) (K.told sink.new) (bound_text which bound_spent) result }
+    ensures { Puts (K.state sink.old) (K.state sink.new) (bound_text which bound_spent) result }
 {
     match which {
         Which::Max => sink.put(b"max spent\n"),

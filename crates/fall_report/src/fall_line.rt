@@ -13,7 +13,7 @@ use itv_base::{EdgeName, EventId, PutFailed, Sink, number_text, put_all, signed_
 /// the edge. A fall by a latest constraint is `late` with the event, the value and the number of the constraint. If a
 /// put failed, a front of the line was written, and the sink's count of faults rose.
 pub fn write_line<K: Sink>(line: FallLine, sink: &mut K) -> Result<(), PutFailed>
-    ensures puts { Puts (K.told sink.old) (K.told sink.new) (fall_line_text line) result }
+    ensures puts { Puts (K.state sink.old) (K.state sink.new) (fall_line_text line) result }
 {
     match line.reason {
         Reason::ByEdge(edge) => put_fall(line.event, line.value, edge, sink),
@@ -28,7 +28,7 @@ fn put_fall<K: Sink>(
     edge: EdgeName,
     sink: &mut K,
 ) -> Result<(), PutFailed>
-    ensures { Puts (K.told sink.old) (K.told sink.new)
+    ensures { Puts (K.state sink.old) (K.state sink.new)
         (fall_line_text (record { event = event; value = value; reason = ByEdge edge })) result }
 {
     let mut number = Buffer::new();
@@ -59,7 +59,7 @@ fn put_late<K: Sink>(
     constraint: u32,
     sink: &mut K,
 ) -> Result<(), PutFailed>
-    ensures { Puts (K.told sink.old) (K.told sink.new)
+    ensures { Puts (K.state sink.old) (K.state sink.new)
         (fall_line_text (record { event = event; value = value; reason = ByLatest constraint })) result }
 {
     let mut number = Buffer::new();

@@ -7,7 +7,7 @@ ghost use Rattle.falling.specs.Solving.{AnswersAs, IsMadeFor};
 ghost use Rattle.itv_base.specs.Outside.{Puts};
 ghost use Rattle.fall_report.specs.Fall.{Job, at_finding};
 ghost use Rattle.fall_report.specs.Shows.{first_event};
-ghost use Rattle.fall_report.specs.Step.{BeginsFrom, WritesPieces, HasFound, IsJobOf, IsSet, ShowsFinding, WroteDerivation, WasCut, behind_found, found_by, told_finding};
+ghost use Rattle.fall_report.specs.Step.{BeginsFrom, WritesPieces, HasFound, IsJobOf, IsSet, ShowsFinding, WroteDerivation, WasCut, behind_found, found_by, shown_finding};
 ghost use Rattle.fall_report.specs.Text.{finding_text};
 
 use crate::desk::Desk;
@@ -31,7 +31,7 @@ pub enum FallFinding {
 }
 
 /// Looks for times that satisfy a network. Writes the finding and the times, if there are any.
-pub fn tell_finding<K: Sink>(
+pub fn print_finding<K: Sink>(
     net: &Network,
     wanted: Wanted,
     desk: &mut Desk,
@@ -41,7 +41,7 @@ pub fn tell_finding<K: Sink>(
     ensures set { IsSet net.now desk.new }
     ensures found { IfOk result (HasFound net.now) }
     ensures goes { (job : Job) → IsJobOf net.now wanted job
-        → WritesPieces job at_finding behind_found (K.told sink.old) (K.told sink.new) result }
+        → WritesPieces job at_finding behind_found (K.state sink.old) (K.state sink.new) result }
 {
     let found = find(net, wanted, &mut desk.solver, sink)?;
     put_finding(found, &desk.solver, &mut desk.buffer, sink)?;
@@ -59,9 +59,9 @@ fn find<K: Sink>(
     requires made { IsMadeFor net.now solver.old }
     ensures made { IsMadeFor net.now solver.new }
     ensures found { IfOk result (HasFound net.now) }
-    ensures shows { IfOk result (λ found. WroteDerivation wanted.cert (K.told sink.old) (K.told sink.new)
-        (λ lines. ShowsFinding net.now wanted.turns lines (told_finding found solver.new.times))) }
-    ensures cut { OnErr result (WasCut wanted.cert (K.told sink.old) (K.told sink.new) (BeginsFrom net.now wanted.turns (λ _. first_event))) }
+    ensures shows { IfOk result (λ found. WroteDerivation wanted.cert (K.state sink.old) (K.state sink.new)
+        (λ lines. ShowsFinding net.now wanted.turns lines (shown_finding found solver.new.times))) }
+    ensures cut { OnErr result (WasCut wanted.cert (K.state sink.old) (K.state sink.new) (BeginsFrom net.now wanted.turns (λ _. first_event))) }
 {
     if net.events() == 0 {
         return Ok(FallFinding::Consistent);
@@ -94,7 +94,7 @@ fn put_finding<K: Sink>(
     buffer: &mut LineBuffer,
     sink: &mut K,
 ) -> Result<(), PutFailed>
-    ensures { Puts (K.told sink.old) (K.told sink.new) (finding_text (told_finding found solver.now.times)) result }
+    ensures { Puts (K.state sink.old) (K.state sink.new) (finding_text (shown_finding found solver.now.times)) result }
 {
     match found {
         FallFinding::Consistent => {

@@ -11,7 +11,7 @@ mod finding;
 pub mod laws;
 mod rows;
 mod search;
-mod sink_notes;
+mod sink_fall_scribe;
 mod times;
 mod wanted;
 mod write;

@@ -6,7 +6,7 @@ ghost use Rattle.falling.specs.Fallen.{asked_of};
 ghost use Rattle.falling.specs.Solving.{AnswersAs, IsDerivationAs, IsMadeFor};
 ghost use Rattle.fall_report.specs.Step.{WroteDerivation, WasCut};
 
-use crate::sink_notes::SinkFallScribe;
+use crate::sink_fall_scribe::SinkFallScribe;
 use crate::wanted::Wanted;
 use event_graph::Network;
 use falling::{FallScribeFailed, Fallen, Falling, QuietFall};
@@ -26,10 +26,10 @@ pub fn greatest_of<K: Sink>(
     requires to { to.0 < net.now.events }
     ensures made { IsMadeFor net.now solver.new }
     ensures negation { solver.new.negation ≡ solver.old.negation }
-    ensures answers { IfOk result (λ fallen. WroteDerivation wanted.cert (K.told sink.old) (K.told sink.new)
+    ensures answers { IfOk result (λ fallen. WroteDerivation wanted.cert (K.state sink.old) (K.state sink.new)
         (λ lines. (length lines ≤ wanted.turns)
         × AnswersAs solver.old.negation net.now (asked_of from to wanted.turns) lines solver.new.times solver.new.ray fallen)) }
-    ensures cut { OnErr result (WasCut wanted.cert (K.told sink.old) (K.told sink.new)
+    ensures cut { OnErr result (WasCut wanted.cert (K.state sink.old) (K.state sink.new)
         (λ lines. (length lines ≤ wanted.turns) × (after : List ℤ) × IsDerivationAs solver.old.negation net.now from to lines after)) }
 {
     if wanted.cert {
@@ -53,10 +53,10 @@ fn greatest_printing<K: Sink>(
     requires to { to.0 < net.now.events }
     ensures made { IsMadeFor net.now solver.new }
     ensures negation { solver.new.negation ≡ solver.old.negation }
-    ensures answers { IfOk result (λ fallen. WroteDerivation true (K.told sink.old) (K.told sink.new)
+    ensures answers { IfOk result (λ fallen. WroteDerivation true (K.state sink.old) (K.state sink.new)
         (λ lines. (length lines ≤ turns)
         × AnswersAs solver.old.negation net.now (asked_of from to turns) lines solver.new.times solver.new.ray fallen)) }
-    ensures cut { OnErr result (WasCut true (K.told sink.old) (K.told sink.new)
+    ensures cut { OnErr result (WasCut true (K.state sink.old) (K.state sink.new)
         (λ lines. (length lines ≤ turns) × (after : List ℤ) × IsDerivationAs solver.old.negation net.now from to lines after)) }
 {
     let mut notes = SinkFallScribe { sink };

@@ -3,14 +3,14 @@
 ghost use Rattle.std.specs.Prelude.{◌≡◌, ℕ, Bool, List, IfOk, OnErr};
 ghost use Rattle.falling.specs.View.{IsViewOf};
 ghost use Rattle.itv_base.specs.Outside.{CutShort, Puts, grown};
-ghost use Rattle.jobs.specs.Works.{JobWrote};
+ghost use Rattle.jobs.specs.JobWrote.{JobWrote};
 ghost use Rattle.fall_report.specs.Fall.{AnswersFall, BeginsFall, at_end, at_finding, at_last};
 ghost use Rattle.fall_report.specs.Step.{WritesPieces, HasFound, IsSet, asked, behind_found, end_word};
 ghost use Rattle.fall_report.specs.Text.{front_text, view_text};
 
 use crate::desk::Desk;
-use crate::finding::{FallFinding, tell_finding};
-use crate::rows::tell_rows;
+use crate::finding::{FallFinding, print_finding};
+use crate::rows::print_rows;
 use crate::wanted::Wanted;
 use drawn::DrawnNetwork;
 use falling::View;
@@ -33,15 +33,15 @@ pub fn write_fall<K: Sink>(
 ) -> Result<Answer, Unanswered>
     requires view { IsViewOf drawn.now.net view }
     ensures works { JobWrote (AnswersFall drawn.now turns cert) (BeginsFall drawn.now turns cert)
-        (K.told sink.old) (K.told sink.new) result }
+        (K.state sink.old) (K.state sink.new) result }
 {
     let mut desk = Desk::new(alloc, drawn.network(), view)?;
     let wanted = Wanted { turns, cert };
-    Ok(tell_text(drawn, view, wanted, &mut desk, sink)?)
+    Ok(print_text(drawn, view, wanted, &mut desk, sink)?)
 }
 
 // Searches and writes the whole text.
-fn tell_text<K: Sink>(
+fn print_text<K: Sink>(
     drawn: &DrawnNetwork,
     view: View,
     wanted: Wanted,
@@ -51,12 +51,12 @@ fn tell_text<K: Sink>(
     requires view { IsViewOf drawn.now.net view }
     requires set { IsSet drawn.now.net desk.old }
     ensures answers { IfOk result (λ answer. (text : List ℕ)
-        × AnswersFall drawn.now wanted.turns wanted.cert answer text × (K.told sink.new ≡ grown (K.told sink.old) text)) }
+        × AnswersFall drawn.now wanted.turns wanted.cert answer text × (K.state sink.new ≡ grown (K.state sink.old) text)) }
     ensures begins { OnErr result ((text : List ℕ)
-        × BeginsFall drawn.now wanted.turns wanted.cert text × CutShort (K.told sink.old) (K.told sink.new) text) }
+        × BeginsFall drawn.now wanted.turns wanted.cert text × CutShort (K.state sink.old) (K.state sink.new) text) }
 {
     put_front(view, drawn, &mut desk.buffer, sink)?;
-    let word = tell_bounds(drawn, wanted, desk, sink)?;
+    let word = print_bounds(drawn, wanted, desk, sink)?;
     Ok(answer_of(word))
 }
 
@@ -67,7 +67,7 @@ fn put_front<K: Sink>(
     buffer: &mut LineBuffer,
     sink: &mut K,
 ) -> Result<(), PutFailed>
-    ensures { Puts (K.told sink.old) (K.told sink.new) (front_text drawn.now view) result }
+    ensures { Puts (K.state sink.old) (K.state sink.new) (front_text drawn.now view) result }
 {
     sink.put(b"itv fall 1\n")?;
     put_view(view, sink)?;
@@ -75,7 +75,7 @@ fn put_front<K: Sink>(
 }
 
 fn put_view<K: Sink>(view: View, sink: &mut K) -> Result<(), PutFailed>
-    ensures { Puts (K.told sink.old) (K.told sink.new) (view_text view) result }
+    ensures { Puts (K.state sink.old) (K.state sink.new) (view_text view) result }
 {
     match view {
         View::Plain => sink.put(b"view plain\n"),
@@ -84,7 +84,7 @@ fn put_view<K: Sink>(view: View, sink: &mut K) -> Result<(), PutFailed>
 }
 
 // Writes the finding, the rows behind a consistent finding, and the word at the end.
-fn tell_bounds<K: Sink>(
+fn print_bounds<K: Sink>(
     drawn: &DrawnNetwork,
     wanted: Wanted,
     desk: &mut Desk,
@@ -92,16 +92,16 @@ fn tell_bounds<K: Sink>(
 ) -> Result<EndWord, PutFailed>
     requires set { IsSet drawn.now.net desk.old }
     ensures goes { (view : View) → IsViewOf drawn.now.net view
-        → WritesPieces (asked drawn.now view wanted) at_finding at_last (K.told sink.old) (K.told sink.new) result }
+        → WritesPieces (asked drawn.now view wanted) at_finding at_last (K.state sink.old) (K.state sink.new) result }
 {
-    let found = tell_finding(drawn.network(), wanted, desk, sink)?;
-    let word = tell_behind(found, drawn, wanted, desk, sink)?;
+    let found = print_finding(drawn.network(), wanted, desk, sink)?;
+    let word = print_behind(found, drawn, wanted, desk, sink)?;
     write_item(&Item::End(word), &mut desk.buffer, sink)?;
     Ok(word)
 }
 
 // Writes the rows behind a consistent finding. Returns the word at the end.
-fn tell_behind<K: Sink>(
+fn print_behind<K: Sink>(
     found: FallFinding,
     drawn: &DrawnNetwork,
     wanted: Wanted,
@@ -111,11 +111,11 @@ fn tell_behind<K: Sink>(
     requires set { IsSet drawn.now.net desk.old }
     requires found { HasFound drawn.now.net found }
     ensures goes { (view : View) → IsViewOf drawn.now.net view
-        → WritesPieces (asked drawn.now view wanted) (behind_found found) at_end (K.told sink.old) (K.told sink.new) result }
+        → WritesPieces (asked drawn.now view wanted) (behind_found found) at_end (K.state sink.old) (K.state sink.new) result }
 {
     match found {
         FallFinding::Consistent => {
-            let is_spent = tell_rows(drawn, wanted, desk, sink)?;
+            let is_spent = print_rows(drawn, wanted, desk, sink)?;
             Ok(end_word(is_spent))
         }
         FallFinding::Inconsistent => Ok(EndWord::Inconsistent),

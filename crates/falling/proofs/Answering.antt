@@ -7,8 +7,8 @@ use Rattle.event_graph.specs.Network.{IsNet, Net}
 use Rattle.event_graph.specs.Times.{time_of}
 use Rattle.falling.specs.declared.line.FallLine.{FallLine}
 use Rattle.falling.specs.Cap.{enough_turns, far_line, widest_end}
-use Rattle.falling.specs.Course.{IsSpent}
-use Rattle.falling.specs.Step.Course.{HasEnded, HasSettled}
+use Rattle.falling.specs.DerivationEnds.{IsSpent}
+use Rattle.falling.specs.Step.DerivationEnds.{HasEnded, HasSettled}
 use Rattle.falling.specs.Fallen.{HasSpentTurns, IsClosedAt, IsShownInconsistent, IsShownUnbounded}
 use Rattle.falling.specs.Kinds.{IsPlain}
 use Rattle.falling.specs.Rays.{IsApartBy, IsGapAt}

@@ -8,7 +8,7 @@ use Rattle.falling.specs.declared.fault.FallCheckFault.TheVariants.{AfterEnd, No
 use Rattle.falling.specs.declared.limits.Limits.{Limits}
 use Rattle.falling.specs.declared.line.FallLine.{FallLine}
 use Rattle.falling.specs.Checking.{Checking, IsBegun, IsCheckFault, IsFallCheckFault}
-use Rattle.falling.specs.Step.Course.{EndsDerivation}
+use Rattle.falling.specs.Step.DerivationEnds.{EndsDerivation}
 use Rattle.falling.specs.Derivation.{IsLineAllowed, IsEnded, fallen, starting_values}
 use Rattle.falling.proofs.Counting.{due_within}
 use Rattle.falling.proofs.Deriving.{ended_after, fallen_most, leads_more, not_ended_after}

@@ -7,8 +7,8 @@ use Rattle.event_graph.specs.Network.{IsNet, Net}
 use Rattle.event_graph.specs.Times.{time_of}
 use Rattle.falling.specs.declared.line.FallLine.{FallLine}
 use Rattle.falling.specs.Cap.{IsNearValue, cap, cap_limit, far_line}
-use Rattle.falling.specs.Course.{IsSpent}
-use Rattle.falling.specs.Step.Course.{EndsDerivation, HasEnded, HasSettled}
+use Rattle.falling.specs.DerivationEnds.{IsSpent}
+use Rattle.falling.specs.Step.DerivationEnds.{EndsDerivation, HasEnded, HasSettled}
 use Rattle.falling.specs.Derivation.{IsLineAllowed, IsDerivation, IsEnded, IsFixedPoint, DerivationLeads, fallen, starting_values}
 use Rattle.falling.proofs.Bounding.{length-starting, replicated, set_at}
 use Rattle.falling.proofs.Closing.{start_source}

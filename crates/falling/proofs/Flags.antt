@@ -13,7 +13,7 @@ use Rattle.std.proofs.lemmas.Nat.Bits.{bit_at-trailing_zeros, bit_at-zero, bit_a
 use Rattle.falling.specs.Step.Agenda.{IsFirstPending, IsPending}
 use Rattle.std.specs.Vec.{with_items}
 use Rattle.itv_base.specs.declared.limits.TheConstants.{MAX_CONSTRAINTS}
-use Rattle.falling.specs.declared.pending.PendingFlags.TheInside.{Inside}
+use Rattle.falling.specs.declared.pending_flags.PendingFlags.TheInside.{Inside}
 use Rattle.falling.specs.Step.Words.{AreEmpty, HasStart}
 
 -- a word with the bit of a number

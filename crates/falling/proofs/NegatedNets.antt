@@ -15,7 +15,7 @@ use Rattle.falling.specs.declared.answer.Fallen.TheVariants.{Closed, Inconsisten
 use Rattle.falling.specs.declared.line.FallLine.{FallLine}
 use Rattle.falling.specs.declared.limits.Limits.{Limits}
 use Rattle.falling.specs.Cap.{IsNearValue, cap, cap_limit, end_size, widest_end, widest_of, widest_of_causes}
-use Rattle.falling.specs.Course.{AreLimits}
+use Rattle.falling.specs.DerivationEnds.{AreLimits}
 use Rattle.falling.specs.Derivation.{IsDerivation}
 use Rattle.falling.specs.Fallen.{IsFallenAnswer, IsClosedAt, IsShownInconsistent, IsShownUnbounded, asked_of}
 use Rattle.falling.specs.Kinds.{IsPlain, negated, negated_cause, negated_constraint, negated_times}

@@ -10,7 +10,7 @@ use Rattle.falling.specs.declared.answer.Fallen.TheVariants.{Closed, Unbounded, 
 use Rattle.falling.specs.declared.asked.Asked.{Asked}
 use Rattle.falling.specs.declared.line.FallLine.{FallLine}
 use Rattle.falling.specs.Cap.{enough_turns}
-use Rattle.falling.specs.Course.{IsSpent}
+use Rattle.falling.specs.DerivationEnds.{IsSpent}
 use Rattle.falling.specs.Derivation.{IsDerivation, IsEnded}
 
 -- the value is the greatest separation, the times satisfy and attain it, and the lines are a derivation that gives it to the to-event

@@ -5,7 +5,7 @@ pub mod View
 pub mod Gaps
 pub mod Derivation
 pub mod Agenda
-pub mod Course
+pub mod DerivationEnds
 pub mod Fallen
 pub mod Rays
 pub mod Checking

@@ -13,7 +13,7 @@ use Rattle.falling.specs.declared.line.FallLine.{FallLine}
 use Rattle.falling.specs.declared.view.View.TheVariants.{Plain, Negated}
 use Rattle.falling.specs.Agenda.{Agenda, IsAgendaFor}
 use Rattle.falling.specs.Cap.{enough_limit, enough_turns}
-use Rattle.falling.specs.Course.{AreLimits, IsSpent}
+use Rattle.falling.specs.DerivationEnds.{AreLimits, IsSpent}
 use Rattle.falling.specs.Derivation.{IsDerivation, IsEnded}
 use Rattle.falling.specs.Fallen.{IsFallenAnswer}
 use Rattle.falling.specs.Kinds.{negated, negated_times}

@@ -1,6 +1,6 @@
 -- Words of private contracts.
 pub mod Agenda
-pub mod Course
+pub mod DerivationEnds
 pub mod Kinds
 pub mod Rays
 pub mod Turns

@@ -12,7 +12,7 @@ ghost use Rattle.falling.specs.Cap.{IsNearValue};
 
 use crate::followers::followers;
 use crate::line::FallLine;
-use crate::pending::{PendingFlags, insert_all};
+use crate::pending_flags::{PendingFlags, insert_all};
 use crate::turn::next_line;
 use event_graph::{ByEvent, Network};
 use itv_base::{EventId, MAX_EVENTS, NoMemory};

@@ -8,7 +8,7 @@ ghost use Rattle.falling.specs.Checking.{IsBegun, IsCheckFault, IsCheckerFor};
 ghost use Rattle.falling.specs.Derivation.{IsLineAllowed, IsEnded, fallen, starting_values};
 
 use crate::check::judge;
-use crate::course::{ends, lower, start};
+use crate::derivation::{ends, lower, start};
 use crate::fault::FallCheckFault;
 use crate::limits::{Limits, limits_of};
 use crate::line::{FallLine, Reason};

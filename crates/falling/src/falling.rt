@@ -6,7 +6,7 @@ ghost use Rattle.event_graph.specs.Network.{Net};
 ghost use Rattle.falling.specs.declared.line.FallLine.{FallLine};
 ghost use Rattle.falling.specs.Agenda.{IsAgendaFor};
 ghost use Rattle.falling.specs.Cap.{IsNearValue, enough_limit, enough_turns};
-ghost use Rattle.falling.specs.Course.{AreLimits};
+ghost use Rattle.falling.specs.DerivationEnds.{AreLimits};
 ghost use Rattle.falling.specs.Derivation.{IsDerivation};
 ghost use Rattle.falling.specs.Kinds.{negated, negated_times};
 ghost use Rattle.falling.specs.Step.Kinds.{IsNegatable};
@@ -17,11 +17,11 @@ ghost use Rattle.falling.specs.View.{IsViewOf};
 use crate::agenda::Agenda;
 use crate::answer::{CountedAnswer, Fallen};
 use crate::asked::Asked;
+use crate::fall_scribe::{FallScribe, FallScribeFailed};
 use crate::greatest::greatest;
 use crate::guide::Guide;
 use crate::limits::{Limits, limits_of};
 use crate::negation::negation_of;
-use crate::notes::{FallScribe, FallScribeFailed};
 use crate::view::View;
 use event_graph::Network;
 use itv_base::{EventId, NoMemory};
@@ -86,35 +86,35 @@ impl Falling {
         from: EventId,
         to: EventId,
         turns: u64,
-        notes: &mut N,
+        scribe: &mut N,
     ) -> Result<Fallen, FallScribeFailed>
         requires made { IsMadeFor net.now self.old }
         requires from { from.0 < net.now.events }
         requires to { to.0 < net.now.events }
-        ensures lines { IfOk result (λ fallen. (lines : List FallLine) × N.Grew notes.old lines notes.new
+        ensures lines { IfOk result (λ fallen. (lines : List FallLine) × N.Grew scribe.old lines scribe.new
             × (length lines ≡ self.new.turns)
             × AnswersAs self.old.negation net.now (asked_of from to turns) lines self.new.times self.new.ray fallen) }
         ensures most { OnOk result (self.new.turns ≤ turns) }
-        ensures cut { OnErr result ((lines : List FallLine) × N.WasCut notes.old lines notes.new
+        ensures cut { OnErr result ((lines : List FallLine) × N.WasCut scribe.old lines scribe.new
             × (length lines ≤ turns) × (after : List ℤ) × IsDerivationAs self.old.negation net.now from to lines after) }
-        ensures rose { OnErr result (FaultCounted (N.faults notes.old) (N.faults notes.new)) }
+        ensures rose { OnErr result (FaultCounted (N.faults scribe.old) (N.faults scribe.new)) }
         ensures made { IsMadeFor net.now self.new }
         ensures negation { self.new.negation ≡ self.old.negation }
     {
         let asked = Asked { from, to, turns };
-        let told = solve(
+        let counted = solve(
             net,
             &self.negation,
             &mut self.guide,
             asked,
             &mut self.times,
             &mut self.ray,
-            notes,
+            scribe,
         );
-        match told {
-            Ok(told) => {
-                self.turns = told.turns;
-                Ok(told.fallen)
+        match counted {
+            Ok(counted) => {
+                self.turns = counted.turns;
+                Ok(counted.fallen)
             }
             Err(failed) => Err(failed),
         }
@@ -183,7 +183,7 @@ fn solve<N: FallScribe>(
     asked: Asked,
     times: &mut [i64],
     ray: &mut [bool],
-    notes: &mut N,
+    scribe: &mut N,
 ) -> Result<CountedAnswer, FallScribeFailed>
     requires negation { IsNegationOf net.now negation.now }
     requires from { asked.from.0 < net.now.events }
@@ -192,21 +192,21 @@ fn solve<N: FallScribe>(
     requires ray { length ray.old ≡ net.now.events }
     requires limits { AreLimits net.now guide.old.limits }
     requires agenda { IsAgendaFor (solved net.now negation.now) guide.old.agenda }
-    ensures lines { IfOk result (λ told. (lines : List FallLine) × N.Grew notes.old lines notes.new
-        × (length lines ≡ told.turns)
-        × AnswersAs negation.now net.now asked lines times.new ray.new told.fallen) }
-    ensures most { IfOk result (λ told. told.turns ≤ asked.turns) }
-    ensures cut { OnErr result ((lines : List FallLine) × N.WasCut notes.old lines notes.new
+    ensures lines { IfOk result (λ counted. (lines : List FallLine) × N.Grew scribe.old lines scribe.new
+        × (length lines ≡ counted.turns)
+        × AnswersAs negation.now net.now asked lines times.new ray.new counted.fallen) }
+    ensures most { IfOk result (λ counted. counted.turns ≤ asked.turns) }
+    ensures cut { OnErr result ((lines : List FallLine) × N.WasCut scribe.old lines scribe.new
         × (length lines ≤ asked.turns) × (after : List ℤ) × IsDerivationAs negation.now net.now asked.from asked.to lines after) }
-    ensures rose { OnErr result (FaultCounted (N.faults notes.old) (N.faults notes.new)) }
+    ensures rose { OnErr result (FaultCounted (N.faults scribe.old) (N.faults scribe.new)) }
     ensures times { length times.new ≡ length times.old }
     ensures ray { length ray.new ≡ length ray.old }
     ensures limits { guide.new.limits ≡ guide.old.limits }
     ensures agenda { IsAgendaFor (solved net.now negation.now) guide.new.agenda }
 {
     match negation {
-        None => greatest(net, guide, asked, times, ray, notes),
-        Some(negation) => greatest_by_negation(net, negation, guide, asked, times, ray, notes),
+        None => greatest(net, guide, asked, times, ray, scribe),
+        Some(negation) => greatest_by_negation(net, negation, guide, asked, times, ray, scribe),
     }
 }
 
@@ -218,7 +218,7 @@ fn greatest_by_negation<N: FallScribe>(
     asked: Asked,
     times: &mut [i64],
     ray: &mut [bool],
-    notes: &mut N,
+    scribe: &mut N,
 ) -> Result<CountedAnswer, FallScribeFailed>
     requires negation { negation.now ≡ negated net.now }
     requires negatable { IsNegatable net.now }
@@ -228,13 +228,13 @@ fn greatest_by_negation<N: FallScribe>(
     requires ray { length ray.old ≡ net.now.events }
     requires limits { AreLimits net.now guide.old.limits }
     requires agenda { IsAgendaFor negation.now guide.old.agenda }
-    ensures lines { IfOk result (λ told. (lines : List FallLine) × N.Grew notes.old lines notes.new
-        × (length lines ≡ told.turns)
-        × AnswersByNegation net.now asked lines times.new ray.new told.fallen) }
-    ensures most { IfOk result (λ told. told.turns ≤ asked.turns) }
-    ensures cut { OnErr result ((lines : List FallLine) × N.WasCut notes.old lines notes.new
+    ensures lines { IfOk result (λ counted. (lines : List FallLine) × N.Grew scribe.old lines scribe.new
+        × (length lines ≡ counted.turns)
+        × AnswersByNegation net.now asked lines times.new ray.new counted.fallen) }
+    ensures most { IfOk result (λ counted. counted.turns ≤ asked.turns) }
+    ensures cut { OnErr result ((lines : List FallLine) × N.WasCut scribe.old lines scribe.new
         × (length lines ≤ asked.turns) × (after : List ℤ) × IsDerivation (negated net.now) asked.to lines after) }
-    ensures rose { OnErr result (FaultCounted (N.faults notes.old) (N.faults notes.new)) }
+    ensures rose { OnErr result (FaultCounted (N.faults scribe.old) (N.faults scribe.new)) }
     ensures times { length times.new ≡ length times.old }
     ensures ray { length ray.new ≡ length ray.old }
     ensures limits { guide.new.limits ≡ guide.old.limits }
@@ -247,15 +247,15 @@ fn greatest_by_negation<N: FallScribe>(
         to: asked.from,
         turns: asked.turns,
     };
-    let told = match greatest(negation, guide, turned, times, ray, notes) {
-        Ok(told) => told,
+    let counted = match greatest(negation, guide, turned, times, ray, scribe) {
+        Ok(counted) => counted,
         Err(failed) => return Err(failed),
     };
-    match told.fallen {
+    match counted.fallen {
         Fallen::Closed(_) | Fallen::Unbounded => turn_round(times, ray),
         Fallen::Inconsistent | Fallen::Spent => {}
     }
-    Ok(told)
+    Ok(counted)
 }
 
 // Turns an answer of a negation round: each time becomes its negative, and the other events are raised.

@@ -3,7 +3,7 @@
 ghost use Rattle.std.specs.Prelude.{◌≡◌, ◌*◌, ◌⊎◌, ◌<◌, pos, ◌+ℤ◌, ◌≤ℤ◌, length};
 ghost use Rattle.event_graph.specs.Limits.{weight_limit};
 ghost use Rattle.falling.specs.Cap.{cap_limit, widest_end};
-ghost use Rattle.falling.specs.Course.{AreLimits};
+ghost use Rattle.falling.specs.DerivationEnds.{AreLimits};
 ghost use Rattle.falling.specs.Rays.{IsGapAt};
 ghost use Rattle.falling.specs.Step.Rays.{IsClimbed, IsStepTo, above};
 

@@ -7,8 +7,8 @@ ghost use Rattle.event_graph.specs.Times.{time_of};
 ghost use Rattle.falling.specs.declared.answer.Fallen.TheVariants.{Closed};
 ghost use Rattle.falling.specs.declared.line.FallLine.{FallLine};
 ghost use Rattle.falling.specs.Agenda.{IsAgendaFor};
-ghost use Rattle.falling.specs.Course.{AreLimits};
-ghost use Rattle.falling.specs.Step.Course.{HasSettled};
+ghost use Rattle.falling.specs.DerivationEnds.{AreLimits};
+ghost use Rattle.falling.specs.Step.DerivationEnds.{HasSettled};
 ghost use Rattle.falling.specs.Derivation.{IsDerivation};
 ghost use Rattle.falling.specs.Fallen.{IsFallenAnswer, asked_of};
 ghost use Rattle.falling.specs.Kinds.{IsPlain};
@@ -16,11 +16,11 @@ ghost use Rattle.falling.specs.Step.Rays.{HaveAbove};
 
 use crate::answer::{CountedAnswer, Fallen};
 use crate::asked::Asked;
-use crate::course::{DerivationEnd, derive};
+use crate::derivation::{DerivationEnd, derive};
+use crate::fall_scribe::{FallScribe, FallScribeFailed};
 use crate::gap::{Level, gap_level};
 use crate::guide::Guide;
 use crate::limits::Limits;
-use crate::notes::{FallScribe, FallScribeFailed};
 use event_graph::Network;
 use itv_base::EventId;
 
@@ -32,7 +32,7 @@ pub fn greatest<N: FallScribe>(
     asked: Asked,
     values: &mut [i64],
     ray: &mut [bool],
-    notes: &mut N,
+    scribe: &mut N,
 ) -> Result<CountedAnswer, FallScribeFailed>
     requires plain { IsPlain net.now }
     requires from { asked.from.0 < net.now.events }
@@ -41,13 +41,13 @@ pub fn greatest<N: FallScribe>(
     requires ray { length ray.old ≡ net.now.events }
     requires limits { AreLimits net.now guide.old.limits }
     requires agenda { IsAgendaFor net.now guide.old.agenda }
-    ensures lines { IfOk result (λ told. (lines : List FallLine) × N.Grew notes.old lines notes.new
-        × (length lines ≡ told.turns)
-        × IsFallenAnswer net.now asked lines values.new ray.new told.fallen) }
-    ensures most { IfOk result (λ told. told.turns ≤ asked.turns) }
-    ensures cut { OnErr result ((lines : List FallLine) × N.WasCut notes.old lines notes.new
+    ensures lines { IfOk result (λ counted. (lines : List FallLine) × N.Grew scribe.old lines scribe.new
+        × (length lines ≡ counted.turns)
+        × IsFallenAnswer net.now asked lines values.new ray.new counted.fallen) }
+    ensures most { IfOk result (λ counted. counted.turns ≤ asked.turns) }
+    ensures cut { OnErr result ((lines : List FallLine) × N.WasCut scribe.old lines scribe.new
         × (length lines ≤ asked.turns) × (after : List ℤ) × IsDerivation net.now asked.from lines after) }
-    ensures rose { OnErr result (FaultCounted (N.faults notes.old) (N.faults notes.new)) }
+    ensures rose { OnErr result (FaultCounted (N.faults scribe.old) (N.faults scribe.new)) }
     ensures values { length values.new ≡ length values.old }
     ensures ray { length ray.new ≡ length ray.old }
     ensures limits { guide.new.limits ≡ guide.old.limits }
@@ -61,12 +61,12 @@ pub fn greatest<N: FallScribe>(
         asked.turns,
         &mut guide.agenda,
         values,
-        notes,
+        scribe,
     ) {
         Ok(descent) => descent,
         Err(failed) => return Err(failed),
     };
-    let fallen = match descent.course {
+    let fallen = match descent.end {
         DerivationEnd::Settled => settled(net, asked.to, guide.limits, values, ray),
         DerivationEnd::Ended => Fallen::Inconsistent,
         DerivationEnd::Spent => Fallen::Spent,

@@ -6,7 +6,7 @@ ghost use Rattle.event_graph.specs.declared.cause.Cause.{Cause};
 ghost use Rattle.event_graph.specs.Limits.{weight_limit};
 ghost use Rattle.event_graph.specs.Network.{Constraint, IsNet, cause_at};
 ghost use Rattle.falling.specs.Cap.{end_size, widest_end, widest_of_causes};
-ghost use Rattle.falling.specs.Course.{AreLimits};
+ghost use Rattle.falling.specs.DerivationEnds.{AreLimits};
 
 use event_graph::Network;
 

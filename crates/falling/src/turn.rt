@@ -12,7 +12,7 @@ ghost use Rattle.falling.specs.Step.Turns.{HasOpenHigh, HoldsSide, IsConstraintT
 ghost use Rattle.falling.specs.Cap.{IsNearValue};
 
 use crate::line::{FallLine, Reason};
-use crate::pending::PendingFlags;
+use crate::pending_flags::PendingFlags;
 use event_graph::Network;
 use itv_base::{EdgeName, RuleKind, Side};
 

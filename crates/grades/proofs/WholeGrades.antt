@@ -17,7 +17,7 @@ use Rattle.grades.specs.declared.fault.GradesFault.{GradesFault}
 use Rattle.grades.specs.declared.fault.GradesFault.TheVariants.{Grades, Limits}
 use Rattle.grades.specs.declared.grade.Grade.{Grade}
 use Rattle.grades.specs.declared.grade.Parameter.{Parameter}
-use Rattle.grades.specs.Grades.{AreRanges, HasRanges, grade_called, grades_of, grades_told, range_in, range_for, with_grade, with_parameter}
+use Rattle.grades.specs.Grades.{AreRanges, HasRanges, grade_called, grades_of, written_grades, range_in, range_for, with_grade, with_parameter}
 
 abbrev IsWhole : Parameter → Type 0
 IsWhole p = IsRange p.range
@@ -36,12 +36,12 @@ with_grade_whole g done grade all =
     IfOk-bind (All IsWhole) (All HasRanges) (walk (with_parameter g) 0 [] grade.parameters) _ (IfOk-walk (All IsWhole) (with_parameter g) (with_parameter_whole g) 0 [] grade.parameters (All-nil IsWhole))
     (λ parameters are. All-push HasRanges done (record { name = grade.name; parameters = parameters }) all are)
 
-pub walk_whole : (told : List Grade) → IfOk (walk with_grade 0 [] told) AreRanges
-walk_whole told = IfOk-walk (All HasRanges) with_grade with_grade_whole 0 [] told (All-nil HasRanges)
+pub walk_whole : (written : List Grade) → IfOk (walk with_grade 0 [] written) AreRanges
+walk_whole written = IfOk-walk (All HasRanges) with_grade with_grade_whole 0 [] written (All-nil HasRanges)
 
 -- if the walk comes to its end, its grades give ranges
-pub ranged_whole : (told grades : List Grade) → walk with_grade 0 [] told ≡ Ok grades → AreRanges grades
-ranged_whole told grades is = IfOk-at_ok AreRanges is (walk_whole told)
+pub ranged_whole : (written grades : List Grade) → walk with_grade 0 [] written ≡ Ok grades → AreRanges grades
+ranged_whole written grades is = IfOk-at_ok AreRanges is (walk_whole written)
 
 told_any : {A F : Type 0} (read : Result A F) → IfOk read (λ _. Unit {0})
 told_any (Ok x) = tt
@@ -50,7 +50,7 @@ told_any (Err fault) = tt
 of_whole : (tree : Data) → IfOk (grades_of tree) AreRanges
 unfolding grades_of
 of_whole tree =
-    IfOk-bind (λ _. Unit {0}) AreRanges (ok_or (grades_told (get (codes "itv_grades") tree)) Grades) _ (told_any (ok_or (grades_told (get (codes "itv_grades") tree)) Grades)) (λ told _. walk_whole told)
+    IfOk-bind (λ _. Unit {0}) AreRanges (ok_or (written_grades (get (codes "itv_grades") tree)) Grades) _ (told_any (ok_or (written_grades (get (codes "itv_grades") tree)) Grades)) (λ written _. walk_whole written)
 
 -- the grades of a tree give ranges
 pub grades_whole : (tree : Data) (grades : List Grade) → grades_of tree ≡ Ok grades → AreRanges grades

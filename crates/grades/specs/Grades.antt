@@ -34,12 +34,12 @@ AreRanges grades = All HasRanges grades
 
 -- ---- the form of grades
 
-abbrev pub ends_told : Data → Option Ends
-ends_told d = option_and_then ends_by (list_of d)
+abbrev pub written_ends : Data → Option Ends
+written_ends d = option_and_then ends_by (list_of d)
 
 -- a parameter: a member whose key has the form of a name, and whose value is a list of two ends
 abbrev pub parameter_of : List ℕ × Data → Option Parameter
-parameter_of at = if is_name at.0 then option_map (λ ends. record { name = at.0; range = ends }) (ends_told at.1) else None
+parameter_of at = if is_name at.0 then option_map (λ ends. record { name = at.0; range = ends }) (written_ends at.1) else None
 
 -- a grade: a member whose key has the form of a name, and whose value is an object of parameters
 abbrev pub grade_of : List ℕ × Data → Option Grade
@@ -49,9 +49,9 @@ abbrev pub grades_in : Data → Option (List Grade)
 grades_in d = option_and_then (all_of grade_of) (members_of d)
 
 -- the grades as they are written; there are none without the key
-abbrev pub grades_told : Option Data → Option (List Grade)
-grades_told None = Some []
-grades_told (Some d) = grades_in d
+abbrev pub written_grades : Option Data → Option (List Grade)
+written_grades None = Some []
+written_grades (Some d) = grades_in d
 
 -- ---- the ranges of grades
 
@@ -72,5 +72,5 @@ with_grade g done grade = do
 -- the grades of a tree, or their first fault; the form of all grades is checked before any range
 unfoldable pub grades_of : Data → Result (List Grade) GradesFault
 grades_of tree = do
-  told ← ok_or (grades_told (get (codes "itv_grades") tree)) Grades
-  walk with_grade 0 [] told
+  written ← ok_or (written_grades (get (codes "itv_grades") tree)) Grades
+  walk with_grade 0 [] written

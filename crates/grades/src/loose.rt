@@ -4,7 +4,7 @@ ghost use Rattle.std.specs.Prelude.{◌≡◌, IfOk, codes, option_and_then};
 ghost use Rattle.serde_json.specs.Find.{get};
 ghost use Rattle.serde_json.specs.View.{view, members_view};
 ghost use Rattle.json_tree.specs.Words.{all_of, members, members_of};
-ghost use Rattle.grades.specs.Grades.{grade_of, grades_in, grades_told, parameter_of};
+ghost use Rattle.grades.specs.Grades.{grade_of, grades_in, written_grades, parameter_of};
 
 use itv_base::{Listing, NoMemory, Text, is_name};
 use json_tree::{EndPair, ends_by, list_of};
@@ -50,8 +50,8 @@ impl Model for LooseGrade {
 pub type LooseGrades = Listing<LooseGrade>;
 
 /// The grades of a tree. There are none without the key `itv_grades`. The answer is `None` where its value has not the form of grades.
-pub fn told_grades(alloc: Global, tree: &Value) -> Result<Option<LooseGrades>, NoMemory>
-    ensures { IfOk result (λ grades. grades ≡ grades_told (get (codes "itv_grades") (view tree.now))) }
+pub fn written_grades(alloc: Global, tree: &Value) -> Result<Option<LooseGrades>, NoMemory>
+    ensures { IfOk result (λ grades. grades ≡ written_grades (get (codes "itv_grades") (view tree.now))) }
 {
     match tree.get("itv_grades") {
         Some(value) => listed_grades(alloc, value),
@@ -75,7 +75,7 @@ fn grades_in(alloc: Global, map: &Map<String, Value>) -> Result<Option<LooseGrad
 {
     let mut grades = LooseGrades::new(alloc);
     for (name, value) in map.iter() {
-        let Some(grade) = told_grade(alloc, name.as_str(), value)? else {
+        let Some(grade) = grade_of(alloc, name.as_str(), value)? else {
             return Ok(None);
         };
         grades.push(grade)?;
@@ -84,7 +84,7 @@ fn grades_in(alloc: Global, map: &Map<String, Value>) -> Result<Option<LooseGrad
 }
 
 // The grade of a member, or `None` where it is no grade.
-fn told_grade(alloc: Global, name: &str, value: &Value) -> Result<Option<LooseGrade>, NoMemory>
+fn grade_of(alloc: Global, name: &str, value: &Value) -> Result<Option<LooseGrade>, NoMemory>
     ensures { IfOk result (λ grade. grade ≡ grade_of (name.now, view value.now)) }
 {
     if !is_name(name) {
@@ -111,7 +111,7 @@ fn parameters_in(
 {
     let mut parameters = LooseParameters::new(alloc);
     for (name, value) in map.iter() {
-        let Some(parameter) = told_parameter(alloc, name.as_str(), value)? else {
+        let Some(parameter) = parameter_of(alloc, name.as_str(), value)? else {
             return Ok(None);
         };
         parameters.push(parameter)?;
@@ -120,7 +120,7 @@ fn parameters_in(
 }
 
 // The parameter of a member, or `None` where it is no parameter.
-fn told_parameter(
+fn parameter_of(
     alloc: Global,
     name: &str,
     value: &Value,

@@ -9,7 +9,7 @@ ghost use Rattle.grades.specs.Grades.{grades_of, range_for, with_grade, with_par
 
 use crate::fault::GradesFault;
 use crate::grade::{Grade, Parameter, Parameters};
-use crate::loose::{LooseGrade, LooseParameter, told_grades};
+use crate::loose::{LooseGrade, LooseParameter, written_grades};
 use crate::table::Grades;
 use itv_base::{Listing, Range, RangeFault, Text};
 use json_tree::EndPair;
@@ -25,19 +25,19 @@ use std::alloc::Global;
 pub fn read_grades(alloc: Global, tree: &Value) -> Result<Grades, GradesFault>
     ensures answer { AgreesWith is_memory (λ grades. grades) result (grades_of (view tree.now)) }
 {
-    let Some(told) = told_grades(alloc, tree)? else {
+    let Some(written) = written_grades(alloc, tree)? else {
         return Err(GradesFault::Grades);
     };
-    let grades = ranged_grades(alloc, told.as_slice())?;
+    let grades = ranged_grades(alloc, written.as_slice())?;
     Ok(Grades { grades })
 }
 
 // The grades with their ranges, or the first fault of a range.
-fn ranged_grades(alloc: Global, told: &[LooseGrade]) -> Result<Listing<Grade>, GradesFault>
-    ensures { AgreesWith is_memory (λ grades. grades) result (walk with_grade 0 [] told.now) }
+fn ranged_grades(alloc: Global, written: &[LooseGrade]) -> Result<Listing<Grade>, GradesFault>
+    ensures { AgreesWith is_memory (λ grades. grades) result (walk with_grade 0 [] written.now) }
 {
     let mut grades = Listing::new(alloc);
-    for (g, grade) in told.iter().enumerate() {
+    for (g, grade) in written.iter().enumerate() {
         push_grade(alloc, &mut grades, g as u64, grade)?;
     }
     Ok(grades)
@@ -64,12 +64,12 @@ fn push_grade(
 fn ranged_parameters(
     alloc: Global,
     g: u64,
-    told: &[LooseParameter],
+    written: &[LooseParameter],
 ) -> Result<Parameters, GradesFault>
-    ensures { AgreesWith is_memory (λ parameters. parameters) result (walk (with_parameter g) 0 [] told.now) }
+    ensures { AgreesWith is_memory (λ parameters. parameters) result (walk (with_parameter g) 0 [] written.now) }
 {
     let mut parameters = Parameters::new(alloc);
-    for (p, parameter) in told.iter().enumerate() {
+    for (p, parameter) in written.iter().enumerate() {
         push_parameter(alloc, &mut parameters, g, p as u64, parameter)?;
     }
     Ok(parameters)

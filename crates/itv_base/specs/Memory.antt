@@ -6,7 +6,7 @@ use Rattle.std.specs.Cmp.Lexicographic.{slice_cmp}
 use Rattle.std.specs.Ordering.{nat_cmp}
 use Rattle.std.specs.FinMap as map
 use Rattle.std.specs.Global.{Vec}
-use Rattle.itv_base.specs.Outside.{Files, ShelfView, SinkView, file_of, one_more_fault}
+use Rattle.itv_base.specs.Outside.{Files, ShelfState, SinkState, file_of, one_more_fault}
 use Rattle.itv_base.specs.declared.shelf.FetchFault.{FetchFault}
 use Rattle.itv_base.specs.declared.shelf.FetchFault.TheVariants.{Failed, NoMemory}
 
@@ -29,8 +29,8 @@ mem_shelf_code =
     (λ s. (s.files, (s.failing, (s.calls, (s.faults, s.last))))) (λ p. record { files = p.0; failing = p.1.0; calls = p.1.1.0; faults = p.1.1.1.0; last = p.1.1.1.1 }) (λ _. refl)
 
 -- The view of such a shelf. The shelf is faithful if no call is to fail.
-abbrev pub shelf_told : MemShelf → ShelfView
-shelf_told s = record { files = Some s.files; faults = s.faults; last = s.last; is_faithful = length s.failing == 0 }
+abbrev pub shelf_state : MemShelf → ShelfState
+shelf_state s = record { files = Some s.files; faults = s.faults; last = s.last; is_faithful = length s.failing == 0 }
 
 -- the next fetch fails if it asks for this name: its call is listed, or there is no such file
 abbrev pub is_refused : MemShelf → List ℕ → Bool
@@ -53,8 +53,8 @@ pub record MemSink : Type 0 where
   pub faults : ℕ
 
 -- the view of such a sink
-abbrev pub sink_told : MemSink → SinkView
-sink_told s = record { written = Some s.bytes; faults = s.faults }
+abbrev pub sink_state : MemSink → SinkState
+sink_state s = record { written = Some s.bytes; faults = s.faults }
 
 -- the call with this number is the one that is to fail
 abbrev pub is_named : Option ℕ → ℕ → Bool

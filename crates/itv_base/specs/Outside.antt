@@ -29,14 +29,14 @@ FaultCounted before now = (before < now) ⊎ (now ≡ last_count)
 
 -- What contracts see of a shelf: its files, if they see them; how often its fetches have failed; the name in the latest failed fetch; and whether its
 -- fetches fail only for names of which it has no file.
-pub record ShelfView : Type 0 where
+pub record ShelfState : Type 0 where
   pub files : Option Files
   pub faults : ℕ
   pub last : List ℕ
   pub is_faithful : Bool
 
 -- what contracts see of a sink: what was written, if they see it, and how often its puts have failed
-pub record SinkView : Type 0 where
+pub record SinkState : Type 0 where
   pub written : Option (List ℕ)
   pub faults : ℕ
 
@@ -44,15 +44,15 @@ pub record SinkView : Type 0 where
 
 -- if contracts see the files, the file of a name is there, and these are its first bytes, or all its bytes if there are fewer
 abbrev pub HasFront : Option Files → List ℕ → ℕ → List ℕ → Type 0
-HasFront told name most bytes = IfSome told (λ files. option_map (take most) (file_of files name) ≡ Some bytes)
+HasFront listed name most bytes = IfSome listed (λ files. option_map (take most) (file_of files name) ≡ Some bytes)
 
 -- if contracts see the files, there is no file of a name
 abbrev pub IsMissing : Option Files → List ℕ → Type 0
-IsMissing told name = IfSome told (λ files. IsNone (file_of files name))
+IsMissing listed name = IfSome listed (λ files. IsNone (file_of files name))
 
 -- a fetch of a name failed: the count rose, the name is the last that failed, and the rest of the view is unchanged; a faithful shelf has no file of
 -- the name
-pub record FailedFor (name : List ℕ) (old new : ShelfView) : Type 0 where
+pub record FailedFor (name : List ℕ) (old new : ShelfState) : Type 0 where
   pub files : new.files ≡ old.files
   pub faithful : new.is_faithful ≡ old.is_faithful
   pub count : old.faults ≤ new.faults
@@ -62,7 +62,7 @@ pub record FailedFor (name : List ℕ) (old new : ShelfView) : Type 0 where
 
 -- What a fetch returns and leaves. It returns at most so many bytes. If contracts see the files, these are the first bytes of the file. Only a fetch
 -- that failed changes the view of the shelf.
-abbrev pub Fetches : ShelfView → ShelfView → List ℕ → ℕ → Result (Vec ℕ) FetchFault → Type 0
+abbrev pub Fetches : ShelfState → ShelfState → List ℕ → ℕ → Result (Vec ℕ) FetchFault → Type 0
 Fetches old new name most (Ok bytes) = (new ≡ old) × (length bytes.items ≤ most) × HasFront old.files name most bytes.items
 Fetches old new name most (Err Failed) = FailedFor name old new
 Fetches old new name most (Err NoMemory) = new ≡ old
@@ -75,16 +75,16 @@ pub record Failures : Type 0 where
 -- ---- puts
 
 -- the view of a sink with some bytes more
-abbrev pub grown : SinkView → List ℕ → SinkView
-grown told bytes = record told { written = option_map (λ known. known ++ bytes) told.written }
+abbrev pub grown : SinkState → List ℕ → SinkState
+grown state bytes = record state { written = option_map (λ known. known ++ bytes) state.written }
 
 -- a put failed: a front of the bytes was written, and the count rose
-pub record CutShort (old new : SinkView) (bytes : List ℕ) : Type 0 where
+pub record CutShort (old new : SinkState) (bytes : List ℕ) : Type 0 where
   pub front : (n : ℕ) × (n ≤ length bytes) × (new.written ≡ (grown old (take n bytes)).written)
   pub count : old.faults ≤ new.faults
   pub rose : FaultCounted old.faults new.faults
 
 -- What one put or several did to a sink: they appended all of the bytes, or failed and appended a front of them.
-abbrev pub Puts : {E : Type 0} → SinkView → SinkView → List ℕ → Result ⊤ E → Type 0
+abbrev pub Puts : {E : Type 0} → SinkState → SinkState → List ℕ → Result ⊤ E → Type 0
 Puts old new bytes (Ok x) = new ≡ grown old bytes
 Puts old new bytes (Err e) = CutShort old new bytes

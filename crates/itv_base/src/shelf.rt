@@ -1,7 +1,7 @@
 //! Files by name, as the program is given them.
 
 ghost use Rattle.std.specs.Prelude.{◌≡◌};
-ghost use Rattle.itv_base.specs.Outside.{ShelfView, Fetches};
+ghost use Rattle.itv_base.specs.Outside.{ShelfState, Fetches};
 ghost use Rattle.itv_base.specs.declared.shelf.FetchFault.TheVariants.{NoMemory};
 
 use crate::text::NoMemory as OutOfMemory;
@@ -47,10 +47,10 @@ pub trait Shelf {
     /// What contracts see of the shelf: its files, if they see them; how often a fetch has failed, a count that never
     /// falls and stays at the last value of 64 bits; the name in the latest failed fetch; and whether fetches fail only
     /// for absent files.
-    ghost told: { Self → ShelfView };
+    ghost state: { Self → ShelfState };
 
     /// The first `cap` bytes of a file, or all its bytes if there are fewer. It fails only if the count of faults rose,
     /// and then the name is the last that failed. Want of memory changes nothing of the view.
     fn fetch(&mut self, alloc: Global, name: &str, cap: u32) -> Result<Vec<u8>, FetchFault>
-        ensures fetches { Fetches (told self.old) (told self.new) name.now cap result };
+        ensures fetches { Fetches (state self.old) (state self.new) name.now cap result };
 }

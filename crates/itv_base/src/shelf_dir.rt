@@ -93,7 +93,7 @@ fn read_file<R: Files>(alloc: Global, runtime: &R, name: &str, cap: usize) -> io
 }
 
 impl<R: Files + Drop> Shelf for ShelfDir<R> {
-    ghost told = { λ s. record { files = None; faults = s.faults; last = s.last; is_faithful = false } };
+    ghost state = { λ s. record { files = None; faults = s.faults; last = s.last; is_faithful = false } };
 
     fn fetch(&mut self, alloc: Global, name: &str, cap: u32) -> Result<Vec<u8>, FetchFault> {
         match read_file(alloc, &self.runtime, name, cap as usize) {

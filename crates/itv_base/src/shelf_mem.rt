@@ -3,7 +3,7 @@
 ghost use Rattle.std.specs.Prelude.{◌≡◌, ◌≤◌, ◌∷◌, ◌++◌, [], IfOk, OnOk, OnErr, length, take, option_map};
 ghost use Rattle.std.specs.FinMap as map;
 ghost use Rattle.itv_base.specs.Outside.{Fetches, file_of};
-ghost use Rattle.itv_base.specs.Memory.{MemFetches, shelf_told};
+ghost use Rattle.itv_base.specs.Memory.{MemFetches, shelf_state};
 
 use crate::shelf::{FetchFault, Shelf};
 use crate::text::{NoMemory, Text};
@@ -109,10 +109,10 @@ fn front_of(alloc: Global, bytes: &[u8], cap: usize) -> Result<Vec<u8>, NoMemory
 }
 
 impl Shelf for ShelfMem {
-    ghost told = { shelf_told };
+    ghost state = { shelf_state };
 
     fn fetch(&mut self, alloc: Global, name: &str, cap: u32) -> Result<Vec<u8>, FetchFault>
-        ensures fetches { Fetches (shelf_told self.old) (shelf_told self.new) name.now cap result }
+        ensures fetches { Fetches (shelf_state self.old) (shelf_state self.new) name.now cap result }
         ensures exact { MemFetches self.old self.new name.now cap result }
     {
         let is_listed = self.failing.contains(&self.calls);

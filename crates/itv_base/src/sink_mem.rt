@@ -2,7 +2,7 @@
 
 ghost use Rattle.std.specs.Prelude.{◌≡◌, [], Some, None, IfOk, is_ok};
 ghost use Rattle.itv_base.specs.Outside.{Puts};
-ghost use Rattle.itv_base.specs.Memory.{sink_told, after_put, takes};
+ghost use Rattle.itv_base.specs.Memory.{sink_state, after_put, takes};
 
 use crate::sink::{PutFailed, Sink};
 use crate::text::NoMemory;
@@ -62,10 +62,10 @@ impl SinkMem {
 }
 
 impl Sink for SinkMem {
-    ghost told = { sink_told };
+    ghost state = { sink_state };
 
     fn put(&mut self, piece: &[u8]) -> Result<(), PutFailed>
-        ensures puts { Puts (sink_told self.old) (sink_told self.new) piece.now result }
+        ensures puts { Puts (sink_state self.old) (sink_state self.new) piece.now result }
         ensures exact { self.new ≡ after_put self.old piece.now }
         ensures answer { is_ok result ≡ takes self.old piece.now }
     {

@@ -77,7 +77,7 @@ fn put_by<W: Write>(out: &mut W, piece: &[u8], faults: &mut u64) -> Result<(), P
 }
 
 impl<R: Print + Drop> Sink for SinkOut<R> {
-    ghost told = { λ s. record { written = None; faults = s } };
+    ghost state = { λ s. record { written = None; faults = s } };
 
     fn put(&mut self, piece: &[u8]) -> Result<(), PutFailed> {
         put_by(&mut io::writer(&self.runtime), piece, &mut self.faults)

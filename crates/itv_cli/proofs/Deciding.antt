@@ -8,7 +8,7 @@ use Rattle.slack_report.specs.declared.words.EndWord.{EndWord}
 use Rattle.slack_report.specs.declared.words.EndWord.TheVariants as endings
 use Rattle.slack_report.specs.Entry.{Entry}
 use Rattle.drawn.specs.Drawn.{Drawn}
-use Rattle.right_report.specs.Told.{end_in}
+use Rattle.right_report.specs.ReportContents.{end_in}
 use Rattle.right_report.proofs.Undecided.{bare_undecided_is_below, shown_undecided_is_below}
 use Rattle.jobs.specs.Ending.{answer_of}
 use Rattle.bounds_report.specs.Reports.{IsWrittenReport, Reports, Sums}

@@ -1,30 +1,30 @@
 -- What is read of a file of edits, given the answer of its reader.
 use Rattle.std.proofs.Common.{◌≡◌, ℕ, List, Ok, Err, refl}
-use Rattle.itv_base.specs.Outside.{ShelfView}
+use Rattle.itv_base.specs.Outside.{ShelfState}
 use Rattle.itv_base.specs.Reading.{IsReadingFault}
 use Rattle.drawn.specs.Drawn.{Drawn}
 use Rattle.edits.specs.EditsFile.{edits_of, is_memory}
 use Rattle.edits.specs.declared.edit.RangeEdit.{RangeEdit}
 use Rattle.edits.specs.declared.fault.EditsFault.{EditsFault}
-use Rattle.reading.specs.declared.place.RefusalPlace.TheVariants.{Edits}
+use Rattle.reading.specs.declared.refusal_place.RefusalPlace.TheVariants.{Edits}
 use Rattle.reading.specs.declared.refusal.Refusal.TheVariants as refusals
-use Rattle.reading.specs.Opening.{gives, at}
+use Rattle.reading.specs.FileReading.{gives, at}
 use Rattle.reading.specs.Step.{Opens, stop_of}
 use Rattle.reading.proofs.Opens.{at_err, at_ok, opens_stop, opens_then}
 use Rattle.itv_cli.specs.declared.ready.Ready.{Ready}
 use Rattle.itv_cli.specs.declared.ready.Ready.TheVariants.{Whatif}
 use Rattle.itv_cli.specs.Job.{edits_in}
 
-module _ (told : ShelfView) (drawn : Drawn) (budget : ℕ) (bytes : List ℕ) where
+module _ (standing : ShelfState) (drawn : Drawn) (budget : ℕ) (bytes : List ℕ) where
   -- the edits were read
-  pub edits_read : (edits : List RangeEdit) → edits_of drawn.net bytes ≡ Ok edits → Opens (λ (given : Ready). given) told told (edits_in budget drawn bytes) (Ok (Whatif drawn edits budget))
+  pub edits_read : (edits : List RangeEdit) → edits_of drawn.net bytes ≡ Ok edits → Opens (λ (given : Ready). given) standing standing (edits_in budget drawn bytes) (Ok (Whatif drawn edits budget))
   edits_read edits is =
-      opens_then (λ (e : List RangeEdit). e) (λ (given : Ready). given) (at Edits refusals.Edits (edits_of drawn.net bytes)) (λ es. gives (Whatif drawn es budget)) told told told edits
-      (Ok (Whatif drawn edits budget)) (at_ok told Edits refusals.Edits (edits_of drawn.net bytes) edits is, refl) (refl, refl)
+      opens_then (λ (e : List RangeEdit). e) (λ (given : Ready). given) (at Edits refusals.Edits (edits_of drawn.net bytes)) (λ es. gives (Whatif drawn es budget)) standing standing standing edits
+      (Ok (Whatif drawn edits budget)) (at_ok standing Edits refusals.Edits (edits_of drawn.net bytes) edits is, refl) (refl, refl)
 
   -- the edits have a fault
   pub edits_refused : (fault : EditsFault) → IsReadingFault is_memory (edits_of drawn.net bytes) fault
-      → Opens (λ (given : Ready). given) told told (edits_in budget drawn bytes) (Err (stop_of is_memory refusals.Edits Edits fault))
+      → Opens (λ (given : Ready). given) standing standing (edits_in budget drawn bytes) (Err (stop_of is_memory refusals.Edits Edits fault))
   edits_refused fault h =
-      opens_stop (λ (e : List RangeEdit). e) (λ (given : Ready). given) (at Edits refusals.Edits (edits_of drawn.net bytes)) (λ es. gives (Whatif drawn es budget)) told told
-      (stop_of is_memory refusals.Edits Edits fault) (at_err is_memory (λ (e : List RangeEdit). e) told Edits refusals.Edits (edits_of drawn.net bytes) fault h)
+      opens_stop (λ (e : List RangeEdit). e) (λ (given : Ready). given) (at Edits refusals.Edits (edits_of drawn.net bytes)) (λ es. gives (Whatif drawn es budget)) standing standing
+      (stop_of is_memory refusals.Edits Edits fault) (at_err is_memory (λ (e : List RangeEdit). e) standing Edits refusals.Edits (edits_of drawn.net bytes) fault h)

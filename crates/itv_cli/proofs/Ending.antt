@@ -1,17 +1,17 @@
 -- How a run ends, and what its end says.
 use Rattle.std.proofs.Common.{◌≡◌, ◌<◌, ◌∙◌, inl, inr, List, ℕ, Option, Some, None, IfSome, Result, Ok, Err, refl, sym, ap, subst, arith}
 use Rattle.std.specs.Bool.{⊤}
-use Rattle.itv_base.specs.Outside.{Files, ShelfView, SinkView, Puts, FaultCounted}
-use Rattle.jobs.specs.Works.{JobWrote}
+use Rattle.itv_base.specs.Outside.{Files, ShelfState, SinkState, Puts, FaultCounted}
+use Rattle.jobs.specs.JobWrote.{JobWrote}
 use Rattle.jobs.specs.declared.answer.Answer.{Answer}
 use Rattle.jobs.specs.declared.answer.Answer.TheVariants as answers
 use Rattle.jobs.specs.declared.unanswered.Unanswered.{Unanswered}
 use Rattle.jobs.specs.declared.unanswered.Unanswered.TheVariants as unanswered
-use Rattle.reading.specs.declared.place.RefusalPlace.{RefusalPlace}
+use Rattle.reading.specs.declared.refusal_place.RefusalPlace.{RefusalPlace}
 use Rattle.reading.specs.declared.refusal.Refusal.{Refusal}
 use Rattle.reading.specs.declared.stop.Stop.{Stop}
 use Rattle.reading.specs.declared.stop.Stop.TheVariants as stops
-use Rattle.reading.specs.Opening.{End, ready, refused, unread, told_end}
+use Rattle.reading.specs.FileReading.{End, ready, refused, unread, end_over}
 use Rattle.reading.specs.Refusal.{refusal_text, unread_text}
 use Rattle.reading.proofs.Opens.{told_ready, told_refused}
 use Rattle.words.specs.Task.{Task, taken, task, help, bad_words}
@@ -26,16 +26,16 @@ use Rattle.itv_cli.specs.Step.{OpensFor, Stops, EndsWithText, answered, end_afte
 -- ---- what each end says
 
 -- how a run ends after a put of a text
-pub tells : {E : Type 0} (old new : SinkView) (text : List ℕ) (end result : Outcome) (put : Result ⊤ E)
+pub tells : {E : Type 0} (old new : SinkState) (text : List ℕ) (end result : Outcome) (put : Result ⊤ E)
     → Puts old new text put → result ≡ end_after put end → EndsWithText old new text end result
 tells old new text end result (Ok x) puts is = inl (is, puts)
 tells old new text end result (Err e) puts is = inr (is, puts)
 
 -- what the end of a run that put a text says
-pub told : (call : Call) (text : List ℕ) (end result : Outcome) → EndsWithText call.sink_before call.sink_after text end result
+pub standing : (call : Call) (text : List ℕ) (end result : Outcome) → EndsWithText call.sink_before call.sink_after text end result
     → IntendedText call text → (Wrote call text → OutcomeMeans call end) → OutcomeMeans call result
-told call text end result (inl p) wanted means = rw p.0 (means p.1)
-told call text end result (inr p) wanted means = rw p.0 (record { text = text; wanted = wanted; cut = p.1 })
+standing call text end result (inl p) wanted means = rw p.0 (means p.1)
+standing call text end result (inr p) wanted means = rw p.0 (record { text = text; wanted = wanted; cut = p.1 })
 
 means_answer : (call : Call) (answer : Answer) → HasAnswered call answer → OutcomeMeans call (outcome_of answer)
 means_answer call answers.AllPass h = h
@@ -46,11 +46,11 @@ means_answer call answers.CheckRefused h = h
 means_answer call answers.DesignRefused h = inr h
 
 -- a reading that gave something leaves the shelf unchanged
-kept_by : (made : Option Files) (old new : ShelfView) (asked : Task) (given : Ready) → ReadsOver made old new asked (ready given) → new ≡ old
+kept_by : (made : Option Files) (old new : ShelfState) (asked : Task) (given : Ready) → ReadsOver made old new asked (ready given) → new ≡ old
 kept_by None old new asked given h = h.1
 kept_by (Some files) old new asked given h = h.1
 
-kept_refused : (made : Option Files) (old new : ShelfView) (asked : Task) (place : RefusalPlace) (why : Refusal) → ReadsOver made old new asked (refused place why) → new ≡ old
+kept_refused : (made : Option Files) (old new : ShelfState) (asked : Task) (place : RefusalPlace) (why : Refusal) → ReadsOver made old new asked (refused place why) → new ≡ old
 kept_refused None old new asked place why h = h.1
 kept_refused (Some files) old new asked place why h = h.1
 
@@ -67,10 +67,10 @@ worked call given (Err unanswered.NoMemory) came w = record { sink = w; shelf = 
 pub unworked : (call : Call) (asked : Task) (stop : Stop) (result : Outcome) → taken call.words ≡ task asked → OpensFor call.shelf_before call.shelf_after asked (Err stop)
     → Stops call.sink_before call.sink_after stop result → OutcomeMeans call result
 unworked call asked (stops.Refused place why) result is o s =
-    told call (refusal_text place why) Refused result s (at_end (refused place why) (record { asked = asked; words = is; ends = o }) refl)
+    standing call (refusal_text place why) Refused result s (at_end (refused place why) (record { asked = asked; words = is; ends = o }) refl)
     (λ wrote. inl (record { place = place; why = why; came = record { asked = asked; words = is; ends = o }; wrote = wrote }))
 unworked call asked (stops.ReadFault place) result is o s =
-    told call (unread_text place) ReadFault result s (at_end (unread place o.0) (record { asked = asked; words = is; ends = o.1 }) refl)
+    standing call (unread_text place) ReadFault result s (at_end (unread place o.0) (record { asked = asked; words = is; ends = o.1 }) refl)
     (λ wrote. record { place = place; name = o.0; came = record { asked = asked; words = is; ends = o.1 }; wrote = wrote })
 unworked call asked stops.NoMemory result is o s = rw s.0 (record { sink = s.1; shelf = o })
 
@@ -87,18 +87,18 @@ when_some None P h = tt
 when_some (Some x) P h = h x refl
 
 -- the files decide the end where the reading gave something
-decide_ready : (made : Option Files) (old new : ShelfView) (asked : Task) (given : Ready) (outcome : Outcome) → ReadsOver made old new asked (ready given) → OutcomeBy (ready given) outcome
+decide_ready : (made : Option Files) (old new : ShelfState) (asked : Task) (given : Ready) (outcome : Outcome) → ReadsOver made old new asked (ready given) → OutcomeBy (ready given) outcome
     → FilesDecide made old.files asked outcome
 decide_ready None old new asked given outcome h by =
-    when_some old.files (λ files. OutcomeBy (told_end files (opening asked)) outcome) (λ files e. subst (λ end. OutcomeBy end outcome) (sym (told_ready old files (opening asked) given e h.0)) by)
+    when_some old.files (λ files. OutcomeBy (end_over files (opening asked)) outcome) (λ files e. subst (λ end. OutcomeBy end outcome) (sym (told_ready old files (opening asked) given e h.0)) by)
 decide_ready (Some files) old new asked given outcome h by = subst (λ end. OutcomeBy end outcome) h.0 by
 
-decide_refused : (made : Option Files) (old new : ShelfView) (asked : Task) (place : RefusalPlace) (why : Refusal) → ReadsOver made old new asked (refused place why) → FilesDecide made old.files asked Refused
+decide_refused : (made : Option Files) (old new : ShelfState) (asked : Task) (place : RefusalPlace) (why : Refusal) → ReadsOver made old new asked (refused place why) → FilesDecide made old.files asked Refused
 decide_refused None old new asked place why h =
-    when_some old.files (λ files. OutcomeBy (told_end files (opening asked)) Refused) (λ files e. subst (λ end. OutcomeBy end Refused) (sym (told_refused old files (opening asked) place why e h.0)) refl)
+    when_some old.files (λ files. OutcomeBy (end_over files (opening asked)) Refused) (λ files e. subst (λ end. OutcomeBy end Refused) (sym (told_refused old files (opening asked) place why e h.0)) refl)
 decide_refused (Some files) old new asked place why h = subst (λ end. OutcomeBy end Refused) h.0 refl
 
-decide_unread : (made : Option Files) (old new : ShelfView) (asked : Task) (place : RefusalPlace) (name : List ℕ) → ¬ (FaultCounted old.faults new.faults) → ReadsOver made old new asked (unread place name)
+decide_unread : (made : Option Files) (old new : ShelfState) (asked : Task) (place : RefusalPlace) (name : List ℕ) → ¬ (FaultCounted old.faults new.faults) → ReadsOver made old new asked (unread place name)
     → FilesDecide made old.files asked ReadFault
 decide_unread None old new asked place name quiet h = absurd (quiet h.1.rose)
 decide_unread (Some files) old new asked place name quiet h = subst (λ end. OutcomeBy end ReadFault) h.0 refl
@@ -158,10 +158,10 @@ still : (before now : ℕ) → now ≡ before → before < now → ⊥
 still before now e h = omega (arith, e, h)
 
 quiet_sink : (call : Call) (text : List ℕ) → Wrote call text → call.sink_before.faults < call.sink_after.faults → ⊥
-quiet_sink call text wrote h = still _ _ (ap (λ (t : SinkView). t.faults) wrote) h
+quiet_sink call text wrote h = still _ _ (ap (λ (t : SinkState). t.faults) wrote) h
 
 quiet_shelf : (call : Call) → IsShelfUnchanged call → call.shelf_before.faults < call.shelf_after.faults → ⊥
-quiet_shelf call kept h = still _ _ (ap (λ (t : ShelfView). t.faults) kept) h
+quiet_shelf call kept h = still _ _ (ap (λ (t : ShelfState). t.faults) kept) h
 
 shows_none : (call : Call) (text : List ℕ) (result : Outcome) → Wrote call text → IsShelfUnchanged call → ShowsFaults call result
 shows_none call text result wrote kept = (λ h. absurd (quiet_sink call text wrote h), λ h. absurd (quiet_shelf call kept h))
@@ -180,6 +180,6 @@ shows_faults call Refused (inl m) =
     shows_none call (refusal_text m.place m.why) Refused m.wrote (kept_refused (made_for m.came.asked) call.shelf_before call.shelf_after m.came.asked m.place m.why m.came.ends)
 shows_faults call ReadFault m = (λ h. absurd (quiet_sink call (unread_text m.place) m.wrote h), λ h. inl refl)
 shows_faults call WriteFault m = (λ h. refl, λ h. inr refl)
-shows_faults call NoMemory m = (λ h. absurd (still _ _ (ap (λ (t : SinkView). t.faults) m.sink) h), λ h. absurd (quiet_shelf call m.shelf h))
+shows_faults call NoMemory m = (λ h. absurd (still _ _ (ap (λ (t : SinkState). t.faults) m.sink) h), λ h. absurd (quiet_shelf call m.shelf h))
 shows_faults call BadWords m = shows_none call _ BadWords m.wrote m.shelf
 shows_faults call CheckRefused m = shows_answer call answers.CheckRefused CheckRefused m

@@ -1,12 +1,12 @@
 -- The names and the ranges of a design that was read.
 use Rattle.std.proofs.Common.{ℕ, List}
-use Rattle.itv_base.specs.Outside.{ShelfView}
+use Rattle.itv_base.specs.Outside.{ShelfState}
 use Rattle.drawn.specs.Drawn.{Drawn}
 use Rattle.reading.specs.Design.{design_at}
-use Rattle.reading.specs.Opening.{RunsToEnd, ready}
+use Rattle.reading.specs.FileReading.{RunsToEnd, ready}
 use Rattle.drawn_names.proofs.Designs.{drawn_names_have_form, drawn_ranges_have_form}
 use Rattle.itv_cli.specs.Step.{HasForm}
 
 -- the names and the ranges have their form
-pub drawn_has_form : (name : List ℕ) (old new : ShelfView) (drawn : Drawn) → RunsToEnd old new (design_at name) (ready drawn) → HasForm drawn
+pub drawn_has_form : (name : List ℕ) (old new : ShelfState) (drawn : Drawn) → RunsToEnd old new (design_at name) (ready drawn) → HasForm drawn
 drawn_has_form name old new drawn h = record { names = drawn_names_have_form old name drawn h.0; ranges = drawn_ranges_have_form old name drawn h.0 }

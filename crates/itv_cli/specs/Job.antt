@@ -8,12 +8,12 @@ use Rattle.drawn.specs.Drawn.{Drawn}
 use Rattle.unroll.specs.declared.fault.UnrollFault.TheVariants.{TooMany}
 use Rattle.unroll.specs.declared.limit.Limit.TheVariants.{MatrixEvents, SessionRows}
 use Rattle.unroll.specs.declared.limit.TheConstants.{MAX_SESSION_ROWS}
-use Rattle.reading.specs.declared.place.RefusalPlace.TheVariants.{Design, Edits, Report}
+use Rattle.reading.specs.declared.refusal_place.RefusalPlace.TheVariants.{Design, Edits, Report}
 use Rattle.reading.specs.declared.refusal.Refusal.TheVariants as refusals
 use Rattle.plan.specs.Notes.{plan_note}
 use Rattle.plan.specs.Plan.{Planned}
 use Rattle.reading.specs.Design.{design_at, drawn_at, plan_at}
-use Rattle.reading.specs.Opening.{FileReading, gives, refuses, ◌>>=◌, at, file_at}
+use Rattle.reading.specs.FileReading.{FileReading, gives, refuses, ◌>>=◌, at, file_at}
 use Rattle.words.specs.Task.{Task, bounds, fall, settle, redraw, why, brief, lint, matrix, check, confirm, generated, whatif}
 use Rattle.bounds_report.specs.Reports.{MayHaveBegun}
 use Rattle.brief_report.specs.Brief.{AnswersBrief, BeginsBrief}

@@ -4,9 +4,9 @@ pub use Rattle.itv_base.specs.Names
 pub use Rattle.event_graph.specs.Edges
 pub use Rattle.drawn.specs.Drawn
 pub use Rattle.words.specs.Task
-pub use Rattle.reading.specs.Place
+pub use Rattle.reading.specs.RefusalPlace
 pub use Rattle.reading.specs.Refusal
-pub use Rattle.reading.specs.Opening
+pub use Rattle.reading.specs.FileReading
 pub use Rattle.reading.specs.Design
 pub use Rattle.bounds_report.specs.Reports
 pub use Rattle.fall_report.specs.Fall

@@ -1,12 +1,12 @@
 -- What the end of a run says: where it comes from, and what was written. The claim is `OutcomeMeans`; the definitions above it are its words,
 -- and the definitions below follow from it. Nothing here is about one job: `Job` says what each job reads and answers.
 use Rattle.std.specs.Prelude.{◌≡◌, ◌<◌, ◌⊎◌, ℕ, List, Option, Some, None, IfSome, codes}
-use Rattle.itv_base.specs.Outside.{Files, ShelfView, SinkView, FaultCounted, grown, CutShort}
+use Rattle.itv_base.specs.Outside.{Files, ShelfState, SinkState, FaultCounted, grown, CutShort}
 use Rattle.jobs.specs.declared.answer.Answer.{Answer}
 use Rattle.jobs.specs.declared.answer.Answer.TheVariants as answers
-use Rattle.reading.specs.declared.place.RefusalPlace.{RefusalPlace}
+use Rattle.reading.specs.declared.refusal_place.RefusalPlace.{RefusalPlace}
 use Rattle.reading.specs.declared.refusal.Refusal.{Refusal}
-use Rattle.reading.specs.Opening.{End, RunsToEnd, ready, refused, unread, told_end}
+use Rattle.reading.specs.FileReading.{End, RunsToEnd, ready, refused, unread, end_over}
 use Rattle.reading.specs.Refusal.{refusal_text, unread_text}
 use Rattle.words.specs.Task.{Task, taken, task, help, bad_words}
 use Rattle.itv_cli.specs.declared.outcome.Outcome.{Outcome}
@@ -17,22 +17,22 @@ use Rattle.itv_cli.specs.Job.{Answers, MayHaveWritten, made_for, opening}
 -- a run: its words, and the views of the shelf and the sink before and after it
 pub record Call : Type 0 where
   pub words : List (List ℕ)
-  pub shelf_before : ShelfView
-  pub shelf_after : ShelfView
-  pub sink_before : SinkView
-  pub sink_after : SinkView
+  pub shelf_before : ShelfState
+  pub shelf_after : ShelfState
+  pub sink_before : SinkState
+  pub sink_after : SinkState
 
 -- a run, from the views before and after it
-abbrev pub call_of : List (List ℕ) → ShelfView → ShelfView → SinkView → SinkView → Call
+abbrev pub call_of : List (List ℕ) → ShelfState → ShelfState → SinkState → SinkState → Call
 call_of words shelf shelf' sink sink' = record { words = words; shelf_before = shelf; shelf_after = shelf'; sink_before = sink; sink_after = sink' }
 
 -- ---- what was read
 
 -- The reading for a task came to an end, over the files of the shelf or over files that were made for the task. These files decide the end.
 -- Made files leave the view of the shelf unchanged.
-abbrev pub ReadsOver : Option Files → ShelfView → ShelfView → Task → End Ready → Type 0
+abbrev pub ReadsOver : Option Files → ShelfState → ShelfState → Task → End Ready → Type 0
 ReadsOver None old new asked end = RunsToEnd old new (opening asked) end
-ReadsOver (Some made) old new asked end = (end ≡ told_end made (opening asked)) × (new ≡ old)
+ReadsOver (Some made) old new asked end = (end ≡ end_over made (opening asked)) × (new ≡ old)
 
 -- the words ask for a task, and the reading for it came to an end
 pub record HasRead (call : Call) (end : End Ready) : Type 0 where
@@ -152,8 +152,8 @@ OutcomeBy (unread place name) outcome = outcome ≡ ReadFault
 
 -- the files of the shelf, if its view has them, or the files that were made for a task decide the end
 abbrev pub FilesDecide : Option Files → Option Files → Task → Outcome → Type 0
-FilesDecide None told asked outcome = IfSome told (λ files. OutcomeBy (told_end files (opening asked)) outcome)
-FilesDecide (Some made) told asked outcome = OutcomeBy (told_end made (opening asked)) outcome
+FilesDecide None listed asked outcome = IfSome listed (λ files. OutcomeBy (end_over files (opening asked)) outcome)
+FilesDecide (Some made) listed asked outcome = OutcomeBy (end_over made (opening asked)) outcome
 
 -- if the words ask for a task and no fault was counted, the files of the task decide the end, or memory was not found
 abbrev pub Completes : Call → Outcome → Type 0

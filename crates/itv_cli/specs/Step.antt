@@ -1,7 +1,7 @@
 -- What the steps of a run answer: words of contracts within this crate.
 use Rattle.std.specs.Prelude.{◌≡◌, ◌≤◌, ◌⊎◌, ℕ, ⊤, List, length, All, IsOk, Result, Ok, Err}
 use Rattle.itv_base.specs.declared.limits.TheConstants.{MAX_MATRIX_EVENTS}
-use Rattle.itv_base.specs.Outside.{Files, ShelfView, SinkView, grown, CutShort}
+use Rattle.itv_base.specs.Outside.{Files, ShelfState, SinkState, grown, CutShort}
 use Rattle.compose.specs.Compose.{composed_on}
 use Rattle.drawn.specs.Drawn.{Drawn}
 use Rattle.falling.specs.View.{IsViewOf}
@@ -14,7 +14,7 @@ use Rattle.jobs.specs.declared.unanswered.Unanswered.{Unanswered}
 use Rattle.jobs.specs.declared.unanswered.Unanswered.TheVariants as unanswered
 use Rattle.reading.specs.declared.stop.Stop.{Stop}
 use Rattle.reading.specs.declared.stop.Stop.TheVariants.{Refused, ReadFault, NoMemory}
-use Rattle.reading.specs.Opening.{ready, refused, told_end, unread}
+use Rattle.reading.specs.FileReading.{ready, refused, end_over, unread}
 use Rattle.reading.specs.Refusal.{refusal_text, unread_text}
 use Rattle.plan.specs.Plan.{sheets_on}
 use Rattle.words.specs.Task.{IsBudget, Task}
@@ -47,13 +47,13 @@ IsAllowed (given.Whatif drawn edits budget) = (length drawn.rows ≤ MAX_SESSION
 
 -- what the reading for a task answers over files that are made for it; nothing is said if memory was missing
 abbrev pub OpensMade : Files → Task → Result Ready Stop → Type 0
-OpensMade files asked (Ok x) = ready x ≡ told_end files (opening asked)
-OpensMade files asked (Err (Refused place why)) = refused place why ≡ told_end files (opening asked)
-OpensMade files asked (Err (ReadFault place)) = (name : List ℕ) × (unread place name ≡ told_end files (opening asked))
+OpensMade files asked (Ok x) = ready x ≡ end_over files (opening asked)
+OpensMade files asked (Err (Refused place why)) = refused place why ≡ end_over files (opening asked)
+OpensMade files asked (Err (ReadFault place)) = (name : List ℕ) × (unread place name ≡ end_over files (opening asked))
 OpensMade files asked (Err NoMemory) = Unit {0}
 
 -- what the reading for a task answers, over the files of the shelf or over files that are made for it
-abbrev pub OpensFor : ShelfView → ShelfView → Task → Result Ready Stop → Type 0
+abbrev pub OpensFor : ShelfState → ShelfState → Task → Result Ready Stop → Type 0
 OpensFor old new asked (Ok x) = ReadsOver (made_for asked) old new asked (ready x)
 OpensFor old new asked (Err (Refused place why)) = ReadsOver (made_for asked) old new asked (refused place why)
 OpensFor old new asked (Err (ReadFault place)) = (name : List ℕ) × ReadsOver (made_for asked) old new asked (unread place name)
@@ -71,11 +71,11 @@ answered (Err unanswered.PutFailed) = ends.WriteFault
 answered (Err unanswered.NoMemory) = ends.NoMemory
 
 -- a run ends after all of a text was put, or after a front of it was
-abbrev pub EndsWithText : SinkView → SinkView → List ℕ → Outcome → Outcome → Type 0
+abbrev pub EndsWithText : SinkState → SinkState → List ℕ → Outcome → Outcome → Type 0
 EndsWithText old new text end outcome = ((outcome ≡ end) × (new ≡ grown old text)) ⊎ ((outcome ≡ ends.WriteFault) × CutShort old new text)
 
 -- a run ends because its reading gave nothing
-abbrev pub Stops : SinkView → SinkView → Stop → Outcome → Type 0
+abbrev pub Stops : SinkState → SinkState → Stop → Outcome → Type 0
 Stops old new (Refused place why) outcome = EndsWithText old new (refusal_text place why) ends.Refused outcome
 Stops old new (ReadFault place) outcome = EndsWithText old new (unread_text place) ends.ReadFault outcome
 Stops old new NoMemory outcome = (outcome ≡ ends.NoMemory) × (new ≡ old)

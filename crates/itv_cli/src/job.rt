@@ -1,7 +1,7 @@
 //! What each job writes.
 
 ghost use Rattle.std.specs.Prelude.{◌≡◌};
-ghost use Rattle.jobs.specs.Works.{JobWrote};
+ghost use Rattle.jobs.specs.JobWrote.{JobWrote};
 ghost use Rattle.itv_cli.specs.Job.{Answers, MayHaveWritten};
 ghost use Rattle.itv_cli.specs.Job as job;
 ghost use Rattle.itv_cli.specs.declared.ready.Ready.TheVariants as ready;
@@ -29,7 +29,7 @@ use why_report::write_why;
 /// Does the job for which all was read, and writes its answer. All memory is taken before the first put.
 pub fn answer<K: Sink>(alloc: Global, given: &Ready, sink: &mut K) -> Result<Answer, Unanswered>
     requires allowed { IsAllowed given.now }
-    ensures works { JobWrote (Answers given.now) (MayHaveWritten given.now) (K.told sink.old) (K.told sink.new) result }
+    ensures works { JobWrote (Answers given.now) (MayHaveWritten given.now) (K.state sink.old) (K.state sink.new) result }
 {
     match given {
         Ready::Bounds {
@@ -90,7 +90,7 @@ fn answer_bounds<K: Sink>(
 ) -> Result<Answer, Unanswered>
     requires budget { IsBudget budget }
     ensures works { JobWrote (Answers (ready.Bounds drawn.now budget cert)) (MayHaveWritten (ready.Bounds drawn.now budget cert))
-        (K.told sink.old) (K.told sink.new) result }
+        (K.state sink.old) (K.state sink.new) result }
 {
     // The call also gives the invariant: the network is within its limits. So no search closes more cases than there are cause choices.
     let _events = drawn.network().events();
@@ -113,7 +113,7 @@ fn answer_redraw<K: Sink>(
     requires budget { IsBudget budget }
     requires form { HasForm drawn.now }
     ensures works { JobWrote (Answers (ready.Redraw drawn.now budget)) (MayHaveWritten (ready.Redraw drawn.now budget))
-        (K.told sink.old) (K.told sink.new) result }
+        (K.state sink.old) (K.state sink.new) result }
 {
     // As in job bounds.
     let _events = drawn.network().events();
@@ -131,7 +131,7 @@ fn answer_generated<K: Sink>(
 ) -> Result<Answer, Unanswered>
     requires budget { IsBudget budget }
     ensures works { JobWrote (Answers (ready.Generated drawn.now size budget)) (MayHaveWritten (ready.Generated drawn.now size budget))
-        (K.told sink.old) (K.told sink.new) result }
+        (K.state sink.old) (K.state sink.new) result }
 {
     // As in job bounds.
     let _events = drawn.network().events();

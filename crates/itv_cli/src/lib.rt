@@ -7,7 +7,7 @@
 mod job;
 mod opening;
 mod outcome;
-mod planned;
+mod planned_network;
 mod ready;
 mod system;
 mod top;

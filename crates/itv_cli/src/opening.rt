@@ -10,7 +10,7 @@ ghost use Rattle.unroll.specs.declared.limit.TheConstants.{MAX_SESSION_ROWS};
 ghost use Rattle.itv_cli.specs.Job.{edits_at, edits_in, fall_at, matrix_at, opening, whatif_at};
 ghost use Rattle.itv_cli.specs.Step.{IsAllowed, OpensFor, OpensMade};
 
-use crate::planned::{PlannedNetwork, open_planned};
+use crate::planned_network::{PlannedNetwork, open_planned};
 use crate::ready::Ready;
 use design_gen::{GenFault, make};
 use drawn::DrawnNetwork;
@@ -25,7 +25,7 @@ use words::Task;
 /// What a task reads. The files are the files of the shelf. For a generated design they are made for it, and the shelf is left alone.
 pub fn open<H: Shelf>(alloc: Global, task: Task<'_>, shelf: &mut H) -> Result<Ready, Stop>
     requires limits { IsWithinLimits (task_view task) }
-    ensures opens { OpensFor (H.told shelf.old) (H.told shelf.new) (task_view task.entry) result }
+    ensures opens { OpensFor (H.state shelf.old) (H.state shelf.new) (task_view task.entry) result }
     ensures allowed { IfOk result IsAllowed }
 {
     match task {
@@ -69,7 +69,7 @@ fn open_bounds<H: Shelf>(
     shelf: &mut H,
 ) -> Result<Ready, Stop>
     requires budget { IsBudget budget }
-    ensures opens { Opens (λ given. given) (H.told shelf.old) (H.told shelf.new)
+    ensures opens { Opens (λ given. given) (H.state shelf.old) (H.state shelf.new)
         (opening (said.bounds design.now budget cert)) result }
     ensures allowed { IfOk result IsAllowed }
 {
@@ -89,7 +89,7 @@ fn open_fall<H: Shelf>(
     cert: bool,
     shelf: &mut H,
 ) -> Result<Ready, Stop>
-    ensures opens { Opens (λ given. given) (H.told shelf.old) (H.told shelf.new)
+    ensures opens { Opens (λ given. given) (H.state shelf.old) (H.state shelf.new)
         (opening (said.fall design.now budget cert)) result }
     ensures allowed { IfOk result IsAllowed }
 {
@@ -124,7 +124,7 @@ fn open_settle<H: Shelf>(
     cert: bool,
     shelf: &mut H,
 ) -> Result<Ready, Stop>
-    ensures opens { Opens (λ given. given) (H.told shelf.old) (H.told shelf.new)
+    ensures opens { Opens (λ given. given) (H.state shelf.old) (H.state shelf.new)
         (opening (said.settle design.now budget cert)) result }
     ensures allowed { IfOk result IsAllowed }
 {
@@ -144,7 +144,7 @@ fn open_redraw<H: Shelf>(
     shelf: &mut H,
 ) -> Result<Ready, Stop>
     requires budget { IsBudget budget }
-    ensures opens { Opens (λ given. given) (H.told shelf.old) (H.told shelf.new)
+    ensures opens { Opens (λ given. given) (H.state shelf.old) (H.state shelf.new)
         (opening (said.redraw design.now budget)) result }
     ensures allowed { IfOk result IsAllowed }
 {
@@ -160,7 +160,7 @@ fn open_why<H: Shelf>(
     shelf: &mut H,
 ) -> Result<Ready, Stop>
     requires budget { IsBudget budget }
-    ensures opens { Opens (λ given. given) (H.told shelf.old) (H.told shelf.new)
+    ensures opens { Opens (λ given. given) (H.state shelf.old) (H.state shelf.new)
         (opening (said.why design.now budget)) result }
     ensures allowed { IfOk result IsAllowed }
 {
@@ -180,7 +180,7 @@ fn open_brief<H: Shelf>(
     shelf: &mut H,
 ) -> Result<Ready, Stop>
     requires budget { IsBudget budget }
-    ensures opens { Opens (λ given. given) (H.told shelf.old) (H.told shelf.new)
+    ensures opens { Opens (λ given. given) (H.state shelf.old) (H.state shelf.new)
         (opening (said.brief design.now budget)) result }
     ensures allowed { IfOk result IsAllowed }
 {
@@ -200,7 +200,7 @@ fn open_lint<H: Shelf>(
     shelf: &mut H,
 ) -> Result<Ready, Stop>
     requires budget { IsBudget budget }
-    ensures opens { Opens (λ given. given) (H.told shelf.old) (H.told shelf.new)
+    ensures opens { Opens (λ given. given) (H.state shelf.old) (H.state shelf.new)
         (opening (said.lint design.now budget)) result }
     ensures allowed { IfOk result IsAllowed }
 {
@@ -214,7 +214,7 @@ fn open_lint<H: Shelf>(
 
 // What job matrix reads.
 fn open_matrix<H: Shelf>(alloc: Global, design: &str, shelf: &mut H) -> Result<Ready, Stop>
-    ensures opens { Opens (λ given. given) (H.told shelf.old) (H.told shelf.new)
+    ensures opens { Opens (λ given. given) (H.state shelf.old) (H.state shelf.new)
         (opening (said.matrix design.now)) result }
     ensures allowed { IfOk result IsAllowed }
 {
@@ -252,7 +252,7 @@ fn open_check<H: Shelf>(
     report: &str,
     shelf: &mut H,
 ) -> Result<Ready, Stop>
-    ensures opens { Opens (λ given. given) (H.told shelf.old) (H.told shelf.new)
+    ensures opens { Opens (λ given. given) (H.state shelf.old) (H.state shelf.new)
         (opening (said.check design.now report.now)) result }
     ensures allowed { IfOk result IsAllowed }
 {
@@ -268,7 +268,7 @@ fn open_confirm<H: Shelf>(
     report: &str,
     shelf: &mut H,
 ) -> Result<Ready, Stop>
-    ensures opens { Opens (λ given. given) (H.told shelf.old) (H.told shelf.new)
+    ensures opens { Opens (λ given. given) (H.state shelf.old) (H.state shelf.new)
         (opening (said.confirm design.now report.now)) result }
     ensures allowed { IfOk result IsAllowed }
 {
@@ -286,7 +286,7 @@ fn open_whatif<H: Shelf>(
     shelf: &mut H,
 ) -> Result<Ready, Stop>
     requires budget { IsBudget budget }
-    ensures opens { Opens (λ given. given) (H.told shelf.old) (H.told shelf.new)
+    ensures opens { Opens (λ given. given) (H.state shelf.old) (H.state shelf.new)
         (opening (said.whatif design.now edits.now budget)) result }
     ensures allowed { IfOk result IsAllowed }
 {
@@ -303,7 +303,7 @@ fn for_whatif<H: Shelf>(
     shelf: &mut H,
 ) -> Result<Ready, Stop>
     requires budget { IsBudget budget }
-    ensures opens { Opens (λ given. given) (H.told shelf.old) (H.told shelf.new)
+    ensures opens { Opens (λ given. given) (H.state shelf.old) (H.state shelf.new)
         (whatif_at edits.now budget drawn) result }
     ensures allowed { IfOk result IsAllowed }
 {
@@ -324,7 +324,7 @@ fn with_edits<H: Shelf>(
 ) -> Result<Ready, Stop>
     requires rows { length drawn.rows ≤ MAX_SESSION_ROWS }
     requires budget { IsBudget budget }
-    ensures opens { Opens (λ given. given) (H.told shelf.old) (H.told shelf.new)
+    ensures opens { Opens (λ given. given) (H.state shelf.old) (H.state shelf.new)
         (edits_at edits.now budget drawn) result }
     ensures allowed { IfOk result IsAllowed }
 {
@@ -373,7 +373,7 @@ fn open_generated(alloc: Global, size: u32, budget: u64) -> Result<Ready, Stop>
 // What job self reads on a shelf.
 fn open_made<H: Shelf>(alloc: Global, size: u32, budget: u64, made: &mut H) -> Result<Ready, Stop>
     requires budget { IsBudget budget }
-    ensures opens { Opens (λ given. given) (H.told made.old) (H.told made.new)
+    ensures opens { Opens (λ given. given) (H.state made.old) (H.state made.new)
         (opening (said.generated size budget)) result }
     ensures allowed { IfOk result IsAllowed }
 {

@@ -42,9 +42,9 @@ pub fn run_words<H: Shelf, K: Sink>(
 ) -> ExitCode
     ensures status { MatchResult args
         (λ given. HasRun (call_of (drop 1 (map string_bytes (into_iter_items given)))
-        (H.told shelf.old) (H.told shelf.new) (K.told sink.old) (K.told sink.new)) (exit_status result))
+        (H.state shelf.old) (H.state shelf.new) (K.state sink.old) (K.state sink.new)) (exit_status result))
         (λ error. HasNoWords (error_kind error)
-        (H.told shelf.old) (H.told shelf.new) (K.told sink.old) (K.told sink.new) (exit_status result)) }
+        (H.state shelf.old) (H.state shelf.new) (K.state sink.old) (K.state sink.new) (exit_status result)) }
 {
     match args {
         Ok(given) => {
@@ -63,7 +63,7 @@ fn run_given<H: Shelf, K: Sink>(
     sink: &mut K,
 ) -> Outcome
     ensures means { OutcomeMeans (call_of (drop 1 (map string_bytes (into_iter_items given)))
-        (H.told shelf.old) (H.told shelf.new) (K.told sink.old) (K.told sink.new)) result }
+        (H.state shelf.old) (H.state shelf.new) (K.state sink.old) (K.state sink.new)) result }
 {
     match words_of(alloc, given) {
         Ok(words) => run(alloc, &words, shelf, sink),

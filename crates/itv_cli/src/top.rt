@@ -27,26 +27,26 @@ use words::{Invocation as Words, Task, read_words};
 /// Want of memory may come in place of any end, and nothing is written then.
 pub fn run<H: Shelf, K: Sink>(alloc: Global, words: &Texts, shelf: &mut H, sink: &mut K) -> Outcome
     ensures means { OutcomeMeans
-        (call_of words.now (H.told shelf.old) (H.told shelf.new) (K.told sink.old) (K.told sink.new)) result }
+        (call_of words.now (H.state shelf.old) (H.state shelf.new) (K.state sink.old) (K.state sink.new)) result }
     ensures completes { Completes
-        (call_of words.now (H.told shelf.old) (H.told shelf.new) (K.told sink.old) (K.told sink.new)) result }
+        (call_of words.now (H.state shelf.old) (H.state shelf.new) (K.state sink.old) (K.state sink.new)) result }
     ensures refuses_words { RefusesWords
-        (call_of words.now (H.told shelf.old) (H.told shelf.new) (K.told sink.old) (K.told sink.new)) result }
+        (call_of words.now (H.state shelf.old) (H.state shelf.new) (K.state sink.old) (K.state sink.new)) result }
     ensures shows_faults { ShowsFaults
-        (call_of words.now (H.told shelf.old) (H.told shelf.new) (K.told sink.old) (K.told sink.new)) result }
+        (call_of words.now (H.state shelf.old) (H.state shelf.new) (K.state sink.old) (K.state sink.new)) result }
 {
     run_once(alloc, words, shelf, sink)
 }
 
 // The run, with what its end says.
 fn run_once<H: Shelf, K: Sink>(alloc: Global, words: &Texts, shelf: &mut H, sink: &mut K) -> Outcome
-    ensures { OutcomeMeans (call_of words.now (H.told shelf.old) (H.told shelf.new) (K.told sink.old) (K.told sink.new))
+    ensures { OutcomeMeans (call_of words.now (H.state shelf.old) (H.state shelf.new) (K.state sink.old) (K.state sink.new))
         result }
 {
     match read_words(alloc, words) {
         Ok(Words::Task(task)) => run_task(alloc, task, shelf, sink),
-        Ok(Words::Help(text)) => tell(text.as_bytes(), Outcome::Help, sink),
-        Ok(Words::BadWords) => tell(b"bad words\n", Outcome::BadWords, sink),
+        Ok(Words::Help(text)) => put_and_end(text.as_bytes(), Outcome::Help, sink),
+        Ok(Words::BadWords) => put_and_end(b"bad words\n", Outcome::BadWords, sink),
         Err(NoMemory) => Outcome::NoMemory,
     }
 }
@@ -60,7 +60,7 @@ fn run_task<H: Shelf, K: Sink>(
 ) -> Outcome
     requires limits { IsWithinLimits (task_view task) }
     ensures { (words : List (List ℕ)) → taken words ≡ said.task (task_view task.entry)
-        → OutcomeMeans (call_of words (H.told shelf.old) (H.told shelf.new) (K.told sink.old) (K.told sink.new)) result }
+        → OutcomeMeans (call_of words (H.state shelf.old) (H.state shelf.new) (K.state sink.old) (K.state sink.new)) result }
 {
     match open(alloc, task, shelf) {
         Ok(given) => answered(answer(alloc, &given, sink)),
@@ -86,7 +86,7 @@ fn answered(given: Result<Answer, Unanswered>) -> Outcome
 
 // Ends a run whose reading gave nothing.
 fn stopped<K: Sink>(stop: &Stop, sink: &mut K) -> Outcome
-    ensures { Stops (K.told sink.old) (K.told sink.new) stop.now result }
+    ensures { Stops (K.state sink.old) (K.state sink.new) stop.now result }
 {
     match *stop {
         Stop::Refused(place, why) => refuse(place, why, sink),
@@ -97,21 +97,21 @@ fn stopped<K: Sink>(stop: &Stop, sink: &mut K) -> Outcome
 
 // Ends a run with a refusal.
 fn refuse<K: Sink>(place: RefusalPlace, why: Refusal, sink: &mut K) -> Outcome
-    ensures { EndsWithText (K.told sink.old) (K.told sink.new) (refusal_text place why) Outcome.Refused result }
+    ensures { EndsWithText (K.state sink.old) (K.state sink.new) (refusal_text place why) Outcome.Refused result }
 {
     end_after(put_refusal(place, why, sink), Outcome::Refused)
 }
 
 // Ends a run with a file that could not be read.
 fn miss<K: Sink>(place: RefusalPlace, sink: &mut K) -> Outcome
-    ensures { EndsWithText (K.told sink.old) (K.told sink.new) (unread_text place) Outcome.ReadFault result }
+    ensures { EndsWithText (K.state sink.old) (K.state sink.new) (unread_text place) Outcome.ReadFault result }
 {
     end_after(put_unread(place, sink), Outcome::ReadFault)
 }
 
 // Ends a run with a text.
-fn tell<K: Sink>(text: &[u8], end: Outcome, sink: &mut K) -> Outcome
-    ensures { EndsWithText (K.told sink.old) (K.told sink.new) text.now end result }
+fn put_and_end<K: Sink>(text: &[u8], end: Outcome, sink: &mut K) -> Outcome
+    ensures { EndsWithText (K.state sink.old) (K.state sink.new) text.now end result }
 {
     end_after(sink.put(text), end)
 }

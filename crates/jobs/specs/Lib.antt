@@ -1,4 +1,4 @@
 -- The modules of definitions of this crate.
-pub mod Works
+pub mod JobWrote
 pub mod Ending
 pub mod Events

@@ -18,7 +18,7 @@ pub fn put_events<K: Sink>(
     buffer: &mut LineBuffer,
     sink: &mut K,
 ) -> Result<(), PutFailed>
-    ensures { Puts (K.told sink.old) (K.told sink.new) (report_text (event_lines drawn.now.names)) result }
+    ensures { Puts (K.state sink.old) (K.state sink.new) (report_text (event_lines drawn.now.names)) result }
 {
     let count = drawn.network().events();
     write_item(&Item::Events { count }, buffer, sink)?;
@@ -31,7 +31,7 @@ fn put_names<K: Sink>(
     buffer: &mut LineBuffer,
     sink: &mut K,
 ) -> Result<(), PutFailed>
-    ensures { Puts (K.told sink.old) (K.told sink.new) (report_text (events_from 0 drawn.now.names)) result }
+    ensures { Puts (K.state sink.old) (K.state sink.new) (report_text (events_from 0 drawn.now.names)) result }
 {
     for number in 0..drawn.network().events() {
         put_event(drawn, number, buffer, sink)?;
@@ -47,7 +47,7 @@ fn put_event<K: Sink>(
     sink: &mut K,
 ) -> Result<(), PutFailed>
     requires { number < drawn.now.net.events }
-    ensures { Puts (K.told sink.old) (K.told sink.new)
+    ensures { Puts (K.state sink.old) (K.state sink.new)
         (entry_text (event number (name_of drawn.now (event_of number)))) result }
 {
     let name = drawn.name(EventId(number));

@@ -29,7 +29,7 @@ pub fn put_row<K: Sink>(
     sink: &mut K,
 ) -> Result<(), PutFailed>
     requires row { IsRowOf drawn.now.net row.now }
-    ensures puts { Puts (K.told sink.old) (K.told sink.new)
+    ensures puts { Puts (K.state sink.old) (K.state sink.new)
         (entry_text (entry_row number row.now.kind (name_of drawn.now row.now.from) (name_of drawn.now row.now.to))) result }
 {
     write_item(

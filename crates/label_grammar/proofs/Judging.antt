@@ -9,7 +9,7 @@ use Rattle.label_grammar.specs.Answer.{judged_label, LabelAgrees, IsUnspelled, S
 use Rattle.label_grammar.proofs.Pieces.{Inverts}
 use Rattle.label_grammar.proofs.Whole.{label_takes, label_again}
 
-module _ {E : Type 0} (v : Version E) (tell : List ℕ → Option (E × List ℕ)) (inverts : Inverts v tell) where
+module _ {E : Type 0} (v : Version E) (reading : List ℕ → Option (E × List ℕ)) (inverts : Inverts v reading) where
   abbrev Judgement : Type 0
   Judgement = Result (LooseLabel E) LabelFault
 
@@ -40,50 +40,50 @@ module _ {E : Type 0} (v : Version E) (tell : List ℕ → Option (E × List ℕ
 
   -- ---- from the judgement to the text
 
-  pub spells_proper : (text : List ℕ) (o : Option (LooseLabel E)) (l : LooseLabel E) → label_of tell text ≡ o → judged_label v.outright o ≡ Ok l → IsProper v l × (text ≡ spelling v l)
+  pub spells_proper : (text : List ℕ) (o : Option (LooseLabel E)) (l : LooseLabel E) → label_of reading text ≡ o → judged_label v.outright o ≡ Ok l → IsProper v l × (text ≡ spelling v l)
   spells_proper text None l read e = absurd cc
   spells_proper text (Some m) l read e =
-      let takes = label_takes v tell inverts text m read in
+      let takes = label_takes v reading inverts text m read in
       let c = chosen_ok (has_wide_end v m) (has_reversed_ends v m) m l e in
       subst (λ (x : LooseLabel E). IsProper v x × (text ≡ spelling v x)) c.2 (record { loose = takes.0; narrow = c.0; ordered = c.1 }, takes.1)
 
-  pub spells_wide : (text : List ℕ) (o : Option (LooseLabel E)) → label_of tell text ≡ o → judged_label v.outright o ≡ Err TooWide → SpellsWideEnd v text
+  pub spells_wide : (text : List ℕ) (o : Option (LooseLabel E)) → label_of reading text ≡ o → judged_label v.outright o ≡ Err TooWide → SpellsWideEnd v text
   spells_wide text None read e = absurd cc
   spells_wide text (Some l) read e =
-      let takes = label_takes v tell inverts text l read in
+      let takes = label_takes v reading inverts text l read in
       record { label = l; loose = takes.0; spelled = takes.1; wide = chosen_wide (has_wide_end v l) (has_reversed_ends v l) l e }
 
-  pub spells_reversed : (text : List ℕ) (o : Option (LooseLabel E)) → label_of tell text ≡ o → judged_label v.outright o ≡ Err EmptyRange → SpellsReversedEnds v text
+  pub spells_reversed : (text : List ℕ) (o : Option (LooseLabel E)) → label_of reading text ≡ o → judged_label v.outright o ≡ Err EmptyRange → SpellsReversedEnds v text
   spells_reversed text None read e = absurd cc
   spells_reversed text (Some l) read e =
-      let takes = label_takes v tell inverts text l read in
+      let takes = label_takes v reading inverts text l read in
       let c = chosen_reversed (has_wide_end v l) (has_reversed_ends v l) l e in
       record { label = l; loose = takes.0; spelled = takes.1; narrow = c.0; reversed = c.1 }
 
-  pub spells_none : (text : List ℕ) (o : Option (LooseLabel E)) → label_of tell text ≡ o → judged_label v.outright o ≡ Err BadLabel → IsUnspelled v text
-  spells_none text None read e = λ l loose spelled. absurd (let again = label_again v tell inverts l loose in let is = ap (label_of tell) spelled in cc)
+  pub spells_none : (text : List ℕ) (o : Option (LooseLabel E)) → label_of reading text ≡ o → judged_label v.outright o ≡ Err BadLabel → IsUnspelled v text
+  spells_none text None read e = λ l loose spelled. absurd (let again = label_again v reading inverts l loose in let is = ap (label_of reading) spelled in cc)
   spells_none text (Some l) read e = absurd (chosen_bad (has_wide_end v l) (has_reversed_ends v l) l e)
 
   -- ---- from the text to the judgement
 
-  read_is : (text : List ℕ) (l : LooseLabel E) → IsLoose v l → text ≡ spelling v l → label_of tell text ≡ Some l
-  read_is text l loose spelled = ap (label_of tell) spelled ∙ label_again v tell inverts l loose
+  read_is : (text : List ℕ) (l : LooseLabel E) → IsLoose v l → text ≡ spelling v l → label_of reading text ≡ Some l
+  read_is text l loose spelled = ap (label_of reading) spelled ∙ label_again v reading inverts l loose
 
-  pub judged_proper : (text : List ℕ) (l : LooseLabel E) → IsProper v l → text ≡ spelling v l → judged_label v.outright (label_of tell text) ≡ Ok l
+  pub judged_proper : (text : List ℕ) (l : LooseLabel E) → IsProper v l → text ≡ spelling v l → judged_label v.outright (label_of reading text) ≡ Ok l
   judged_proper text l proper spelled = rw (read_is text l proper.loose spelled, proper.narrow, proper.ordered) refl
 
-  pub judged_wide : (text : List ℕ) → SpellsWideEnd v text → judged_label v.outright (label_of tell text) ≡ Err TooWide
+  pub judged_wide : (text : List ℕ) → SpellsWideEnd v text → judged_label v.outright (label_of reading text) ≡ Err TooWide
   judged_wide text s = rw (read_is text s.label s.loose s.spelled, s.wide) refl
 
-  pub judged_reversed : (text : List ℕ) → SpellsReversedEnds v text → judged_label v.outright (label_of tell text) ≡ Err EmptyRange
+  pub judged_reversed : (text : List ℕ) → SpellsReversedEnds v text → judged_label v.outright (label_of reading text) ≡ Err EmptyRange
   judged_reversed text s = rw (read_is text s.label s.loose s.spelled, s.narrow, s.reversed) refl
 
-  pub judged_bad : (text : List ℕ) → IsUnspelled v text → judged_label v.outright (label_of tell text) ≡ Err BadLabel
-  judged_bad text none = bad_at (label_of tell text) refl
+  pub judged_bad : (text : List ℕ) → IsUnspelled v text → judged_label v.outright (label_of reading text) ≡ Err BadLabel
+  judged_bad text none = bad_at (label_of reading text) refl
     where
-      bad_at : (o : Option (LooseLabel E)) → label_of tell text ≡ o → judged_label v.outright o ≡ Err BadLabel
+      bad_at : (o : Option (LooseLabel E)) → label_of reading text ≡ o → judged_label v.outright o ≡ Err BadLabel
       bad_at None read = refl
-      bad_at (Some l) read = let takes = label_takes v tell inverts text l read in absurd (none l takes.0 takes.1)
+      bad_at (Some l) read = let takes = label_takes v reading inverts text l read in absurd (none l takes.0 takes.1)
 
   -- ---- the answer
 
@@ -101,22 +101,22 @@ module _ {E : Type 0} (v : Version E) (tell : List ℕ → Option (E × List ℕ
     ok_is l (Ok found) j given e = cc
     ok_is l (Err f) j given e = absurd cc
 
-    module _ (text : List ℕ) (r : Result R LabelFault) (given : LabelAgrees view r (judged_label v.outright (label_of tell text))) where
+    module _ (text : List ℕ) (r : Result R LabelFault) (given : LabelAgrees view r (judged_label v.outright (label_of reading text))) where
       pub answers_ok : IfOk r (λ l. IsProper v (view l) × (text ≡ spelling v (view l)))
       answers_ok = ok_at r given
         where
-          ok_at : (r : Result R LabelFault) → LabelAgrees view r (judged_label v.outright (label_of tell text)) → IfOk r (λ l. IsProper v (view l) × (text ≡ spelling v (view l)))
-          ok_at (Ok l) given = spells_proper text (label_of tell text) (view l) refl given
+          ok_at : (r : Result R LabelFault) → LabelAgrees view r (judged_label v.outright (label_of reading text)) → IfOk r (λ l. IsProper v (view l) × (text ≡ spelling v (view l)))
+          ok_at (Ok l) given = spells_proper text (label_of reading text) (view l) refl given
           ok_at (Err fault) given = tt
 
       pub answers_only : (l : LooseLabel E) → IsProper v l → text ≡ spelling v l → IsOkAnd r (λ found. view found ≡ l)
-      answers_only l proper spelled = ok_is l r (judged_label v.outright (label_of tell text)) given (judged_proper text l proper spelled)
+      answers_only l proper spelled = ok_is l r (judged_label v.outright (label_of reading text)) given (judged_proper text l proper spelled)
 
       pub answers_bad : IsErrOf r BadLabel ↔ IsUnspelled v text
-      answers_bad = (λ e. spells_none text (label_of tell text) refl (from_err BadLabel r (judged_label v.outright (label_of tell text)) given e), λ none. err_is BadLabel r (judged_label v.outright (label_of tell text)) given (judged_bad text none))
+      answers_bad = (λ e. spells_none text (label_of reading text) refl (from_err BadLabel r (judged_label v.outright (label_of reading text)) given e), λ none. err_is BadLabel r (judged_label v.outright (label_of reading text)) given (judged_bad text none))
 
       pub answers_wide : IsErrOf r TooWide ↔ SpellsWideEnd v text
-      answers_wide = (λ e. spells_wide text (label_of tell text) refl (from_err TooWide r (judged_label v.outright (label_of tell text)) given e), λ s. err_is TooWide r (judged_label v.outright (label_of tell text)) given (judged_wide text s))
+      answers_wide = (λ e. spells_wide text (label_of reading text) refl (from_err TooWide r (judged_label v.outright (label_of reading text)) given e), λ s. err_is TooWide r (judged_label v.outright (label_of reading text)) given (judged_wide text s))
 
       pub answers_reversed : IsErrOf r EmptyRange ↔ SpellsReversedEnds v text
-      answers_reversed = (λ e. spells_reversed text (label_of tell text) refl (from_err EmptyRange r (judged_label v.outright (label_of tell text)) given e), λ s. err_is EmptyRange r (judged_label v.outright (label_of tell text)) given (judged_reversed text s))
+      answers_reversed = (λ e. spells_reversed text (label_of reading text) refl (from_err EmptyRange r (judged_label v.outright (label_of reading text)) given e), λ s. err_is EmptyRange r (judged_label v.outright (label_of reading text)) given (judged_reversed text s))

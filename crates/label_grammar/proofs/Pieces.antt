@@ -11,8 +11,8 @@ use Rattle.label_grammar.specs.declared.label.Kind.TheVariants.{Lin, Late, Early
 use Rattle.itv_base.specs.Characters.{is_name, is_name_byte}
 use Rattle.itv_base.specs.Cuts.{stripped, after, after_while}
 use Rattle.itv_base.specs.Numerals.{end_text, signed_text, number_text, is_numeral, value_of}
-use Rattle.label_grammar.specs.Label.{Span, fixed, named, Version, version_1, version_2, has_span_form, kind_text, shift_text, tag_text, ends_text, span_text, told_text, note_text}
-use Rattle.label_grammar.specs.Reading.{◌>>=◌, first_kind, kind_of, shift_from, shift_of, tag_from, tag_of, number_from, number_of, end_of, ends_of, name_from, span_of, told_of, note_of}
+use Rattle.label_grammar.specs.Label.{Span, fixed, named, Version, version_1, version_2, has_span_form, kind_text, shift_text, tag_text, ends_text, span_text, optional_text, note_text}
+use Rattle.label_grammar.specs.Reading.{◌>>=◌, first_kind, kind_of, shift_from, shift_of, tag_from, tag_of, number_from, number_of, end_of, ends_of, name_from, span_of, unless_ask, note_of}
 use Rattle.itv_base.proofs.Cuts.{stripped_some}
 use Rattle.itv_base.proofs.Runs.{stops, front_of_run, rest_of_run, run_whole}
 use Rattle.itv_base.proofs.Numbers.{numeral_is}
@@ -261,10 +261,10 @@ span_again (named name) rest h spaced =
 -- ---- what gives the ends
 
 -- What gives the ends of a label of a version is read as it is spelled, and spelled as it is read. It stands behind a space.
-pub record Inverts {E : Type 0} (v : Version E) (tell : List ℕ → Option (E × List ℕ)) : Type 0 where
-  pub takes : (text rest : List ℕ) (told : E) → tell text ≡ Some (told, rest) → (text ≡ v.text told ++ rest) × (v.has_form told ≡ true)
-  pub again : (told : E) (rest : List ℕ) → v.has_form told ≡ true → IsSpaced rest → tell (v.text told ++ rest) ≡ Some (told, rest)
-  pub spaced : (told : E) (rest : List ℕ) → IsSpaced (v.text told ++ rest)
+pub record Inverts {E : Type 0} (v : Version E) (reading : List ℕ → Option (E × List ℕ)) : Type 0 where
+  pub takes : (text rest : List ℕ) (written : E) → reading text ≡ Some (written, rest) → (text ≡ v.text written ++ rest) × (v.has_form written ≡ true)
+  pub again : (written : E) (rest : List ℕ) → v.has_form written ≡ true → IsSpaced rest → reading (v.text written ++ rest) ≡ Some (written, rest)
+  pub spaced : (written : E) (rest : List ℕ) → IsSpaced (v.text written ++ rest)
 
 pub ends_invert : Inverts version_1 ends_of
 ends_invert = record {
@@ -280,27 +280,27 @@ span_spaced (named name) rest = refl
 pub spans_invert : Inverts version_2 span_of
 spans_invert = record { takes = span_takes; again = span_again; spaced = span_spaced }
 
-module _ {E : Type 0} (v : Version E) (tell : List ℕ → Option (E × List ℕ)) (inverts : Inverts v tell) where
+module _ {E : Type 0} (v : Version E) (reading : List ℕ → Option (E × List ℕ)) (inverts : Inverts v reading) where
   -- something gives the ends if and only if the kind is no ask, and it can be spelled
-  pub record IsTold (ask : Bool) (told : Option E) : Type 0 where
-    pub some : is_some told ≡ not ask
-    pub form : IfSome told (λ t. v.has_form t ≡ true)
+  pub record IsTold (ask : Bool) (written : Option E) : Type 0 where
+    pub some : is_some written ≡ not ask
+    pub form : IfSome written (λ t. v.has_form t ≡ true)
 
-  pub told_takes : (ask : Bool) (text rest : List ℕ) (told : Option E) → told_of tell ask text ≡ Some (told, rest) → (text ≡ told_text v.text told ++ rest) × IsTold ask told
-  unfolding told_of
-  told_takes true text rest told e =
-      subst (λ (p : Option E × List ℕ). (text ≡ told_text v.text p.0 ++ p.1) × IsTold true p.0) (same_Some (None, text) (told, rest) e) (refl, record { some = refl; form = tt })
-  told_takes false text rest told e =
-      let a = bind_some (tell text) (λ x. Some (Some x.0, x.1)) (told, rest) e in
+  pub told_takes : (ask : Bool) (text rest : List ℕ) (written : Option E) → unless_ask reading ask text ≡ Some (written, rest) → (text ≡ optional_text v.text written ++ rest) × IsTold ask written
+  unfolding unless_ask
+  told_takes true text rest written e =
+      subst (λ (p : Option E × List ℕ). (text ≡ optional_text v.text p.0 ++ p.1) × IsTold true p.0) (same_Some (None, text) (written, rest) e) (refl, record { some = refl; form = tt })
+  told_takes false text rest written e =
+      let a = bind_some (reading text) (λ x. Some (Some x.0, x.1)) (written, rest) e in
       let took = inverts.takes text a.0.1 a.0.0 a.1 in
-      subst (λ (p : Option E × List ℕ). (text ≡ told_text v.text p.0 ++ p.1) × IsTold false p.0) (same_Some (Some a.0.0, a.0.1) (told, rest) a.2) (took.0, record { some = refl; form = took.1 })
+      subst (λ (p : Option E × List ℕ). (text ≡ optional_text v.text p.0 ++ p.1) × IsTold false p.0) (same_Some (Some a.0.0, a.0.1) (written, rest) a.2) (took.0, record { some = refl; form = took.1 })
 
-  pub told_again : (ask : Bool) (told : Option E) (rest : List ℕ) → is_some told ≡ not ask → IfSome told (λ t. v.has_form t ≡ true) → IsSpaced rest → told_of tell ask (told_text v.text told ++ rest) ≡ Some (told, rest)
-  unfolding told_of
+  pub told_again : (ask : Bool) (written : Option E) (rest : List ℕ) → is_some written ≡ not ask → IfSome written (λ t. v.has_form t ≡ true) → IsSpaced rest → unless_ask reading ask (optional_text v.text written ++ rest) ≡ Some (written, rest)
+  unfolding unless_ask
   told_again true None rest h form behind = refl
-  told_again true (Some told) rest h form behind = absurd cc
+  told_again true (Some written) rest h form behind = absurd cc
   told_again false None rest h form behind = absurd cc
-  told_again false (Some told) rest h form behind = rw (inverts.again told rest form behind) refl
+  told_again false (Some written) rest h form behind = rw (inverts.again written rest form behind) refl
 
 -- ---- notes
 

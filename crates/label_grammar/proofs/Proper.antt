@@ -28,9 +28,9 @@ proper_span label proper = ranges label.ends proper.narrow proper.ordered
     ranges (Some (named name)) narrow ordered = tt
 
 -- what is read of a label is proper
-pub judged_is_proper : {E : Type 0} (v : Version E) (tell : List ℕ → Option (E × List ℕ)) → Inverts v tell → (text : List ℕ) → IfOk (judged_label v.outright (label_of tell text)) (IsProper v)
-judged_is_proper {E} v tell inverts text = ok_at (judged_label v.outright (label_of tell text)) refl
+pub judged_is_proper : {E : Type 0} (v : Version E) (reading : List ℕ → Option (E × List ℕ)) → Inverts v reading → (text : List ℕ) → IfOk (judged_label v.outright (label_of reading text)) (IsProper v)
+judged_is_proper {E} v reading inverts text = ok_at (judged_label v.outright (label_of reading text)) refl
   where
-    ok_at : (r : Result (LooseLabel E) LabelFault) → judged_label v.outright (label_of tell text) ≡ r → IfOk r (IsProper v)
-    ok_at (Ok label) is = (spells_proper v tell inverts text (label_of tell text) label refl is).0
+    ok_at : (r : Result (LooseLabel E) LabelFault) → judged_label v.outright (label_of reading text) ≡ r → IfOk r (IsProper v)
+    ok_at (Ok label) is = (spells_proper v reading inverts text (label_of reading text) label refl is).0
     ok_at (Err fault) is = tt

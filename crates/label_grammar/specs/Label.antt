@@ -89,7 +89,7 @@ pub record IsLoose {E : Type 0} (v : Version E) (l : LooseLabel E) : Type 0 wher
   pub shift : l.shift ≤ MAX_SHIFT
   pub tag : IfSome l.tag (λ tag. IsTrue (is_name tag))
   pub ends : is_some l.ends ≡ not (is_ask l.kind)
-  pub form : IfSome l.ends (λ told. IsTrue (v.has_form told))
+  pub form : IfSome l.ends (λ written. IsTrue (v.has_form written))
 
 -- the ends of a label, if they are known from the label itself
 abbrev pub outright_ends : {E : Type 0} → Version E → LooseLabel E → Option Ends
@@ -133,9 +133,9 @@ tag_text None = []
 tag_text (Some tag) = codes ":" ++ tag
 
 -- the ends or the parameter are spelled as the version has them
-abbrev pub told_text : {E : Type 0} → (E → List ℕ) → Option E → List ℕ
-told_text text None = []
-told_text text (Some told) = text told
+abbrev pub optional_text : {E : Type 0} → (E → List ℕ) → Option E → List ℕ
+optional_text text None = []
+optional_text text (Some written) = text written
 
 -- a note stands behind a space
 abbrev pub note_text : Option (List ℕ) → List ℕ
@@ -144,7 +144,7 @@ note_text (Some note) = codes " " ++ note
 
 -- the text of a label, with such a text for its ends
 abbrev pub spelled : {E : Type 0} → (E → List ℕ) → LooseLabel E → List ℕ
-spelled text l = kind_text l.kind ++ (shift_text l.shift ++ (tag_text l.tag ++ (told_text text l.ends ++ note_text l.note)))
+spelled text l = kind_text l.kind ++ (shift_text l.shift ++ (tag_text l.tag ++ (optional_text text l.ends ++ note_text l.note)))
 
 -- the text of a label of a version
 abbrev pub spelling : {E : Type 0} → Version E → LooseLabel E → List ℕ

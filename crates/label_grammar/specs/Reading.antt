@@ -78,9 +78,9 @@ span_of text =
     (ends_of text >>= λ ends. Some (fixed ends.0, ends.1))
 
 -- the ends or the parameter, as a version reads them; an ask has neither
-unfoldable pub told_of : {E : Type 0} → (List ℕ → Option (E × List ℕ)) → Bool → List ℕ → Option (Option E × List ℕ)
-told_of tell true text = Some (None, text)
-told_of tell false text = tell text >>= λ told. Some (Some told.0, told.1)
+unfoldable pub unless_ask : {E : Type 0} → (List ℕ → Option (E × List ℕ)) → Bool → List ℕ → Option (Option E × List ℕ)
+unless_ask reading true text = Some (None, text)
+unless_ask reading false text = reading text >>= λ written. Some (Some written.0, written.1)
 
 -- what is left is nothing, or a space and a note
 unfoldable pub note_of : List ℕ → Option (Option (List ℕ))
@@ -89,10 +89,10 @@ note_of (b ∷ note) = if is_space b then Some (Some note) else None
 
 -- The label that a whole text spells, if it spells one. Version 1 reads the ends by `ends_of`, and version 2 by `span_of`.
 unfoldable pub label_of : {E : Type 0} → (List ℕ → Option (E × List ℕ)) → List ℕ → Option (LooseLabel E)
-label_of tell text = do
+label_of reading text = do
   kind ← kind_of text
   shift ← shift_of kind.1
   tag ← tag_of shift.1
-  told ← told_of tell (is_ask kind.0) tag.1
-  note ← note_of told.1
-  Some (record { kind = kind.0; shift = shift.0; tag = tag.0; ends = told.0; note = note })
+  written ← unless_ask reading (is_ask kind.0) tag.1
+  note ← note_of written.1
+  Some (record { kind = kind.0; shift = shift.0; tag = tag.0; ends = written.0; note = note })

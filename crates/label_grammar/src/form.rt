@@ -33,6 +33,6 @@ pub struct Form<'a, T> {
     pub kind: Kind,
     pub shift: u32,
     pub tag: Option<&'a str>,
-    pub told: Option<T>,
+    pub written: Option<T>,
     pub note: Option<&'a str>,
 }

@@ -3,7 +3,7 @@
 ghost use Rattle.std.specs.Prelude.{◌≡◌, option_map};
 ghost use Rattle.std.specs.Option.{option_copied};
 ghost use Rattle.label_grammar.specs.Label.{is_ask};
-ghost use Rattle.label_grammar.specs.Reading.{kind_of, shift_of, tag_of, number_of, end_of, ends_of, told_of, note_of, label_of};
+ghost use Rattle.label_grammar.specs.Reading.{kind_of, shift_of, tag_of, number_of, end_of, ends_of, unless_ask, note_of, label_of};
 ghost use Rattle.label_grammar.specs.Step.Form.{number_value, ends_view, form_view};
 
 use crate::form::{EndPair, Form, Number};
@@ -98,9 +98,9 @@ pub fn read_ends(text: &str) -> Option<(EndPair<'_>, &str)>
 }
 
 // The ends of a label of a kind. An ask has none: what follows it is a note.
-#[tactic(auto, unfolding(crate::specs::Reading::told_of))]
-fn read_told(kind: Kind, text: &str) -> Option<(Option<EndPair<'_>>, &str)>
-    ensures { option_map (λ x. (option_map ends_view x.0, x.1.now)) result ≡ told_of ends_of (is_ask kind) text.now }
+#[tactic(auto, unfolding(crate::specs::Reading::unless_ask))]
+fn read_unless_ask(kind: Kind, text: &str) -> Option<(Option<EndPair<'_>>, &str)>
+    ensures { option_map (λ x. (option_map ends_view x.0, x.1.now)) result ≡ unless_ask ends_of (is_ask kind) text.now }
 {
     if kind == Kind::Ask {
         return Some((None, text));
@@ -128,13 +128,13 @@ pub fn read_form(text: &str) -> Option<Form<'_, EndPair<'_>>>
     let (kind, rest) = read_kind(text)?;
     let (shift, rest) = read_shift(rest)?;
     let (tag, rest) = read_tag(rest)?;
-    let (told, rest) = read_told(kind, rest)?;
+    let (written, rest) = read_unless_ask(kind, rest)?;
     let note = read_note(rest)?;
     Some(Form {
         kind,
         shift,
         tag,
-        told,
+        written,
         note,
     })
 }

@@ -49,7 +49,7 @@ fn read_judged(text: &str) -> Result<Label<'_>, LabelFault>
     ensures { LabelAgrees label_view result (judged_label (λ ends. Some ends) (label_of ends_of text.now)) }
 {
     let form = read_form(text).ok_or(LabelFault::BadLabel)?;
-    let range = range_between(form.told)?;
+    let range = range_between(form.written)?;
     Ok(Label {
         kind: form.kind,
         shift: form.shift,

@@ -47,7 +47,7 @@ fn read_judged2(text: &str) -> Result<Label2<'_>, LabelFault>
     ensures { LabelAgrees label2_view result (judged_label fixed_ends (label_of span_of text.now)) }
 {
     let form = read_form2(text).ok_or(LabelFault::BadLabel)?;
-    match judged_span(form.told) {
+    match judged_span(form.written) {
         Ok(span) => Ok(Label2 {
             kind: form.kind,
             shift: form.shift,

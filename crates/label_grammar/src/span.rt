@@ -2,7 +2,7 @@
 
 ghost use Rattle.std.specs.Prelude.{◌≡◌, option_map};
 ghost use Rattle.label_grammar.specs.Label.{is_ask};
-ghost use Rattle.label_grammar.specs.Reading.{span_of, told_of, label_of};
+ghost use Rattle.label_grammar.specs.Reading.{span_of, unless_ask, label_of};
 ghost use Rattle.label_grammar.specs.Step.Form.{written_view, form_view};
 
 use crate::form::{Form, WrittenSpan};
@@ -24,9 +24,9 @@ fn read_span(text: &str) -> Option<(WrittenSpan<'_>, &str)>
 }
 
 // The span of a label of a kind. An ask has none: what follows it is a note.
-#[tactic(auto, unfolding(crate::specs::Reading::told_of))]
-fn read_told(kind: Kind, text: &str) -> Option<(Option<WrittenSpan<'_>>, &str)>
-    ensures { option_map (λ x. (option_map written_view x.0, x.1.now)) result ≡ told_of span_of (is_ask kind) text.now }
+#[tactic(auto, unfolding(crate::specs::Reading::unless_ask))]
+fn read_unless_ask(kind: Kind, text: &str) -> Option<(Option<WrittenSpan<'_>>, &str)>
+    ensures { option_map (λ x. (option_map written_view x.0, x.1.now)) result ≡ unless_ask span_of (is_ask kind) text.now }
 {
     if matches!(kind, Kind::Ask) {
         return Some((None, text));
@@ -43,13 +43,13 @@ pub fn read_form2(text: &str) -> Option<Form<'_, WrittenSpan<'_>>>
     let (kind, rest) = read_kind(text)?;
     let (shift, rest) = read_shift(rest)?;
     let (tag, rest) = read_tag(rest)?;
-    let (told, rest) = read_told(kind, rest)?;
+    let (written, rest) = read_unless_ask(kind, rest)?;
     let note = read_note(rest)?;
     Some(Form {
         kind,
         shift,
         tag,
-        told,
+        written,
         note,
     })
 }

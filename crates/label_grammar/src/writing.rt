@@ -3,14 +3,14 @@
 ghost use Rattle.std.specs.Prelude.{◌≡◌};
 ghost use Rattle.std.specs.Option.{option_copied};
 ghost use Rattle.itv_base.specs.Outside.{Puts};
-ghost use Rattle.label_grammar.specs.Label.{label_view, version_1, IsProper, spelling, shift_text, tag_text, ends_text, told_text, note_text};
+ghost use Rattle.label_grammar.specs.Label.{label_view, version_1, IsProper, spelling, shift_text, tag_text, ends_text, optional_text, note_text};
 
 use crate::label::Label;
 use itoa::Buffer;
 use itv_base::{PutFailed, Range, Sink, end_text, number_text, put_all};
 
 fn write_shift<K: Sink>(shift: u32, sink: &mut K) -> Result<(), PutFailed>
-    ensures { Puts (K.told sink.old) (K.told sink.new) (shift_text shift) result }
+    ensures { Puts (K.state sink.old) (K.state sink.new) (shift_text shift) result }
 {
     if shift == 0 {
         return Ok(());
@@ -21,7 +21,7 @@ fn write_shift<K: Sink>(shift: u32, sink: &mut K) -> Result<(), PutFailed>
 }
 
 fn write_tag<K: Sink>(tag: Option<&str>, sink: &mut K) -> Result<(), PutFailed>
-    ensures { Puts (K.told sink.old) (K.told sink.new) (tag_text (option_copied tag.entry)) result }
+    ensures { Puts (K.state sink.old) (K.state sink.new) (tag_text (option_copied tag.entry)) result }
 {
     match tag {
         None => Ok(()),
@@ -30,7 +30,7 @@ fn write_tag<K: Sink>(tag: Option<&str>, sink: &mut K) -> Result<(), PutFailed>
 }
 
 fn write_range<K: Sink>(range: Option<Range>, sink: &mut K) -> Result<(), PutFailed>
-    ensures { Puts (K.told sink.old) (K.told sink.new) (told_text ends_text range) result }
+    ensures { Puts (K.state sink.old) (K.state sink.new) (optional_text ends_text range) result }
 {
     let Some(range) = range else {
         return Ok(());
@@ -43,7 +43,7 @@ fn write_range<K: Sink>(range: Option<Range>, sink: &mut K) -> Result<(), PutFai
 }
 
 fn write_note<K: Sink>(note: Option<&str>, sink: &mut K) -> Result<(), PutFailed>
-    ensures { Puts (K.told sink.old) (K.told sink.new) (note_text (option_copied note.entry)) result }
+    ensures { Puts (K.state sink.old) (K.state sink.new) (note_text (option_copied note.entry)) result }
 {
     match note {
         None => Ok(()),
@@ -54,7 +54,7 @@ fn write_note<K: Sink>(note: Option<&str>, sink: &mut K) -> Result<(), PutFailed
 /// Writes the spelling of a label. Where a put failed, a front of the spelling was written, and the sink's count of faults rose.
 pub fn write_label<K: Sink>(label: &Label<'_>, sink: &mut K) -> Result<(), PutFailed>
     requires { IsProper version_1 (label_view label.now) }
-    ensures puts { Puts (K.told sink.old) (K.told sink.new) (spelling version_1 (label_view label.now)) result }
+    ensures puts { Puts (K.state sink.old) (K.state sink.new) (spelling version_1 (label_view label.now)) result }
 {
     sink.put(label.kind.word().as_bytes())?;
     write_shift(label.shift, sink)?;

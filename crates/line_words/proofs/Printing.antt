@@ -3,7 +3,7 @@ use Rattle.std.proofs.Common.{◌≡◌, ℕ, ◌+◌, ◌<◌, List, [], ◌∷
 use Rattle.std.specs.List.{flat_map}
 use Rattle.std.proofs.lemmas.List.{drop-map, append-nil}
 use Rattle.std.specs.Bool.{⊤}
-use Rattle.itv_base.specs.Outside.{CutShort, Puts, SinkView, grown}
+use Rattle.itv_base.specs.Outside.{CutShort, Puts, SinkState, grown}
 use Rattle.itv_base.proofs.Written.{cut_more, cut_then, puts_same, puts_then}
 use Rattle.line_words.specs.Words.{Word}
 use Rattle.line_words.specs.Lines.{ended, line_of, spaced}
@@ -17,20 +17,20 @@ ended_is : (word : Word) (words : List Word) → word ++ (flat_map spaced words 
 ended_is word words = sym (ap (λ l. l ++ 10 ∷ []) (join_spaced word words) ∙ append_assoc word (flat_map spaced words) (10 ∷ []))
 
 -- the first word is put, then the others, and last the line end or a front of it
-pub line_puts : {E : Type 0} (old first_put others_put new : SinkView) (word : Word) (words : List Word) (r : Result ⊤ E) → first_put ≡ grown old word
+pub line_puts : {E : Type 0} (old first_put others_put new : SinkState) (word : Word) (words : List Word) (r : Result ⊤ E) → first_put ≡ grown old word
     → others_put ≡ grown first_put (flat_map spaced words) → Puts others_put new (10 ∷ []) r → Puts old new (ended (line_of (word ∷ words))) r
 line_puts old first_put others_put new word words r p q last =
     puts_same old new (word ++ (flat_map spaced words ++ 10 ∷ [])) (ended (line_of (word ∷ words))) r (ended_is word words)
     (puts_then old first_put new word (flat_map spaced words ++ 10 ∷ []) r p (puts_then first_put others_put new (flat_map spaced words) (10 ∷ []) r q last))
 
 -- the first word is put, and then a front of the others
-pub line_cut : (old first_put new : SinkView) (word : Word) (words : List Word) → first_put ≡ grown old word → CutShort first_put new (flat_map spaced words)
+pub line_cut : (old first_put new : SinkState) (word : Word) (words : List Word) → first_put ≡ grown old word → CutShort first_put new (flat_map spaced words)
     → CutShort old new (ended (line_of (word ∷ words)))
 line_cut old first_put new word words p cut =
     subst (CutShort old new) (ended_is word words) (cut_then old first_put new word (flat_map spaced words ++ 10 ∷ []) p (cut_more first_put new (flat_map spaced words) (10 ∷ []) cut))
 
 -- a front of the first word is put
-pub word_cut : (old new : SinkView) (word : Word) (words : List Word) → CutShort old new word → CutShort old new (ended (line_of (word ∷ words)))
+pub word_cut : (old new : SinkState) (word : Word) (words : List Word) → CutShort old new word → CutShort old new (ended (line_of (word ∷ words)))
 word_cut old new word words cut = subst (CutShort old new) (ended_is word words) (cut_more old new word (flat_map spaced words ++ 10 ∷ []) cut)
 
 -- the words from a place on: the first of them and the others

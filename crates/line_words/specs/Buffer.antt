@@ -1,6 +1,6 @@
 -- What a buffer for a line has gathered.
 use Rattle.std.specs.Prelude.{ℕ, ◌+◌, Bool, nat_le, if◌then◌else◌, List, ◌++◌, length, Some}
-use Rattle.itv_base.specs.Outside.{SinkView, one_more_fault}
+use Rattle.itv_base.specs.Outside.{SinkState, one_more_fault}
 
 -- the gathered bytes, how many there may be, and how often a piece did not fit
 pub record Gathered : Type 0 where
@@ -8,8 +8,8 @@ pub record Gathered : Type 0 where
   pub room : ℕ
   pub faults : ℕ
 
-abbrev pub buffer_told : Gathered → SinkView
-buffer_told b = record { written = Some b.bytes; faults = b.faults }
+abbrev pub buffer_state : Gathered → SinkState
+buffer_state b = record { written = Some b.bytes; faults = b.faults }
 
 -- a piece fits behind the bytes
 abbrev pub fits : Gathered → List ℕ → Bool

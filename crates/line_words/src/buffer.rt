@@ -2,7 +2,7 @@
 
 ghost use Rattle.std.specs.Prelude.{◌≡◌, [], IfOk, is_ok};
 ghost use Rattle.itv_base.specs.Outside.{Puts};
-ghost use Rattle.line_words.specs.Buffer.{after_put, buffer_told, fits};
+ghost use Rattle.line_words.specs.Buffer.{after_put, buffer_state, fits};
 
 use itv_base::{NoMemory, PutFailed, Sink};
 use std::alloc::Global;
@@ -50,17 +50,17 @@ impl LineBuffer {
 
     /// Puts the gathered bytes, by one put.
     pub fn put_into<K: Sink>(&self, sink: &mut K) -> Result<(), PutFailed>
-        ensures puts { Puts (K.told sink.old) (K.told sink.new) self.now.bytes result }
+        ensures puts { Puts (K.state sink.old) (K.state sink.new) self.now.bytes result }
     {
         sink.put(&self.bytes)
     }
 }
 
 impl Sink for LineBuffer {
-    ghost told = { buffer_told };
+    ghost state = { buffer_state };
 
     fn put(&mut self, piece: &[u8]) -> Result<(), PutFailed>
-        ensures puts { Puts (buffer_told self.old) (buffer_told self.new) piece.now result }
+        ensures puts { Puts (buffer_state self.old) (buffer_state self.new) piece.now result }
         ensures exact { self.new ≡ after_put self.old piece.now }
         ensures answer { is_ok result ≡ fits self.old piece.now }
     {

@@ -9,14 +9,14 @@ use itv_base::{PutFailed, Sink, put_all};
 
 /// Puts a space and a word.
 pub fn put_spaced<K: Sink>(word: &[u8], sink: &mut K) -> Result<(), PutFailed>
-    ensures puts { Puts (K.told sink.old) (K.told sink.new) (spaced word.now) result }
+    ensures puts { Puts (K.state sink.old) (K.state sink.new) (spaced word.now) result }
 {
     put_all(sink, &[b" ", word])
 }
 
 // Puts a space and a word, for each word.
 fn put_others<K: Sink>(others: &[&[u8]], sink: &mut K) -> Result<(), PutFailed>
-    ensures { Puts (K.told sink.old) (K.told sink.new) (flat_map spaced (map (λ w. w.now) others.now)) result }
+    ensures { Puts (K.state sink.old) (K.state sink.new) (flat_map spaced (map (λ w. w.now) others.now)) result }
 {
     for word in others {
         put_spaced(word, sink)?;
@@ -27,7 +27,7 @@ fn put_others<K: Sink>(others: &[&[u8]], sink: &mut K) -> Result<(), PutFailed>
 /// Puts the line of the words and its end. If a put failed, a front of the line was written, and the sink's count of
 /// faults rose.
 pub fn put_words<K: Sink>(first: &[u8], others: &[&[u8]], sink: &mut K) -> Result<(), PutFailed>
-    ensures puts { Puts (K.told sink.old) (K.told sink.new)
+    ensures puts { Puts (K.state sink.old) (K.state sink.new)
         (ended (line_of (first.now ∷ map (λ w. w.now) others.now))) result }
 {
     sink.put(first)?;

@@ -54,11 +54,11 @@ warnings_more plan d warnings k other within = at_drop_more (flat_map (warning_t
 -- one more row
 pub orders_more : (network : Drawn) (found : List RowFound) (k : ℕ) (row : RowFound) (over : Bool) → k < length found → row ≡ get_or found k row → over ≡ is_over network row
     → orders_text network k (drop k found) ≡ (if over then order_text k else []) ++ orders_text network (k + 1) (drop (k + 1) found)
-orders_more network found k row over within is told =
+orders_more network found k row over within is findings =
     at_drop_more (orders_text network k) found k row within ∙ ap (λ (r : RowFound). orders_text network k (r ∷ drop (k + 1) found)) (sym is)
-    ∙ ap (λ (o : Bool). (if o then order_text k else []) ++ orders_text network (k + 1) (drop (k + 1) found)) (sym told)
+    ∙ ap (λ (o : Bool). (if o then order_text k else []) ++ orders_text network (k + 1) (drop (k + 1) found)) (sym findings)
 
 -- the whole text
-pub lint_is : (plan : Planned) (d : Composed) (network : Drawn) (warnings shown : List Warning) (found told : List RowFound) (clean : Bool) → shown ≡ warnings → told ≡ found → clean ≡ is_clean network warnings found
-    → ended (codes "itv lint 1") ++ (flat_map (warning_text plan d) shown ++ (orders_text network 0 told ++ end_text clean)) ≡ lint_text plan d network warnings found
-lint_is plan d network warnings shown found told clean is_shown is_told is = rw (is_shown, is_told, is) refl
+pub lint_is : (plan : Planned) (d : Composed) (network : Drawn) (warnings shown : List Warning) (found findings : List RowFound) (clean : Bool) → shown ≡ warnings → findings ≡ found → clean ≡ is_clean network warnings found
+    → ended (codes "itv lint 1") ++ (flat_map (warning_text plan d) shown ++ (orders_text network 0 findings ++ end_text clean)) ≡ lint_text plan d network warnings found
+lint_is plan d network warnings shown found findings clean is_shown is_told is = rw (is_shown, is_told, is) refl

@@ -18,8 +18,8 @@ line_text plan d (Drawing warning) = warning_text plan d warning.now
 line_text plan d (Order number) = order_text number
 
 -- All that the lines say is right: the warnings are the warnings of the plan's design, and the finding and what was found of the rows are right.
-pub record AreLintFindings (plan : Planned) (design : Composed) (network : Drawn) (budget : ℕ) (told : LintFindings) : Type 0 where
+pub record AreLintFindings (plan : Planned) (design : Composed) (network : Drawn) (budget : ℕ) (findings : LintFindings) : Type 0 where
   pub is_design : composed_on plan.netlist (sheets_on plan.sheets plan.netlist.parts) ≡ Ok design
-  pub warnings : told.warnings.items ≡ warnings_of plan design
-  pub finding : (finding : Finding) × IsFindingFound network.net finding × AreFound network finding told.found.items × SettlesWithin network.net budget finding told.found.items
-  pub clean : told.clean ≡ is_clean network told.warnings.items told.found.items
+  pub warnings : findings.warnings.items ≡ warnings_of plan design
+  pub finding : (finding : Finding) × IsFindingFound network.net finding × AreFound network finding findings.found.items × SettlesWithin network.net budget finding findings.found.items
+  pub clean : findings.clean ≡ is_clean network findings.warnings.items findings.found.items

@@ -22,7 +22,7 @@ pub fn put_spot<K: Sink>(
     spot: &DrawnPlace,
     sink: &mut K,
 ) -> Result<(), PutFailed>
-    ensures puts { Puts (K.told sink.old) (K.told sink.new) (flat_map spaced (spot_words design.now spot.now)) result }
+    ensures puts { Puts (K.state sink.old) (K.state sink.new) (flat_map spaced (spot_words design.now spot.now)) result }
 {
     match spot.origin {
         Origin::Lane(_) | Origin::Edge(_) => put_placed(design, spot.part, spot.origin, sink),
@@ -37,7 +37,7 @@ fn put_placed<K: Sink>(
     origin: Origin,
     sink: &mut K,
 ) -> Result<(), PutFailed>
-    ensures puts { Puts (K.told sink.old) (K.told sink.new) (flat_map spaced (part_word design.now part ∷ origin_text origin ∷ [])) result }
+    ensures puts { Puts (K.state sink.old) (K.state sink.new) (flat_map spaced (part_word design.now part ∷ origin_text origin ∷ [])) result }
 {
     put_spaced(part_word(design, part).as_bytes(), sink)?;
     put_drawn(origin, sink)
@@ -45,7 +45,7 @@ fn put_placed<K: Sink>(
 
 /// Puts a space and what draws something.
 pub fn put_drawn<K: Sink>(origin: Origin, sink: &mut K) -> Result<(), PutFailed>
-    ensures puts { Puts (K.told sink.old) (K.told sink.new) (flat_map spaced (origin_text origin ∷ [])) result }
+    ensures puts { Puts (K.state sink.old) (K.state sink.new) (flat_map spaced (origin_text origin ∷ [])) result }
 {
     sink.put(b" ")?;
     put_origin(origin, sink)
@@ -57,7 +57,7 @@ pub fn put_mark<K: Sink>(
     mark: DesignMark,
     sink: &mut K,
 ) -> Result<(), PutFailed>
-    ensures puts { Puts (K.told sink.old) (K.told sink.new) (spaced (mark_word design.now mark)) result }
+    ensures puts { Puts (K.state sink.old) (K.state sink.new) (spaced (mark_word design.now mark)) result }
 {
     let part = part_word(design, mark.part).as_bytes();
     match mark_name(design, mark) {
@@ -73,7 +73,7 @@ pub fn put_sheet_key<K: Sink>(
     key: u64,
     sink: &mut K,
 ) -> Result<(), PutFailed>
-    ensures puts { Puts (K.told sink.old) (K.told sink.new) (flat_map spaced (codes "key" ∷ part_word design.now part ∷ sheet_key_word design.now part key ∷ [])) result }
+    ensures puts { Puts (K.state sink.old) (K.state sink.new) (flat_map spaced (codes "key" ∷ part_word design.now part ∷ sheet_key_word design.now part key ∷ [])) result }
 {
     let part_name = part_word(design, part).as_bytes();
     let key = sheet_key_word(design, part, key).as_bytes();
@@ -82,7 +82,7 @@ pub fn put_sheet_key<K: Sink>(
 
 /// Puts a space and a word for each word of a near key of the netlist.
 pub fn put_netlist_key<K: Sink>(plan: &Plan, key: u64, sink: &mut K) -> Result<(), PutFailed>
-    ensures puts { Puts (K.told sink.old) (K.told sink.new) (flat_map spaced (codes "key" ∷ netlist_key_word plan.now key ∷ [])) result }
+    ensures puts { Puts (K.state sink.old) (K.state sink.new) (flat_map spaced (codes "key" ∷ netlist_key_word plan.now key ∷ [])) result }
 {
     let key = netlist_key_word(plan, key).as_bytes();
     put_all(sink, &[b" key ", key])

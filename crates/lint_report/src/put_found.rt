@@ -29,17 +29,17 @@ pub fn put_text<K: Sink>(
     plan: &Plan,
     design: &Design<'_>,
     drawn: &DrawnNetwork,
-    told: &LintFindings,
+    findings: &LintFindings,
     buffer: &mut LineBuffer,
     sink: &mut K,
 ) -> Result<(), PutFailed>
-    requires clean { told.now.clean ≡ is_clean drawn.now told.now.warnings.items told.now.found.items }
-    ensures puts { Puts (K.told sink.old) (K.told sink.new) (lint_text plan.now design.now drawn.now told.now.warnings.items told.now.found.items) result }
+    requires clean { findings.now.clean ≡ is_clean drawn.now findings.now.warnings.items findings.now.found.items }
+    ensures puts { Puts (K.state sink.old) (K.state sink.new) (lint_text plan.now design.now drawn.now findings.now.warnings.items findings.now.found.items) result }
 {
     sink.put(b"itv lint 1\n")?;
-    put_warnings(plan, design, &told.warnings, buffer, sink)?;
-    put_orders(plan, design, drawn, &told.found, buffer, sink)?;
-    put_end(told.clean, sink)
+    put_warnings(plan, design, &findings.warnings, buffer, sink)?;
+    put_orders(plan, design, drawn, &findings.found, buffer, sink)?;
+    put_end(findings.clean, sink)
 }
 
 // Puts the warnings of the drawing.
@@ -50,7 +50,7 @@ fn put_warnings<K: Sink>(
     buffer: &mut LineBuffer,
     sink: &mut K,
 ) -> Result<(), PutFailed>
-    ensures puts { Puts (K.told sink.old) (K.told sink.new) (flat_map (warning_text plan.now design.now) warnings.now) result }
+    ensures puts { Puts (K.state sink.old) (K.state sink.new) (flat_map (warning_text plan.now design.now) warnings.now) result }
 {
     for warning in warnings {
         put_line(plan, design, &Line::Drawing(warning), buffer, sink)?;
@@ -67,7 +67,7 @@ fn put_orders<K: Sink>(
     buffer: &mut LineBuffer,
     sink: &mut K,
 ) -> Result<(), PutFailed>
-    ensures puts { Puts (K.told sink.old) (K.told sink.new) (orders_text drawn.now 0 found.now) result }
+    ensures puts { Puts (K.state sink.old) (K.state sink.new) (orders_text drawn.now 0 found.now) result }
 {
     for number in 0..found.len() {
         let over = is_over(drawn, &found[number]);
@@ -85,7 +85,7 @@ fn put_order<K: Sink>(
     buffer: &mut LineBuffer,
     sink: &mut K,
 ) -> Result<(), PutFailed>
-    ensures puts { Puts (K.told sink.old) (K.told sink.new) (if over then order_text number else []) result }
+    ensures puts { Puts (K.state sink.old) (K.state sink.new) (if over then order_text number else []) result }
 {
     if over {
         put_line(plan, design, &Line::Order(number), buffer, sink)
@@ -95,7 +95,7 @@ fn put_order<K: Sink>(
 }
 
 fn put_end<K: Sink>(clean: bool, sink: &mut K) -> Result<(), PutFailed>
-    ensures puts { Puts (K.told sink.old) (K.told sink.new) (end_text clean) result }
+    ensures puts { Puts (K.state sink.old) (K.state sink.new) (end_text clean) result }
 {
     if clean {
         sink.put(b"end clean\n")

@@ -26,7 +26,7 @@ pub fn put_line<K: Sink>(
     buffer: &mut LineBuffer,
     sink: &mut K,
 ) -> Result<(), PutFailed>
-    ensures puts { Puts (K.told sink.old) (K.told sink.new) (line_text plan.now design.now line.now) result }
+    ensures puts { Puts (K.state sink.old) (K.state sink.new) (line_text plan.now design.now line.now) result }
 {
     buffer.clear();
     match put_pieces(plan, design, line, buffer) {
@@ -42,7 +42,7 @@ fn put_pieces<K: Sink>(
     line: &Line<'_>,
     sink: &mut K,
 ) -> Result<(), PutFailed>
-    ensures puts { Puts (K.told sink.old) (K.told sink.new) (line_text plan.now design.now line.now) result }
+    ensures puts { Puts (K.state sink.old) (K.state sink.new) (line_text plan.now design.now line.now) result }
 {
     match line {
         Line::Drawing(warning) => put_warning(plan, design, warning, sink),
@@ -51,7 +51,7 @@ fn put_pieces<K: Sink>(
 }
 
 fn put_order<K: Sink>(number: u64, sink: &mut K) -> Result<(), PutFailed>
-    ensures puts { Puts (K.told sink.old) (K.told sink.new) (order_text number) result }
+    ensures puts { Puts (K.state sink.old) (K.state sink.new) (order_text number) result }
 {
     let mut digits = Buffer::new();
     let number = number_text(number, &mut digits);
@@ -64,7 +64,7 @@ fn put_warning<K: Sink>(
     warning: &Warning,
     sink: &mut K,
 ) -> Result<(), PutFailed>
-    ensures puts { Puts (K.told sink.old) (K.told sink.new) (warning_text plan.now design.now warning.now) result }
+    ensures puts { Puts (K.state sink.old) (K.state sink.new) (warning_text plan.now design.now warning.now) result }
 {
     sink.put(b"warning")?;
     put_warning_words(plan, design, warning, sink)?;
@@ -78,7 +78,7 @@ fn put_warning_words<K: Sink>(
     warning: &Warning,
     sink: &mut K,
 ) -> Result<(), PutFailed>
-    ensures puts { Puts (K.told sink.old) (K.told sink.new) (flat_map spaced (warning_words plan.now design.now warning.now)) result }
+    ensures puts { Puts (K.state sink.old) (K.state sink.new) (flat_map spaced (warning_words plan.now design.now warning.now)) result }
 {
     match warning {
         Warning::Rows => sink.put(b" rows"),
@@ -103,7 +103,7 @@ fn put_keyed<K: Sink>(
     spot: &DrawnPlace,
     sink: &mut K,
 ) -> Result<(), PutFailed>
-    ensures puts { Puts (K.told sink.old) (K.told sink.new) (flat_map spaced (key.now ∷ spot_words design.now spot.now)) result }
+    ensures puts { Puts (K.state sink.old) (K.state sink.new) (flat_map spaced (key.now ∷ spot_words design.now spot.now)) result }
 {
     put_spaced(key, sink)?;
     put_spot(design, spot, sink)
@@ -116,7 +116,7 @@ fn put_both<K: Sink>(
     other: &DrawnPlace,
     sink: &mut K,
 ) -> Result<(), PutFailed>
-    ensures puts { Puts (K.told sink.old) (K.told sink.new)
+    ensures puts { Puts (K.state sink.old) (K.state sink.new)
         (flat_map spaced (codes "both" ∷ (spot_words design.now first.now ++ spot_words design.now other.now))) result }
 {
     put_keyed(b"both", design, first, sink)?;
@@ -132,7 +132,7 @@ fn put_driven<K: Sink>(
     other: Origin,
     sink: &mut K,
 ) -> Result<(), PutFailed>
-    ensures puts { Puts (K.told sink.old) (K.told sink.new)
+    ensures puts { Puts (K.state sink.old) (K.state sink.new)
         (flat_map spaced (key.now ∷ mark_word design.now mark ∷ origin_text first ∷ origin_text other ∷ [])) result }
 {
     put_spaced(key, sink)?;

@@ -4,7 +4,7 @@ ghost use Rattle.std.specs.Prelude.{◌≡◌, ◌≤◌, ℕ, List, IfOk, IsOk,
 ghost use Rattle.itv_base.specs.Outside.{CutShort, grown};
 ghost use Rattle.itv_base.specs.declared.limits.TheConstants.{MAX_BUDGET};
 ghost use Rattle.compose.specs.Compose.{composed_on};
-ghost use Rattle.jobs.specs.Works.{JobWrote};
+ghost use Rattle.jobs.specs.JobWrote.{JobWrote};
 ghost use Rattle.plan.specs.Plan.{sheets_on};
 ghost use Rattle.lint_report.specs.Lint.{AnswersLint, BeginsLint, answer_by};
 ghost use Rattle.lint_report.specs.Text.{is_clean};
@@ -38,16 +38,16 @@ pub fn write_lint<K: Sink>(
     requires design { IsOk (composed_on plan.now.netlist (sheets_on plan.now.sheets plan.now.netlist.parts)) }
     requires least { 1 ≤ budget }
     requires most { budget ≤ MAX_BUDGET }
-    ensures works { JobWrote (AnswersLint plan.now drawn.now budget) (BeginsLint plan.now drawn.now budget) (K.told sink.old) (K.told sink.new) result }
+    ensures works { JobWrote (AnswersLint plan.now drawn.now budget) (BeginsLint plan.now drawn.now budget) (K.state sink.old) (K.state sink.new) result }
 {
     let design = design_of(alloc, plan)?;
-    let told = find_told(alloc, plan, &design, drawn, budget)?;
+    let findings = find_all(alloc, plan, &design, drawn, budget)?;
     let mut buffer = LineBuffer::new(alloc, LINE_ROOM)?;
-    Ok(put_told(plan, &design, drawn, &told, &mut buffer, sink)?)
+    Ok(put_findings(plan, &design, drawn, &findings, &mut buffer, sink)?)
 }
 
 // Finds all that the lines say.
-fn find_told(
+fn find_all(
     alloc: Global,
     plan: &Plan,
     design: &Design<'_>,
@@ -57,7 +57,7 @@ fn find_told(
     requires design { composed_on plan.now.netlist (sheets_on plan.now.sheets plan.now.netlist.parts) ≡ Ok design.now }
     requires least { 1 ≤ budget }
     requires most { budget ≤ MAX_BUDGET }
-    ensures told { IfOk result (AreLintFindings plan.now design.now drawn.now budget) }
+    ensures findings { IfOk result (AreLintFindings plan.now design.now drawn.now budget) }
 {
     let warnings = warnings_of(alloc, plan, design)?;
     let found = explain(alloc, drawn, budget)?.rows;
@@ -70,24 +70,24 @@ fn find_told(
 }
 
 // Puts the whole text. The answer says whether there is nothing to warn of.
-fn put_told<K: Sink>(
+fn put_findings<K: Sink>(
     plan: &Plan,
     design: &Design<'_>,
     drawn: &DrawnNetwork,
-    told: &LintFindings,
+    findings: &LintFindings,
     buffer: &mut LineBuffer,
     sink: &mut K,
 ) -> Result<Answer, PutFailed>
-    requires clean { told.now.clean ≡ is_clean drawn.now told.now.warnings.items told.now.found.items }
-    ensures answers { (budget : ℕ) → AreLintFindings plan.now design.now drawn.now budget told.now
+    requires clean { findings.now.clean ≡ is_clean drawn.now findings.now.warnings.items findings.now.found.items }
+    ensures answers { (budget : ℕ) → AreLintFindings plan.now design.now drawn.now budget findings.now
         → IfOk result (λ answer. (text : List ℕ) × AnswersLint plan.now drawn.now budget answer text
-        × (K.told sink.new ≡ grown (K.told sink.old) text)) }
-    ensures begins { (budget : ℕ) → AreLintFindings plan.now design.now drawn.now budget told.now
+        × (K.state sink.new ≡ grown (K.state sink.old) text)) }
+    ensures begins { (budget : ℕ) → AreLintFindings plan.now design.now drawn.now budget findings.now
         → OnErr result ((text : List ℕ) × BeginsLint plan.now drawn.now budget text
-        × CutShort (K.told sink.old) (K.told sink.new) text) }
+        × CutShort (K.state sink.old) (K.state sink.new) text) }
 {
-    put_text(plan, design, drawn, told, buffer, sink)?;
-    Ok(answer_by(told.clean))
+    put_text(plan, design, drawn, findings, buffer, sink)?;
+    Ok(answer_by(findings.clean))
 }
 
 // What the job answers: all is clean, or there is something to warn of.

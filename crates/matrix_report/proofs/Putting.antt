@@ -4,8 +4,8 @@ use Rattle.std.specs.List.{flat_map}
 use Rattle.std.proofs.lemmas.List.{length-map}
 use Rattle.itv_base.specs.Numerals.{end_text}
 use Rattle.itv_base.specs.declared.names.EventId.{EventId}
-use Rattle.itv_base.specs.Outside.{CutShort, SinkView, grown}
-use Rattle.jobs.specs.Works.{JobWrote}
+use Rattle.itv_base.specs.Outside.{CutShort, SinkState, grown}
+use Rattle.jobs.specs.JobWrote.{JobWrote}
 use Rattle.jobs.specs.declared.answer.Answer.TheVariants.{AllPass, Inconsistent}
 use Rattle.jobs.specs.declared.unanswered.Unanswered.TheVariants.{PutFailed}
 use Rattle.event_graph.specs.Network.{Net}
@@ -66,16 +66,16 @@ is_text drawn net rows same are times = record {
   is_text = refl;
 }
 
-pub matrix_put : (drawn : Drawn) (net : Net) (rows : List (List ℤ)) (old new : SinkView) → net ≡ drawn.net → AreRootBounds net rows → (times : List ℤ) × MeetsAlways times net
+pub matrix_put : (drawn : Drawn) (net : Net) (rows : List (List ℤ)) (old new : SinkState) → net ≡ drawn.net → AreRootBounds net rows → (times : List ℤ) × MeetsAlways times net
     → new ≡ grown old (matrix_text drawn.names (entries_of rows)) → JobWrote (AnswersMatrix drawn) (BeginsMatrix drawn) old new (Ok AllPass)
 matrix_put drawn net rows old new same are times put = (matrix_text drawn.names (entries_of rows), is_text drawn net rows same are times, put)
 
-pub matrix_cut : (drawn : Drawn) (net : Net) (rows : List (List ℤ)) (old new : SinkView) → net ≡ drawn.net → AreRootBounds net rows → (times : List ℤ) × MeetsAlways times net
+pub matrix_cut : (drawn : Drawn) (net : Net) (rows : List (List ℤ)) (old new : SinkState) → net ≡ drawn.net → AreRootBounds net rows → (times : List ℤ) × MeetsAlways times net
     → CutShort old new (matrix_text drawn.names (entries_of rows)) → JobWrote (AnswersMatrix drawn) (BeginsMatrix drawn) old new (Err PutFailed)
 matrix_cut drawn net rows old new same are times cut =
     (matrix_text drawn.names (entries_of rows), (AllPass, is_text drawn net rows same are times), cut)
 
-pub inconsistent_cut : (drawn : Drawn) (net : Net) (old new : SinkView) → net ≡ drawn.net → HasNoRoot net
+pub inconsistent_cut : (drawn : Drawn) (net : Net) (old new : SinkState) → net ≡ drawn.net → HasNoRoot net
     → CutShort old new (entry_text (finding findings.Inconsistent)) → JobWrote (AnswersMatrix drawn) (BeginsMatrix drawn) old new (Err PutFailed)
 inconsistent_cut drawn net old new same none cut =
     (entry_text (finding findings.Inconsistent), (Inconsistent, (subst HasNoRoot same none, refl)), cut)

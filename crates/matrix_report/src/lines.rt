@@ -19,7 +19,7 @@ use minplus::Matrix;
 fn put_entry<K: Sink>(matrix: &Matrix, from: u32, to: u32, sink: &mut K) -> Result<(), PutFailed>
     requires from { from < length matrix.now }
     requires to { to < length (slice_index_or matrix.now from []) }
-    ensures { Puts (K.told sink.old) (K.told sink.new)
+    ensures { Puts (K.state sink.old) (K.state sink.new)
         (spaced (end_text (entry_of matrix.now (event_of from) (event_of to)))) result }
 {
     let mut digits = Buffer::new();
@@ -36,7 +36,7 @@ fn put_entries<K: Sink>(
 ) -> Result<(), PutFailed>
     requires from { from < length matrix.now }
     requires count { count ≡ length (slice_index_or matrix.now from []) }
-    ensures { Puts (K.told sink.old) (K.told sink.new)
+    ensures { Puts (K.state sink.old) (K.state sink.new)
         (flat_map spaced (map end_text (numbers_of (slice_index_or matrix.now from [])))) result }
 {
     for to in 0..count {
@@ -49,7 +49,7 @@ fn put_entries<K: Sink>(
 fn put_row<K: Sink>(matrix: &Matrix, from: u32, count: u32, sink: &mut K) -> Result<(), PutFailed>
     requires from { from < length matrix.now }
     requires count { count ≡ length (slice_index_or matrix.now from []) }
-    ensures { Puts (K.told sink.old) (K.told sink.new)
+    ensures { Puts (K.state sink.old) (K.state sink.new)
         (row_text (numbers_of (slice_index_or matrix.now from []))) result }
 {
     sink.put(b"row")?;
@@ -67,7 +67,7 @@ fn write_row<K: Sink>(
 ) -> Result<(), PutFailed>
     requires from { from < length matrix.now }
     requires count { count ≡ length (slice_index_or matrix.now from []) }
-    ensures { Puts (K.told sink.old) (K.told sink.new)
+    ensures { Puts (K.state sink.old) (K.state sink.new)
         (row_text (numbers_of (slice_index_or matrix.now from []))) result }
 {
     buffer.clear();
@@ -85,7 +85,7 @@ pub fn put_rows<K: Sink>(
     sink: &mut K,
 ) -> Result<(), PutFailed>
     requires square { IsSquare count matrix.now }
-    ensures { Puts (K.told sink.old) (K.told sink.new) (flat_map row_text (entries_of matrix.now)) result }
+    ensures { Puts (K.state sink.old) (K.state sink.new) (flat_map row_text (entries_of matrix.now)) result }
 {
     for from in 0..count {
         write_row(matrix, from, count, buffer, sink)?;

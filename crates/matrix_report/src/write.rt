@@ -3,7 +3,7 @@
 ghost use Rattle.std.specs.Prelude.{◌≤◌};
 ghost use Rattle.itv_base.specs.Outside.{Puts};
 ghost use Rattle.itv_base.specs.declared.limits.TheConstants.{MAX_MATRIX_EVENTS};
-ghost use Rattle.jobs.specs.Works.{JobWrote};
+ghost use Rattle.jobs.specs.JobWrote.{JobWrote};
 ghost use Rattle.minplus.specs.Matrix.{IsSquare};
 ghost use Rattle.slack_report.specs.Entry.{finding};
 ghost use Rattle.slack_report.specs.Text.{entry_text};
@@ -29,7 +29,7 @@ pub fn write_matrix<K: Sink>(
 ) -> Result<Answer, Unanswered>
     requires events { drawn.now.net.events ≤ MAX_MATRIX_EVENTS }
     ensures works { JobWrote (AnswersMatrix drawn.now) (BeginsMatrix drawn.now)
-        (K.told sink.old) (K.told sink.new) result }
+        (K.state sink.old) (K.state sink.new) result }
 {
     let mut buffer = LineBuffer::new(alloc, LINE_ROOM)?;
     match closure(alloc, drawn.network()) {
@@ -48,7 +48,7 @@ pub fn write_matrix<K: Sink>(
 
 // Writes the line that no times meet the always-edges.
 fn put_inconsistent<K: Sink>(buffer: &mut LineBuffer, sink: &mut K) -> Result<(), PutFailed>
-    ensures { Puts (K.told sink.old) (K.told sink.new) (entry_text (finding Inconsistent)) result }
+    ensures { Puts (K.state sink.old) (K.state sink.new) (entry_text (finding Inconsistent)) result }
 {
     write_item(&Item::Finding(FindingWord::Inconsistent), buffer, sink)
 }
@@ -61,7 +61,7 @@ fn put_matrix<K: Sink>(
     sink: &mut K,
 ) -> Result<(), PutFailed>
     requires square { IsSquare drawn.now.net.events matrix.now }
-    ensures { Puts (K.told sink.old) (K.told sink.new) (matrix_text drawn.now.names (entries_of matrix.now)) result }
+    ensures { Puts (K.state sink.old) (K.state sink.new) (matrix_text drawn.now.names (entries_of matrix.now)) result }
 {
     sink.put(b"itv matrix 1\n")?;
     put_events(drawn, buffer, sink)?;

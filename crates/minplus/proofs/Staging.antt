@@ -11,7 +11,7 @@ use Rattle.minplus.specs.Matrix.{cells}
 use Rattle.minplus.specs.Step.Entries.{Entries, HoldsEdges, IsClosure, IsEdgeHeld, IsPresent, IsThrough}
 use Rattle.minplus.specs.Step.Edges.{BoundSeparations}
 use Rattle.minplus.specs.Step.Paths.{ArePaths, AreSteps}
-use Rattle.minplus.specs.Step.Stage.{PivotStage}
+use Rattle.minplus.specs.Step.PivotStage.{PivotStage}
 use Rattle.minplus.proofs.Numbers.{small_there}
 use Rattle.minplus.proofs.ClosedFurther.{AreEntries, bounds_further, closed_further}
 use Rattle.minplus.proofs.PathLengths.{path_small, paths_further}

@@ -2,5 +2,5 @@
 pub mod Rows
 pub mod Entries
 pub mod Paths
-pub mod Stage
+pub mod PivotStage
 pub mod Edges

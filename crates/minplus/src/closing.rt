@@ -11,7 +11,7 @@ ghost use Rattle.minplus.specs.Step.Edges.{BoundSeparations};
 
 use crate::fault::MatrixFault;
 use crate::lanes::row_lanes;
-use crate::row::{MatrixRow, entry};
+use crate::matrix_row::{MatrixRow, entry};
 use crate::rows::ABSENT;
 use event_graph::Network;
 

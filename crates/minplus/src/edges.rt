@@ -9,7 +9,7 @@ ghost use Rattle.minplus.specs.Step.Entries.{HoldsEdges};
 ghost use Rattle.minplus.specs.Step.Rows.{LowersEntry};
 ghost use Rattle.minplus.specs.Step.Edges.{BoundSeparations, AreEmptyRows, NoneRose, HoldsCause, HoldsEdge, IsAlwaysEdge, Lowers};
 
-use crate::row::MatrixRow;
+use crate::matrix_row::MatrixRow;
 use crate::rows::ABSENT;
 use event_graph::{Edge, Network};
 use itv_base::{EdgeName, NoMemory, Side};

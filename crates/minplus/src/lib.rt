@@ -8,7 +8,7 @@ mod edges;
 mod fault;
 mod lanes;
 mod matrix;
-mod row;
+mod matrix_row;
 mod rows;
 
 pub use fault::MatrixFault;

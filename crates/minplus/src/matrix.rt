@@ -8,7 +8,7 @@ ghost use Rattle.minplus.specs.Matrix.{AreRootBounds, IsMatrixFault};
 use crate::closing::close;
 use crate::edges::first_rows;
 use crate::fault::MatrixFault;
-use crate::row::{MatrixRow, entry};
+use crate::matrix_row::{MatrixRow, entry};
 use crate::rows::ABSENT;
 use event_graph::Network;
 use itv_base::{EventId, MAX_MATRIX_EVENTS};

@@ -9,7 +9,7 @@ use Rattle.netlist.specs.declared.fault.NetlistFault.{NetlistFault}
 use Rattle.netlist.specs.declared.fault.NetlistFault.TheVariants.{PartsNotList, TooManyParts, TooManySheets, NetsNotList, EdgesNotList}
 use Rattle.netlist.specs.declared.part.Part.{Part}
 use Rattle.netlist.specs.declared.wire.Wire.{Wire}
-use Rattle.netlist.specs.Contents.{JoinedPins}
+use Rattle.netlist.specs.NetlistContents.{JoinedPins}
 use Rattle.netlist.specs.Fault.{is_memory}
 use Rattle.json_tree.specs.Words.{list_at}
 use Rattle.near_keys.specs.NearKeys.{near_in_netlist}
@@ -81,32 +81,32 @@ module _ (tree : Data) where
   unfolding netlist_of
   version-fault fault h = IsReadingFault-first is_memory (version_of tree) _ fault h
 
-  module _ (version : ℕ) (told : version_of tree ≡ Ok version) where
+  module _ (version : ℕ) (shown : version_of tree ≡ Ok version) where
     pub cycles-fault : (fault : NetlistFault) → IsReadingFault is_memory (cycles_of tree) fault → IsReadingFault is_memory (netlist_of tree) fault
     unfolding netlist_of
-    cycles-fault fault h = rw told (IsReadingFault-first is_memory (cycles_of tree) _ fault h)
+    cycles-fault fault h = rw shown (IsReadingFault-first is_memory (cycles_of tree) _ fault h)
 
     module _ (cycles : ℕ) (counted : cycles_of tree ≡ Ok cycles) where
       pub all_parts-fault : (fault : NetlistFault) → IsReadingFault is_memory (parts_of version tree) fault → IsReadingFault is_memory (netlist_of tree) fault
       unfolding netlist_of
-      all_parts-fault fault h = rw (told, counted) (IsReadingFault-first is_memory (parts_of version tree) _ fault h)
+      all_parts-fault fault h = rw (shown, counted) (IsReadingFault-first is_memory (parts_of version tree) _ fault h)
 
       module _ (parts : List Part) (are : parts_of version tree ≡ Ok parts) where
         pub all_nets-fault : (fault : NetlistFault) → IsReadingFault is_memory (nets_of tree) fault → IsReadingFault is_memory (netlist_of tree) fault
         unfolding netlist_of
-        all_nets-fault fault h = rw (told, counted, are) (IsReadingFault-first is_memory (nets_of tree) _ fault h)
+        all_nets-fault fault h = rw (shown, counted, are) (IsReadingFault-first is_memory (nets_of tree) _ fault h)
 
         module _ (nets : List JoinedPins) (joined : nets_of tree ≡ Ok nets) where
           pub all_wires-fault : (fault : NetlistFault) → IsReadingFault is_memory (wires_of tree) fault → IsReadingFault is_memory (netlist_of tree) fault
           unfolding netlist_of
-          all_wires-fault fault h = rw (told, counted, are, joined) (IsReadingFault-first is_memory (wires_of tree) _ fault h)
+          all_wires-fault fault h = rw (shown, counted, are, joined) (IsReadingFault-first is_memory (wires_of tree) _ fault h)
 
           module _ (wires : List (Option Wire)) (wired : wires_of tree ≡ Ok wires) where
             pub all_edges-fault : (fault : NetlistFault) → IsReadingFault is_memory (edges_of tree) fault → IsReadingFault is_memory (netlist_of tree) fault
             unfolding netlist_of
-            all_edges-fault fault h = rw (told, counted, are, joined, wired) (IsReadingFault-first is_memory (edges_of tree) _ fault h)
+            all_edges-fault fault h = rw (shown, counted, are, joined, wired) (IsReadingFault-first is_memory (edges_of tree) _ fault h)
 
             pub netlist-ok : (edges : List (List ℕ)) → edges_of tree ≡ Ok edges → (near : List (List ℕ)) → near ≡ near_in_netlist tree
                 → netlist_of tree ≡ Ok (record { version = version; cycles = cycles; parts = parts; nets = nets; wires = wires; edges = edges; near = near })
             unfolding netlist_of
-            netlist-ok edges is near same = rw (told, counted, are, joined, wired, is, same) refl
+            netlist-ok edges is near same = rw (shown, counted, are, joined, wired, is, same) refl

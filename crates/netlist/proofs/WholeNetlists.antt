@@ -22,7 +22,7 @@ use Rattle.netlist.specs.declared.fault.NetlistFault.TheVariants as faults
 use Rattle.netlist.specs.declared.part.Part.{Part}
 use Rattle.netlist.specs.declared.pin.PinText.{PinText}
 use Rattle.netlist.specs.declared.wire.Wire.{Wire}
-use Rattle.netlist.specs.Contents.{NetlistContents, JoinedPins}
+use Rattle.netlist.specs.NetlistContents.{NetlistContents, JoinedPins}
 use Rattle.json_tree.specs.Words.{list_at, whole_at}
 use Rattle.netlist.specs.Netlist.{cycles_from, cycles_of, delay_of, demand, edges_of, is_part, labelled, list_if, net_of, netlist_of, nets_of, part_of, parts_of, pins_of, range_of, seen_wire, sheet_names, unless_empty, version_of, wire_at, wires_of, with_net, with_part, with_wire}
 use Rattle.itv_base.specs.Reading.{walk}

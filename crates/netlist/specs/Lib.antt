@@ -8,7 +8,7 @@ pub use Rattle.near_keys.specs.NearKeys
 pub use Rattle.serde_json.specs.Data
 pub use Rattle.serde_json.specs.Find
 pub use Rattle.serde_json.specs.View
-pub mod Contents
+pub mod NetlistContents
 pub mod Fault
 pub mod Netlist
 pub mod Whole

@@ -21,7 +21,7 @@ use Rattle.netlist.specs.declared.fault.NetlistFault.TheVariants.{NotObject, Ver
 use Rattle.netlist.specs.declared.part.Part as code
 use Rattle.netlist.specs.declared.pin.PinText.{PinText}
 use Rattle.netlist.specs.declared.wire.Wire.{Wire}
-use Rattle.netlist.specs.Contents.{NetlistContents, JoinedPins}
+use Rattle.netlist.specs.NetlistContents.{NetlistContents, JoinedPins}
 use Rattle.itv_base.specs.Reading.{◌>>=◌, walk}
 
 -- ---- what stands under a key

@@ -3,7 +3,7 @@ use Rattle.std.specs.Prelude.{◌≤◌, length, All, IfSome}
 use Rattle.itv_base.specs.Range.{IsRange}
 use Rattle.itv_base.specs.declared.limits.TheConstants.{MAX_CYCLES, MAX_PARTS, MAX_SHEET_NAMES, MAX_SHIFT}
 use Rattle.netlist.specs.declared.wire.Wire.{Wire}
-use Rattle.netlist.specs.Contents.{NetlistContents, JoinedPins}
+use Rattle.netlist.specs.NetlistContents.{NetlistContents, JoinedPins}
 use Rattle.netlist.specs.Netlist.{sheet_names}
 
 -- a net has a pin, and its delay is a range

@@ -5,12 +5,12 @@
 
 mod cycles;
 mod fault;
-mod net;
 mod netlist;
 mod nets;
 mod part;
 mod parts;
 mod pin;
+mod pin_net;
 mod pins;
 mod read;
 mod sheet_names;
@@ -19,9 +19,9 @@ mod wire;
 mod wires;
 
 pub use fault::NetlistFault;
-pub use net::{Nets, PinNet};
 pub use netlist::Netlist;
 pub use part::{Part, Parts};
 pub use pin::{PinText, PinTexts};
+pub use pin_net::{Nets, PinNet};
 pub use read::read_netlist;
 pub use wire::{Wire, Wires};

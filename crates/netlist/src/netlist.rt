@@ -4,8 +4,8 @@ ghost use Rattle.std.specs.Prelude.{◌≡◌, IfOk};
 ghost use Rattle.netlist.specs.Netlist.{lone_netlist, sheet_names};
 ghost use Rattle.netlist.specs.Whole.{IsNetlist};
 
-use crate::net::Nets;
 use crate::part::{Part, Parts};
+use crate::pin_net::Nets;
 use crate::wire::Wires;
 use itv_base::{NoMemory, Text, Texts};
 use std::alloc::Global;
@@ -26,7 +26,7 @@ pub struct Netlist {
 
 impl Model for Netlist {
     ghost use Rattle.std.specs.Prelude.{◌≡◌};
-    ghost use Rattle.netlist.specs.Contents.{NetlistContents};
+    ghost use Rattle.netlist.specs.NetlistContents.{NetlistContents};
     ghost use Rattle.netlist.specs.Netlist.{sheet_names as names_of};
     ghost use Rattle.netlist.specs.Whole.{IsNetlist};
 

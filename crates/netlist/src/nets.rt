@@ -9,7 +9,7 @@ ghost use Rattle.netlist.specs.Netlist.{delay_of, net_of, range_of, with_net};
 ghost use Rattle.itv_base.specs.Reading.{AgreesWith, walk};
 
 use crate::fault::NetlistFault;
-use crate::net::{Nets, PinNet};
+use crate::pin_net::{Nets, PinNet};
 use crate::pins::read_pins;
 use itv_base::{Range, RangeFault};
 use json_tree::{EndPair, ends_by, list_of};

@@ -10,7 +10,7 @@ use itv_base::{PutFailed, Sink, number_text, put_all};
 /// Puts the text of an origin, with no space before it and no end behind it. If a put failed, a front of the text was
 /// written, and the sink's count of faults rose.
 pub fn put_origin<K: Sink>(origin: Origin, sink: &mut K) -> Result<(), PutFailed>
-    ensures puts { Puts (K.told sink.old) (K.told sink.new) (origin_text origin) result }
+    ensures puts { Puts (K.state sink.old) (K.state sink.new) (origin_text origin) result }
 {
     let mut digits = Buffer::new();
     let mut others = Buffer::new();

@@ -9,7 +9,7 @@ use Rattle.std.proofs.lemmas.List.{length-map, map_push, take_more}
 use Rattle.std.proofs.lemmas.List.Folds.{find_at}
 use Rattle.std.proofs.lemmas.Option.{slice_get-get_or, slice_get-map, slice_get_past, slice_get_read}
 use Rattle.netlist.specs.declared.part.Part.{Part}
-use Rattle.sheet.specs.Contents.{SheetContents}
+use Rattle.sheet.specs.SheetContents.{SheetContents}
 use Rattle.compose.specs.Nets.{part_named}
 use Rattle.compose.specs.Sheets.{key_of}
 use Rattle.compose.specs.declared.sheet_key.SheetKey.{SheetKey}

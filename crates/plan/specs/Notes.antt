@@ -15,7 +15,7 @@ use Rattle.label_grammar.specs.Wire as wires
 use Rattle.origin.specs.declared.origin.Origin.{Origin}
 use Rattle.origin.specs.declared.origin.Origin.TheVariants.{Lane, Edge, Pin, Wire}
 use Rattle.netlist.specs.declared.part.Part.{Part}
-use Rattle.sheet.specs.Contents.{SheetContents}
+use Rattle.sheet.specs.SheetContents.{SheetContents}
 use Rattle.compose.specs.Sheets.{key_of}
 use Rattle.plan.specs.Plan.{Planned, sheet_among}
 

@@ -2,9 +2,9 @@
 use Rattle.std.specs.Prelude.{List, All, Option, IsSome}
 use Rattle.std.specs.List.{filter_map}
 use Rattle.std.specs.Map.{lookup}
-use Rattle.sheet.specs.Contents as sheet
+use Rattle.sheet.specs.SheetContents as sheet
 use Rattle.netlist.specs.declared.part.Part.{Part}
-use Rattle.netlist.specs.Contents.{NetlistContents}
+use Rattle.netlist.specs.NetlistContents.{NetlistContents}
 use Rattle.compose.specs.Sheets.{key_of, same_key}
 use Rattle.compose.specs.declared.sheet_key.SheetKey.{SheetKey}
 

@@ -3,10 +3,10 @@ use Rattle.std.proofs.Common.{◌≡◌, ℕ, ◌&&◌, true, false, List, [], i
 use Rattle.std.specs.Prelude.{is_none}
 use Rattle.serde_json.specs.Data.{Data}
 use Rattle.serde_json.specs.Find.{get, as_object}
-use Rattle.itv_base.specs.Outside.{ShelfView}
+use Rattle.itv_base.specs.Outside.{ShelfState}
 use Rattle.itv_base.specs.Reading.{IsReadingFault}
-use Rattle.sheet.specs.Contents.{SheetContents}
-use Rattle.netlist.specs.Contents.{NetlistContents}
+use Rattle.sheet.specs.SheetContents.{SheetContents}
+use Rattle.netlist.specs.NetlistContents.{NetlistContents}
 use Rattle.netlist.specs.Netlist.{lone_netlist, netlist_of, sheet_names}
 use Rattle.compose.specs.declared.fault.JoinFault.{JoinFault}
 use Rattle.compose.specs.Fault.{is_memory as is_join_memory}
@@ -18,42 +18,42 @@ use Rattle.unroll.specs.declared.fault.UnrollFault.{UnrollFault}
 use Rattle.unroll.specs.Fault.{is_memory as is_limit_memory}
 use Rattle.drawn.specs.Drawn.{Drawn}
 use Rattle.unroll.specs.Limits.{unrolled}
-use Rattle.reading.specs.declared.place.RefusalPlace.TheVariants.{File, Design}
+use Rattle.reading.specs.declared.refusal_place.RefusalPlace.TheVariants.{File, Design}
 use Rattle.reading.specs.declared.refusal.Refusal.TheVariants.{Netlist, Joins, Limits}
 use Rattle.reading.specs.declared.stop.Stop.{Stop}
-use Rattle.reading.specs.Opening.{◌>>=◌, at, gives, RunsTo, ready}
+use Rattle.reading.specs.FileReading.{◌>>=◌, at, gives, RunsTo, ready}
 use Rattle.plan.specs.Plan.{NamedSheets, Planned}
 use Rattle.reading.specs.Design.{drawn_at, lone_at, netlist_at, sheets_of_files, tree_planned, with_sheet}
 use Rattle.reading.specs.Step.{Opens, stop_of}
 use Rattle.reading.specs.Step.Lone.{lone_plan, plain_key}
 use Rattle.reading.proofs.Opens.{at_ok, at_err, comes_then, opens_stop, opens_then, opens_up}
 
-module _ (told : ShelfView) (netlist : NetlistContents) (sheets : SheetMap) where
+module _ (state : ShelfState) (netlist : NetlistContents) (sheets : SheetMap) where
   pub joins_refused : (fault : JoinFault) → IsReadingFault is_join_memory (composed netlist sheets) fault
-      → Opens (λ (d : Drawn). d) told told (drawn_at netlist sheets.entries) (Err (stop_of is_join_memory Joins Design fault))
+      → Opens (λ (d : Drawn). d) state state (drawn_at netlist sheets.entries) (Err (stop_of is_join_memory Joins Design fault))
   unfolding drawn_at
   joins_refused fault h =
-      opens_stop (λ (d : Composed). d) (λ (d : Drawn). d) (at Design Joins (composed netlist sheets)) (λ design. at Design Limits (unrolled design)) told told (stop_of is_join_memory Joins Design fault)
-      (at_err is_join_memory (λ (d : Composed). d) told Design Joins (composed netlist sheets) fault h)
+      opens_stop (λ (d : Composed). d) (λ (d : Drawn). d) (at Design Joins (composed netlist sheets)) (λ design. at Design Limits (unrolled design)) state state (stop_of is_join_memory Joins Design fault)
+      (at_err is_join_memory (λ (d : Composed). d) state Design Joins (composed netlist sheets) fault h)
 
   module _ (design : Composed) (is : composed netlist sheets ≡ Ok design) where
     pub limits_refused : (fault : UnrollFault) → IsReadingFault is_limit_memory (unrolled design) fault
-        → Opens (λ (d : Drawn). d) told told (drawn_at netlist sheets.entries) (Err (stop_of is_limit_memory Limits Design fault))
+        → Opens (λ (d : Drawn). d) state state (drawn_at netlist sheets.entries) (Err (stop_of is_limit_memory Limits Design fault))
     unfolding drawn_at
     limits_refused fault h =
-        opens_then (λ (d : Composed). d) (λ (d : Drawn). d) (at Design Joins (composed netlist sheets)) (λ design. at Design Limits (unrolled design)) told told told design (Err (stop_of is_limit_memory Limits Design fault))
-        (at_ok told Design Joins (composed netlist sheets) design is, refl)
-        (at_err is_limit_memory (λ (d : Drawn). d) told Design Limits (unrolled design) fault h)
+        opens_then (λ (d : Composed). d) (λ (d : Drawn). d) (at Design Joins (composed netlist sheets)) (λ design. at Design Limits (unrolled design)) state state state design (Err (stop_of is_limit_memory Limits Design fault))
+        (at_ok state Design Joins (composed netlist sheets) design is, refl)
+        (at_err is_limit_memory (λ (d : Drawn). d) state Design Limits (unrolled design) fault h)
 
-    pub drawn_ready : (drawn : Drawn) → unrolled design ≡ Ok drawn → RunsTo told (drawn_at netlist sheets.entries) (ready drawn)
+    pub drawn_ready : (drawn : Drawn) → unrolled design ≡ Ok drawn → RunsTo state (drawn_at netlist sheets.entries) (ready drawn)
     unfolding drawn_at
     drawn_ready drawn e =
-        comes_then told (at Design Joins (composed netlist sheets)) (λ design. at Design Limits (unrolled design)) design (ready drawn) (at_ok told Design Joins (composed netlist sheets) design is)
-        (at_ok told Design Limits (unrolled design) drawn e)
+        comes_then state (at Design Joins (composed netlist sheets)) (λ design. at Design Limits (unrolled design)) design (ready drawn) (at_ok state Design Joins (composed netlist sheets) design is)
+        (at_ok state Design Limits (unrolled design) drawn e)
 
 -- the same netlist and the same sheets draw the same
-pub drawn_same : (told : ShelfView) (n m : NetlistContents) (es fs : NamedSheets) (r : Result Drawn Stop) → n ≡ m → es ≡ fs → Opens (λ (d : Drawn). d) told told (drawn_at n es) r → Opens (λ (d : Drawn). d) told told (drawn_at m fs) r
-drawn_same told n m es fs r e f h = subst (λ x. Opens (λ (d : Drawn). d) told told (drawn_at m x) r) f (subst (λ x. Opens (λ (d : Drawn). d) told told (drawn_at x es) r) e h)
+pub drawn_same : (state : ShelfState) (n m : NetlistContents) (es fs : NamedSheets) (r : Result Drawn Stop) → n ≡ m → es ≡ fs → Opens (λ (d : Drawn). d) state state (drawn_at n es) r → Opens (λ (d : Drawn). d) state state (drawn_at m fs) r
+drawn_same state n m es fs r e f h = subst (λ x. Opens (λ (d : Drawn). d) state state (drawn_at m x) r) f (subst (λ x. Opens (λ (d : Drawn). d) state state (drawn_at x es) r) e h)
 
 -- ---- lone sheets
 
@@ -69,7 +69,7 @@ lone_same name sheet netlist sheets is has = rw (is, has) refl
 
 -- ---- netlists
 
-module _ (old new : ShelfView) (tree : Data) (netlist : NetlistContents) (is : netlist_of tree ≡ Ok netlist) (r : Result Planned Stop) where
+module _ (old new : ShelfState) (tree : Data) (netlist : NetlistContents) (is : netlist_of tree ≡ Ok netlist) (r : Result Planned Stop) where
   abbrev planned : NamedSheets → Planned
   planned sheets = record { netlist = netlist; sheets = sheets }
 
@@ -92,7 +92,7 @@ module _ (old new : ShelfView) (tree : Data) (netlist : NetlistContents) (is : n
 
 -- ---- trees
 
-module _ (old new : ShelfView) (name : List ℕ) (tree : Data) (r : Result Planned Stop) where
+module _ (old new : ShelfState) (name : List ℕ) (tree : Data) (r : Result Planned Stop) where
   pub lone_on : (is_some (as_object tree) && is_none (get (codes "itv") tree)) ≡ true → Opens (λ (p : Planned). p) old new (lone_at name tree) r → Opens (λ (p : Planned). p) old new (tree_planned name tree) r
   lone_on e h = rw e h
 

@@ -3,7 +3,7 @@ use Rattle.std.proofs.Common.{◌≡◌, ℕ, ◌==◌, ◌&&◌, Bool, true, fa
 use Rattle.std.specs.Prelude.{is_none, is_some}
 use Rattle.std.specs.Str.{bytes_eq}
 use Rattle.serde_json.specs.Data.{Data}
-use Rattle.itv_base.specs.Outside.{ShelfView}
+use Rattle.itv_base.specs.Outside.{ShelfState}
 use Rattle.itv_base.specs.Reading.{IsReadingFault}
 use Rattle.wavejson.specs.declared.fault.DiagramFault.{DiagramFault}
 use Rattle.wavejson.specs.Drawing.{Drawing, diagram_of}
@@ -12,16 +12,16 @@ use Rattle.grades.specs.declared.grade.Grade.{Grade}
 use Rattle.grades.specs.declared.fault.GradesFault.{GradesFault}
 use Rattle.grades.specs.Fault.{is_memory as is_grades_memory}
 use Rattle.grades.specs.Grades.{grades_of}
-use Rattle.sheet.specs.Contents.{SheetContents}
+use Rattle.sheet.specs.SheetContents.{SheetContents}
 use Rattle.sheet.specs.Sheet.{sheet_by}
 use Rattle.netlist.specs.declared.part.Part.{Part}
-use Rattle.netlist.specs.Contents.{NetlistContents}
+use Rattle.netlist.specs.NetlistContents.{NetlistContents}
 use Rattle.compose.specs.Sheets.{key_of}
-use Rattle.reading.specs.declared.place.RefusalPlace.{RefusalPlace}
-use Rattle.reading.specs.declared.place.RefusalPlace.TheVariants.{File}
+use Rattle.reading.specs.declared.refusal_place.RefusalPlace.{RefusalPlace}
+use Rattle.reading.specs.declared.refusal_place.RefusalPlace.TheVariants.{File}
 use Rattle.reading.specs.declared.refusal.Refusal.TheVariants.{Diagram, Grades, Sheet}
 use Rattle.reading.specs.declared.stop.Stop.{Stop}
-use Rattle.reading.specs.Opening.{FileReading, gives, at, each, ready, ◌>>=◌}
+use Rattle.reading.specs.FileReading.{FileReading, gives, at, each, ready, ◌>>=◌}
 use Rattle.plan.specs.Plan.{NamedSheets, sheet_among}
 use Rattle.reading.specs.Design.{grades_in, is_unread, sheets_at, with_part, with_sheet}
 use Rattle.reading.specs.Step.{Opens, stop_of}
@@ -29,9 +29,9 @@ use Rattle.reading.proofs.Opens.{at_ok, at_err, opens_stop, opens_then, opens_up
 
 -- ---- grades
 
-module _ (told : ShelfView) (version : ℕ) (place : RefusalPlace) (tree : Data) where
+module _ (state : ShelfState) (version : ℕ) (place : RefusalPlace) (tree : Data) where
   abbrev Told : Result (Option (List Grade)) Stop → Type 0
-  Told r = Opens (λ (g : Option (List Grade)). g) told told (grades_in version place tree) r
+  Told r = Opens (λ (g : Option (List Grade)). g) state state (grades_in version place tree) r
 
   pub grades_none : (version == 2) ≡ false → Told (Ok None)
   grades_none other = rw other (refl, refl)
@@ -43,8 +43,8 @@ module _ (told : ShelfView) (version : ℕ) (place : RefusalPlace) (tree : Data)
     pub grades_refused : (fault : GradesFault) → IsReadingFault is_grades_memory (grades_of tree) fault → Told (Err (stop_of is_grades_memory Grades place fault))
     grades_refused fault h =
         rw second
-        (opens_stop (λ (g : List Grade). g) (λ (g : Option (List Grade)). g) (at place Grades (grades_of tree)) (λ grades. gives (Some grades)) told told (stop_of is_grades_memory Grades place fault)
-        (at_err is_grades_memory (λ (g : List Grade). g) told place Grades (grades_of tree) fault h))
+        (opens_stop (λ (g : List Grade). g) (λ (g : Option (List Grade)). g) (at place Grades (grades_of tree)) (λ grades. gives (Some grades)) state state (stop_of is_grades_memory Grades place fault)
+        (at_err is_grades_memory (λ (g : List Grade). g) state place Grades (grades_of tree) fault h))
 
 -- ---- the sheet of one part
 
@@ -66,17 +66,17 @@ some_if : {A : Type 0} (o : Option A) → is_some o ≡ true → is_none o ≡ f
 some_if None is = absurd (cc is)
 some_if (Some x) is = refl
 
-module _ (told : ShelfView) (place : RefusalPlace) (name : List ℕ) (grades : Option (List Grade)) (drawing : Drawing) (n : ℕ) (sheets : NamedSheets) (part : Part) where
+module _ (state : ShelfState) (place : RefusalPlace) (name : List ℕ) (grades : Option (List Grade)) (drawing : Drawing) (n : ℕ) (sheets : NamedSheets) (part : Part) where
   module _ {Y : Type 0} (v : Y → NamedSheets) where
-    passed : (y : Y) → is_unread sheets name part ≡ false → v y ≡ sheets → Opens v told told (with_part place name grades drawing n sheets part) (Ok y)
+    passed : (y : Y) → is_unread sheets name part ≡ false → v y ≡ sheets → Opens v state state (with_part place name grades drawing n sheets part) (Ok y)
     passed y known same = rw known (ap (λ x. ready x) same, refl)
 
     -- the part is drawn on another file
-    pub part_other : (y : Y) → bytes_eq name part.sheet ≡ false → v y ≡ sheets → Opens v told told (with_part place name grades drawing n sheets part) (Ok y)
+    pub part_other : (y : Y) → bytes_eq name part.sheet ≡ false → v y ≡ sheets → Opens v state state (with_part place name grades drawing n sheets part) (Ok y)
     part_other y other same = passed y (other_file (bytes_eq name part.sheet) (is_none (sheet_among sheets (key_of part))) other) same
 
     -- its sheet is read already
-    pub part_known : (y : Y) → is_some (sheet_among sheets (key_of part)) ≡ true → v y ≡ sheets → Opens v told told (with_part place name grades drawing n sheets part) (Ok y)
+    pub part_known : (y : Y) → is_some (sheet_among sheets (key_of part)) ≡ true → v y ≡ sheets → Opens v state state (with_part place name grades drawing n sheets part) (Ok y)
     part_known y known same = passed y (known_file (bytes_eq name part.sheet) (is_none (sheet_among sheets (key_of part))) (some_if (sheet_among sheets (key_of part)) known)) same
 
     module _ (here : bytes_eq name part.sheet ≡ true) (new : is_some (sheet_among sheets (key_of part)) ≡ false) where
@@ -84,20 +84,20 @@ module _ (told : ShelfView) (place : RefusalPlace) (name : List ℕ) (grades : O
       unread = on_file (bytes_eq name part.sheet) (is_none (sheet_among sheets (key_of part))) here (none_if (sheet_among sheets (key_of part)) new)
 
       -- its sheet can't be read
-      pub part_stop : (s : Stop) (r : Result Y Stop) → IsErrAnd r (λ e. e ≡ s) → Opens (λ (c : SheetContents). c) told told (at place Sheet (sheet_by grades part.grade drawing)) (Err s)
-          → Opens v told told (with_part place name grades drawing n sheets part) r
+      pub part_stop : (s : Stop) (r : Result Y Stop) → IsErrAnd r (λ e. e ≡ s) → Opens (λ (c : SheetContents). c) state state (at place Sheet (sheet_by grades part.grade drawing)) (Err s)
+          → Opens v state state (with_part place name grades drawing n sheets part) r
       part_stop s r is h =
-          rw unread (opens_up (λ (c : SheetContents). c) v (at place Sheet (sheet_by grades part.grade drawing)) (λ sheet. gives (with_sheet sheets (key_of part) sheet)) told told s r is h)
+          rw unread (opens_up (λ (c : SheetContents). c) v (at place Sheet (sheet_by grades part.grade drawing)) (λ sheet. gives (with_sheet sheets (key_of part) sheet)) state state s r is h)
 
       -- its sheet is added
-      pub part_put : (sheet : SheetContents) (y : Y) → Opens (λ (c : SheetContents). c) told told (at place Sheet (sheet_by grades part.grade drawing)) (Ok sheet) → v y ≡ with_sheet sheets (key_of part) sheet
-          → Opens v told told (with_part place name grades drawing n sheets part) (Ok y)
+      pub part_put : (sheet : SheetContents) (y : Y) → Opens (λ (c : SheetContents). c) state state (at place Sheet (sheet_by grades part.grade drawing)) (Ok sheet) → v y ≡ with_sheet sheets (key_of part) sheet
+          → Opens v state state (with_part place name grades drawing n sheets part) (Ok y)
       part_put sheet y h same =
-          rw unread (opens_then (λ (c : SheetContents). c) v (at place Sheet (sheet_by grades part.grade drawing)) (λ sheet. gives (with_sheet sheets (key_of part) sheet)) told told told sheet (Ok y) h (ap (λ x. ready x) same, refl))
+          rw unread (opens_then (λ (c : SheetContents). c) v (at place Sheet (sheet_by grades part.grade drawing)) (λ sheet. gives (with_sheet sheets (key_of part) sheet)) state state state sheet (Ok y) h (ap (λ x. ready x) same, refl))
 
 -- ---- the sheets of a tree
 
-module _ (told : ShelfView) (netlist : NetlistContents) (number : ℕ) (sheets : NamedSheets) (name : List ℕ) (tree : Data) where
+module _ (state : ShelfState) (netlist : NetlistContents) (number : ℕ) (sheets : NamedSheets) (name : List ℕ) (tree : Data) where
   abbrev parts_from : Drawing → Option (List Grade) → FileReading NamedSheets
   parts_from drawing grades = each (with_part (File number) name grades drawing) 0 sheets netlist.parts
 
@@ -105,26 +105,26 @@ module _ (told : ShelfView) (netlist : NetlistContents) (number : ℕ) (sheets :
   grades_from drawing = grades_in netlist.version (File number) tree >>= (λ grades. parts_from drawing grades)
 
   module _ {Y : Type 0} (v : Y → NamedSheets) where
-    pub diagram_refused : (fault : DiagramFault) → IsReadingFault is_diagram_memory (diagram_of tree) fault → Opens v told told (sheets_at netlist number sheets name tree) (Err (stop_of is_diagram_memory Diagram (File number) fault))
+    pub diagram_refused : (fault : DiagramFault) → IsReadingFault is_diagram_memory (diagram_of tree) fault → Opens v state state (sheets_at netlist number sheets name tree) (Err (stop_of is_diagram_memory Diagram (File number) fault))
     diagram_refused fault h =
-        opens_stop (λ (d : Drawing). d) v (at (File number) Diagram (diagram_of tree)) grades_from told told (stop_of is_diagram_memory Diagram (File number) fault)
-        (at_err is_diagram_memory (λ (d : Drawing). d) told (File number) Diagram (diagram_of tree) fault h)
+        opens_stop (λ (d : Drawing). d) v (at (File number) Diagram (diagram_of tree)) grades_from state state (stop_of is_diagram_memory Diagram (File number) fault)
+        (at_err is_diagram_memory (λ (d : Drawing). d) state (File number) Diagram (diagram_of tree) fault h)
 
     module _ (drawing : Drawing) (is : diagram_of tree ≡ Ok drawing) where
-      drawn : (r : Result Y Stop) → Opens v told told (grades_from drawing) r → Opens v told told (sheets_at netlist number sheets name tree) r
-      drawn r h = opens_then (λ (d : Drawing). d) v (at (File number) Diagram (diagram_of tree)) grades_from told told told drawing r (at_ok told (File number) Diagram (diagram_of tree) drawing is, refl) h
+      drawn : (r : Result Y Stop) → Opens v state state (grades_from drawing) r → Opens v state state (sheets_at netlist number sheets name tree) r
+      drawn r h = opens_then (λ (d : Drawing). d) v (at (File number) Diagram (diagram_of tree)) grades_from state state state drawing r (at_ok state (File number) Diagram (diagram_of tree) drawing is, refl) h
 
       module _ (version : ℕ) (same : version ≡ netlist.version) where
-        pub grades_up : (s : Stop) (r : Result Y Stop) → IsErrAnd r (λ e. e ≡ s) → Opens (λ (g : Option (List Grade)). g) told told (grades_in version (File number) tree) (Err s)
-            → Opens v told told (sheets_at netlist number sheets name tree) r
+        pub grades_up : (s : Stop) (r : Result Y Stop) → IsErrAnd r (λ e. e ≡ s) → Opens (λ (g : Option (List Grade)). g) state state (grades_in version (File number) tree) (Err s)
+            → Opens v state state (sheets_at netlist number sheets name tree) r
         grades_up s r err h =
-            let read : Opens (λ (g : Option (List Grade)). g) told told (grades_in netlist.version (File number) tree) (Err s) =
-            subst (λ (n : ℕ). Opens (λ (g : Option (List Grade)). g) told told (grades_in n (File number) tree) (Err s)) same h in
-            drawn r (opens_up (λ (g : Option (List Grade)). g) v (grades_in netlist.version (File number) tree) (parts_from drawing) told told s r err read)
+            let read : Opens (λ (g : Option (List Grade)). g) state state (grades_in netlist.version (File number) tree) (Err s) =
+            subst (λ (n : ℕ). Opens (λ (g : Option (List Grade)). g) state state (grades_in n (File number) tree) (Err s)) same h in
+            drawn r (opens_up (λ (g : Option (List Grade)). g) v (grades_in netlist.version (File number) tree) (parts_from drawing) state state s r err read)
 
-        pub parts_on : (grades : Option (List Grade)) (r : Result Y Stop) → Opens (λ (g : Option (List Grade)). g) told told (grades_in version (File number) tree) (Ok grades)
-            → Opens v told told (parts_from drawing grades) r → Opens v told told (sheets_at netlist number sheets name tree) r
+        pub parts_on : (grades : Option (List Grade)) (r : Result Y Stop) → Opens (λ (g : Option (List Grade)). g) state state (grades_in version (File number) tree) (Ok grades)
+            → Opens v state state (parts_from drawing grades) r → Opens v state state (sheets_at netlist number sheets name tree) r
         parts_on grades r h parts =
-            let read : Opens (λ (g : Option (List Grade)). g) told told (grades_in netlist.version (File number) tree) (Ok grades) =
-            subst (λ (n : ℕ). Opens (λ (g : Option (List Grade)). g) told told (grades_in n (File number) tree) (Ok grades)) same h in
-            drawn r (opens_then (λ (g : Option (List Grade)). g) v (grades_in netlist.version (File number) tree) (parts_from drawing) told told told grades r read parts)
+            let read : Opens (λ (g : Option (List Grade)). g) state state (grades_in netlist.version (File number) tree) (Ok grades) =
+            subst (λ (n : ℕ). Opens (λ (g : Option (List Grade)). g) state state (grades_in n (File number) tree) (Ok grades)) same h in
+            drawn r (opens_then (λ (g : Option (List Grade)). g) v (grades_in netlist.version (File number) tree) (parts_from drawing) state state state grades r read parts)

@@ -6,15 +6,15 @@ use Rattle.serde_json.specs.Data.{Data}
 use Rattle.wavejson.specs.declared.fault.DiagramFault.{DiagramFault}
 use Rattle.wavejson.specs.Drawing.{Drawing, diagram_of}
 use Rattle.sheet.specs.declared.fault.SheetFault.{SheetFault}
-use Rattle.sheet.specs.Contents.{SheetContents}
+use Rattle.sheet.specs.SheetContents.{SheetContents}
 use Rattle.sheet.specs.Links.{plain}
 use Rattle.sheet.specs.Sheet.{sheet_of}
 use Rattle.netlist.specs.Netlist.{lone_netlist}
-use Rattle.reading.specs.declared.place.RefusalPlace.TheVariants.{File}
+use Rattle.reading.specs.declared.refusal_place.RefusalPlace.TheVariants.{File}
 use Rattle.reading.specs.declared.refusal.Refusal.TheVariants.{Diagram, Sheet}
 use Rattle.plan.specs.Plan.{NamedSheets, Planned}
 use Rattle.reading.specs.Design.{grades_in, lone_at, with_part, with_sheet}
-use Rattle.reading.specs.Opening.{FileReading, ◌>>=◌, at, each, gives}
+use Rattle.reading.specs.FileReading.{FileReading, ◌>>=◌, at, each, gives}
 use Rattle.reading.specs.Step.Lone.{lone_by_sheet, lone_plan, plain_key}
 
 module _ (name : List ℕ) where

@@ -4,22 +4,22 @@ use Rattle.std.specs.Prelude.{is_none}
 use Rattle.std.specs.Str.{bytes_eq}
 use Rattle.std.proofs.lemmas.List.Elements.{All-cons, All-nil, All-weaker}
 use Rattle.std.proofs.lemmas.Slice.Eq.{bytes_eq-Decides}
-use Rattle.itv_base.specs.Outside.{ShelfView}
+use Rattle.itv_base.specs.Outside.{ShelfState}
 use Rattle.wavejson.specs.Drawing.{Drawing, diagram_of}
 use Rattle.grades.specs.declared.grade.Grade.{Grade}
-use Rattle.sheet.specs.Contents.{SheetContents}
+use Rattle.sheet.specs.SheetContents.{SheetContents}
 use Rattle.sheet.specs.Sheet.{sheet_by}
 use Rattle.netlist.specs.declared.part.Part.{Part}
-use Rattle.netlist.specs.Contents.{NetlistContents}
+use Rattle.netlist.specs.NetlistContents.{NetlistContents}
 use Rattle.netlist.specs.Netlist.{lone_netlist, sheet_names}
 use Rattle.netlist.proofs.SheetNames.{sheets_hold}
 use Rattle.compose.specs.declared.sheet_key.SheetKey.{SheetKey}
 use Rattle.compose.specs.Sheets.{key_of, same_key}
 use Rattle.compose.proofs.Keys.{same_key_itself}
-use Rattle.reading.specs.declared.place.RefusalPlace.{RefusalPlace}
-use Rattle.reading.specs.declared.place.RefusalPlace.TheVariants.{File}
+use Rattle.reading.specs.declared.refusal_place.RefusalPlace.{RefusalPlace}
+use Rattle.reading.specs.declared.refusal_place.RefusalPlace.TheVariants.{File}
 use Rattle.reading.specs.declared.refusal.Refusal.TheVariants.{Diagram, Sheet}
-use Rattle.reading.specs.Opening.{gives, at, each, RunsTo, ready, ◌>>=◌}
+use Rattle.reading.specs.FileReading.{gives, at, each, RunsTo, ready, ◌>>=◌}
 use Rattle.plan.specs.Plan.{NamedSheets, sheet_among}
 use Rattle.reading.specs.Design.{grades_in, is_unread, sheets_at, sheets_in, sheets_of_files, tree_in, with_part, with_sheet}
 use Rattle.reading.specs.Step.Lone.{plain_key}
@@ -77,7 +77,7 @@ both_of : (a b : Bool) → a ≡ true → (a && b) ≡ false → b ≡ false
 both_of true b is none = none
 both_of false b is none = absurd (cc is)
 
-module _ (shelf : ShelfView) (place : RefusalPlace) (name : List ℕ) (grades : Option (List Grade)) (drawing : Drawing) where
+module _ (shelf : ShelfState) (place : RefusalPlace) (name : List ℕ) (grades : Option (List Grade)) (drawing : Drawing) where
   -- a part that is drawn on the file has its sheet behind it
   part_brings : (n : ℕ) (sheets more : NamedSheets) (part : Part) → RunsTo shelf (with_part place name grades drawing n sheets part) (ready more) → part.sheet ≡ name → IsThere (key_of part) more
   part_brings n sheets more part comes named = by (is_unread sheets name part) refl comes
@@ -106,14 +106,14 @@ module _ (shelf : ShelfView) (place : RefusalPlace) (name : List ℕ) (grades : 
 abbrev pub AreDrawn : List Part → List ℕ → NamedSheets → Type 0
 AreDrawn parts name sheets = All (λ (part : Part). part.sheet ≡ name → IsThere (key_of part) sheets) parts
 
-module _ (shelf : ShelfView) (netlist : NetlistContents) where
+module _ (shelf : ShelfState) (netlist : NetlistContents) where
   -- what the reading of a file went through
   file_parts : (number : ℕ) (sheets more : NamedSheets) (name : List ℕ) → RunsTo shelf (sheets_in netlist number sheets name) (ready more)
       → (drawing : Drawing) × (grades : Option (List Grade)) × RunsTo shelf (each (with_part (File number) name grades drawing) 0 sheets netlist.parts) (ready more)
   file_parts number sheets more name comes =
       let (tree, fetched, read) = opening_then shelf (tree_in (File number) name) (λ tree. sheets_at netlist number sheets name tree) more comes in
       let (drawing, drawn, rest) = opening_then shelf (at (File number) Diagram (diagram_of tree)) (λ drawing. grades_in netlist.version (File number) tree >>= (λ grades. each (with_part (File number) name grades drawing) 0 sheets netlist.parts)) more read in
-      let (grades, told, last) = opening_then shelf (grades_in netlist.version (File number) tree) (λ grades. each (with_part (File number) name grades drawing) 0 sheets netlist.parts) more rest in
+      let (grades, state, last) = opening_then shelf (grades_in netlist.version (File number) tree) (λ grades. each (with_part (File number) name grades drawing) 0 sheets netlist.parts) more rest in
       (drawing, grades, last)
 
   file_brings : (number : ℕ) (sheets more : NamedSheets) (name : List ℕ) → RunsTo shelf (sheets_in netlist number sheets name) (ready more) → AreDrawn netlist.parts name more

@@ -9,10 +9,10 @@ use Rattle.itv_base.specs.declared.limits.TheConstants.{FILE_LIMIT}
 use Rattle.wavejson.specs.Drawing.{Drawing, diagram_of}
 use Rattle.grades.specs.declared.grade.Grade.{Grade}
 use Rattle.grades.specs.Grades.{grades_of}
-use Rattle.sheet.specs.Contents as sheet
+use Rattle.sheet.specs.SheetContents as sheet
 use Rattle.sheet.specs.Sheet.{sheet_by}
 use Rattle.netlist.specs.declared.part.Part.{Part}
-use Rattle.netlist.specs.Contents.{NetlistContents}
+use Rattle.netlist.specs.NetlistContents.{NetlistContents}
 use Rattle.netlist.specs.Netlist.{netlist_of, lone_netlist, sheet_names}
 use Rattle.compose.specs.Compose.{composed_on}
 use Rattle.compose.specs.Sheets.{key_of, same_key}
@@ -20,10 +20,10 @@ use Rattle.compose.specs.declared.sheet_key.SheetKey.{SheetKey}
 use Rattle.plan.specs.Plan.{NamedSheets, Planned, sheet_among, sheets_on}
 use Rattle.drawn.specs.Drawn.{Drawn}
 use Rattle.unroll.specs.Limits.{unrolled}
-use Rattle.reading.specs.declared.place.RefusalPlace.{RefusalPlace}
-use Rattle.reading.specs.declared.place.RefusalPlace.TheVariants.{File, Design}
+use Rattle.reading.specs.declared.refusal_place.RefusalPlace.{RefusalPlace}
+use Rattle.reading.specs.declared.refusal_place.RefusalPlace.TheVariants.{File, Design}
 use Rattle.reading.specs.declared.refusal.Refusal.TheVariants.{NotJson, Diagram, Grades, Sheet, Netlist, Joins, Limits}
-use Rattle.reading.specs.Opening.{FileReading, gives, ◌>>=◌, at, each, file_at}
+use Rattle.reading.specs.FileReading.{FileReading, gives, ◌>>=◌, at, each, file_at}
 
 -- ---- files
 

@@ -23,10 +23,10 @@ use Rattle.unroll.specs.declared.fault.UnrollFault.{UnrollFault}
 use Rattle.unroll.specs.declared.fault.UnrollFault.TheVariants as unroll
 use Rattle.edits.specs.declared.fault.EditsFault.{EditsFault}
 use Rattle.edits.specs.declared.fault.EditsFault.TheVariants as edits
-use Rattle.reading.specs.declared.place.RefusalPlace.{RefusalPlace}
+use Rattle.reading.specs.declared.refusal_place.RefusalPlace.{RefusalPlace}
 use Rattle.reading.specs.declared.refusal.Refusal.{Refusal}
 use Rattle.reading.specs.declared.refusal.Refusal.TheVariants.{TooLong, NotJson, Diagram, Grades, Sheet, Netlist, Joins, Limits, Mixed, Wide, Edits}
-use Rattle.reading.specs.Place.{place_words}
+use Rattle.reading.specs.RefusalPlace.{place_words}
 
 -- The words of a fault are its name and then what it keeps: a number in decimal, a mark as its character, and an inner fault by its name. Want of memory
 -- is no refusal.

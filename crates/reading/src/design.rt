@@ -3,8 +3,8 @@
 ghost use Rattle.reading.specs.Design.{design_at, drawn_at};
 ghost use Rattle.reading.specs.Step.{Opens, ReadsAs};
 
-use crate::place::RefusalPlace;
 use crate::planning::open_plan;
+use crate::refusal_place::RefusalPlace;
 use crate::stop::{Stop, join_stop, limit_stop};
 use compose::compose;
 use drawn::DrawnNetwork;
@@ -20,7 +20,7 @@ use unroll::unroll;
 ///
 /// `NoMemory` may come in place of any answer. `NoMemory` and a refusal leave the shelf as it was.
 pub fn open_design<H: Shelf>(alloc: Global, name: &str, shelf: &mut H) -> Result<DrawnNetwork, Stop>
-    ensures opens { Opens (λ drawn. drawn) (H.told shelf.old) (H.told shelf.new)
+    ensures opens { Opens (λ drawn. drawn) (H.state shelf.old) (H.state shelf.new)
         (design_at name.now) result }
 {
     let plan = open_plan(alloc, name, shelf)?;

@@ -3,11 +3,11 @@
 ghost use Rattle.std.specs.Prelude.{◌<◌, ◌+◌, ◌^◌};
 ghost use Rattle.serde_json.specs.View.{view};
 ghost use Rattle.reading.specs.Design.{tree_at, tree_in};
-ghost use Rattle.reading.specs.Opening.{file_at, within_limit};
+ghost use Rattle.reading.specs.FileReading.{file_at, within_limit};
 ghost use Rattle.reading.specs.Step.{Opens, ReadsAs};
 
-use crate::place::RefusalPlace;
 use crate::refusal::Refusal;
+use crate::refusal_place::RefusalPlace;
 use crate::stop::Stop;
 use itv_base::{FILE_LIMIT, FetchFault, Listing, Shelf};
 use serde_json::Value;
@@ -20,7 +20,7 @@ pub fn open_tree<H: Shelf>(
     name: &str,
     shelf: &mut H,
 ) -> Result<Value, Stop>
-    ensures { Opens view (H.told shelf.old) (H.told shelf.new) (tree_in place name.now) result }
+    ensures { Opens view (H.state shelf.old) (H.state shelf.new) (tree_in place name.now) result }
 {
     let bytes = fetch_file(alloc, place, name, FILE_LIMIT, shelf)?;
     read_tree(alloc, place, bytes.as_slice())
@@ -38,7 +38,7 @@ pub fn fetch_file<H: Shelf>(
     shelf: &mut H,
 ) -> Result<Listing<u8>, Stop>
     requires limit { limit + 1 < 2 ^ 32 }
-    ensures opens { Opens (λ bytes. bytes) (H.told shelf.old) (H.told shelf.new)
+    ensures opens { Opens (λ bytes. bytes) (H.state shelf.old) (H.state shelf.new)
         (file_at place name.now limit) result }
 {
     match shelf.fetch(alloc, name, limit + 1) {

@@ -6,17 +6,17 @@
 
 mod design;
 mod file;
-mod place;
 mod planning;
 mod put;
 mod refusal;
+mod refusal_place;
 mod sheets;
 mod stop;
 
 pub use design::{draw_plan, open_design};
 pub use file::fetch_file;
-pub use place::RefusalPlace;
 pub use planning::open_plan;
 pub use put::{put_refusal, put_unread};
 pub use refusal::Refusal;
+pub use refusal_place::RefusalPlace;
 pub use stop::{Stop, edits_stop};

@@ -8,7 +8,7 @@ ghost use Rattle.reading.specs.Step.{Opens, ReadsAs};
 ghost use Rattle.reading.specs.Step.Lone.{lone_plan, plain_key};
 
 use crate::file::open_tree;
-use crate::place::RefusalPlace;
+use crate::refusal_place::RefusalPlace;
 use crate::sheets::{open_sheets, push_sheet, read_plain_sheet};
 use crate::stop::{Stop, netlist_stop};
 use compose::{SheetKey, Sheets};
@@ -28,7 +28,7 @@ use std::alloc::Global;
 ///
 /// `NoMemory` may come in place of any answer. `NoMemory` and a refusal leave the shelf as it was.
 pub fn open_plan<H: Shelf>(alloc: Global, name: &str, shelf: &mut H) -> Result<Plan, Stop>
-    ensures opens { Opens (λ plan. plan) (H.told shelf.old) (H.told shelf.new)
+    ensures opens { Opens (λ plan. plan) (H.state shelf.old) (H.state shelf.new)
         (plan_at name.now) result }
 {
     let tree = open_tree(alloc, RefusalPlace::File(0), name, shelf)?;
@@ -78,7 +78,7 @@ fn plain_key(alloc: Global, name: &str) -> Result<SheetKey, NoMemory>
 
 // The plan of a netlist.
 fn open_netlist<H: Shelf>(alloc: Global, tree: &Value, shelf: &mut H) -> Result<Plan, Stop>
-    ensures { Opens (λ plan. plan) (H.told shelf.old) (H.told shelf.new)
+    ensures { Opens (λ plan. plan) (H.state shelf.old) (H.state shelf.new)
         (netlist_at (view tree.now)) result }
 {
     let netlist = match read_netlist(alloc, tree) {

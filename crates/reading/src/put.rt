@@ -5,13 +5,13 @@ ghost use Rattle.std.specs.List.{flat_map};
 ghost use Rattle.itv_base.specs.Numerals.{number_text};
 ghost use Rattle.itv_base.specs.Outside.{Puts};
 ghost use Rattle.line_words.specs.Lines.{spaced};
-ghost use Rattle.reading.specs.Place.{place_words};
+ghost use Rattle.reading.specs.RefusalPlace.{place_words};
 ghost use Rattle.reading.specs.Refusal.{fault_words, label_fault_name, limit_name, range_fault_name, refusal_text, unread_text};
 ghost use Rattle.reading.specs.Step.Word.{word_spelled};
 
 use self::Word::{Count, Number, Text};
-use crate::place::RefusalPlace;
 use crate::refusal::Refusal;
+use crate::refusal_place::RefusalPlace;
 use compose::JoinFault;
 use edits::EditsFault;
 use itoa::Buffer;
@@ -29,7 +29,7 @@ pub fn put_refusal<K: Sink>(
     why: Refusal,
     sink: &mut K,
 ) -> Result<(), PutFailed>
-    ensures puts { Puts (K.told sink.old) (K.told sink.new) (refusal_text place why) result }
+    ensures puts { Puts (K.state sink.old) (K.state sink.new) (refusal_text place why) result }
 {
     sink.put(b"refused")?;
     put_place(place, sink)?;
@@ -39,7 +39,7 @@ pub fn put_refusal<K: Sink>(
 
 /// Writes the line of a file that could not be read.
 pub fn put_unread<K: Sink>(place: RefusalPlace, sink: &mut K) -> Result<(), PutFailed>
-    ensures puts { Puts (K.told sink.old) (K.told sink.new) (unread_text place) result }
+    ensures puts { Puts (K.state sink.old) (K.state sink.new) (unread_text place) result }
 {
     sink.put(b"cannot read")?;
     put_place(place, sink)?;
@@ -58,7 +58,7 @@ enum Word<'a> {
 
 // Writes some words, each behind a space.
 fn put_words<K: Sink>(words: &[Word], sink: &mut K) -> Result<(), PutFailed>
-    ensures { Puts (K.told sink.old) (K.told sink.new) (flat_map spaced (map word_spelled words.now)) result }
+    ensures { Puts (K.state sink.old) (K.state sink.new) (flat_map spaced (map word_spelled words.now)) result }
 {
     for word in words {
         put_word(*word, sink)?;
@@ -67,7 +67,7 @@ fn put_words<K: Sink>(words: &[Word], sink: &mut K) -> Result<(), PutFailed>
 }
 
 fn put_word<K: Sink>(word: Word, sink: &mut K) -> Result<(), PutFailed>
-    ensures { Puts (K.told sink.old) (K.told sink.new) (spaced (word_spelled word.entry)) result }
+    ensures { Puts (K.state sink.old) (K.state sink.new) (spaced (word_spelled word.entry)) result }
 {
     let mut digits = Buffer::new();
     match word {
@@ -87,7 +87,7 @@ fn wide_text(number: u128, buffer: &mut Buffer) -> &str
 // ---- places and faults
 
 fn put_place<K: Sink>(place: RefusalPlace, sink: &mut K) -> Result<(), PutFailed>
-    ensures { Puts (K.told sink.old) (K.told sink.new) (flat_map spaced (place_words place)) result }
+    ensures { Puts (K.state sink.old) (K.state sink.new) (flat_map spaced (place_words place)) result }
 {
     match place {
         RefusalPlace::File(number) => put_words(&[Text(b"file"), Number(number)], sink),
@@ -98,7 +98,7 @@ fn put_place<K: Sink>(place: RefusalPlace, sink: &mut K) -> Result<(), PutFailed
 }
 
 fn put_fault<K: Sink>(why: Refusal, sink: &mut K) -> Result<(), PutFailed>
-    ensures { Puts (K.told sink.old) (K.told sink.new) (flat_map spaced (fault_words why)) result }
+    ensures { Puts (K.state sink.old) (K.state sink.new) (flat_map spaced (fault_words why)) result }
 {
     match why {
         Refusal::TooLong => put_words(&[Text(b"TooLong")], sink),
@@ -123,7 +123,7 @@ fn put_fault<K: Sink>(why: Refusal, sink: &mut K) -> Result<(), PutFailed>
 }
 
 fn put_diagram_fault<K: Sink>(fault: DiagramFault, sink: &mut K) -> Result<(), PutFailed>
-    ensures { Puts (K.told sink.old) (K.told sink.new) (flat_map spaced (fault_words (Refusal.Diagram fault))) result }
+    ensures { Puts (K.state sink.old) (K.state sink.new) (flat_map spaced (fault_words (Refusal.Diagram fault))) result }
 {
     match fault {
         DiagramFault::NotObject => put_words(&[Text(b"NotObject")], sink),
@@ -135,7 +135,7 @@ fn put_diagram_fault<K: Sink>(fault: DiagramFault, sink: &mut K) -> Result<(), P
 }
 
 fn put_sheet_fault<K: Sink>(fault: SheetFault, sink: &mut K) -> Result<(), PutFailed>
-    ensures { Puts (K.told sink.old) (K.told sink.new) (flat_map spaced (fault_words (Refusal.Sheet fault))) result }
+    ensures { Puts (K.state sink.old) (K.state sink.new) (flat_map spaced (fault_words (Refusal.Sheet fault))) result }
 {
     match fault {
         SheetFault::BadNode(lane) => put_words(&[Text(b"BadNode"), Number(lane)], sink),
@@ -158,7 +158,7 @@ fn put_sheet_fault<K: Sink>(fault: SheetFault, sink: &mut K) -> Result<(), PutFa
 }
 
 fn put_grades_fault<K: Sink>(fault: GradesFault, sink: &mut K) -> Result<(), PutFailed>
-    ensures { Puts (K.told sink.old) (K.told sink.new) (flat_map spaced (fault_words (Refusal.Grades fault))) result }
+    ensures { Puts (K.state sink.old) (K.state sink.new) (flat_map spaced (fault_words (Refusal.Grades fault))) result }
 {
     match fault {
         GradesFault::Grades => put_words(&[Text(b"Grades")], sink),
@@ -176,7 +176,7 @@ fn put_grades_fault<K: Sink>(fault: GradesFault, sink: &mut K) -> Result<(), Put
 }
 
 fn put_netlist_fault<K: Sink>(fault: NetlistFault, sink: &mut K) -> Result<(), PutFailed>
-    ensures { Puts (K.told sink.old) (K.told sink.new) (flat_map spaced (fault_words (Refusal.Netlist fault))) result }
+    ensures { Puts (K.state sink.old) (K.state sink.new) (flat_map spaced (fault_words (Refusal.Netlist fault))) result }
 {
     match fault {
         NetlistFault::NotObject => put_words(&[Text(b"NotObject")], sink),
@@ -210,7 +210,7 @@ fn put_netlist_fault<K: Sink>(fault: NetlistFault, sink: &mut K) -> Result<(), P
 }
 
 fn put_join_fault<K: Sink>(fault: JoinFault, sink: &mut K) -> Result<(), PutFailed>
-    ensures { Puts (K.told sink.old) (K.told sink.new) (flat_map spaced (fault_words (Refusal.Joins fault))) result }
+    ensures { Puts (K.state sink.old) (K.state sink.new) (flat_map spaced (fault_words (Refusal.Joins fault))) result }
 {
     match fault {
         JoinFault::NoPart(net, pin) => put_words(
@@ -245,7 +245,7 @@ fn put_join_fault<K: Sink>(fault: JoinFault, sink: &mut K) -> Result<(), PutFail
 }
 
 fn put_limit_fault<K: Sink>(fault: UnrollFault, sink: &mut K) -> Result<(), PutFailed>
-    ensures { Puts (K.told sink.old) (K.told sink.new) (flat_map spaced (fault_words (Refusal.Limits fault))) result }
+    ensures { Puts (K.state sink.old) (K.state sink.new) (flat_map spaced (fault_words (Refusal.Limits fault))) result }
 {
     match fault {
         UnrollFault::TooMany { limit, count } => put_words(
@@ -257,7 +257,7 @@ fn put_limit_fault<K: Sink>(fault: UnrollFault, sink: &mut K) -> Result<(), PutF
 }
 
 fn put_edits_fault<K: Sink>(fault: EditsFault, sink: &mut K) -> Result<(), PutFailed>
-    ensures { Puts (K.told sink.old) (K.told sink.new) (flat_map spaced (fault_words (Refusal.Edits fault))) result }
+    ensures { Puts (K.state sink.old) (K.state sink.new) (flat_map spaced (fault_words (Refusal.Edits fault))) result }
 {
     match fault {
         EditsFault::TooLong => put_words(&[Text(b"TooLong")], sink),

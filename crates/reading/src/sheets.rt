@@ -9,13 +9,13 @@ ghost use Rattle.sheet.specs.Fault.{is_memory};
 ghost use Rattle.sheet.specs.Sheet.{sheet_by};
 ghost use Rattle.netlist.specs.Netlist.{sheet_names};
 ghost use Rattle.reading.specs.Design.{grades_in, sheets_at, sheets_in, sheets_of_files, with_part, with_sheet};
-ghost use Rattle.reading.specs.Opening.{at, each};
+ghost use Rattle.reading.specs.FileReading.{at, each};
 ghost use Rattle.reading.specs.Step.{Opens, ReadsAs};
 ghost use Rattle.reading.specs.Step.Lone.{plain_sheet_at};
 ghost use Rattle.reading.specs.declared.refusal.Refusal.TheVariants as refusals;
 
 use crate::file::open_tree;
-use crate::place::RefusalPlace;
+use crate::refusal_place::RefusalPlace;
 use crate::stop::{Stop, diagram_stop, grades_stop, sheet_stop};
 use compose::{SheetKey, Sheets};
 use itv_base::{NoMemory, Shelf, Text};
@@ -32,7 +32,7 @@ pub fn open_sheets<H: Shelf>(
     netlist: &Netlist,
     shelf: &mut H,
 ) -> Result<Sheets, Stop>
-    ensures { Opens (λ sheets. sheets.entries) (H.told shelf.old) (H.told shelf.new)
+    ensures { Opens (λ sheets. sheets.entries) (H.state shelf.old) (H.state shelf.new)
         (sheets_of_files netlist.now (sheet_names netlist.now.parts)) result }
 {
     let mut sheets = Sheets::new(alloc);
@@ -59,7 +59,7 @@ fn open_file<H: Shelf>(
     sheets: &mut Sheets,
     shelf: &mut H,
 ) -> Result<(), Stop>
-    ensures { Opens (λ _. sheets.new.entries) (H.told shelf.old) (H.told shelf.new)
+    ensures { Opens (λ _. sheets.new.entries) (H.state shelf.old) (H.state shelf.new)
         (sheets_in netlist.now number sheets.old.entries name.now) result }
 {
     let tree = open_tree(alloc, RefusalPlace::File(number), name, shelf)?;

@@ -11,8 +11,8 @@ ghost use Rattle.edits.specs.EditsFile.{is_memory as is_edits_memory};
 ghost use Rattle.reading.specs.Step.{stop_of};
 ghost use Rattle.reading.specs.declared.stop.Stop.TheVariants.{NoMemory};
 
-use crate::place::RefusalPlace;
 use crate::refusal::Refusal;
+use crate::refusal_place::RefusalPlace;
 use compose::JoinFault;
 use edits::EditsFault;
 use itv_base::NoMemory as OutOfMemory;

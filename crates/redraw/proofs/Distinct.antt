@@ -3,9 +3,9 @@ use Rattle.std.proofs.Common.{◌≡◌, ◌+◌, ◌<◌, ◌==◌, ◌⊎◌, 
 use Rattle.std.proofs.lemmas.Bool.{eqb-false}
 use Rattle.std.specs.List.{range_with_len}
 use Rattle.itv_base.specs.declared.names.EventId.{EventId}
-use Rattle.redraw.specs.declared.stand.DrawnEvent.{DrawnEvent}
-use Rattle.redraw.specs.declared.stand.Timed.{Timed}
-use Rattle.redraw.specs.declared.stand.TheConstants.{MOST_DRAWN}
+use Rattle.redraw.specs.declared.drawn_event.DrawnEvent.{DrawnEvent}
+use Rattle.redraw.specs.declared.drawn_event.Timed.{Timed}
+use Rattle.redraw.specs.declared.drawn_event.TheConstants.{MOST_DRAWN}
 use Rattle.redraw.specs.Order.{drawn_events, event, in_rank, is_other, ordered_events, timed_at, with_timed}
 use Rattle.redraw.specs.Drawing.{first_stand, next_stand, number_in, stands_after, stands_of}
 use Rattle.redraw.proofs.Ordered.{AreNumbered, Every, every_take, every_with}

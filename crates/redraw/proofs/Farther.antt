@@ -7,8 +7,8 @@ use Rattle.event_graph.specs.Times.{separation, time_of}
 use Rattle.falling.proofs.Near.{IsKept, below_or_not}
 use Rattle.drawn.specs.declared.row.Row.{Row}
 use Rattle.drawn.specs.Drawn.{Drawn, IsRowOf}
-use Rattle.redraw.specs.declared.stand.DrawnEvent.{DrawnEvent}
-use Rattle.redraw.specs.declared.stand.Timed.{Timed}
+use Rattle.redraw.specs.declared.drawn_event.DrawnEvent.{DrawnEvent}
+use Rattle.redraw.specs.declared.drawn_event.Timed.{Timed}
 use Rattle.redraw.specs.Narrowing.{lesser, narrowed, widest_gap}
 use Rattle.redraw.specs.Order.{drawn_events, ordered_events, timed_at}
 use Rattle.redraw.specs.Drawing.{first_stand, next_stand, nowhere, row_stands, stands_after, stands_drawn, stands_of, time_in}

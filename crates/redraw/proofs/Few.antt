@@ -8,8 +8,8 @@ use Rattle.itv_base.specs.declared.names.EventId.{EventId}
 use Rattle.event_graph.specs.Times.{separation, time_of}
 use Rattle.falling.specs.Cap.{widest_end}
 use Rattle.falling.proofs.Near.{IsKept, KeepsNear, satisfies_kept}
-use Rattle.redraw.specs.declared.stand.DrawnEvent.{DrawnEvent}
-use Rattle.redraw.specs.declared.stand.TheConstants.{MOST_DRAWN}
+use Rattle.redraw.specs.declared.drawn_event.DrawnEvent.{DrawnEvent}
+use Rattle.redraw.specs.declared.drawn_event.TheConstants.{MOST_DRAWN}
 use Rattle.redraw.specs.Narrowing.{widest_gap}
 use Rattle.redraw.specs.Order.{drawn_events, event, in_rank, is_other, ordered_events, timed_at}
 use Rattle.redraw.specs.Drawing.{stands_drawn, time_in}

@@ -10,7 +10,7 @@ use Rattle.std.proofs.lemmas.List.Folds.{list_all-append}
 use Rattle.itv_base.specs.declared.names.EventId.{EventId}
 use Rattle.itv_base.specs.Names.{Name}
 use Rattle.itv_base.specs.Numerals.{end_text, number_text}
-use Rattle.itv_base.specs.Outside.{CutShort, Puts, SinkView, grown}
+use Rattle.itv_base.specs.Outside.{CutShort, Puts, SinkState, grown}
 use Rattle.itv_base.specs.Range.{Ends}
 use Rattle.itv_base.proofs.Numbers.{digit_range}
 use Rattle.itv_base.proofs.Numerals.{digits-text}
@@ -18,8 +18,8 @@ use Rattle.itv_base.proofs.Written.{Left, cut_more, puts_same, puts_then}
 use Rattle.label_grammar.specs.declared.label.Kind.{Kind}
 use Rattle.label_grammar.specs.declared.label.Kind.TheVariants.{Lin, Late, Early, Req, Ask}
 use Rattle.label_grammar.specs.Label.{LooseLabel, ends_text, spelling, version_1}
-use Rattle.redraw.specs.declared.stand.DrawnEvent.{DrawnEvent}
-use Rattle.redraw.specs.declared.stand.TheConstants.{MOST_DRAWN}
+use Rattle.redraw.specs.declared.drawn_event.DrawnEvent.{DrawnEvent}
+use Rattle.redraw.specs.declared.drawn_event.TheConstants.{MOST_DRAWN}
 use Rattle.redraw.specs.Narrowing.{widest_gap}
 use Rattle.redraw.specs.Drawing.{Lane, demand_edge, edge_text, exactly, lane_of, mark_at, number_in, range_label, rising_lane, sketch_of, step_edge, step_edges, steps_of}
 use Rattle.redraw.specs.Text.{after_commas, escaped, escaped_byte, lane_text, quoted, sketch_text, with_commas}
@@ -27,10 +27,10 @@ use Rattle.redraw.specs.Step.{AreNear, StandNear, edge_front, lane_end, lane_fro
 
 -- ---- two puts
 
-pub first_cut : (old new : SinkView) (xs ys whole : List ℕ) → whole ≡ xs ++ ys → CutShort old new xs → CutShort old new whole
+pub first_cut : (old new : SinkState) (xs ys whole : List ℕ) → whole ≡ xs ++ ys → CutShort old new xs → CutShort old new whole
 first_cut old new xs ys whole e c = subst (λ w. CutShort old new w) (sym e) (cut_more old new xs ys c)
 
-pub both_put : {E : Type 0} (old mid new : SinkView) (xs ys whole : List ℕ) (r : Result ⊤ E) → whole ≡ xs ++ ys → mid ≡ grown old xs → Puts mid new ys r → Puts old new whole r
+pub both_put : {E : Type 0} (old mid new : SinkState) (xs ys whole : List ℕ) (r : Result ⊤ E) → whole ≡ xs ++ ys → mid ≡ grown old xs → Puts mid new ys r → Puts old new whole r
 both_put old mid new xs ys whole r e g p = puts_same old new (xs ++ ys) whole r (sym e) (puts_then old mid new xs ys r g p)
 
 -- ---- bytes that stand as they are
@@ -243,7 +243,7 @@ pub number_none : (stands : List DrawnEvent) (i : ℕ) (event : EventId) → len
 number_none stands i event h = ap (λ l. number_in l event) (drop_all i stands h)
 
 -- some edges are put, and the other events follow the last one put
-pub record AreLeft (old now : SinkView) (first before : DrawnEvent) (rest stands : List DrawnEvent) : Type 0 where
+pub record AreLeft (old now : SinkState) (first before : DrawnEvent) (rest stands : List DrawnEvent) : Type 0 where
   pub left : Left old now (steps_text (step_edges before rest)) (steps_text (step_edges first stands))
   pub near : AreNear before rest
   pub number : before.number < MOST_DRAWN

@@ -4,7 +4,7 @@ use Rattle.itv_base.specs.Range.{Ends}
 use Rattle.event_graph.proofs.EdgesMet.{All-found}
 use Rattle.drawn.specs.declared.row.Row.{Row}
 use Rattle.drawn.specs.Drawn.{Drawn, IsRowOf, name_of}
-use Rattle.redraw.specs.declared.stand.DrawnEvent.{DrawnEvent}
+use Rattle.redraw.specs.declared.drawn_event.DrawnEvent.{DrawnEvent}
 use Rattle.redraw.specs.Narrowing.{narrowed, widest_gap}
 use Rattle.redraw.specs.Order.{ordered_events}
 use Rattle.redraw.specs.Drawing.{demand_of, nowhere, row_stands, sketch_of, sketched, stands_of}
@@ -31,9 +31,9 @@ pub redrawn_at : (drawn : Drawn) (rows : List Row) (row number : ℕ) (asked : R
     → sketch_text (sketch_of (name_of drawn) asked.from asked.to range (stands_of (ordered_events asked.from asked.to (length times) times))) ≡ redrawn drawn row times
 redrawn_at drawn rows row number asked range times same all at there count demanded =
     let within = All-found (IsRowOf drawn.net) rows number asked there all in
-    let told : slice_get drawn.rows row ≡ Some asked = ap (λ l. slice_get l row) (sym same) ∙ ap (λ n. slice_get rows n) (sym at) ∙ there in
+    let shown : slice_get drawn.rows row ≡ Some asked = ap (λ l. slice_get l row) (sym same) ∙ ap (λ n. slice_get rows n) (sym at) ∙ there in
     ap (λ ends. sketch_text (sketch_of (name_of drawn) asked.from asked.to ends (stands_of (ordered_events asked.from asked.to (length times) times)))) demanded
-    ∙ sym (redrawn_is drawn row asked times told count within.0 within.1)
+    ∙ sym (redrawn_is drawn row asked times shown count within.0 within.1)
 
 pub stand_at : (n m : ℕ) (stands : List DrawnEvent) → n ≡ m → All (IsStand n) stands → All (IsStand m) stands
 stand_at n m stands e h = subst (λ k. All (IsStand k) stands) e h

@@ -5,8 +5,8 @@ use Rattle.itv_base.specs.declared.names.EventId.{EventId}
 use Rattle.event_graph.specs.Times.{separation, time_of}
 use Rattle.falling.proofs.Near.{IsKept, KeepsNear, below_or_not, keeps_in}
 use Rattle.drawn.specs.declared.row.Row.{Row}
-use Rattle.redraw.specs.declared.stand.DrawnEvent.{DrawnEvent}
-use Rattle.redraw.specs.declared.stand.Timed.{Timed}
+use Rattle.redraw.specs.declared.drawn_event.DrawnEvent.{DrawnEvent}
+use Rattle.redraw.specs.declared.drawn_event.Timed.{Timed}
 use Rattle.redraw.specs.Narrowing.{lesser, narrowed, widest_gap}
 use Rattle.redraw.specs.Order.{drawn_events, in_order, ordered_events, timed_at, with_timed}
 use Rattle.redraw.specs.Drawing.{next_stand, row_stands, stands_after, stands_of}

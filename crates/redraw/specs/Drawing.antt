@@ -12,8 +12,8 @@ use Rattle.slack_report.specs.Text.{name_word}
 use Rattle.origin.specs.declared.origin.Origin.TheVariants.{Edge}
 use Rattle.drawn.specs.declared.row.Row.{Row}
 use Rattle.drawn.specs.Drawn.{Drawn, name_of}
-use Rattle.redraw.specs.declared.stand.DrawnEvent.{DrawnEvent}
-use Rattle.redraw.specs.declared.stand.Timed.{Timed}
+use Rattle.redraw.specs.declared.drawn_event.DrawnEvent.{DrawnEvent}
+use Rattle.redraw.specs.declared.drawn_event.Timed.{Timed}
 use Rattle.redraw.specs.Narrowing.{lesser, narrowed, widest_gap}
 use Rattle.redraw.specs.Order.{ordered_events}
 

@@ -3,12 +3,12 @@
 //! drawing keeps of the times.
 #![tactic(auto)]
 
+mod drawn_event;
 pub mod laws;
 mod order;
 mod row;
-mod stand;
 mod standing;
 mod write;
 
+pub use drawn_event::{DrawnEvent, MOST_DRAWN, Timed};
 pub use row::{DrawSpace, draw};
-pub use stand::{DrawnEvent, MOST_DRAWN, Timed};

@@ -9,10 +9,10 @@ ghost use Rattle.redraw.specs.Drawing.{demand_of, sketch_of, stands_of};
 ghost use Rattle.redraw.specs.Order.{ordered_events};
 ghost use Rattle.redraw.specs.Step.{IsDemand};
 ghost use Rattle.redraw.specs.Text.{redrawn, sketch_text};
-ghost use Rattle.redraw.specs.declared.stand.TheConstants.{MOST_DRAWN};
+ghost use Rattle.redraw.specs.declared.drawn_event.TheConstants.{MOST_DRAWN};
 
+use crate::drawn_event::{DrawnEvent, MOST_DRAWN, Timed};
 use crate::order::order;
-use crate::stand::{DrawnEvent, MOST_DRAWN, Timed};
 use crate::standing::stand_up;
 use crate::write::put_sketch;
 use drawn::{DrawnNetwork, Row};
@@ -29,7 +29,7 @@ pub struct DrawSpace {
 
 impl Model for DrawSpace {
     ghost use Rattle.std.specs.Prelude.{◌≡◌, ⊤, length};
-    ghost use Rattle.redraw.specs.declared.stand.TheConstants.{MOST_DRAWN};
+    ghost use Rattle.redraw.specs.declared.drawn_event.TheConstants.{MOST_DRAWN};
 
     ghost Value = { ⊤ };
 
@@ -91,7 +91,7 @@ fn draw_asked<K: Sink>(
     requires stands { length stands.old ≡ MOST_DRAWN }
     ensures timed { length timed.new ≡ MOST_DRAWN }
     ensures stands { length stands.new ≡ MOST_DRAWN }
-    ensures puts { Puts (K.told sink.old) (K.told sink.new) (sketch_text (sketch_of (name_of names.now) asked.now.from asked.now.to range
+    ensures puts { Puts (K.state sink.old) (K.state sink.new) (sketch_text (sketch_of (name_of names.now) asked.now.from asked.now.to range
         (stands_of (ordered_events asked.now.from asked.now.to (length times.now) times.now)))) result }
 {
     let count = place_all(timed, stands, asked, names.network().events(), times);
@@ -129,7 +129,7 @@ pub fn draw<K: Sink>(
     requires row { IsSomeAnd (slice_get names.now.rows row) (λ (asked : Row). IsDemand asked.kind) }
     requires count { length times.now ≡ names.now.net.events }
     requires small { All IsTime times.now }
-    ensures puts { Puts (K.told sink.old) (K.told sink.new) (redrawn names.now row times.now) result }
+    ensures puts { Puts (K.state sink.old) (K.state sink.new) (redrawn names.now row times.now) result }
 {
     let asked = names.rows().get(u64::from(row));
     let kind: RowKind = asked.kind;

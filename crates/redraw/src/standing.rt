@@ -5,10 +5,10 @@ ghost use Rattle.event_graph.specs.Times.{IsTime};
 ghost use Rattle.redraw.specs.Drawing.{first_stand, next_stand, stands_of};
 ghost use Rattle.redraw.specs.Narrowing.{lesser, widest_gap};
 ghost use Rattle.redraw.specs.Step.{AreInOrder};
-ghost use Rattle.redraw.specs.declared.stand.Timed.{Timed};
-ghost use Rattle.redraw.specs.declared.stand.TheConstants.{MOST_DRAWN};
+ghost use Rattle.redraw.specs.declared.drawn_event.Timed.{Timed};
+ghost use Rattle.redraw.specs.declared.drawn_event.TheConstants.{MOST_DRAWN};
 
-use crate::stand::{DrawnEvent, Timed};
+use crate::drawn_event::{DrawnEvent, Timed};
 use itv_base::END_LIMIT;
 
 /// Writes into the first places where events in order of time stand.

@@ -12,10 +12,10 @@ ghost use Rattle.redraw.specs.Drawing.{demand_edge, edge_text, exactly, lane_of,
 ghost use Rattle.redraw.specs.Narrowing.{widest_gap};
 ghost use Rattle.redraw.specs.Step.{AreNear, IsStand, StandNear, edge_front, lane_end, lane_front, lane_wave, mark_and_cycle, steps_text};
 ghost use Rattle.redraw.specs.Text.{after_commas, escaped, escaped_byte, lane_text, quoted, sketch_text, with_commas};
-ghost use Rattle.redraw.specs.declared.stand.DrawnEvent.{DrawnEvent};
-ghost use Rattle.redraw.specs.declared.stand.TheConstants.{MOST_DRAWN};
+ghost use Rattle.redraw.specs.declared.drawn_event.DrawnEvent.{DrawnEvent};
+ghost use Rattle.redraw.specs.declared.drawn_event.TheConstants.{MOST_DRAWN};
 
-use crate::stand::{DrawnEvent, MOST_DRAWN};
+use crate::drawn_event::{DrawnEvent, MOST_DRAWN};
 use drawn::DrawnNetwork;
 use itoa::Buffer;
 use itv_base::{EventId, EventName, PutFailed, Range, Sink, number_text, put_all};
@@ -61,7 +61,7 @@ fn needs_backslash(byte: u8) -> bool
 
 // Puts a byte of a string, with a backslash before it if it needs one.
 fn put_byte<K: Sink>(byte: u8, sink: &mut K) -> Result<(), PutFailed>
-    ensures { Puts (K.told sink.old) (K.told sink.new) (escaped_byte byte) result }
+    ensures { Puts (K.state sink.old) (K.state sink.new) (escaped_byte byte) result }
 {
     if needs_backslash(byte) {
         return sink.put(&[b'\\', byte]);
@@ -71,7 +71,7 @@ fn put_byte<K: Sink>(byte: u8, sink: &mut K) -> Result<(), PutFailed>
 
 // Puts bytes as they are, and then a byte of a string.
 fn put_after<K: Sink>(front: &[u8], byte: u8, sink: &mut K) -> Result<(), PutFailed>
-    ensures { Puts (K.told sink.old) (K.told sink.new) (front.now ++ escaped_byte byte) result }
+    ensures { Puts (K.state sink.old) (K.state sink.new) (front.now ++ escaped_byte byte) result }
 {
     sink.put(front)?;
     put_byte(byte, sink)
@@ -79,7 +79,7 @@ fn put_after<K: Sink>(front: &[u8], byte: u8, sink: &mut K) -> Result<(), PutFai
 
 // Puts the bytes of a string.
 fn put_bytes<K: Sink>(text: &[u8], sink: &mut K) -> Result<(), PutFailed>
-    ensures { Puts (K.told sink.old) (K.told sink.new) (escaped text.now) result }
+    ensures { Puts (K.state sink.old) (K.state sink.new) (escaped text.now) result }
 {
     for byte in text {
         put_byte(*byte, sink)?;
@@ -89,7 +89,7 @@ fn put_bytes<K: Sink>(text: &[u8], sink: &mut K) -> Result<(), PutFailed>
 
 // Puts the cycle of a name.
 fn put_cycle<K: Sink>(cycle: u32, sink: &mut K) -> Result<(), PutFailed>
-    ensures { Puts (K.told sink.old) (K.told sink.new) (64 ∷ number_text cycle) result }
+    ensures { Puts (K.state sink.old) (K.state sink.new) (64 ∷ number_text cycle) result }
 {
     let mut digits = Buffer::new();
     let text = number_text(u64::from(cycle), &mut digits);
@@ -98,7 +98,7 @@ fn put_cycle<K: Sink>(cycle: u32, sink: &mut K) -> Result<(), PutFailed>
 
 // Puts the mark and the cycle of a name.
 fn put_mark_and_cycle<K: Sink>(mark: u8, cycle: u32, sink: &mut K) -> Result<(), PutFailed>
-    ensures { Puts (K.told sink.old) (K.told sink.new) (mark_and_cycle mark cycle) result }
+    ensures { Puts (K.state sink.old) (K.state sink.new) (mark_and_cycle mark cycle) result }
 {
     put_after(b".", mark, sink)?;
     put_cycle(cycle, sink)
@@ -106,7 +106,7 @@ fn put_mark_and_cycle<K: Sink>(mark: u8, cycle: u32, sink: &mut K) -> Result<(),
 
 // Puts the name of an event.
 fn put_name<K: Sink>(name: EventName<'_>, sink: &mut K) -> Result<(), PutFailed>
-    ensures { Puts (K.told sink.old) (K.told sink.new) (escaped (name_word (name_view name.entry))) result }
+    ensures { Puts (K.state sink.old) (K.state sink.new) (escaped (name_word (name_view name.entry))) result }
 {
     put_bytes(name.part.as_bytes(), sink)?;
     put_mark_and_cycle(name.mark, name.cycle, sink)
@@ -114,7 +114,7 @@ fn put_name<K: Sink>(name: EventName<'_>, sink: &mut K) -> Result<(), PutFailed>
 
 // Puts a lane up to the end of its name.
 fn put_lane_front<K: Sink>(name: EventName<'_>, sink: &mut K) -> Result<(), PutFailed>
-    ensures { Puts (K.told sink.old) (K.told sink.new) (lane_front (name_word (name_view name.entry))) result }
+    ensures { Puts (K.state sink.old) (K.state sink.new) (lane_front (name_word (name_view name.entry))) result }
 {
     sink.put(b"{\"name\":\"")?;
     put_name(name, sink)
@@ -124,7 +124,7 @@ fn put_lane_front<K: Sink>(name: EventName<'_>, sink: &mut K) -> Result<(), PutF
 fn put_wave<K: Sink>(place: u32, sink: &mut K) -> Result<(), PutFailed>
     requires least { 1 ≤ place }
     requires most { place ≤ MOST_DRAWN }
-    ensures { Puts (K.told sink.old) (K.told sink.new) (lane_wave place) result }
+    ensures { Puts (K.state sink.old) (K.state sink.new) (lane_wave place) result }
 {
     let wave = dots(place - 1);
     let node = dots(place);
@@ -133,7 +133,7 @@ fn put_wave<K: Sink>(place: u32, sink: &mut K) -> Result<(), PutFailed>
 
 // Puts the mark at the end of a node, and the end of its lane.
 fn put_lane_end<K: Sink>(mark: u8, sink: &mut K) -> Result<(), PutFailed>
-    ensures { Puts (K.told sink.old) (K.told sink.new) (lane_end mark) result }
+    ensures { Puts (K.state sink.old) (K.state sink.new) (lane_end mark) result }
 {
     put_byte(mark, sink)?;
     sink.put(b"\"}")
@@ -143,7 +143,7 @@ fn put_lane_end<K: Sink>(mark: u8, sink: &mut K) -> Result<(), PutFailed>
 fn put_lane_back<K: Sink>(place: u32, mark: u8, sink: &mut K) -> Result<(), PutFailed>
     requires least { 1 ≤ place }
     requires most { place ≤ MOST_DRAWN }
-    ensures { Puts (K.told sink.old) (K.told sink.new) (lane_wave place ++ lane_end mark) result }
+    ensures { Puts (K.state sink.old) (K.state sink.new) (lane_wave place ++ lane_end mark) result }
 {
     put_wave(place, sink)?;
     put_lane_end(mark, sink)
@@ -152,7 +152,7 @@ fn put_lane_back<K: Sink>(place: u32, mark: u8, sink: &mut K) -> Result<(), PutF
 // Puts the lane of an event.
 fn put_lane<K: Sink>(names: &DrawnNetwork, stand: DrawnEvent, sink: &mut K) -> Result<(), PutFailed>
     requires { IsStand names.now.net.events stand }
-    ensures { Puts (K.told sink.old) (K.told sink.new) (lane_text (lane_of (name_of names.now) stand)) result }
+    ensures { Puts (K.state sink.old) (K.state sink.new) (lane_text (lane_of (name_of names.now) stand)) result }
 {
     put_lane_front(names.name(stand.event), sink)?;
     put_lane_back(stand.place, mark_at(stand.number), sink)
@@ -165,7 +165,7 @@ fn put_next_lane<K: Sink>(
     sink: &mut K,
 ) -> Result<(), PutFailed>
     requires { IsStand names.now.net.events stand }
-    ensures { Puts (K.told sink.old) (K.told sink.new) (44 ∷ lane_text (lane_of (name_of names.now) stand)) result }
+    ensures { Puts (K.state sink.old) (K.state sink.new) (44 ∷ lane_text (lane_of (name_of names.now) stand)) result }
 {
     sink.put(b",")?;
     put_lane(names, stand, sink)
@@ -173,14 +173,14 @@ fn put_next_lane<K: Sink>(
 
 // Puts the mark at the head of an edge.
 fn put_head<K: Sink>(to: u8, sink: &mut K) -> Result<(), PutFailed>
-    ensures { Puts (K.told sink.old) (K.told sink.new) (codes "->" ++ escaped_byte to) result }
+    ensures { Puts (K.state sink.old) (K.state sink.new) (codes "->" ++ escaped_byte to) result }
 {
     put_after(b"->", to, sink)
 }
 
 // Puts the marks of an edge.
 fn put_marks<K: Sink>(from: u8, to: u8, sink: &mut K) -> Result<(), PutFailed>
-    ensures { Puts (K.told sink.old) (K.told sink.new) (edge_front from to) result }
+    ensures { Puts (K.state sink.old) (K.state sink.new) (edge_front from to) result }
 {
     put_after(b"\"", from, sink)?;
     put_head(to, sink)
@@ -189,7 +189,7 @@ fn put_marks<K: Sink>(from: u8, to: u8, sink: &mut K) -> Result<(), PutFailed>
 // Puts the label of an edge, and its end.
 fn put_label<K: Sink>(kind: Kind, range: Range, sink: &mut K) -> Result<(), PutFailed>
     requires { IsProper version_1 (range_label kind range) }
-    ensures { Puts (K.told sink.old) (K.told sink.new) (spelling version_1 (range_label kind range) ++ codes "\"") result }
+    ensures { Puts (K.state sink.old) (K.state sink.new) (spelling version_1 (range_label kind range) ++ codes "\"") result }
 {
     let label = Label {
         kind,
@@ -205,7 +205,7 @@ fn put_label<K: Sink>(kind: Kind, range: Range, sink: &mut K) -> Result<(), PutF
 // Puts an edge from its label on.
 fn put_edge_back<K: Sink>(kind: Kind, range: Range, sink: &mut K) -> Result<(), PutFailed>
     requires { IsProper version_1 (range_label kind range) }
-    ensures { Puts (K.told sink.old) (K.told sink.new) (32 ∷ (spelling version_1 (range_label kind range) ++ codes "\"")) result }
+    ensures { Puts (K.state sink.old) (K.state sink.new) (32 ∷ (spelling version_1 (range_label kind range) ++ codes "\"")) result }
 {
     sink.put(b" ")?;
     put_label(kind, range, sink)
@@ -220,7 +220,7 @@ fn put_edge<K: Sink>(
     sink: &mut K,
 ) -> Result<(), PutFailed>
     requires { IsProper version_1 (range_label kind range) }
-    ensures { Puts (K.told sink.old) (K.told sink.new) (quoted (edge_text from to (range_label kind range))) result }
+    ensures { Puts (K.state sink.old) (K.state sink.new) (quoted (edge_text from to (range_label kind range))) result }
 {
     put_marks(from, to, sink)?;
     put_edge_back(kind, range, sink)
@@ -247,7 +247,7 @@ fn put_other_lanes<K: Sink>(
     sink: &mut K,
 ) -> Result<(), PutFailed>
     requires { All (IsStand names.now.net.events) stands.now }
-    ensures { Puts (K.told sink.old) (K.told sink.new) (after_commas (map (λ (s : DrawnEvent). lane_text (lane_of (name_of names.now) s)) stands.now)) result }
+    ensures { Puts (K.state sink.old) (K.state sink.new) (after_commas (map (λ (s : DrawnEvent). lane_text (lane_of (name_of names.now) s)) stands.now)) result }
 {
     for stand in stands {
         put_next_lane(names, *stand, sink)?;
@@ -263,7 +263,7 @@ fn put_lanes<K: Sink>(
 ) -> Result<(), PutFailed>
     requires some { 1 ≤ length stands.now }
     requires stand { All (IsStand names.now.net.events) stands.now }
-    ensures { Puts (K.told sink.old) (K.told sink.new) (with_commas (map (λ (s : DrawnEvent). lane_text (lane_of (name_of names.now) s)) stands.now)) result }
+    ensures { Puts (K.state sink.old) (K.state sink.new) (with_commas (map (λ (s : DrawnEvent). lane_text (lane_of (name_of names.now) s)) stands.now)) result }
 {
     put_lane(names, stands[0], sink)?;
     put_other_lanes(names, &stands[1..], sink)
@@ -289,7 +289,7 @@ fn put_step<K: Sink>(before: DrawnEvent, stand: DrawnEvent, sink: &mut K) -> Res
     requires number { stand.number < MOST_DRAWN }
     requires low { pos 0 ≤ℤ (stand.time -ℤ before.time) }
     requires high { (stand.time -ℤ before.time) ≤ℤ pos widest_gap }
-    ensures { Puts (K.told sink.old) (K.told sink.new) (quoted (step_edge before stand) ++ codes ",") result }
+    ensures { Puts (K.state sink.old) (K.state sink.new) (quoted (step_edge before stand) ++ codes ",") result }
 {
     let from = mark_at(before.number);
     let to = mark_at(stand.number);
@@ -307,7 +307,7 @@ fn put_steps_after<K: Sink>(
     requires first { first.number < MOST_DRAWN }
     requires numbers { All (λ (s : DrawnEvent). s.number < MOST_DRAWN) stands.now }
     requires near { AreNear first stands.now }
-    ensures { Puts (K.told sink.old) (K.told sink.new) (steps_text (step_edges first stands.now)) result }
+    ensures { Puts (K.state sink.old) (K.state sink.new) (steps_text (step_edges first stands.now)) result }
 {
     let mut before = first;
     for stand in stands {
@@ -322,7 +322,7 @@ fn put_steps<K: Sink>(stands: &[DrawnEvent], sink: &mut K) -> Result<(), PutFail
     requires some { 1 ≤ length stands.now }
     requires numbers { All (λ (s : DrawnEvent). s.number < MOST_DRAWN) stands.now }
     requires near { StandNear stands.now }
-    ensures { Puts (K.told sink.old) (K.told sink.new) (steps_text (steps_of stands.now)) result }
+    ensures { Puts (K.state sink.old) (K.state sink.new) (steps_text (steps_of stands.now)) result }
 {
     put_steps_after(stands[0], &stands[1..], sink)
 }
@@ -336,7 +336,7 @@ fn put_demand<K: Sink>(
     sink: &mut K,
 ) -> Result<(), PutFailed>
     requires numbers { All (λ (s : DrawnEvent). s.number < MOST_DRAWN) stands.now }
-    ensures { Puts (K.told sink.old) (K.told sink.new) (quoted (demand_edge stands.now from to range)) result }
+    ensures { Puts (K.state sink.old) (K.state sink.new) (quoted (demand_edge stands.now from to range)) result }
 {
     let tail = number_of(stands, from);
     let head = number_of(stands, to);
@@ -353,7 +353,7 @@ fn put_signal<K: Sink>(
 ) -> Result<(), PutFailed>
     requires some { 1 ≤ length stands.now }
     requires stand { All (IsStand names.now.net.events) stands.now }
-    ensures { Puts (K.told sink.old) (K.told sink.new) (codes "{\"signal\":["
+    ensures { Puts (K.state sink.old) (K.state sink.new) (codes "{\"signal\":["
         ++ with_commas (map (λ (s : DrawnEvent). lane_text (lane_of (name_of names.now) s)) stands.now)) result }
 {
     sink.put(b"{\"signal\":[")?;
@@ -371,7 +371,7 @@ fn put_edges<K: Sink>(
     requires some { 1 ≤ length stands.now }
     requires numbers { All (λ (s : DrawnEvent). s.number < MOST_DRAWN) stands.now }
     requires near { StandNear stands.now }
-    ensures { Puts (K.told sink.old) (K.told sink.new)
+    ensures { Puts (K.state sink.old) (K.state sink.new)
         (steps_text (steps_of stands.now) ++ quoted (demand_edge stands.now from to range)) result }
 {
     put_steps(stands, sink)?;
@@ -389,7 +389,7 @@ fn put_edge_list<K: Sink>(
     requires some { 1 ≤ length stands.now }
     requires numbers { All (λ (s : DrawnEvent). s.number < MOST_DRAWN) stands.now }
     requires near { StandNear stands.now }
-    ensures { Puts (K.told sink.old) (K.told sink.new) (codes "],\"edge\":["
+    ensures { Puts (K.state sink.old) (K.state sink.new) (codes "],\"edge\":["
         ++ (steps_text (steps_of stands.now) ++ quoted (demand_edge stands.now from to range))) result }
 {
     sink.put(b"],\"edge\":[")?;
@@ -407,7 +407,7 @@ fn put_tail<K: Sink>(
     requires some { 1 ≤ length stands.now }
     requires numbers { All (λ (s : DrawnEvent). s.number < MOST_DRAWN) stands.now }
     requires near { StandNear stands.now }
-    ensures { Puts (K.told sink.old) (K.told sink.new) ((codes "],\"edge\":["
+    ensures { Puts (K.state sink.old) (K.state sink.new) ((codes "],\"edge\":["
         ++ (steps_text (steps_of stands.now) ++ quoted (demand_edge stands.now from to range))) ++ codes "]}\n") result }
 {
     put_edge_list(stands, from, to, range, sink)?;
@@ -427,7 +427,7 @@ pub fn put_sketch<K: Sink>(
     requires stand { All (IsStand names.now.net.events) stands.now }
     requires numbers { All (λ (s : DrawnEvent). s.number < MOST_DRAWN) stands.now }
     requires near { StandNear stands.now }
-    ensures puts { Puts (K.told sink.old) (K.told sink.new)
+    ensures puts { Puts (K.state sink.old) (K.state sink.new)
         (sketch_text (sketch_of (name_of names.now) from to range stands.now)) result }
 {
     put_signal(names, stands, sink)?;

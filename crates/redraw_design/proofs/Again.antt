@@ -14,9 +14,9 @@ use Rattle.drawn.specs.Drawn.{Drawn, name_of}
 use Rattle.unroll.specs.Drawn.{drawn_of}
 use Rattle.slack_report.specs.Entry.{IsName}
 use Rattle.reading.specs.Design.{design_at}
-use Rattle.reading.specs.Opening.{ready, told_end}
-use Rattle.redraw.specs.declared.stand.DrawnEvent.{DrawnEvent}
-use Rattle.redraw.specs.declared.stand.Timed.{Timed}
+use Rattle.reading.specs.FileReading.{ready, end_over}
+use Rattle.redraw.specs.declared.drawn_event.DrawnEvent.{DrawnEvent}
+use Rattle.redraw.specs.declared.drawn_event.Timed.{Timed}
 use Rattle.redraw.specs.Drawing.{demand_of, drawn_times, sketch_of, stands_of}
 use Rattle.redraw.specs.Order.{ordered_events}
 use Rattle.redraw.specs.Text.{redrawn, sketch_text}
@@ -47,7 +47,7 @@ redrawn_as name from to ends ss h = record {
 }
 
 abbrev ReadsAgain : Files → List ℕ → List DrawnEvent → EventId → EventId → Ends → Type 0
-ReadsAgain files file ss from to ends = (again : Drawn) × (told_end files (design_at file) ≡ ready again) × IsRedrawn ss from to ends again
+ReadsAgain files file ss from to ends = (again : Drawn) × (end_over files (design_at file) ≡ ready again) × IsRedrawn ss from to ends again
 
 pair_again : (drawn : Drawn) (from to : EventId) (ends : Ends) (xs : List Timed) (files : Files) (file : List ℕ) → length drawn.names ≡ drawn.net.events → All IsName drawn.names → IsRange ends
     → IsPairDrawn drawn from to ends xs → file_of files file ≡ Some (sketch_text (sketch_of (name_of drawn) from to ends (stands_of xs))) → ReadsAgain files file (stands_of xs) from to ends

@@ -4,8 +4,8 @@ use Rattle.std.proofs.lemmas.Int.{ints}
 use Rattle.std.proofs.lemmas.List.{get_or-map, length-map}
 use Rattle.itv_base.specs.declared.names.EventId.{EventId}
 use Rattle.event_graph.specs.Times.{separation, shifted, time_of}
-use Rattle.redraw.specs.declared.stand.DrawnEvent.{DrawnEvent}
-use Rattle.redraw.specs.declared.stand.Timed.{Timed}
+use Rattle.redraw.specs.declared.drawn_event.DrawnEvent.{DrawnEvent}
+use Rattle.redraw.specs.declared.drawn_event.Timed.{Timed}
 use Rattle.redraw.specs.Drawing.{drawn_times, first_stand, next_stand, number_in, stands_after, stands_drawn, stands_of, time_in}
 use Rattle.redraw.specs.Laws.{IsInnerHigh, IsInnerLow}
 use Rattle.redraw.specs.Order.{event, ordered_events}

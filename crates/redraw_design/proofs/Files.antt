@@ -17,9 +17,9 @@ use Rattle.drawn.specs.Drawn.{Drawn}
 use Rattle.unroll.specs.Drawn.{drawn_of}
 use Rattle.reading.specs.Design.{design_at, drawn_at, tree_at, tree_planned, with_sheet}
 use Rattle.reading.specs.Step.Lone.{plain_key}
-use Rattle.reading.specs.declared.place.RefusalPlace.TheVariants.{File}
-use Rattle.reading.specs.Opening.{FileReading, gives, ◌>>=◌, ready, told_end, unread, within_limit}
-use Rattle.redraw.specs.declared.stand.DrawnEvent.{DrawnEvent}
+use Rattle.reading.specs.declared.refusal_place.RefusalPlace.TheVariants.{File}
+use Rattle.reading.specs.FileReading.{FileReading, gives, ◌>>=◌, ready, end_over, unread, within_limit}
+use Rattle.redraw.specs.declared.drawn_event.DrawnEvent.{DrawnEvent}
 use Rattle.redraw.specs.Drawing.{Lane, sketch_of}
 use Rattle.redraw.proofs.Ordered.{Every}
 use Rattle.redraw_design.proofs.Lone.{design_drawn, design_is, unrolled_is}
@@ -55,13 +55,13 @@ abbrev next_of : List ℕ → List ℕ → FileReading Drawn
 next_of file bytes = ((within_limit (File 0) FILE_LIMIT bytes >>= (λ bytes. tree_at (File 0) bytes)) >>= (λ tree. tree_planned file tree)) >>= (λ plan. drawn_at plan.netlist plan.sheets)
 
 bytes_give : (files : Files) (file bytes : List ℕ) (tree : Data) (drawn : Drawn) → length bytes ≤ FILE_LIMIT → is_utf8 bytes ≡ true → read bytes ≡ Some tree
-    → tree_drawn file tree ≡ gives drawn → told_end files (next_of file bytes) ≡ ready drawn
+    → tree_drawn file tree ≡ gives drawn → end_over files (next_of file bytes) ≡ ready drawn
 unfolding tree_at
 bytes_give files file bytes tree drawn short utf8 reads draws = rw (not_long FILE_LIMIT (length bytes) short, utf8, reads, draws) refl
 
 pub file_gives : (files : Files) (file text : List ℕ) (tree : Data) (drawn : Drawn) → file_of files file ≡ Some text → length text ≤ FILE_LIMIT → is_utf8 text ≡ true → read text ≡ Some tree
-    → tree_drawn file tree ≡ gives drawn → told_end files (design_at file) ≡ ready drawn
+    → tree_drawn file tree ≡ gives drawn → end_over files (design_at file) ≡ ready drawn
 file_gives files file text tree drawn there short utf8 reads draws =
-    ap (λ (o : Option (List ℕ)). option_map_or (λ bytes. told_end files (next_of file (take (FILE_LIMIT + 1) bytes))) o (unread (File 0) file)) there
-    ∙ ap (λ bytes. told_end files (next_of file bytes)) (take_all (FILE_LIMIT + 1) text (omega (arith, short)))
+    ap (λ (o : Option (List ℕ)). option_map_or (λ bytes. end_over files (next_of file (take (FILE_LIMIT + 1) bytes))) o (unread (File 0) file)) there
+    ∙ ap (λ bytes. end_over files (next_of file bytes)) (take_all (FILE_LIMIT + 1) text (omega (arith, short)))
     ∙ bytes_give files file text tree drawn short utf8 reads draws

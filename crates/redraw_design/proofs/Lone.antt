@@ -11,7 +11,7 @@ use Rattle.itv_base.specs.declared.row_kind.RowKind.TheVariants as asked
 use Rattle.origin.specs.declared.origin.Origin.TheVariants.{Edge}
 use Rattle.event_graph.specs.Edges.{cause_choices}
 use Rattle.event_graph.specs.Network.{Constraint, Net, linear, splittable_count}
-use Rattle.sheet.specs.Contents.{SheetContents}
+use Rattle.sheet.specs.SheetContents.{SheetContents}
 use Rattle.netlist.specs.Netlist.{lone_netlist}
 use Rattle.compose.specs.Compose.{composed_on}
 use Rattle.compose.specs.Design.{Composed}
@@ -21,8 +21,8 @@ use Rattle.unroll.specs.Cycle.{rule_behind}
 use Rattle.unroll.specs.Cycles.{constraint_in}
 use Rattle.unroll.specs.Drawn.{drawn_of}
 use Rattle.unroll.specs.Limits.{counts_by, first_passed, unrolled, within}
-use Rattle.redraw.specs.declared.stand.DrawnEvent.{DrawnEvent}
-use Rattle.redraw.specs.declared.stand.TheConstants.{MOST_DRAWN}
+use Rattle.redraw.specs.declared.drawn_event.DrawnEvent.{DrawnEvent}
+use Rattle.redraw.specs.declared.drawn_event.TheConstants.{MOST_DRAWN}
 use Rattle.redraw.specs.Drawing.{drawn_times, exactly, number_in}
 use Rattle.redraw.specs.Order.{event}
 use Rattle.redraw.proofs.Ordered.{AreNumbered}

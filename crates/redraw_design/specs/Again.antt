@@ -12,8 +12,8 @@ use Rattle.drawn.specs.declared.row.Row.{Row}
 use Rattle.drawn.specs.Drawn.{Drawn, IsRowOf}
 use Rattle.slack_report.specs.Entry.{IsName}
 use Rattle.reading.specs.Design.{design_at}
-use Rattle.reading.specs.Opening.{ready, told_end}
-use Rattle.redraw.specs.declared.stand.DrawnEvent.{DrawnEvent}
+use Rattle.reading.specs.FileReading.{ready, end_over}
+use Rattle.redraw.specs.declared.drawn_event.DrawnEvent.{DrawnEvent}
 use Rattle.redraw.specs.Drawing.{drawn_times, number_in, stands_drawn}
 use Rattle.redraw.specs.Laws.{IsInnerHigh, IsInnerLow, NamesDiffer}
 use Rattle.redraw.specs.Order.{event}
@@ -38,7 +38,7 @@ RedrawnIsRead =
     → slice_get drawn.rows row ≡ Some asked → IsRowOf drawn.net asked → asked.kind ≡ Req ends → IsRange ends → length times ≡ drawn.net.events
     → length drawn.names ≡ drawn.net.events → All IsName drawn.names → NamesDiffer drawn
     → file_of files file ≡ Some (redrawn drawn row times)
-    → (again : Drawn) × (told_end files (design_at file) ≡ ready again) × IsRedrawn (stands_drawn drawn row times) asked.from asked.to ends again
+    → (again : Drawn) × (end_over files (design_at file) ≡ ready again) × IsRedrawn (stands_drawn drawn row times) asked.from asked.to ends again
 
 -- a separation is past an end of a range, and the end is not the widest that an end may be
 abbrev pub IsPastEnd : Ends → ℤ → Type 0

@@ -5,9 +5,9 @@ use Rattle.itv_base.specs.Range.{Ends, IsRange}
 use Rattle.itv_base.specs.declared.names.EventId.{EventId}
 use Rattle.drawn.specs.Drawn.{Drawn, name_of, nameless}
 use Rattle.slack_report.specs.Entry.{IsName}
-use Rattle.redraw.specs.declared.stand.DrawnEvent.{DrawnEvent}
-use Rattle.redraw.specs.declared.stand.Timed.{Timed}
-use Rattle.redraw.specs.declared.stand.TheConstants.{MOST_DRAWN}
+use Rattle.redraw.specs.declared.drawn_event.DrawnEvent.{DrawnEvent}
+use Rattle.redraw.specs.declared.drawn_event.Timed.{Timed}
+use Rattle.redraw.specs.declared.drawn_event.TheConstants.{MOST_DRAWN}
 use Rattle.redraw_read.specs.Again.{IsSheetText, RedrawnIsSheet}
 use Rattle.redraw.specs.Drawing.{Lane, demand_of, lane_of, number_in, sketch_of, stands_drawn, stands_of}
 use Rattle.redraw.specs.Order.{drawn_events, ordered_events, timed_at}

@@ -14,9 +14,9 @@ use Rattle.label_grammar.specs.declared.label.Kind.TheVariants.{Lin, Req}
 use Rattle.label_grammar.specs.Label.{IsProper, is_ask, version_1}
 use Rattle.sheet.specs.Lanes.{first_repeated}
 use Rattle.slack_report.specs.Text.{name_word}
-use Rattle.redraw.specs.declared.stand.DrawnEvent.{DrawnEvent}
-use Rattle.redraw.specs.declared.stand.Timed.{Timed}
-use Rattle.redraw.specs.declared.stand.TheConstants.{MOST_DRAWN}
+use Rattle.redraw.specs.declared.drawn_event.DrawnEvent.{DrawnEvent}
+use Rattle.redraw.specs.declared.drawn_event.Timed.{Timed}
+use Rattle.redraw.specs.declared.drawn_event.TheConstants.{MOST_DRAWN}
 use Rattle.redraw.specs.Narrowing.{widest_gap}
 use Rattle.redraw.specs.Drawing.{exactly, next_stand, number_in, range_label, stands_after, stands_of}
 use Rattle.redraw.specs.Order.{ordered_events}

@@ -22,8 +22,8 @@ use Rattle.sheet.specs.declared.mark.Mark.{Mark}
 use Rattle.itv_base.specs.declared.row_kind.RowKind.TheVariants as asked
 use Rattle.sheet.specs.Links.{Link, joins, plain, link_of, link_rows, link_rules, number_of, rule_opened, source_of, with_edge}
 use Rattle.sheet.specs.Rule.{SheetRule}
-use Rattle.redraw.specs.declared.stand.DrawnEvent.{DrawnEvent}
-use Rattle.redraw.specs.declared.stand.TheConstants.{MOST_DRAWN}
+use Rattle.redraw.specs.declared.drawn_event.DrawnEvent.{DrawnEvent}
+use Rattle.redraw.specs.declared.drawn_event.TheConstants.{MOST_DRAWN}
 use Rattle.redraw.specs.Drawing.{demand_edge, edge_text, exactly, mark_at, number_in, range_label, step_edges, steps_of}
 use Rattle.redraw_read.proofs.Marks.{is_mark_at}
 use Rattle.redraw.proofs.Ordered.{Every}

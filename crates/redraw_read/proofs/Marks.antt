@@ -10,8 +10,8 @@ use Rattle.sheet.specs.declared.mark.Mark.{Mark}
 use Rattle.sheet.specs.Lanes.{drawn_kind, has_bad_node, is_node_byte, lane_marks}
 use Rattle.sheet.specs.Lanes as sheets
 use Rattle.wavejson.specs.declared.lane_text.LaneText.{LaneText}
-use Rattle.redraw.specs.declared.stand.DrawnEvent.{DrawnEvent}
-use Rattle.redraw.specs.declared.stand.TheConstants.{MOST_DRAWN}
+use Rattle.redraw.specs.declared.drawn_event.DrawnEvent.{DrawnEvent}
+use Rattle.redraw.specs.declared.drawn_event.TheConstants.{MOST_DRAWN}
 use Rattle.redraw.specs.Drawing.{lane_of, mark_at}
 use Rattle.redraw.proofs.Ordered.{Every}
 use Rattle.redraw_read.proofs.Tree.{drawn_lane}

@@ -12,8 +12,8 @@ use Rattle.sheet.specs.Lanes.{NumberedLane, first_repeated, follows_rule, has_ba
 use Rattle.sheet.specs.Links.{number_of}
 use Rattle.sheet.specs.Rule.{SheetRule}
 use Rattle.sheet.specs.Sheet.{read_marks, read_pins}
-use Rattle.redraw.specs.declared.stand.DrawnEvent.{DrawnEvent}
-use Rattle.redraw.specs.declared.stand.TheConstants.{MOST_DRAWN}
+use Rattle.redraw.specs.declared.drawn_event.DrawnEvent.{DrawnEvent}
+use Rattle.redraw.specs.declared.drawn_event.TheConstants.{MOST_DRAWN}
 use Rattle.redraw.specs.Drawing.{mark_at}
 use Rattle.slack_report.specs.Text.{name_word}
 use Rattle.redraw_read.proofs.Marks.{IsFew, fresh_mark, lane_mark, marks_are, marks_from, none_bad, other_mark, text_lane}

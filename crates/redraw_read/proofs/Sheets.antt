@@ -5,12 +5,12 @@ use Rattle.itv_base.specs.Range.{Ends}
 use Rattle.itv_base.specs.declared.names.EventId.{EventId}
 use Rattle.itv_base.specs.declared.row_kind.RowKind.TheVariants as asked
 use Rattle.origin.specs.declared.origin.Origin.TheVariants.{Edge}
-use Rattle.sheet.specs.Contents.{SheetContents}
+use Rattle.sheet.specs.SheetContents.{SheetContents}
 use Rattle.sheet.specs.Lanes.{first_repeated}
 use Rattle.sheet.specs.Links.{plain}
 use Rattle.sheet.specs.Sheet.{sheet_of}
-use Rattle.redraw.specs.declared.stand.DrawnEvent.{DrawnEvent}
-use Rattle.redraw.specs.declared.stand.TheConstants.{MOST_DRAWN}
+use Rattle.redraw.specs.declared.drawn_event.DrawnEvent.{DrawnEvent}
+use Rattle.redraw.specs.declared.drawn_event.TheConstants.{MOST_DRAWN}
 use Rattle.redraw.specs.Drawing.{lane_of, number_in, sketch_of}
 use Rattle.redraw_read.proofs.Linked.{IsSound, demand_link, edges_linked, edges_read, lin_rule, links_by, read_from, rows_linked, rules_linked}
 use Rattle.redraw_read.proofs.Marks.{IsFew, marks_from, text_lane}

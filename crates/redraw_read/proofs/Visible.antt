@@ -17,8 +17,8 @@ use Rattle.label_grammar.specs.declared.label.Kind.TheVariants.{Lin, Late, Early
 use Rattle.label_grammar.specs.Label.{ends_text, spelling, version_1}
 use Rattle.slack_report.specs.Entry.{IsName}
 use Rattle.slack_report.specs.Text.{name_word}
-use Rattle.redraw.specs.declared.stand.DrawnEvent.{DrawnEvent}
-use Rattle.redraw.specs.declared.stand.TheConstants.{MOST_DRAWN}
+use Rattle.redraw.specs.declared.drawn_event.DrawnEvent.{DrawnEvent}
+use Rattle.redraw.specs.declared.drawn_event.TheConstants.{MOST_DRAWN}
 use Rattle.redraw.specs.Drawing.{Lane, Sketch, demand_edge, edge_text, exactly, lane_of, mark_at, number_in, range_label, sketch_of, step_edges, steps_of}
 use Rattle.redraw.specs.Text.{after_commas, escaped, escaped_byte, lane_text, quoted, sketch_text, with_commas}
 use Rattle.redraw_read.proofs.Json.{IsPlainLane, IsPlainSketch, is_plain}

@@ -9,13 +9,13 @@ use Rattle.itv_base.specs.declared.names.EventId.{EventId}
 use Rattle.itv_base.specs.declared.row_kind.RowKind.TheVariants.{Req}
 use Rattle.origin.specs.declared.origin.Origin.TheVariants.{Edge}
 use Rattle.wavejson.specs.Drawing.{Drawing, diagram_of}
-use Rattle.sheet.specs.Contents.{SheetContents}
+use Rattle.sheet.specs.SheetContents.{SheetContents}
 use Rattle.sheet.specs.Links.{plain}
 use Rattle.sheet.specs.Sheet.{sheet_of}
 use Rattle.drawn.specs.declared.row.Row.{Row}
 use Rattle.drawn.specs.Drawn.{Drawn, IsRowOf}
 use Rattle.slack_report.specs.Entry.{IsName}
-use Rattle.redraw.specs.declared.stand.DrawnEvent.{DrawnEvent}
+use Rattle.redraw.specs.declared.drawn_event.DrawnEvent.{DrawnEvent}
 use Rattle.redraw.specs.Drawing.{number_in, stands_drawn}
 use Rattle.redraw.specs.Laws.{NamesDiffer}
 use Rattle.redraw.specs.Text.{redrawn}

@@ -1,8 +1,8 @@
 -- What the job answers by its search.
 use Rattle.std.proofs.Common.{◌≡◌, ℕ, ℤ, Bool, true, false, if◌then◌else◌, List, [], length, Option, Some, None, slice_get, unwrap_or, option_map, Result, Ok, Err, IfOk, OnErr, ◌∙◌, refl, sym, ap, subst}
-use Rattle.itv_base.specs.Outside.{CutShort, SinkView, grown}
+use Rattle.itv_base.specs.Outside.{CutShort, SinkState, grown}
 use Rattle.itv_base.specs.declared.row_kind.RowKind.{RowKind}
-use Rattle.jobs.specs.Works.{JobWrote}
+use Rattle.jobs.specs.JobWrote.{JobWrote}
 use Rattle.jobs.specs.declared.answer.Answer.{Answer}
 use Rattle.jobs.specs.declared.answer.Answer.TheVariants.{DesignRefused, SomeFail}
 use Rattle.jobs.specs.declared.unanswered.Unanswered.TheVariants as unanswered
@@ -12,42 +12,42 @@ use Rattle.drawn.specs.Drawn.{Drawn, IsRowOf}
 use Rattle.drawn.specs.declared.row.Row.{Row}
 use Rattle.bounds_report.specs.Reports.{MayHaveBegun, Reports}
 use Rattle.bounds_report.specs.declared.summary.Summary.{Summary}
-use Rattle.reading.specs.declared.place.RefusalPlace.TheVariants.{Design}
+use Rattle.reading.specs.declared.refusal_place.RefusalPlace.TheVariants.{Design}
 use Rattle.reading.specs.declared.refusal.Refusal.TheVariants.{Wide}
 use Rattle.reading.specs.Refusal.{refusal_text}
 use Rattle.redraw.specs.Drawing.{demand_of, nowhere, row_at}
 use Rattle.redraw.specs.Text.{redrawn}
 use Rattle.redraw_report.specs.Failed.{Failed, IsBroken, first_failed, is_wide_on}
 use Rattle.redraw_report.specs.Redraw.{AnswersRedraw, BeginsRedraw, Draws, AnswersEndWord, failed_answer, failed_text, is_wide}
-use Rattle.redraw_report.specs.Step.{IsReportKept, IsTextOf, TellsFail, fail_view}
+use Rattle.redraw_report.specs.Step.{IsReportKept, IsTextOf, ShowsFail, fail_view}
 use Rattle.redraw_report.specs.declared.scan.Fail.{Fail as Seen_fail}
 use Rattle.redraw_report.specs.declared.search.KeptReport.{KeptReport}
-use Rattle.redraw_report.proofs.Fails.{fail_is_told}
+use Rattle.redraw_report.proofs.Fails.{fail_is_shown}
 
 -- ---- a text that is kept
 
-pub text_kept : (drawn : Drawn) (most : ℕ) (old new : SinkView) (summary : Summary) → old ≡ record { written = Some []; faults = 0 }
+pub text_kept : (drawn : Drawn) (most : ℕ) (old new : SinkState) (summary : Summary) → old ≡ record { written = Some []; faults = 0 }
     → JobWrote (Reports drawn most false) (MayHaveBegun drawn most false) old new (Ok summary) → IsTextOf drawn most (record { tape = new; end = summary.end })
 text_kept drawn most old new summary fresh w = record {
   lines = w.1.lines;
   is_written = w.1.is_written;
   ends = w.1.sums.ends;
-  text = ap (λ (t : SinkView). t.written) w.2 ∙ ap (λ (t : SinkView). (grown t w.0).written) fresh ∙ ap (λ text. Some text) w.1.is_text;
+  text = ap (λ (t : SinkState). t.written) w.2 ∙ ap (λ (t : SinkState). (grown t w.0).written) fresh ∙ ap (λ text. Some text) w.1.is_text;
 }
 
 -- ---- the answer
 
-pub tells_fail : (drawn : Drawn) (most : ℕ) (search : KeptReport) → IsReportKept drawn most search → search.end ≡ Fail → TellsFail drawn search.report
-tells_fail drawn most search is e = fail_is_told drawn most search.report is.is_written (is.ends ∙ ap (λ w. Some w) e)
+pub shows_fail : (drawn : Drawn) (most : ℕ) (search : KeptReport) → IsReportKept drawn most search → search.end ≡ Fail → ShowsFail drawn search.report
+shows_fail drawn most search is e = fail_is_shown drawn most search.report is.is_written (is.ends ∙ ap (λ w. Some w) e)
 
 answers_by : (drawn : Drawn) (most : ℕ) (search : KeptReport) (answer : Answer) (text : List ℕ) → IsReportKept drawn most search → AnswersEndWord drawn search.report search.end answer text → AnswersRedraw drawn most answer text
 answers_by drawn most search answer text is says = record { lines = search.report; word = search.end; is_written = is.is_written; ends = is.ends; says = says }
 
-pub works_ok : (drawn : Drawn) (most : ℕ) (search : KeptReport) (answer : Answer) (old new : SinkView) → IsReportKept drawn most search
+pub works_ok : (drawn : Drawn) (most : ℕ) (search : KeptReport) (answer : Answer) (old new : SinkState) → IsReportKept drawn most search
     → (text : List ℕ) × AnswersEndWord drawn search.report search.end answer text × (new ≡ grown old text) → JobWrote (AnswersRedraw drawn most) (BeginsRedraw drawn most) old new (Ok answer)
 works_ok drawn most search answer old new is h = (h.0, answers_by drawn most search answer h.0 is h.1, h.2)
 
-pub works_cut : (drawn : Drawn) (most : ℕ) (search : KeptReport) (old new : SinkView) → IsReportKept drawn most search
+pub works_cut : (drawn : Drawn) (most : ℕ) (search : KeptReport) (old new : SinkState) → IsReportKept drawn most search
     → (answer : Answer) × (text : List ℕ) × AnswersEndWord drawn search.report search.end answer text × CutShort old new text
     → JobWrote (AnswersRedraw drawn most) (BeginsRedraw drawn most) old new (Err unanswered.PutFailed)
 works_cut drawn most search old new is h = (h.1, (h.0, answers_by drawn most search h.0 h.1 is h.2), h.3)

@@ -18,15 +18,15 @@ use Rattle.slack_report.specs.declared.words.FindingWord.TheVariants as findings
 use Rattle.slack_report.specs.Entry.{Entry, heading, budget, events, event, proof, finding, times, rows, row, bound, raise, verdict, slack, ending}
 use Rattle.drawn.specs.Drawn.{AreTimes, Drawn, name_of}
 use Rattle.drawn.specs.declared.row.Row.{Row}
-use Rattle.right_report.specs.Right.At.{ReportState, ReportTally, NextBound, CurrentRow, at_heading, at_budget, at_events, at_event, at_finding, at_known, at_rows, at_row, at_bound, at_times, at_raise, at_verdict, at_past, at_slack, at_end, at_last, behind_bound, behind_finding, behind_past, behind_times, behind_verdict, bounded, course_of, end_word, greatest, is_fail, judged, least_by, undecided_or_pass, which_of}
-use Rattle.right_report.specs.Right.Facts.{BreaksEnd}
+use Rattle.right_report.specs.Right.ReportState.{ReportState, ReportTally, NextBound, CurrentRow, at_heading, at_budget, at_events, at_event, at_finding, at_known, at_rows, at_row, at_bound, at_times, at_raise, at_verdict, at_past, at_slack, at_end, at_last, behind_bound, behind_finding, behind_past, behind_times, behind_verdict, bounded, tally_of, end_word, greatest, is_fail, judged, least_by, undecided_or_pass, which_of}
+use Rattle.right_report.specs.Right.LineClaims.{BreaksEnd}
 use Rattle.right_report.specs.Right.Following.{LineClaims, MayBound, MayFind, MayFollow, LinesLead}
-use Rattle.right_report.specs.Told.{end_in}
+use Rattle.right_report.specs.ReportContents.{end_in}
 use Rattle.bounds_report.specs.Reports.{IsWrittenReport}
 use Rattle.bounds_report.specs.Written.{written}
 use Rattle.bounds_report.proofs.Printed.{times_printed}
 use Rattle.redraw_report.specs.Failed.{Failed, IsBroken, Scan, found_by, scan_start, scanned, failed_verdict, with_line}
-use Rattle.redraw_report.specs.Laws.{FailIsTold}
+use Rattle.redraw_report.specs.Laws.{FailIsShown}
 
 -- ---- what a scan has seen
 
@@ -38,10 +38,10 @@ abbrev Matches : Drawn → Bool → Scan → Type 0
 Matches drawn fails scan = ((fails ≡ false) × (scan.found ≡ None)) ⊎ ((fails ≡ true) × Found drawn scan)
 
 -- the current row is the row that the scan is at
-record IsAtRow (drawn : Drawn) (told : CurrentRow) (scan : Scan) : Type 0 where
-  rest : drop told.number drawn.rows ≡ told.row ∷ told.later
-  row : scan.row ≡ told.number
-  matches : Matches drawn told.course.fails scan
+record IsAtRow (drawn : Drawn) (current : CurrentRow) (scan : Scan) : Type 0 where
+  rest : drop current.number drawn.rows ≡ current.row ∷ current.later
+  row : scan.row ≡ current.number
+  matches : Matches drawn current.tally.fails scan
 
 abbrev HasNothing : Scan → Type 0
 HasNothing scan = (scan.side ≡ None) × (scan.found ≡ None)
@@ -55,14 +55,14 @@ HasSeen drawn (at_event number names) scan = HasNothing scan
 HasSeen drawn (at_finding lines) scan = HasNothing scan
 HasSeen drawn at_known scan = HasNothing scan
 HasSeen drawn (at_rows word) scan = HasNothing scan
-HasSeen drawn (at_row course number later) scan = (drop number drawn.rows ≡ later) × Matches drawn course.fails scan
-HasSeen drawn (at_bound told side lines) scan = IsAtRow drawn told scan × (scan.side ≡ None)
-HasSeen drawn (at_times told side value) scan = IsAtRow drawn told scan × (scan.side ≡ None)
-HasSeen drawn (at_raise told side list) scan = IsAtRow drawn told scan × (scan.side ≡ None)
-HasSeen drawn (at_verdict told range least most) scan = IsAtRow drawn told scan × (scan.side ≡ None) × (told.row.kind ≡ kinds.Req range)
-HasSeen drawn (at_past told range least most) scan =
-    IsAtRow drawn told scan × (scan.side ≡ Some (verdict_of range least most)) × (told.row.kind ≡ kinds.Req range) × (is_fail (verdict_of range least most) ≡ true)
-HasSeen drawn (at_slack course number later range least most) scan = (drop number drawn.rows ≡ later) × Matches drawn course.fails scan
+HasSeen drawn (at_row tally number later) scan = (drop number drawn.rows ≡ later) × Matches drawn tally.fails scan
+HasSeen drawn (at_bound current side lines) scan = IsAtRow drawn current scan × (scan.side ≡ None)
+HasSeen drawn (at_times current side value) scan = IsAtRow drawn current scan × (scan.side ≡ None)
+HasSeen drawn (at_raise current side list) scan = IsAtRow drawn current scan × (scan.side ≡ None)
+HasSeen drawn (at_verdict current range least most) scan = IsAtRow drawn current scan × (scan.side ≡ None) × (current.row.kind ≡ kinds.Req range)
+HasSeen drawn (at_past current range least most) scan =
+    IsAtRow drawn current scan × (scan.side ≡ Some (verdict_of range least most)) × (current.row.kind ≡ kinds.Req range) × (is_fail (verdict_of range least most) ≡ true)
+HasSeen drawn (at_slack tally number later range least most) scan = (drop number drawn.rows ≡ later) × Matches drawn tally.fails scan
 HasSeen drawn (at_end word) scan = word ≡ endings.Fail → ⊥
 HasSeen drawn at_last scan = Unit {0}
 
@@ -111,65 +111,65 @@ same_matches drawn a b scan e h = subst (λ c. Matches drawn c scan) (sym e) h
 
 -- ---- a row
 
-judged_seen : (drawn : Drawn) (told : CurrentRow) (kind : RowKind) (least most : Bound) (scan : Scan) → told.row.kind ≡ kind → IsAtRow drawn told scan → scan.side ≡ None
-    → HasSeen drawn (judged kind told least most) scan
-judged_seen drawn told kinds.Ask least most scan is h none = (rest_is drawn.rows told.later told.row told.number h.rest, h.matches)
-judged_seen drawn told (kinds.Req range) least most scan is h none = (h, none, is)
+judged_seen : (drawn : Drawn) (current : CurrentRow) (kind : RowKind) (least most : Bound) (scan : Scan) → current.row.kind ≡ kind → IsAtRow drawn current scan → scan.side ≡ None
+    → HasSeen drawn (judged kind current least most) scan
+judged_seen drawn current kinds.Ask least most scan is h none = (rest_is drawn.rows current.later current.row current.number h.rest, h.matches)
+judged_seen drawn current (kinds.Req range) least most scan is h none = (h, none, is)
 
-bounded_seen : (drawn : Drawn) (told : CurrentRow) (side : NextBound) (value : Bound) (scan : Scan) → IsAtRow drawn told scan → scan.side ≡ None → HasSeen drawn (bounded told side value) scan
-bounded_seen drawn told greatest value scan h none = (h, none)
-bounded_seen drawn told (least_by most) value scan h none = judged_seen drawn told told.row.kind value most scan refl h none
+bounded_seen : (drawn : Drawn) (current : CurrentRow) (side : NextBound) (value : Bound) (scan : Scan) → IsAtRow drawn current scan → scan.side ≡ None → HasSeen drawn (bounded current side value) scan
+bounded_seen drawn current greatest value scan h none = (h, none)
+bounded_seen drawn current (least_by most) value scan h none = judged_seen drawn current current.row.kind value most scan refl h none
 
-bound_seen : (drawn : Drawn) (told : CurrentRow) (side : NextBound) (value : Bound) (scan : Scan) → IsAtRow drawn told scan → scan.side ≡ None → HasSeen drawn (behind_bound told side value) scan
-bound_seen drawn told side (bounds.Closed value) scan h none = (h, none)
-bound_seen drawn told side bounds.Unbounded scan h none = (h, none)
-bound_seen drawn told side (bounds.Within limit None) scan h none = bounded_seen drawn told side (bounds.Within limit None) scan h none
-bound_seen drawn told side (bounds.Within limit (Some found)) scan h none = (h, none)
+bound_seen : (drawn : Drawn) (current : CurrentRow) (side : NextBound) (value : Bound) (scan : Scan) → IsAtRow drawn current scan → scan.side ≡ None → HasSeen drawn (behind_bound current side value) scan
+bound_seen drawn current side (bounds.Closed value) scan h none = (h, none)
+bound_seen drawn current side bounds.Unbounded scan h none = (h, none)
+bound_seen drawn current side (bounds.Within limit None) scan h none = bounded_seen drawn current side (bounds.Within limit None) scan h none
+bound_seen drawn current side (bounds.Within limit (Some found)) scan h none = (h, none)
 
-behind_seen : (drawn : Drawn) (told : CurrentRow) (side : NextBound) (value : Bound) (list : List ℤ) (scan : Scan) → IsAtRow drawn told scan → scan.side ≡ None
-    → HasSeen drawn (behind_times told side value list) scan
-behind_seen drawn told side (bounds.Closed value) list scan h none = bounded_seen drawn told side (bounds.Closed value) scan h none
-behind_seen drawn told side bounds.Unbounded list scan h none = (h, none)
-behind_seen drawn told side (bounds.Within limit attained) list scan h none = bounded_seen drawn told side (bounds.Within limit attained) scan h none
+behind_seen : (drawn : Drawn) (current : CurrentRow) (side : NextBound) (value : Bound) (list : List ℤ) (scan : Scan) → IsAtRow drawn current scan → scan.side ≡ None
+    → HasSeen drawn (behind_times current side value list) scan
+behind_seen drawn current side (bounds.Closed value) list scan h none = bounded_seen drawn current side (bounds.Closed value) scan h none
+behind_seen drawn current side bounds.Unbounded list scan h none = (h, none)
+behind_seen drawn current side (bounds.Within limit attained) list scan h none = bounded_seen drawn current side (bounds.Within limit attained) scan h none
 
-verdict_seen : (drawn : Drawn) (told : CurrentRow) (range : Ends) (least most : Bound) (word : Verdict) (scan : Scan) → verdict_of range least most ≡ word → IsAtRow drawn told scan
-    → told.row.kind ≡ kinds.Req range → HasSeen drawn (behind_verdict told range least most word) (with_line scan (verdict word))
-verdict_seen drawn told range least most verdicts.Pass scan is h kind =
-    (rest_is drawn.rows told.later told.row told.number h.rest, same_matches drawn (told.course.fails || false) told.course.fails scan (or_false told.course.fails) h.matches)
-verdict_seen drawn told range least most verdicts.Undecided scan is h kind =
-    (rest_is drawn.rows told.later told.row told.number h.rest, same_matches drawn (told.course.fails || false) told.course.fails scan (or_false told.course.fails) h.matches)
-verdict_seen drawn told range least most verdicts.FailHigh scan is h kind =
+verdict_seen : (drawn : Drawn) (current : CurrentRow) (range : Ends) (least most : Bound) (word : Verdict) (scan : Scan) → verdict_of range least most ≡ word → IsAtRow drawn current scan
+    → current.row.kind ≡ kinds.Req range → HasSeen drawn (behind_verdict current range least most word) (with_line scan (verdict word))
+verdict_seen drawn current range least most verdicts.Pass scan is h kind =
+    (rest_is drawn.rows current.later current.row current.number h.rest, same_matches drawn (current.tally.fails || false) current.tally.fails scan (or_false current.tally.fails) h.matches)
+verdict_seen drawn current range least most verdicts.Undecided scan is h kind =
+    (rest_is drawn.rows current.later current.row current.number h.rest, same_matches drawn (current.tally.fails || false) current.tally.fails scan (or_false current.tally.fails) h.matches)
+verdict_seen drawn current range least most verdicts.FailHigh scan is h kind =
     (record { rest = h.rest; row = h.row; matches = h.matches }, ap (λ w. Some w) (sym is), kind, ap is_fail is)
-verdict_seen drawn told range least most verdicts.FailLow scan is h kind =
+verdict_seen drawn current range least most verdicts.FailLow scan is h kind =
     (record { rest = h.rest; row = h.row; matches = h.matches }, ap (λ w. Some w) (sym is), kind, ap is_fail is)
 
 -- the times after a fail are the times of its row, unless a failed row was found before
-past_found : (drawn : Drawn) (told : CurrentRow) (range : Ends) (word : Verdict) (list : List ℤ) (scan : Scan) → IsAtRow drawn told scan → scan.side ≡ Some word → told.row.kind ≡ kinds.Req range
-    → All IsTime list → AreTimes drawn.net told.row list → BreaksEnd told.row range word list → Found drawn (with_line scan (times list))
-past_found drawn told range word list scan h side kind small satisfied broken = by_match h.matches where
-  is_here : IsBroken drawn (record { row = told.number; side = word; times = list })
+past_found : (drawn : Drawn) (current : CurrentRow) (range : Ends) (word : Verdict) (list : List ℤ) (scan : Scan) → IsAtRow drawn current scan → scan.side ≡ Some word → current.row.kind ≡ kinds.Req range
+    → All IsTime list → AreTimes drawn.net current.row list → BreaksEnd current.row range word list → Found drawn (with_line scan (times list))
+past_found drawn current range word list scan h side kind small satisfied broken = by_match h.matches where
+  is_here : IsBroken drawn (record { row = current.number; side = word; times = list })
   is_here = record {
-    asked = told.row;
+    asked = current.row;
     range = range;
-    is_row = first_is drawn.rows told.later told.row told.number h.rest;
+    is_row = first_is drawn.rows current.later current.row current.number h.rest;
     demands = kind;
     small = small;
     satisfied = satisfied;
     broken = broken;
   }
 
-  by_match : Matches drawn told.course.fails scan → Found drawn (with_line scan (times list))
+  by_match : Matches drawn current.tally.fails scan → Found drawn (with_line scan (times list))
   by_match (inl m) = (
-    record { row = told.number; side = word; times = list },
-    ap (λ n. found_by n scan.side list scan.found) h.row ∙ ap (λ s. found_by told.number s list scan.found) side ∙ ap (λ o. found_by told.number (Some word) list o) m.1,
+    record { row = current.number; side = word; times = list },
+    ap (λ n. found_by n scan.side list scan.found) h.row ∙ ap (λ s. found_by current.number s list scan.found) side ∙ ap (λ o. found_by current.number (Some word) list o) m.1,
     is_here,
   )
   by_match (inr m) = (m.1.0, ap (λ o. found_by scan.row scan.side list o) m.1.1, m.1.2)
 
-past_seen : (drawn : Drawn) (told : CurrentRow) (range : Ends) (word : Verdict) (list : List ℤ) (scan : Scan) → IsAtRow drawn told scan → scan.side ≡ Some word → told.row.kind ≡ kinds.Req range
-    → is_fail word ≡ true → All IsTime list → AreTimes drawn.net told.row list → BreaksEnd told.row range word list → Matches drawn (told.course.fails || is_fail word) (with_line scan (times list))
-past_seen drawn told range word list scan h side kind fails small satisfied broken =
-    inr (ap (λ b. told.course.fails || b) fails ∙ or_true told.course.fails, past_found drawn told range word list scan h side kind small satisfied broken)
+past_seen : (drawn : Drawn) (current : CurrentRow) (range : Ends) (word : Verdict) (list : List ℤ) (scan : Scan) → IsAtRow drawn current scan → scan.side ≡ Some word → current.row.kind ≡ kinds.Req range
+    → is_fail word ≡ true → All IsTime list → AreTimes drawn.net current.row list → BreaksEnd current.row range word list → Matches drawn (current.tally.fails || is_fail word) (with_line scan (times list))
+past_seen drawn current range word list scan h side kind fails small satisfied broken =
+    inr (ap (λ b. current.tally.fails || b) fails ∙ or_true current.tally.fails, past_found drawn current range word list scan h side kind small satisfied broken)
 
 -- ---- line by line
 
@@ -183,11 +183,11 @@ find_seen : (drawn : Drawn) (most : ℕ) (known : List ℤ) (lines : List ProofL
 find_seen drawn most known lines line next scan (inl m) h = moved drawn scan line (proof m.0) next (at_finding (lines ++ m.0 ∷ [])) m.1 m.2 h
 find_seen drawn most known lines line next scan (inr m) h = moved drawn scan line (finding m.0) next (behind_finding m.0) m.1 m.3 (finding_seen drawn m.0 scan h)
 
-bound_next : (drawn : Drawn) (most : ℕ) (known : List ℤ) (told : CurrentRow) (side : NextBound) (lines : List ProofLine) (line : Entry) (next : ReportState) (scan : Scan)
-    → MayBound (written drawn.net most false known) told side lines line next → IsAtRow drawn told scan × (scan.side ≡ None) → HasSeen drawn next (with_line scan line)
-bound_next drawn most known told side lines line next scan (inl m) h = moved drawn scan line (proof m.0) next (at_bound told side (lines ++ m.0 ∷ [])) m.1 m.2 h
-bound_next drawn most known told side lines line next scan (inr m) h =
-    moved drawn scan line (bound (which_of side) m.0) next (behind_bound told side m.0) m.1 m.3 (bound_seen drawn told side m.0 scan h.0 h.1)
+bound_next : (drawn : Drawn) (most : ℕ) (known : List ℤ) (current : CurrentRow) (side : NextBound) (lines : List ProofLine) (line : Entry) (next : ReportState) (scan : Scan)
+    → MayBound (written drawn.net most false known) current side lines line next → IsAtRow drawn current scan × (scan.side ≡ None) → HasSeen drawn next (with_line scan line)
+bound_next drawn most known current side lines line next scan (inl m) h = moved drawn scan line (proof m.0) next (at_bound current side (lines ++ m.0 ∷ [])) m.1 m.2 h
+bound_next drawn most known current side lines line next scan (inr m) h =
+    moved drawn scan line (bound (which_of side) m.0) next (behind_bound current side m.0) m.1 m.3 (bound_seen drawn current side m.0 scan h.0 h.1)
 
 step : (drawn : Drawn) (most : ℕ) (known : List ℤ) (here : ReportState) (line : Entry) (next : ReportState) (scan : Scan) → MayFollow (written drawn.net most false known) drawn here line next → HasSeen drawn here scan
     → HasSeen drawn next (with_line scan line)
@@ -199,27 +199,27 @@ step drawn most known (at_event number []) line next scan m h = find_seen drawn 
 step drawn most known (at_finding lines) line next scan m h = find_seen drawn most known lines line next scan m h
 step drawn most known at_known line next scan m h =
     moved drawn scan line (times m.0) next (at_rows findings.Consistent) m.1 m.3 (pass_times drawn (at_rows findings.Consistent) scan m.0 h.0 h)
-step drawn most known (at_rows word) line next scan m h = moved drawn scan line (rows (length drawn.rows)) next (at_row (course_of word) 0 drawn.rows) m.0 m.1 (refl, inl (refl, h.1))
-step drawn most known (at_row course number []) line next scan m h = moved drawn scan line (ending (end_word course)) next at_last m.0 m.1 tt
-step drawn most known (at_row course number (r ∷ later)) line next scan m h =
+step drawn most known (at_rows word) line next scan m h = moved drawn scan line (rows (length drawn.rows)) next (at_row (tally_of word) 0 drawn.rows) m.0 m.1 (refl, inl (refl, h.1))
+step drawn most known (at_row tally number []) line next scan m h = moved drawn scan line (ending (end_word tally)) next at_last m.0 m.1 tt
+step drawn most known (at_row tally number (r ∷ later)) line next scan m h =
     moved drawn scan line (row number r.kind (name_of drawn r.from) (name_of drawn r.to)) next
-    (at_bound (record { course = course; number = number; row = r; later = later }) greatest []) m.0 m.1 (record { rest = h.0; row = refl; matches = h.1 }, refl)
-step drawn most known (at_bound told side lines) line next scan m h = bound_next drawn most known told side lines line next scan m h
-step drawn most known (at_times told side value) line next scan m h =
-    moved drawn scan line (times m.0) next (behind_times told side value m.0) m.1 m.3
-    (pass_times drawn (behind_times told side value m.0) scan m.0 h.1 (behind_seen drawn told side value m.0 scan h.0 h.1))
-step drawn most known (at_raise told side list) line next scan m h =
-    moved drawn scan line (raise m.0) next (bounded told side bounds.Unbounded) m.1 m.3 (bounded_seen drawn told side bounds.Unbounded scan h.0 h.1)
-step drawn most known (at_verdict told range least most_bound) line next scan m h =
-    moved drawn scan line (verdict (verdict_of range least most_bound)) next (behind_verdict told range least most_bound (verdict_of range least most_bound)) m.0 m.1
-    (verdict_seen drawn told range least most_bound (verdict_of range least most_bound) scan refl h.0 h.2)
-step drawn most known (at_past told range least most_bound) line next scan m h =
-    moved drawn scan line (times m.0) next (behind_past told range least most_bound (verdict_of range least most_bound)) m.1 m.3 (
-      rest_is drawn.rows told.later told.row told.number h.0.rest,
-      past_seen drawn told range (verdict_of range least most_bound) m.0 scan h.0 h.1 h.2 h.3 (times_printed m.0 m.2.0) m.2.1.0 m.2.1.1,
+    (at_bound (record { tally = tally; number = number; row = r; later = later }) greatest []) m.0 m.1 (record { rest = h.0; row = refl; matches = h.1 }, refl)
+step drawn most known (at_bound current side lines) line next scan m h = bound_next drawn most known current side lines line next scan m h
+step drawn most known (at_times current side value) line next scan m h =
+    moved drawn scan line (times m.0) next (behind_times current side value m.0) m.1 m.3
+    (pass_times drawn (behind_times current side value m.0) scan m.0 h.1 (behind_seen drawn current side value m.0 scan h.0 h.1))
+step drawn most known (at_raise current side list) line next scan m h =
+    moved drawn scan line (raise m.0) next (bounded current side bounds.Unbounded) m.1 m.3 (bounded_seen drawn current side bounds.Unbounded scan h.0 h.1)
+step drawn most known (at_verdict current range least most_bound) line next scan m h =
+    moved drawn scan line (verdict (verdict_of range least most_bound)) next (behind_verdict current range least most_bound (verdict_of range least most_bound)) m.0 m.1
+    (verdict_seen drawn current range least most_bound (verdict_of range least most_bound) scan refl h.0 h.2)
+step drawn most known (at_past current range least most_bound) line next scan m h =
+    moved drawn scan line (times m.0) next (behind_past current range least most_bound (verdict_of range least most_bound)) m.1 m.3 (
+      rest_is drawn.rows current.later current.row current.number h.0.rest,
+      past_seen drawn current range (verdict_of range least most_bound) m.0 scan h.0 h.1 h.2 h.3 (times_printed m.0 m.2.0) m.2.1.0 m.2.1.1,
     )
-step drawn most known (at_slack course number later range least most_bound) line next scan m h =
-    moved drawn scan line (slack (slack_of range least most_bound)) next (at_row course number later) m.0 m.1 h
+step drawn most known (at_slack tally number later range least most_bound) line next scan m h =
+    moved drawn scan line (slack (slack_of range least most_bound)) next (at_row tally number later) m.0 m.1 h
 step drawn most known (at_end word) line next scan m h = moved drawn scan line (ending word) next at_last m.0 m.1 tt
 step drawn most known at_last line next scan m h = absurd m
 
@@ -242,13 +242,13 @@ found_of drawn fails scan e (inr m) = m.1
 same_word : (a b : EndWord) → ending a ≡ ending b → a ≡ b
 same_word a b e = cc e
 
-no_finding : (facts : LineClaims) (lines : List ProofLine) (word : EndWord) (next : ReportState) → MayFind facts lines (ending word) next → ⊥
-no_finding facts lines word next (inl m) = cc m.1
-no_finding facts lines word next (inr m) = cc m.1
+no_finding : (claims : LineClaims) (lines : List ProofLine) (word : EndWord) (next : ReportState) → MayFind claims lines (ending word) next → ⊥
+no_finding claims lines word next (inl m) = cc m.1
+no_finding claims lines word next (inr m) = cc m.1
 
-no_bound : (facts : LineClaims) (told : CurrentRow) (side : NextBound) (lines : List ProofLine) (word : EndWord) (next : ReportState) → MayBound facts told side lines (ending word) next → ⊥
-no_bound facts told side lines word next (inl m) = cc m.1
-no_bound facts told side lines word next (inr m) = cc m.1
+no_bound : (claims : LineClaims) (current : CurrentRow) (side : NextBound) (lines : List ProofLine) (word : EndWord) (next : ReportState) → MayBound claims current side lines (ending word) next → ⊥
+no_bound claims current side lines word next (inl m) = cc m.1
+no_bound claims current side lines word next (inr m) = cc m.1
 
 ended : (drawn : Drawn) (most : ℕ) (known : List ℤ) (here : ReportState) (word : EndWord) (next : ReportState) (scan : Scan) → MayFollow (written drawn.net most false known) drawn here (ending word) next → HasSeen drawn here scan
     → word ≡ endings.Fail → (next ≡ at_last) × Found drawn scan
@@ -260,21 +260,21 @@ ended drawn most known (at_event number []) word next scan m h e = absurd (no_fi
 ended drawn most known (at_finding lines) word next scan m h e = absurd (no_finding (written drawn.net most false known) lines word next m)
 ended drawn most known at_known word next scan m h e = absurd (cc m.1)
 ended drawn most known (at_rows found) word next scan m h e = absurd (cc m.0)
-ended drawn most known (at_row course number []) word next scan m h e =
-    (m.1, found_of drawn course.fails scan (fails_by course.fails course.found course.within (sym (same_word word (end_word course) m.0) ∙ e)) h.1)
-ended drawn most known (at_row course number (r ∷ later)) word next scan m h e = absurd (cc m.0)
-ended drawn most known (at_bound told side lines) word next scan m h e = absurd (no_bound (written drawn.net most false known) told side lines word next m)
-ended drawn most known (at_times told side value) word next scan m h e = absurd (cc m.1)
-ended drawn most known (at_raise told side list) word next scan m h e = absurd (cc m.1)
-ended drawn most known (at_verdict told range least most_bound) word next scan m h e = absurd (cc m.0)
-ended drawn most known (at_past told range least most_bound) word next scan m h e = absurd (cc m.1)
-ended drawn most known (at_slack course number later range least most_bound) word next scan m h e = absurd (cc m.0)
+ended drawn most known (at_row tally number []) word next scan m h e =
+    (m.1, found_of drawn tally.fails scan (fails_by tally.fails tally.found tally.within (sym (same_word word (end_word tally) m.0) ∙ e)) h.1)
+ended drawn most known (at_row tally number (r ∷ later)) word next scan m h e = absurd (cc m.0)
+ended drawn most known (at_bound current side lines) word next scan m h e = absurd (no_bound (written drawn.net most false known) current side lines word next m)
+ended drawn most known (at_times current side value) word next scan m h e = absurd (cc m.1)
+ended drawn most known (at_raise current side list) word next scan m h e = absurd (cc m.1)
+ended drawn most known (at_verdict current range least most_bound) word next scan m h e = absurd (cc m.0)
+ended drawn most known (at_past current range least most_bound) word next scan m h e = absurd (cc m.1)
+ended drawn most known (at_slack tally number later range least most_bound) word next scan m h e = absurd (cc m.0)
 ended drawn most known (at_end other) word next scan m h e = absurd (h (sym (same_word word other m.0) ∙ e))
 ended drawn most known at_last word next scan m h e = absurd m
 
-nothing_behind : (facts : LineClaims) (drawn : Drawn) (lines : List Entry) (scan : Scan) → LinesLead facts drawn at_last lines at_last → scanned scan lines ≡ scan
-nothing_behind facts drawn [] scan h = refl
-nothing_behind facts drawn (line ∷ lines) scan h = absurd h.1
+nothing_behind : (claims : LineClaims) (drawn : Drawn) (lines : List Entry) (scan : Scan) → LinesLead claims drawn at_last lines at_last → scanned scan lines ≡ scan
+nothing_behind claims drawn [] scan h = refl
+nothing_behind claims drawn (line ∷ lines) scan h = absurd h.1
 
 found_behind : (drawn : Drawn) (most : ℕ) (known : List ℤ) (lines : List Entry) (next : ReportState) (scan : Scan) → (next ≡ at_last) × Found drawn scan → LinesLead (written drawn.net most false known) drawn next lines at_last
     → Found drawn (scanned scan lines)
@@ -303,5 +303,5 @@ finds drawn most known here (slack value ∷ lines) scan reads h e = finds drawn
 finds drawn most known here (ending word ∷ lines) scan reads h e =
     found_behind drawn most known lines reads.0 scan (ended drawn most known here word reads.0 scan reads.1 h (some_word word endings.Fail e)) reads.2
 
-pub fail_is_told : FailIsTold
-fail_is_told drawn most lines is e = finds drawn most is.known at_heading lines scan_start is.reads (refl, refl) e
+pub fail_is_shown : FailIsShown
+fail_is_shown drawn most lines is e = finds drawn most is.known at_heading lines scan_start is.reads (refl, refl) e

@@ -8,7 +8,7 @@ use Rattle.slack_report.specs.declared.fault.ReportFault.{ReportFault}
 use Rattle.slack_report.specs.declared.fault.ReportFault.TheVariants as faults
 use Rattle.slack_report.specs.declared.words.EndWord.{EndWord}
 use Rattle.drawn.specs.Drawn.{Drawn}
-use Rattle.right_report.specs.Told.{end_in}
+use Rattle.right_report.specs.ReportContents.{end_in}
 use Rattle.right_report.proofs.Ordering.{right_is_report}
 use Rattle.right_report.proofs.Showing.{bare_is_right}
 use Rattle.bounds_report.specs.Reports.{HasRowRanges, IsWrittenReport}

@@ -9,7 +9,7 @@ use Rattle.requirements.specs.declared.verdict.Verdict.TheVariants.{Pass, FailHi
 use Rattle.slack_report.specs.Entry.{Entry, heading, budget, events, event, proof, finding, times, rows, row, bound, raise, verdict, slack, ending}
 use Rattle.drawn.specs.Drawn.{AreTimes, Drawn}
 use Rattle.drawn.specs.declared.row.Row.{Row}
-use Rattle.right_report.specs.Right.Facts.{BreaksEnd}
+use Rattle.right_report.specs.Right.LineClaims.{BreaksEnd}
 
 -- a row that fails on a side, and times that break its requirement there
 pub record Failed : Type 0 where

@@ -6,9 +6,9 @@ use Rattle.slack_report.specs.declared.words.EndWord.{EndWord}
 use Rattle.slack_report.specs.declared.words.EndWord.TheVariants as endings
 use Rattle.slack_report.specs.Entry.{Entry}
 use Rattle.drawn.specs.Drawn.{Drawn, IsRowOf}
-use Rattle.right_report.specs.Told.{end_in}
+use Rattle.right_report.specs.ReportContents.{end_in}
 use Rattle.bounds_report.specs.Reports.{IsWrittenReport}
-use Rattle.reading.specs.declared.place.RefusalPlace.TheVariants.{Design}
+use Rattle.reading.specs.declared.refusal_place.RefusalPlace.TheVariants.{Design}
 use Rattle.reading.specs.declared.refusal.Refusal.TheVariants.{Wide}
 use Rattle.reading.specs.Refusal.{refusal_text}
 use Rattle.redraw.specs.Drawing.{demand_of, row_at}

@@ -1,10 +1,10 @@
 -- Words of contracts within this crate.
 use Rattle.std.specs.Prelude.{◌≡◌, ℕ, false, List, Option, Some, option_map}
-use Rattle.itv_base.specs.Outside.{SinkView}
+use Rattle.itv_base.specs.Outside.{SinkState}
 use Rattle.slack_report.specs.Entry.{Entry}
 use Rattle.slack_report.specs.Text.{report_text}
 use Rattle.drawn.specs.Drawn.{Drawn}
-use Rattle.right_report.specs.Told.{end_in}
+use Rattle.right_report.specs.ReportContents.{end_in}
 use Rattle.bounds_report.specs.Reports.{IsWrittenReport}
 use Rattle.redraw_report.specs.declared.scan.Fail.{Fail}
 use Rattle.redraw_report.specs.declared.scan.Seen.{Seen}
@@ -32,5 +32,5 @@ pub record IsReportKept (drawn : Drawn) (most : ℕ) (search : KeptReport) : Typ
   pub ends : end_in search.report ≡ Some search.end
 
 -- the lines have a first failed row, with times that break its requirement
-abbrev pub TellsFail : Drawn → List Entry → Type 0
-TellsFail drawn lines = (failed : Failed) × (first_failed lines ≡ Some failed) × IsBroken drawn failed
+abbrev pub ShowsFail : Drawn → List Entry → Type 0
+ShowsFail drawn lines = (failed : Failed) × (first_failed lines ≡ Some failed) × IsBroken drawn failed

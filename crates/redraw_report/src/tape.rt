@@ -15,9 +15,9 @@ pub struct Tape {
 
 impl Model for Tape {
     ghost use Rattle.std.specs.Prelude.{Some};
-    ghost use Rattle.itv_base.specs.Outside.{SinkView};
+    ghost use Rattle.itv_base.specs.Outside.{SinkState};
 
-    ghost Value = { SinkView };
+    ghost Value = { SinkState };
 
     ghost view = { λ t. record { written = Some t.bytes.items; faults = t.faults } };
 }
@@ -42,7 +42,7 @@ impl Tape {
 }
 
 impl Sink for Tape {
-    ghost told = { λ t. t };
+    ghost state = { λ t. t };
 
     fn put(&mut self, piece: &[u8]) -> Result<(), PutFailed> {
         match self.bytes.extend_from_slice(piece) {

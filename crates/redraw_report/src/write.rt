@@ -5,13 +5,13 @@ ghost use Rattle.itv_base.specs.declared.limits.TheConstants.{MAX_BUDGET};
 ghost use Rattle.itv_base.specs.Outside.{CutShort, grown};
 ghost use Rattle.slack_report.specs.Entry.{IsName};
 ghost use Rattle.bounds_report.specs.Reports.{HasRowRanges};
-ghost use Rattle.jobs.specs.Works.{JobWrote};
+ghost use Rattle.jobs.specs.JobWrote.{JobWrote};
 ghost use Rattle.reading.specs.Refusal.{refusal_text};
 ghost use Rattle.redraw.specs.Drawing.{demand_of};
 ghost use Rattle.redraw.specs.Text.{redrawn};
 ghost use Rattle.redraw_report.specs.Redraw.{AnswersRedraw, BeginsRedraw, Draws, AnswersEndWord};
 ghost use Rattle.redraw_report.specs.Failed.{IsBroken, is_end_at, is_wide_on};
-ghost use Rattle.redraw_report.specs.Step.{IsReportKept, TellsFail, fail_view};
+ghost use Rattle.redraw_report.specs.Step.{IsReportKept, ShowsFail, fail_view};
 
 use crate::scan::{Fail, first_failed};
 use crate::search::{KeptReport, searched};
@@ -39,7 +39,7 @@ pub fn write_redraw<K: Sink>(
     requires names { All IsName drawn.now.names }
     requires ranges { HasRowRanges drawn.now }
     ensures works { JobWrote (AnswersRedraw drawn.now budget) (BeginsRedraw drawn.now budget)
-        (K.told sink.old) (K.told sink.new) result }
+        (K.state sink.old) (K.state sink.new) result }
 {
     let mut work = DrawSpace::new(alloc)?;
     let search = searched(alloc, drawn, budget)?;
@@ -53,11 +53,11 @@ fn put_answer<K: Sink>(
     work: &mut DrawSpace,
     sink: &mut K,
 ) -> Result<Answer, PutFailed>
-    requires fail { search.now.end ≡ EndWord.Fail → TellsFail drawn.now search.now.report }
+    requires fail { search.now.end ≡ EndWord.Fail → ShowsFail drawn.now search.now.report }
     ensures answers { IfOk result (λ answer. (text : List ℕ) × AnswersEndWord drawn.now search.now.report search.now.end answer text
-        × (K.told sink.new ≡ grown (K.told sink.old) text)) }
+        × (K.state sink.new ≡ grown (K.state sink.old) text)) }
     ensures begins { OnErr result ((answer : Answer) × (text : List ℕ) × AnswersEndWord drawn.now search.now.report search.now.end answer text
-        × CutShort (K.told sink.old) (K.told sink.new) text) }
+        × CutShort (K.state sink.old) (K.state sink.new) text) }
 {
     match search.end {
         EndWord::Pass => put_text(b"nothing failed\n", Answer::AllPass, sink),
@@ -69,8 +69,8 @@ fn put_answer<K: Sink>(
 
 // Puts a text, and returns an answer.
 fn put_text<K: Sink>(text: &[u8], answer: Answer, sink: &mut K) -> Result<Answer, PutFailed>
-    ensures answer { IfOk result (λ given. (given ≡ answer) × (K.told sink.new ≡ grown (K.told sink.old) text.now)) }
-    ensures cut { OnErr result (CutShort (K.told sink.old) (K.told sink.new) text.now) }
+    ensures answer { IfOk result (λ given. (given ≡ answer) × (K.state sink.new ≡ grown (K.state sink.old) text.now)) }
+    ensures cut { OnErr result (CutShort (K.state sink.old) (K.state sink.new) text.now) }
 {
     sink.put(text)?;
     Ok(answer)
@@ -83,11 +83,11 @@ fn put_first<K: Sink>(
     work: &mut DrawSpace,
     sink: &mut K,
 ) -> Result<Answer, PutFailed>
-    requires told { TellsFail drawn.now items.now }
+    requires current { ShowsFail drawn.now items.now }
     ensures answers { IfOk result (λ answer. (text : List ℕ) × Draws drawn.now items.now answer text
-        × (K.told sink.new ≡ grown (K.told sink.old) text)) }
+        × (K.state sink.new ≡ grown (K.state sink.old) text)) }
     ensures begins { OnErr result ((answer : Answer) × (text : List ℕ) × Draws drawn.now items.now answer text
-        × CutShort (K.told sink.old) (K.told sink.new) text) }
+        × CutShort (K.state sink.old) (K.state sink.new) text) }
 {
     let Some(fail) = first_failed(items) else {
         unreachable!();
@@ -105,8 +105,8 @@ fn put_first<K: Sink>(
 // Refuses a row.
 fn put_wide<K: Sink>(row: u32, sink: &mut K) -> Result<Answer, PutFailed>
     ensures answer { IfOk result (λ answer. (answer ≡ Answer.DesignRefused)
-        × (K.told sink.new ≡ grown (K.told sink.old) (refusal_text RefusalPlace.Design (Refusal.Wide row)))) }
-    ensures cut { OnErr result (CutShort (K.told sink.old) (K.told sink.new) (refusal_text RefusalPlace.Design (Refusal.Wide row))) }
+        × (K.state sink.new ≡ grown (K.state sink.old) (refusal_text RefusalPlace.Design (Refusal.Wide row)))) }
+    ensures cut { OnErr result (CutShort (K.state sink.old) (K.state sink.new) (refusal_text RefusalPlace.Design (Refusal.Wide row))) }
 {
     put_refusal(RefusalPlace::Design, Refusal::Wide(row), sink)?;
     Ok(Answer::DesignRefused)
@@ -121,8 +121,8 @@ fn put_drawing<K: Sink>(
 ) -> Result<Answer, PutFailed>
     requires broken { IsBroken drawn.now (fail_view fail) }
     ensures answer { IfOk result (λ answer. (answer ≡ Answer.SomeFail)
-        × (K.told sink.new ≡ grown (K.told sink.old) (redrawn drawn.now fail.entry.row fail.entry.times.now))) }
-    ensures cut { OnErr result (CutShort (K.told sink.old) (K.told sink.new) (redrawn drawn.now fail.entry.row fail.entry.times.now)) }
+        × (K.state sink.new ≡ grown (K.state sink.old) (redrawn drawn.now fail.entry.row fail.entry.times.now))) }
+    ensures cut { OnErr result (CutShort (K.state sink.old) (K.state sink.new) (redrawn drawn.now fail.entry.row fail.entry.times.now)) }
 {
     draw(drawn, fail.row, fail.times, work, sink)?;
     Ok(Answer::SomeFail)

@@ -7,17 +7,17 @@ use Rattle.event_graph.specs.Proof as proofs
 use Rattle.requirements.specs.declared.bound.Bound.TheVariants as bounds
 use Rattle.slack_report.specs.declared.words.FindingWord.TheVariants as findings
 use Rattle.slack_report.specs.Entry.{Entry, bound, finding, proof}
-use Rattle.right_report.specs.Right.At.{ReportState, at_last}
+use Rattle.right_report.specs.Right.ReportState.{ReportState, at_last}
 use Rattle.drawn.specs.Drawn.{Drawn}
 use Rattle.right_report.specs.Right.Following.{MayFollow, LinesLead}
 use Rattle.right_report.specs.Checked.{checked}
 use Rattle.right_report.specs.Wrong.{IsFine, IsFirstWrong, IsLineRefused, Takes, goal_ahead, goal_by, proof_so_far}
-use Rattle.report_check.specs.declared.group.ProofGroup.{ProofGroup}
-use Rattle.report_check.specs.declared.group.ProofGroup.TheVariants as groups
+use Rattle.report_check.specs.declared.proof_group.ProofGroup.{ProofGroup}
+use Rattle.report_check.specs.declared.proof_group.ProofGroup.TheVariants as groups
 use Rattle.report_check.specs.declared.stage.Stage.{Stage}
-use Rattle.report_check.specs.Step.Groups.{ChecksFor, IsToldOf, behind_lines, proof_front}
+use Rattle.report_check.specs.Step.Groups.{ChecksFor, IsWholeFor, behind_lines, proof_front}
 use Rattle.report_check.specs.Step.Stages.{Decides, at_of, is_proof}
-use Rattle.report_check.specs.Step.Walks.{IsWrongFrom, CheckLeads, StepsOn}
+use Rattle.report_check.specs.Step.CheckWalks.{IsWrongFrom, CheckLeads, StepsOn}
 use Rattle.report_check.proofs.Leading.{end_wrong, leads_then, line_leads, line_wrong}
 
 -- ---- reading proof lines
@@ -68,10 +68,10 @@ by_same drawn (groups.Finding number) (first ∷ lines) (finding findings.Consis
 by_same drawn (groups.Finding number) (first ∷ lines) (finding findings.Inconsistent) = refl
 by_same drawn (groups.Finding number) (first ∷ lines) (finding findings.Unsettled) = refl
 by_same drawn (groups.Finding number) (first ∷ lines) line = refl
-by_same drawn (groups.Bound told side) lines (bound word (bounds.Closed value)) = refl
-by_same drawn (groups.Bound told side) lines (bound word bounds.Unbounded) = refl
-by_same drawn (groups.Bound told side) lines (bound word (bounds.Within limit attained)) = refl
-by_same drawn (groups.Bound told side) lines line = refl
+by_same drawn (groups.Bound current coming) lines (bound word (bounds.Closed value)) = refl
+by_same drawn (groups.Bound current coming) lines (bound word bounds.Unbounded) = refl
+by_same drawn (groups.Bound current coming) lines (bound word (bounds.Within limit attained)) = refl
+by_same drawn (groups.Bound current coming) lines line = refl
 
 ahead_same : (drawn : Drawn) (group : ProofGroup) (lines : List ProofLine) (rest : List Entry) → goal_ahead (behind_lines drawn group lines) rest ≡ goal_ahead (behind_lines drawn group []) rest
 ahead_same drawn group lines [] = refl
@@ -83,18 +83,18 @@ ahead_same drawn group lines (line ∷ rest) = by_same drawn group lines line
 so_far : (drawn : Drawn) (group : ProofGroup) (lines : List ProofLine) → proof_so_far (behind_lines drawn group lines) ≡ lines
 so_far drawn (groups.Finding number) [] = refl
 so_far drawn (groups.Finding number) (line ∷ lines) = refl
-so_far drawn (groups.Bound told side) lines = refl
+so_far drawn (groups.Bound current coming) lines = refl
 
 follows : (drawn : Drawn) (group : ProofGroup) (lines : List ProofLine) (line : ProofLine)
     → MayFollow (checked drawn.net) drawn (behind_lines drawn group lines) (proof line) (behind_lines drawn group (lines ++ line ∷ []))
 follows drawn (groups.Finding number) [] line = inl (line, refl, refl)
 follows drawn (groups.Finding number) (first ∷ lines) line = inl (line, refl, refl)
-follows drawn (groups.Bound told side) lines line = inl (line, refl, refl)
+follows drawn (groups.Bound current coming) lines line = inl (line, refl, refl)
 
 pub not_last : (drawn : Drawn) (group : ProofGroup) (lines : List ProofLine) → behind_lines drawn group lines ≡ at_last → ⊥
 not_last drawn (groups.Finding number) [] is = absurd (cc is)
 not_last drawn (groups.Finding number) (first ∷ lines) is = absurd (cc is)
-not_last drawn (groups.Bound told side) lines is = absurd (cc is)
+not_last drawn (groups.Bound current coming) lines is = absurd (cc is)
 
 -- ---- lines that are taken are fine
 
@@ -238,7 +238,7 @@ module _ (drawn : Drawn) (group : ProofGroup) (lines : List Entry) (start end : 
 
     -- what the checker says of all the proof lines
     pub told_of : (wanted : Option ProofGoal) (whole : Bool) → ChecksFor drawn.net wanted (proof_front (drop start lines)) start (Ok whole)
-        → IsToldOf drawn.net wanted (proof_front (drop start lines)) whole
+        → IsWholeFor drawn.net wanted (proof_front (drop start lines)) whole
     told_of None whole checks = tt
     told_of (Some g) whole checks = (
       λ is. subst (proofs.ProofLeaves drawn.net g ([] ∷ []) (proof_front (drop start lines))) (checks.is_whole.0 is) checks.reads,

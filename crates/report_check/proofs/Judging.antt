@@ -8,15 +8,15 @@ use Rattle.slack_report.specs.declared.words.FindingWord.{FindingWord}
 use Rattle.slack_report.specs.declared.words.FindingWord.TheVariants as findings
 use Rattle.slack_report.specs.declared.words.Which.{Which}
 use Rattle.slack_report.specs.Entry.{Entry, bound, finding, proof}
-use Rattle.right_report.specs.Right.At as places
-use Rattle.right_report.specs.Right.At.{ReportState, at_bound, at_event, behind_bound, behind_finding, which_of}
+use Rattle.right_report.specs.Right.ReportState as places
+use Rattle.right_report.specs.Right.ReportState.{ReportState, at_bound, at_event, behind_bound, behind_finding, which_of}
 use Rattle.drawn.specs.Drawn.{Drawn}
 use Rattle.right_report.specs.Right.Following.{MayFind, MayFollow}
 use Rattle.right_report.specs.Checked.{IsWithinTimes, ProvesBound, ProvesFinding, checked}
 use Rattle.right_report.specs.Wrong.{goal_by}
 use Rattle.report_check.specs.declared.stage.Stage.{Stage}
 use Rattle.report_check.specs.Step.Bounds.{goal_for}
-use Rattle.report_check.specs.Step.Groups.{IsToldOf, found_behind}
+use Rattle.report_check.specs.Step.Groups.{IsWholeFor, found_behind}
 use Rattle.report_check.specs.Step.Stages.{Decides, Fits, at_of, is_proof}
 
 -- ---- the finding
@@ -32,20 +32,20 @@ follows_find drawn number [] line next h = h
 follows_find drawn number (first ∷ lines) line next h = h
 
 finding_told : (net : Net) (number : ℕ) (lines : List ProofLine) (line : Entry) (word : FindingWord) (whole : Bool) → line ≡ finding word
-    → IsToldOf net (goal_by (at_event number []) line) lines whole → word ≡ findings.Inconsistent → IsToldOf net (Some Nothing) lines whole
-finding_told net number lines line findings.Consistent whole is told e = absurd (cc e)
-finding_told net number lines line findings.Inconsistent whole is told e = subst (λ x. IsToldOf net (goal_by (at_event number []) x) lines whole) is told
-finding_told net number lines line findings.Unsettled whole is told e = absurd (cc e)
+    → IsWholeFor net (goal_by (at_event number []) line) lines whole → word ≡ findings.Inconsistent → IsWholeFor net (Some Nothing) lines whole
+finding_told net number lines line findings.Consistent whole is current e = absurd (cc e)
+finding_told net number lines line findings.Inconsistent whole is current e = subst (λ x. IsWholeFor net (goal_by (at_event number []) x) lines whole) is current
+finding_told net number lines line findings.Unsettled whole is current e = absurd (cc e)
 
 same_finding : (a b : FindingWord) → finding a ≡ finding b → a ≡ b
 same_finding a b e = cc
 
 module _ (drawn : Drawn) (net : Net) (number : ℕ) (lines : List ProofLine) (line : Entry) (word : FindingWord) (whole test : Bool) (on : net ≡ drawn.net) (is : line ≡ finding word)
-    (proves : (word ≡ findings.Inconsistent → IsToldOf net (Some Nothing) lines whole) → (IsTrue test ↔ ProvesFinding net lines word))
-    (told : IsToldOf drawn.net (goal_by (at_event number []) line) lines whole) where
+    (proves : (word ≡ findings.Inconsistent → IsWholeFor net (Some Nothing) lines whole) → (IsTrue test ↔ ProvesFinding net lines word))
+    (current : IsWholeFor drawn.net (goal_by (at_event number []) line) lines whole) where
   tells : IsTrue test ↔ ProvesFinding drawn.net lines word
   tells =
-      let on_net : IsToldOf net (goal_by (at_event number []) line) lines whole = subst (λ n. IsToldOf n (goal_by (at_event number []) line) lines whole) (sym on) told in
+      let on_net : IsWholeFor net (goal_by (at_event number []) line) lines whole = subst (λ n. IsWholeFor n (goal_by (at_event number []) line) lines whole) (sym on) current in
       subst (λ n. IsTrue test ↔ ProvesFinding n lines word) on (proves (finding_told net number lines line word whole is on_net))
 
   pub finding_some : (stage : Stage) → test ≡ true → at_of drawn stage ≡ behind_finding word → Fits drawn stage → Decides drawn (found_behind number lines) line (Some stage)
@@ -67,20 +67,20 @@ module _ (drawn : Drawn) (net : Net) (number : ℕ) (lines : List ProofLine) (li
 
 -- ---- a bound
 
-goal_is : (told : places.CurrentRow) (side : places.NextBound) (which : Which) (value : Bound) → goal_by (at_bound told side []) (bound which value) ≡ goal_for told.row side value
-goal_is told side which (bounds.Closed value) = refl
-goal_is told side which bounds.Unbounded = refl
-goal_is told side which (bounds.Within limit attained) = refl
+goal_is : (current : places.CurrentRow) (coming : places.NextBound) (which : Which) (value : Bound) → goal_by (at_bound current coming []) (bound which value) ≡ goal_for current.row coming value
+goal_is current coming which (bounds.Closed value) = refl
+goal_is current coming which bounds.Unbounded = refl
+goal_is current coming which (bounds.Within limit attained) = refl
 
-module _ (drawn : Drawn) (net : Net) (told : places.CurrentRow) (side : places.NextBound) (lines : List ProofLine) (line : Entry) (which : Which) (value : Bound) (whole test : Bool)
+module _ (drawn : Drawn) (net : Net) (current : places.CurrentRow) (coming : places.NextBound) (lines : List ProofLine) (line : Entry) (which : Which) (value : Bound) (whole test : Bool)
     (on : net ≡ drawn.net) (is : line ≡ bound which value)
-    (proves : IsToldOf net (goal_for told.row side value) lines whole → (IsTrue test ↔ (IsWithinTimes value × ProvesBound net told.course.found told.row side lines value)))
-    (tells_whole : IsToldOf drawn.net (goal_by (at_bound told side []) line) lines whole) where
-  pub bound_some : (stage : Stage) → which ≡ which_of side → test ≡ true → at_of drawn stage ≡ behind_bound told side value → Fits drawn stage
-      → Decides drawn (at_bound told side lines) line (Some stage)
+    (proves : IsWholeFor net (goal_for current.row coming value) lines whole → (IsTrue test ↔ (IsWithinTimes value × ProvesBound net current.tally.found current.row coming lines value)))
+    (tells_whole : IsWholeFor drawn.net (goal_by (at_bound current coming []) line) lines whole) where
+  pub bound_some : (stage : Stage) → which ≡ which_of coming → test ≡ true → at_of drawn stage ≡ behind_bound current coming value → Fits drawn stage
+      → Decides drawn (at_bound current coming lines) line (Some stage)
   bound_some stage same holds behind fits =
-      let goal : goal_by (at_bound told side []) line ≡ goal_for told.row side value = ap (goal_by (at_bound told side [])) is ∙ goal_is told side which value in
-      let wanted : IsToldOf net (goal_for told.row side value) lines whole =
-      subst (λ n. IsToldOf n (goal_for told.row side value) lines whole) (sym on) (subst (λ o. IsToldOf drawn.net o lines whole) goal tells_whole) in
-      let fine = subst (λ n. IsWithinTimes value × ProvesBound n told.course.found told.row side lines value) on ((proves wanted).0 holds) in
+      let goal : goal_by (at_bound current coming []) line ≡ goal_for current.row coming value = ap (goal_by (at_bound current coming [])) is ∙ goal_is current coming which value in
+      let wanted : IsWholeFor net (goal_for current.row coming value) lines whole =
+      subst (λ n. IsWholeFor n (goal_for current.row coming value) lines whole) (sym on) (subst (λ o. IsWholeFor drawn.net o lines whole) goal tells_whole) in
+      let fine = subst (λ n. IsWithinTimes value × ProvesBound n current.tally.found current.row coming lines value) on ((proves wanted).0 holds) in
       (inr (value, is ∙ ap (λ w. bound w value) same, fine, behind), ap is_proof is, fits)

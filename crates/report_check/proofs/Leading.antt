@@ -5,7 +5,7 @@ use Rattle.std.proofs.lemmas.Option.{slice_get_within}
 use Rattle.event_graph.specs.Network.{Net}
 use Rattle.itv_base.proofs.Lists.{drop-read}
 use Rattle.slack_report.specs.Entry.{Entry, proof}
-use Rattle.right_report.specs.Right.At.{ReportState, at_heading, at_last}
+use Rattle.right_report.specs.Right.ReportState.{ReportState, at_heading, at_last}
 use Rattle.drawn.specs.Drawn.{Drawn}
 use Rattle.right_report.specs.Right.Following.{LinesLead}
 use Rattle.right_report.specs.Checked.{checked}
@@ -14,7 +14,7 @@ use Rattle.branch.specs.Work.{IsMadeFor, WorkView}
 use Rattle.cert_checker.specs.Checking.{Checking}
 use Rattle.report_check.specs.declared.stage.Stage.{Stage}
 use Rattle.report_check.specs.Step.Stages.{Decides, Fits, at_of, is_proof}
-use Rattle.report_check.specs.Step.Walks.{IsWrongFrom, CheckLeads, StepsOn}
+use Rattle.report_check.specs.Step.CheckWalks.{IsWrongFrom, CheckLeads, StepsOn}
 
 -- a line that is no proof line is not refused as one
 pub not_refused : (net : Net) (here : ReportState) (line : Entry) (rest : List Entry) → is_proof line ≡ false → IsLineRefused net here line rest → ⊥

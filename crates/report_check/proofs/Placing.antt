@@ -7,12 +7,12 @@ use Rattle.drawn.specs.Drawn.{Drawn, IsRowOf, name_of, nameless}
 use Rattle.drawn.specs.declared.row.Row.{Row}
 use Rattle.slack_report.specs.Entry as lines
 use Rattle.slack_report.specs.Entry.{Entry}
-use Rattle.right_report.specs.Right.At.{at_end, at_row, end_word}
+use Rattle.right_report.specs.Right.ReportState.{at_end, at_row, end_word}
 use Rattle.report_check.specs.declared.stage.ReportTally.{ReportTally}
 use Rattle.report_check.specs.declared.stage.NextBound.TheVariants.{Greatest}
 use Rattle.report_check.specs.declared.stage.Stage.{Stage}
 use Rattle.report_check.specs.declared.stage.Stage.TheVariants as stages
-use Rattle.report_check.specs.Step.Stages.{Decides, at_of, course_told, is_proof}
+use Rattle.report_check.specs.Step.Stages.{Decides, at_of, tally_in, is_proof}
 
 -- the name of an event that is there
 unwrapped : (o : Option Name) (name : Name) → (n : Name) × (o ≡ Some n) → unwrap_or o nameless ≡ name → o ≡ Some name
@@ -49,17 +49,17 @@ module _ (drawn : Drawn) (number : ℕ) (name : Name) (line : Entry) (test : Boo
   event_none fails = rw (names_from drawn.names number name there is) (λ next h. let clash : true ≡ false = sym (tells.1 h.0) ∙ fails in absurd (cc clash))
 
 -- behind all rows the end comes
-pub end_decides : (drawn : Drawn) (course : ReportTally) (number : ℕ) (left : List Row) (line : Entry) (o : Option Stage) → left ≡ []
-    → Decides drawn (at_end (end_word (course_told course))) line o → Decides drawn (at_row (course_told course) number left) line o
-end_decides drawn course number left line None none d = subst (λ xs. Decides drawn (at_row (course_told course) number xs) line None) (sym none) d
-end_decides drawn course number left line (Some stage) none d = subst (λ xs. Decides drawn (at_row (course_told course) number xs) line (Some stage)) (sym none) d
+pub end_decides : (drawn : Drawn) (tally : ReportTally) (number : ℕ) (left : List Row) (line : Entry) (o : Option Stage) → left ≡ []
+    → Decides drawn (at_end (end_word (tally_in tally))) line o → Decides drawn (at_row (tally_in tally) number left) line o
+end_decides drawn tally number left line None none d = subst (λ xs. Decides drawn (at_row (tally_in tally) number xs) line None) (sym none) d
+end_decides drawn tally number left line (Some stage) none d = subst (λ xs. Decides drawn (at_row (tally_in tally) number xs) line (Some stage)) (sym none) d
 
 -- ---- rows
 
-module _ (drawn : Drawn) (course : ReportTally) (number : ℕ) (row : Row) (line : Entry) (test : Bool) (there : slice_get drawn.rows number ≡ Some row)
+module _ (drawn : Drawn) (tally : ReportTally) (number : ℕ) (row : Row) (line : Entry) (test : Bool) (there : slice_get drawn.rows number ≡ Some row)
     (tells : IsTrue test ↔ (line ≡ lines.row number row.kind (name_of drawn row.from) (name_of drawn row.to))) where
   pub row_some : test ≡ true → IsRowOf drawn.net row → number < 2 ^ 32
-      → Decides drawn (at_of drawn (stages.Row course number)) line (Some (stages.Bound (record { course = course; number = number; row = row }) Greatest))
+      → Decides drawn (at_of drawn (stages.Row tally number)) line (Some (stages.Bound (record { tally = tally; number = number; row = row }) Greatest))
   row_some holds between small =
       let same : line ≡ lines.row number row.kind (name_of drawn row.from) (name_of drawn row.to) = tells.0 holds in
       let within : number < length drawn.rows = slice_get_within drawn.rows number row there in
@@ -69,5 +69,5 @@ module _ (drawn : Drawn) (course : ReportTally) (number : ℕ) (row : Row) (line
         (record { from = between.0; to = between.1; number = within; small = small }, tt),
       )
 
-  pub row_none : test ≡ false → Decides drawn (at_of drawn (stages.Row course number)) line None
+  pub row_none : test ≡ false → Decides drawn (at_of drawn (stages.Row tally number)) line None
   row_none fails = rw (rows_from drawn.rows number row there) (λ next h. let clash : true ≡ false = sym (tells.1 h.0) ∙ fails in absurd (cc clash))

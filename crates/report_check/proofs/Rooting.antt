@@ -15,18 +15,18 @@ use Rattle.branch.specs.declared.answer.Root.{Root}
 use Rattle.branch.specs.declared.answer.Root.TheVariants as roots
 use Rattle.requirements.specs.declared.bound.Bound.{Bound}
 use Rattle.drawn.specs.declared.row.Row.{Row}
-use Rattle.right_report.specs.Right.Facts.{IsLimit}
+use Rattle.right_report.specs.Right.LineClaims.{IsLimit}
 use Rattle.report_check.specs.declared.stage.NextBound.{NextBound}
 use Rattle.report_check.specs.declared.stage.NextBound.TheVariants.{Greatest, LeastBy}
 use Rattle.report_check.specs.Step.Bounds.{SomeMeet, reversed_root}
-use Rattle.report_check.specs.Step.Stages.{side_told}
+use Rattle.report_check.specs.Step.Stages.{next_in}
 
 -- ---- networks without events
 
 edge_there : (net : Net) (name : EdgeName) (e : Edge) → edge net name ≡ Some e → (c : Constraint) × (slice_get net.constraints name.constraint ≡ Some c)
 edge_there net name e is = by_constraint (slice_get net.constraints name.constraint) refl is where
   by_constraint : (o : Option Constraint) → slice_get net.constraints name.constraint ≡ o
-      → option_and_then (λ (c : Constraint). option_and_then (side_edge name.side c.target) (slice_get c.causes name.cause)) o ≡ Some e
+      → option_and_then (λ (c : Constraint). option_and_then (side_edge name.coming c.target) (slice_get c.causes name.cause)) o ≡ Some e
       → (c : Constraint) × (slice_get net.constraints name.constraint ≡ Some c)
   by_constraint None there found = absurd (cc found)
   by_constraint (Some c) there found = (c, there)
@@ -103,15 +103,15 @@ reversed_is (roots.Bound upper) limit = (
 
 -- ---- limits
 
-pub limit_greatest : (net : Net) (r : Row) (side : NextBound) (root : Root) (limit : Option ℤ) (test : Bool) → side ≡ Greatest → IsRoot net r.from r.to root
-    → (IsTrue test ↔ (root ≡ roots.Bound limit)) → (IsTrue test ↔ IsLimit net r (side_told side) limit)
+pub limit_greatest : (net : Net) (r : Row) (coming : NextBound) (root : Root) (limit : Option ℤ) (test : Bool) → coming ≡ Greatest → IsRoot net r.from r.to root
+    → (IsTrue test ↔ (root ≡ roots.Bound limit)) → (IsTrue test ↔ IsLimit net r (next_in coming) limit)
 limit_greatest net r Greatest root limit test is rooted tells =
     let bounded = root_is net r.from r.to root limit rooted in
     (λ t. bounded.0 (tells.0 t), λ h. tells.1 (bounded.1 h))
 limit_greatest net r (LeastBy most) root limit test is rooted tells = absurd (cc is)
 
-pub limit_least : (net : Net) (r : Row) (side : NextBound) (most : Bound) (root : Root) (limit : Option ℤ) (test : Bool) → side ≡ LeastBy most → IsRoot net r.to r.from root
-    → (IsTrue test ↔ (reversed_root root ≡ roots.Bound limit)) → (IsTrue test ↔ IsLimit net r (side_told side) limit)
+pub limit_least : (net : Net) (r : Row) (coming : NextBound) (most : Bound) (root : Root) (limit : Option ℤ) (test : Bool) → coming ≡ LeastBy most → IsRoot net r.to r.from root
+    → (IsTrue test ↔ (reversed_root root ≡ roots.Bound limit)) → (IsTrue test ↔ IsLimit net r (next_in coming) limit)
 limit_least net r Greatest most root limit test is rooted tells = absurd (cc is)
 limit_least net r (LeastBy other) most root limit test is rooted tells =
     let bounded = root_is net r.to r.from root (option_map neg_ℤ limit) rooted in

@@ -113,12 +113,12 @@ module _ (net : Net) (goal : ProofGoal) (lines : List Entry) (start number room 
 -- ---- what a call of the checker returned
 
 pub tells_none : (r : Result ⊤ CheckFault) (fault : Option CheckFault) → is_err r ≡ false → AnswersFault r fault → fault ≡ None
-tells_none (Ok x) fault is told = told
-tells_none (Err e) fault is told = absurd (cc is)
+tells_none (Ok x) fault is current = current
+tells_none (Err e) fault is current = absurd (cc is)
 
 pub tells_some : (r : Result ⊤ CheckFault) (fault : Option CheckFault) → is_err r ≡ true → AnswersFault r fault → (e : CheckFault) × (fault ≡ Some e)
-tells_some (Ok x) fault is told = absurd (cc is)
-tells_some (Err e) fault is told = (e, told)
+tells_some (Ok x) fault is current = absurd (cc is)
+tells_some (Err e) fault is current = (e, current)
 
 pub when_ok : (r : Result ⊤ CheckFault) (P : Type 0) → is_err r ≡ false → OnOk r P → P
 when_ok (Ok x) P is h = h

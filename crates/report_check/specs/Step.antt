@@ -1,6 +1,6 @@
 -- Words of contracts within this crate.
 pub mod Stages
 pub mod Groups
-pub mod Walks
+pub mod CheckWalks
 pub mod Bounds
 pub mod Texts

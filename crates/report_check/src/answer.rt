@@ -2,7 +2,7 @@
 
 ghost use Rattle.std.specs.Prelude.{ℕ, List};
 ghost use Rattle.itv_base.specs.Outside.{Puts};
-ghost use Rattle.jobs.specs.Works.{JobWrote};
+ghost use Rattle.jobs.specs.JobWrote.{JobWrote};
 ghost use Rattle.drawn.specs.Drawn.{Drawn};
 ghost use Rattle.report_check.specs.Check.{AnswersCheck, BeginsCheck, IsCheckOf, refused_text};
 ghost use Rattle.report_check.specs.Step.Texts.{checked_text};
@@ -23,17 +23,17 @@ pub fn answer_check<K: Sink>(
     sink: &mut K,
 ) -> Result<Answer, Unanswered>
     ensures works { JobWrote (AnswersCheck drawn.now bytes.now) (BeginsCheck drawn.now bytes.now)
-        (K.told sink.old) (K.told sink.new) result }
+        (K.state sink.old) (K.state sink.new) result }
 {
     match check_report(alloc, drawn, bytes) {
-        Ok(checked) => tell(checked, sink),
+        Ok(checked) => put_answer(checked, sink),
         Err(NoMemory) => Err(Unanswered::NoMemory),
     }
 }
 
-fn tell<K: Sink>(checked: Checked, sink: &mut K) -> Result<Answer, Unanswered>
+fn put_answer<K: Sink>(checked: Checked, sink: &mut K) -> Result<Answer, Unanswered>
     ensures works { (drawn : Drawn) (bytes : List ℕ) → IsCheckOf drawn bytes checked
-        → JobWrote (AnswersCheck drawn bytes) (BeginsCheck drawn bytes) (K.told sink.old) (K.told sink.new) result }
+        → JobWrote (AnswersCheck drawn bytes) (BeginsCheck drawn bytes) (K.state sink.old) (K.state sink.new) result }
 {
     match put_checked(checked, sink) {
         Ok(()) => Ok(answer_of(checked)),
@@ -53,7 +53,7 @@ fn answer_of(checked: Checked) -> Answer
 
 // Writes the line that says what becomes of a report.
 fn put_checked<K: Sink>(checked: Checked, sink: &mut K) -> Result<(), PutFailed>
-    ensures puts { Puts (K.told sink.old) (K.told sink.new) (checked_text checked) result }
+    ensures puts { Puts (K.state sink.old) (K.state sink.new) (checked_text checked) result }
 {
     match checked {
         Checked::Accepted => sink.put(b"report accepted\n"),
@@ -63,7 +63,7 @@ fn put_checked<K: Sink>(checked: Checked, sink: &mut K) -> Result<(), PutFailed>
 
 /// Writes the line with the number of the first wrong line, counted from 1.
 pub fn put_refused<K: Sink>(line: u64, sink: &mut K) -> Result<(), PutFailed>
-    ensures puts { Puts (K.told sink.old) (K.told sink.new) (refused_text line) result }
+    ensures puts { Puts (K.state sink.old) (K.state sink.new) (refused_text line) result }
 {
     let mut digits = Buffer::new();
     let number = number_text(line, &mut digits).as_bytes();

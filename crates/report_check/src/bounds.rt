@@ -8,11 +8,11 @@ ghost use Rattle.event_graph.specs.Limits.{IsReach};
 ghost use Rattle.event_graph.specs.Proof.{Nothing, ProofLine};
 ghost use Rattle.event_graph.specs.RootBound.{IsRootBound};
 ghost use Rattle.requirements.specs.Bounds.{HasTimes};
-ghost use Rattle.right_report.specs.Right.Facts.{HasAttained, IsLimit};
+ghost use Rattle.right_report.specs.Right.LineClaims.{HasAttained, IsLimit};
 ghost use Rattle.right_report.specs.Checked.{IsWithinTimes, ProvesBound, ProvesFinding};
 ghost use Rattle.report_check.specs.Step.Bounds.{IsBetween, SomeMeet, goal_for, reversed_root};
-ghost use Rattle.report_check.specs.Step.Groups.{IsToldOf};
-ghost use Rattle.report_check.specs.Step.Stages.{side_told};
+ghost use Rattle.report_check.specs.Step.Groups.{IsWholeFor};
+ghost use Rattle.report_check.specs.Step.Stages.{next_in};
 
 use crate::stage::NextBound;
 use crate::times::is_time;
@@ -26,7 +26,7 @@ use slack_report::FindingWord;
 /// Whether a finding may stand behind proof lines. `whole` says whether they prove that no times satisfy.
 pub fn proves_finding(net: &Network, work: &mut Work, word: FindingWord, whole: bool) -> bool
     requires made { IsMadeFor net.now work.old }
-    ensures proves { (lines : List ProofLine) → (word ≡ FindingWord.Inconsistent → IsToldOf net.now (Some Nothing) lines whole)
+    ensures proves { (lines : List ProofLine) → (word ≡ FindingWord.Inconsistent → IsWholeFor net.now (Some Nothing) lines whole)
         → (IsTrue result ↔ ProvesFinding net.now lines word) }
     ensures made { IsMadeFor net.now work.new }
 {
@@ -67,14 +67,14 @@ pub fn proves_bound(
     work: &mut Work,
     found: FindingWord,
     row: &Row,
-    side: NextBound,
+    coming: NextBound,
     value: Bound,
     whole: bool,
 ) -> bool
     requires made { IsMadeFor net.now work.old }
     requires between { IsBetween net.now row.now }
-    ensures proves { (lines : List ProofLine) → IsToldOf net.now (goal_for row.now (side_told side) value) lines whole
-        → (IsTrue result ↔ (IsWithinTimes value × ProvesBound net.now found row.now (side_told side) lines value)) }
+    ensures proves { (lines : List ProofLine) → IsWholeFor net.now (goal_for row.now (next_in coming) value) lines whole
+        → (IsTrue result ↔ (IsWithinTimes value × ProvesBound net.now found row.now (next_in coming) lines value)) }
     ensures times { IsTrue result → HasTimes value }
     ensures made { IsMadeFor net.now work.new }
 {
@@ -84,7 +84,7 @@ pub fn proves_bound(
         Bound::Within { limit, attained } => {
             attained.is_none_or(is_time)
                 && has_attained(found, attained)
-                && is_limit(net, work, row, side, limit)
+                && is_limit(net, work, row, coming, limit)
         }
     }
 }
@@ -101,14 +101,20 @@ fn has_attained(found: FindingWord, attained: Option<i64>) -> bool
 }
 
 // Whether a limit is the root bound of a row on a side.
-fn is_limit(net: &Network, work: &mut Work, row: &Row, side: NextBound, limit: Option<i64>) -> bool
+fn is_limit(
+    net: &Network,
+    work: &mut Work,
+    row: &Row,
+    coming: NextBound,
+    limit: Option<i64>,
+) -> bool
     requires made { IsMadeFor net.now work.old }
     requires between { IsBetween net.now row.now }
-    ensures limit { IsTrue result ↔ IsLimit net.now row.now (side_told side) limit }
+    ensures limit { IsTrue result ↔ IsLimit net.now row.now (next_in coming) limit }
     ensures within { IsTrue result → IfSome limit IsReach }
     ensures made { IsMadeFor net.now work.new }
 {
-    let root = match side {
+    let root = match coming {
         NextBound::Greatest => root_bound(work, net, row.from, row.to),
         NextBound::LeastBy(_) => reversed_root(root_bound(work, net, row.to, row.from)),
     };

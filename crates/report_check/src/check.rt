@@ -2,7 +2,7 @@
 
 ghost use Rattle.std.specs.Prelude.{◌<◌, ◌^◌, IfOk, length};
 ghost use Rattle.report_check.specs.Check.{IsCheckOf};
-ghost use Rattle.report_check.specs.Step.Walks.{ChecksItems};
+ghost use Rattle.report_check.specs.Step.CheckWalks.{ChecksItems};
 
 use crate::walk::walk;
 use branch::Work;

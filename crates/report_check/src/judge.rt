@@ -6,9 +6,9 @@ ghost use Rattle.requirements.specs.Bounds.{HasTimes};
 ghost use Rattle.itv_base.specs.Names.{name_view};
 ghost use Rattle.slack_report.specs.Entry.{event, row as row_line};
 ghost use Rattle.slack_report.specs.Items.{item_view};
-ghost use Rattle.right_report.specs.Right.At.{at_end, at_raise, behind_times};
+ghost use Rattle.right_report.specs.Right.ReportState.{at_end, at_raise, behind_times};
 ghost use Rattle.drawn.specs.Drawn.{Drawn, IsRowOf, name_of};
-ghost use Rattle.report_check.specs.Step.Stages.{AreBounded, Decides, Fits, IsLineStage, IsSide, IsTelling, at_of, side_told, telling_of};
+ghost use Rattle.report_check.specs.Step.Stages.{AreBounded, Decides, Fits, IsLineStage, IsNextBound, IsCurrentRow, at_of, next_in, current_in};
 
 use crate::names::{same_kind, same_name};
 use crate::stage::{
@@ -33,19 +33,35 @@ pub fn judge<'a>(drawn: &DrawnNetwork, stage: &Stage<'a>, item: &Item<'a>) -> Op
         Stage::Event(number) => judge_event(drawn, *number, item),
         Stage::Known => judge_known(drawn, item),
         Stage::Rows(word) => judge_rows(drawn, *word, item),
-        Stage::Row { course, number } => judge_row(drawn, *course, *number, item),
+        Stage::Row { tally, number } => judge_row(drawn, *tally, *number, item),
         // Proof lines may stand before a bound.
         Stage::Bound { .. } => unreachable!(),
-        Stage::Times { told, side, value } => judge_times(drawn, told, *side, *value, item),
-        Stage::Raise { told, side, times } => judge_raise(drawn, told, *side, times, item),
-        Stage::Verdict { told, range, both } => judge_verdict(drawn, told, *range, both, item),
-        Stage::Past { told, range, both } => judge_past(drawn, told, *range, both, item),
+        Stage::Times {
+            current,
+            coming,
+            value,
+        } => judge_times(drawn, current, *coming, *value, item),
+        Stage::Raise {
+            current,
+            coming,
+            times,
+        } => judge_raise(drawn, current, *coming, times, item),
+        Stage::Verdict {
+            current,
+            range,
+            both,
+        } => judge_verdict(drawn, current, *range, both, item),
+        Stage::Past {
+            current,
+            range,
+            both,
+        } => judge_past(drawn, current, *range, both, item),
         Stage::Slack {
-            course,
+            tally,
             number,
             range,
             both,
-        } => judge_slack(drawn, *course, *number, *range, both, item),
+        } => judge_slack(drawn, *tally, *number, *range, both, item),
         Stage::End(word) => judge_end(drawn, *word, item),
         Stage::Done => None,
     }
@@ -96,9 +112,9 @@ fn is_event(item: &Item<'_>, number: u32, name: EventName<'_>) -> bool
 {
     match item {
         Item::Event {
-            number: told,
-            name: told_name,
-        } => *told == number && same_name(*told_name, name),
+            number: written,
+            name: written_name,
+        } => *written == number && same_name(*written_name, name),
         _ => false,
     }
 }
@@ -119,7 +135,7 @@ fn judge_rows(drawn: &DrawnNetwork, word: FindingWord, item: &Item<'_>) -> Optio
 {
     match item {
         Item::Rows { count } if u64::from(*count) == drawn.rows().len() => Some(Stage::Row {
-            course: ReportTally::new(word),
+            tally: ReportTally::new(word),
             number: 0,
         }),
         _ => None,
@@ -128,39 +144,39 @@ fn judge_rows(drawn: &DrawnNetwork, word: FindingWord, item: &Item<'_>) -> Optio
 
 fn judge_row(
     drawn: &DrawnNetwork,
-    course: ReportTally,
+    tally: ReportTally,
     number: u64,
     item: &Item<'_>,
 ) -> Option<Stage<'static>>
     requires within { number ≤ length drawn.now.rows }
-    ensures decides { Decides drawn.now (at_of drawn.now (Stage.Row course number)) (item_view item.now) result }
+    ensures decides { Decides drawn.now (at_of drawn.now (Stage.Row tally number)) (item_view item.now) result }
 {
     let rows = drawn.rows();
     if number == rows.len() {
-        return judge_end(drawn, course.end_word(), item);
+        return judge_end(drawn, tally.end_word(), item);
     }
-    judge_row_line(drawn, course, number, rows.get(number), item)
+    judge_row_line(drawn, tally, number, rows.get(number), item)
 }
 
 fn judge_row_line(
     drawn: &DrawnNetwork,
-    course: ReportTally,
+    tally: ReportTally,
     number: u64,
     row: &Row,
     item: &Item<'_>,
 ) -> Option<Stage<'static>>
     requires row { slice_get drawn.now.rows number ≡ Some row.now }
     requires between { IsRowOf drawn.now.net row.now }
-    ensures decides { Decides drawn.now (at_of drawn.now (Stage.Row course number)) (item_view item.now) result }
+    ensures decides { Decides drawn.now (at_of drawn.now (Stage.Row tally number)) (item_view item.now) result }
 {
     if is_row(item, number, drawn, row) {
         return Some(Stage::Bound {
-            told: CurrentRow {
-                course,
+            current: CurrentRow {
+                tally,
                 number,
                 row: *row,
             },
-            side: NextBound::Greatest,
+            coming: NextBound::Greatest,
         });
     }
     None
@@ -175,12 +191,12 @@ fn is_row(item: &Item<'_>, number: u64, drawn: &DrawnNetwork, row: &Row) -> bool
 {
     match item {
         Item::Row {
-            number: told,
+            number: written,
             kind,
             from,
             to,
         } => {
-            u64::from(*told) == number
+            u64::from(*current) == number
                 && same_kind(kind, &row.kind)
                 && same_name(*from, drawn.name(row.from))
                 && same_name(*to, drawn.name(row.to))
@@ -193,65 +209,71 @@ fn judge_end(drawn: &DrawnNetwork, word: EndWord, item: &Item<'_>) -> Option<Sta
     ensures decides { Decides drawn.now (at_end word) (item_view item.now) result }
 {
     match item {
-        Item::End(told) if *told == word => Some(Stage::Done),
+        Item::End(current) if *current == word => Some(Stage::Done),
         _ => None,
     }
 }
 
 fn judge_times<'a>(
     drawn: &DrawnNetwork,
-    told: &CurrentRow,
-    side: NextBound,
+    current: &CurrentRow,
+    coming: NextBound,
     value: Bound,
     item: &Item<'a>,
 ) -> Option<Stage<'a>>
-    requires telling { IsTelling drawn.now told.now }
-    requires side { IsSide side }
+    requires current_row { IsCurrentRow drawn.now current.now }
+    requires coming { IsNextBound coming }
     requires times { HasTimes value }
-    ensures decides { Decides drawn.now (at_of drawn.now (Stage.Times told.now side value)) (item_view item.now) result }
+    ensures decides { Decides drawn.now (at_of drawn.now (Stage.Times current.now coming value)) (item_view item.now) result }
 {
     match item {
         Item::Times(list)
-            if are_times(drawn.network(), &told.row, list) && attains(&told.row, value, list) => {
-            Some(behind_times(told, side, value, list))
+            if are_times(drawn.network(), &current.row, list)
+                && attains(&current.row, value, list) => {
+            Some(behind_times(current, coming, value, list))
         }
         _ => None,
     }
 }
 
 // The stage behind the times of a bound.
-fn behind_times<'a>(told: &CurrentRow, side: NextBound, value: Bound, times: &'a [i64]) -> Stage<'a>
-    requires number { told.now.number < 2 ^ 32 }
-    ensures stage { (drawn : Drawn) → at_of drawn result ≡ behind_times (telling_of drawn told.now) (side_told side) value times.now }
-    ensures fits { (drawn : Drawn) → IsTelling drawn told.now → IsSide side → HasTimes value → All IsTime times.now
+fn behind_times<'a>(
+    current: &CurrentRow,
+    coming: NextBound,
+    value: Bound,
+    times: &'a [i64],
+) -> Stage<'a>
+    requires number { current.now.number < 2 ^ 32 }
+    ensures stage { (drawn : Drawn) → at_of drawn result ≡ behind_times (current_in drawn current.now) (next_in coming) value times.now }
+    ensures fits { (drawn : Drawn) → IsCurrentRow drawn current.now → IsNextBound coming → HasTimes value → All IsTime times.now
         → length times.now ≡ drawn.net.events → Fits drawn result }
 {
     match value {
         Bound::Unbounded => Stage::Raise {
-            told: *told,
-            side,
+            current: *current,
+            coming,
             times,
         },
-        _ => bounded(told, side, value),
+        _ => bounded(current, coming, value),
     }
 }
 
 fn judge_raise(
     drawn: &DrawnNetwork,
-    told: &CurrentRow,
-    side: NextBound,
+    current: &CurrentRow,
+    coming: NextBound,
     times: &[i64],
     item: &Item<'_>,
 ) -> Option<Stage<'static>>
-    requires telling { IsTelling drawn.now told.now }
-    requires side { IsSide side }
+    requires current_row { IsCurrentRow drawn.now current.now }
+    requires coming { IsNextBound coming }
     requires times { All IsTime times.now }
     requires count { length times.now ≡ drawn.now.net.events }
-    ensures decides { Decides drawn.now (at_raise (telling_of drawn.now told.now) (side_told side) times.now) (item_view item.now) result }
+    ensures decides { Decides drawn.now (at_raise (current_in drawn.now current.now) (next_in coming) times.now) (item_view item.now) result }
 {
     match item {
-        Item::Raise(set) if can_rise(drawn.network(), &told.row, side, times, set) => {
-            Some(bounded(told, side, Bound::Unbounded))
+        Item::Raise(set) if can_rise(drawn.network(), &current.row, coming, times, set) => {
+            Some(bounded(current, coming, Bound::Unbounded))
         }
         _ => None,
     }
@@ -259,18 +281,18 @@ fn judge_raise(
 
 fn judge_verdict(
     drawn: &DrawnNetwork,
-    told: &CurrentRow,
+    current: &CurrentRow,
     range: Range,
     both: &BothBounds,
     item: &Item<'_>,
 ) -> Option<Stage<'static>>
-    requires telling { IsTelling drawn.now told.now }
+    requires current_row { IsCurrentRow drawn.now current.now }
     requires bounds { AreBounded both.now }
-    ensures decides { Decides drawn.now (at_of drawn.now (Stage.Verdict told.now range both.now)) (item_view item.now) result }
+    ensures decides { Decides drawn.now (at_of drawn.now (Stage.Verdict current.now range both.now)) (item_view item.now) result }
 {
     match item {
         Item::Verdict(word) if *word == verdict_of(range, both) => {
-            Some(behind_verdict(told, range, both, *word))
+            Some(behind_verdict(current, range, both, *word))
         }
         _ => None,
     }
@@ -278,21 +300,21 @@ fn judge_verdict(
 
 fn judge_past(
     drawn: &DrawnNetwork,
-    told: &CurrentRow,
+    current: &CurrentRow,
     range: Range,
     both: &BothBounds,
     item: &Item<'_>,
 ) -> Option<Stage<'static>>
-    requires telling { IsTelling drawn.now told.now }
+    requires current_row { IsCurrentRow drawn.now current.now }
     requires bounds { AreBounded both.now }
-    ensures decides { Decides drawn.now (at_of drawn.now (Stage.Past told.now range both.now)) (item_view item.now) result }
+    ensures decides { Decides drawn.now (at_of drawn.now (Stage.Past current.now range both.now)) (item_view item.now) result }
 {
     let word = verdict_of(range, both);
     match item {
         Item::Times(list)
-            if are_times(drawn.network(), &told.row, list)
-                && breaks(&told.row, range, word, list) => {
-            Some(behind_past(told, range, both, word))
+            if are_times(drawn.network(), &current.row, list)
+                && breaks(&current.row, range, word, list) => {
+            Some(behind_past(current, range, both, word))
         }
         _ => None,
     }
@@ -300,7 +322,7 @@ fn judge_past(
 
 fn judge_slack(
     drawn: &DrawnNetwork,
-    course: ReportTally,
+    tally: ReportTally,
     number: u64,
     range: Range,
     both: &BothBounds,
@@ -308,11 +330,11 @@ fn judge_slack(
 ) -> Option<Stage<'static>>
     requires number { number ≤ length drawn.now.rows }
     requires bounds { AreBounded both.now }
-    ensures decides { Decides drawn.now (at_of drawn.now (Stage.Slack course number range both.now)) (item_view item.now) result }
+    ensures decides { Decides drawn.now (at_of drawn.now (Stage.Slack tally number range both.now)) (item_view item.now) result }
 {
     match item {
         Item::Slack(value) if *value == slack_of(range, both) => {
-            Some(Stage::Row { course, number })
+            Some(Stage::Row { tally, number })
         }
         _ => None,
     }

@@ -6,9 +6,9 @@
 mod answer;
 mod bounds;
 mod check;
-mod group;
 mod judge;
 mod names;
+mod proof_group;
 mod stage;
 mod times;
 mod walk;

@@ -2,9 +2,9 @@
 
 ghost use Rattle.std.specs.Prelude.{◌≡◌, ◌<◌, ◌^◌, length};
 ghost use Rattle.requirements.specs.Bounds.{HasTimes};
-ghost use Rattle.right_report.specs.Right.At.{behind_bound, behind_finding, behind_past, behind_verdict, bounded, course_of, end_word, which_of, with_bounds, with_verdict};
+ghost use Rattle.right_report.specs.Right.ReportState.{behind_bound, behind_finding, behind_past, behind_verdict, bounded, tally_of, end_word, which_of, with_bounds, with_verdict};
 ghost use Rattle.drawn.specs.Drawn.{Drawn};
-ghost use Rattle.report_check.specs.Step.Stages.{AreBounded, Fits, IsSide, IsTelling, at_of, course_told, side_told, telling_of};
+ghost use Rattle.report_check.specs.Step.Stages.{AreBounded, Fits, IsNextBound, IsCurrentRow, at_of, tally_in, next_in, current_in};
 
 use drawn::Row;
 use itv_base::{Range, RowKind};
@@ -31,7 +31,7 @@ pub enum NextBound {
 /// The row at which a report stands, with its number from 0, and the tally of what came before.
 #[derive(Clone, Copy, Debug, PartialEq, Eq)]
 pub struct CurrentRow {
-    pub course: ReportTally,
+    pub tally: ReportTally,
     pub number: u64,
     pub row: Row,
 }
@@ -50,39 +50,39 @@ pub enum Stage<'a> {
     Rows(FindingWord),
     /// Before the row with this number, from 0. Behind all rows: before the end.
     Row {
-        course: ReportTally,
+        tally: ReportTally,
         number: u64,
     },
     Bound {
-        told: CurrentRow,
-        side: NextBound,
+        current: CurrentRow,
+        coming: NextBound,
     },
     /// Before the times of a bound.
     Times {
-        told: CurrentRow,
-        side: NextBound,
+        current: CurrentRow,
+        coming: NextBound,
         value: Bound,
     },
     /// Before the set of events that can be raised from these times.
     Raise {
-        told: CurrentRow,
-        side: NextBound,
+        current: CurrentRow,
+        coming: NextBound,
         times: &'a [i64],
     },
     Verdict {
-        told: CurrentRow,
+        current: CurrentRow,
         range: Range,
         both: BothBounds,
     },
     /// Before the times that break a requirement.
     Past {
-        told: CurrentRow,
+        current: CurrentRow,
         range: Range,
         both: BothBounds,
     },
     /// Before the slack of a row. The row with this number comes behind it.
     Slack {
-        course: ReportTally,
+        tally: ReportTally,
         number: u64,
         range: Range,
         both: BothBounds,
@@ -95,7 +95,7 @@ pub enum Stage<'a> {
 impl ReportTally {
     /// The tally behind a finding.
     pub fn new(found: FindingWord) -> ReportTally
-        ensures course { course_told result ≡ course_of found }
+        ensures tally { tally_in result ≡ tally_of found }
     {
         ReportTally {
             found,
@@ -105,14 +105,14 @@ impl ReportTally {
     }
 
     fn with_bounds(self, both: &BothBounds) -> ReportTally
-        ensures course { course_told result ≡ with_bounds (course_told self) both.now.least both.now.greatest }
+        ensures tally { tally_in result ≡ with_bounds (tally_in self) both.now.least both.now.greatest }
     {
         let within = self.within || is_within(both.least) || is_within(both.greatest);
         ReportTally { within, ..self }
     }
 
     fn with_verdict(self, word: Verdict) -> ReportTally
-        ensures course { course_told result ≡ with_verdict (course_told self) word }
+        ensures tally { tally_in result ≡ with_verdict (tally_in self) word }
     {
         ReportTally {
             fails: self.fails || is_fail(word),
@@ -122,7 +122,7 @@ impl ReportTally {
 
     /// The word at the end.
     pub fn end_word(self) -> EndWord
-        ensures word { result ≡ end_word (course_told self) }
+        ensures word { result ≡ end_word (tally_in self) }
     {
         if self.fails {
             return EndWord::Fail;
@@ -139,7 +139,7 @@ impl ReportTally {
 impl NextBound {
     /// Which bound comes next.
     pub fn which(self) -> Which
-        ensures which { result ≡ which_of (side_told self) }
+        ensures which { result ≡ which_of (next_in self) }
     {
         match self {
             NextBound::Greatest => Which::Max,
@@ -161,18 +161,18 @@ pub fn behind_finding(word: FindingWord) -> Stage<'static>
 }
 
 // The stage behind both bounds of a row.
-fn behind_both(told: &CurrentRow, both: &BothBounds) -> Stage<'static>
-    requires number { told.now.number < 2 ^ 32 }
-    ensures stage { (drawn : Drawn) → at_of drawn result ≡ bounded (telling_of drawn told.now) (side_told (NextBound.LeastBy both.now.greatest)) both.now.least }
-    ensures fits { (drawn : Drawn) → IsTelling drawn told.now → AreBounded both.now → Fits drawn result }
+fn behind_both(current: &CurrentRow, both: &BothBounds) -> Stage<'static>
+    requires number { current.now.number < 2 ^ 32 }
+    ensures stage { (drawn : Drawn) → at_of drawn result ≡ bounded (current_in drawn current.now) (next_in (NextBound.LeastBy both.now.greatest)) both.now.least }
+    ensures fits { (drawn : Drawn) → IsCurrentRow drawn current.now → AreBounded both.now → Fits drawn result }
 {
-    match &told.row.kind {
+    match &current.row.kind {
         RowKind::Ask => Stage::Row {
-            course: told.course.with_bounds(both),
-            number: told.number + 1,
+            tally: current.tally.with_bounds(both),
+            number: current.number + 1,
         },
         RowKind::Req(range) => Stage::Verdict {
-            told: *told,
+            current: *current,
             range: *range,
             both: *both,
         },
@@ -180,18 +180,18 @@ fn behind_both(told: &CurrentRow, both: &BothBounds) -> Stage<'static>
 }
 
 /// The stage behind a bound and its lines.
-pub fn bounded(told: &CurrentRow, side: NextBound, value: Bound) -> Stage<'static>
-    requires number { told.now.number < 2 ^ 32 }
-    ensures stage { (drawn : Drawn) → at_of drawn result ≡ bounded (telling_of drawn told.now) (side_told side) value }
-    ensures fits { (drawn : Drawn) → IsTelling drawn told.now → IsSide side → HasTimes value → Fits drawn result }
+pub fn bounded(current: &CurrentRow, coming: NextBound, value: Bound) -> Stage<'static>
+    requires number { current.now.number < 2 ^ 32 }
+    ensures stage { (drawn : Drawn) → at_of drawn result ≡ bounded (current_in drawn current.now) (next_in coming) value }
+    ensures fits { (drawn : Drawn) → IsCurrentRow drawn current.now → IsNextBound coming → HasTimes value → Fits drawn result }
 {
-    match side {
+    match coming {
         NextBound::Greatest => Stage::Bound {
-            told: *told,
-            side: NextBound::LeastBy(value),
+            current: *current,
+            coming: NextBound::LeastBy(value),
         },
         NextBound::LeastBy(greatest) => behind_both(
-            told,
+            current,
             &BothBounds {
                 least: value,
                 greatest,
@@ -201,16 +201,16 @@ pub fn bounded(told: &CurrentRow, side: NextBound, value: Bound) -> Stage<'stati
 }
 
 /// The stage behind the line of a bound.
-pub fn behind_bound(told: &CurrentRow, side: NextBound, value: Bound) -> Stage<'static>
-    requires number { told.now.number < 2 ^ 32 }
-    ensures stage { (drawn : Drawn) → at_of drawn result ≡ behind_bound (telling_of drawn told.now) (side_told side) value }
-    ensures fits { (drawn : Drawn) → IsTelling drawn told.now → IsSide side → HasTimes value → Fits drawn result }
+pub fn behind_bound(current: &CurrentRow, coming: NextBound, value: Bound) -> Stage<'static>
+    requires number { current.now.number < 2 ^ 32 }
+    ensures stage { (drawn : Drawn) → at_of drawn result ≡ behind_bound (current_in drawn current.now) (next_in coming) value }
+    ensures fits { (drawn : Drawn) → IsCurrentRow drawn current.now → IsNextBound coming → HasTimes value → Fits drawn result }
 {
     match value {
-        Bound::Within { attained: None, .. } => bounded(told, side, value),
+        Bound::Within { attained: None, .. } => bounded(current, coming, value),
         _ => Stage::Times {
-            told: *told,
-            side,
+            current: *current,
+            coming,
             value,
         },
     }
@@ -218,18 +218,18 @@ pub fn behind_bound(told: &CurrentRow, side: NextBound, value: Bound) -> Stage<'
 
 /// The stage behind a verdict and the times that break the requirement.
 pub fn behind_past(
-    told: &CurrentRow,
+    current: &CurrentRow,
     range: Range,
     both: &BothBounds,
     word: Verdict,
 ) -> Stage<'static>
-    requires number { told.now.number < 2 ^ 32 }
-    ensures stage { (drawn : Drawn) → at_of drawn result ≡ behind_past (telling_of drawn told.now) range both.now.least both.now.greatest word }
-    ensures fits { (drawn : Drawn) → IsTelling drawn told.now → AreBounded both.now → Fits drawn result }
+    requires number { current.now.number < 2 ^ 32 }
+    ensures stage { (drawn : Drawn) → at_of drawn result ≡ behind_past (current_in drawn current.now) range both.now.least both.now.greatest word }
+    ensures fits { (drawn : Drawn) → IsCurrentRow drawn current.now → AreBounded both.now → Fits drawn result }
 {
     Stage::Slack {
-        course: told.course.with_bounds(both).with_verdict(word),
-        number: told.number + 1,
+        tally: current.tally.with_bounds(both).with_verdict(word),
+        number: current.number + 1,
         range,
         both: *both,
     }
@@ -237,21 +237,21 @@ pub fn behind_past(
 
 /// The stage behind a verdict.
 pub fn behind_verdict(
-    told: &CurrentRow,
+    current: &CurrentRow,
     range: Range,
     both: &BothBounds,
     word: Verdict,
 ) -> Stage<'static>
-    requires number { told.now.number < 2 ^ 32 }
-    ensures stage { (drawn : Drawn) → at_of drawn result ≡ behind_verdict (telling_of drawn told.now) range both.now.least both.now.greatest word }
-    ensures fits { (drawn : Drawn) → IsTelling drawn told.now → AreBounded both.now → Fits drawn result }
+    requires number { current.now.number < 2 ^ 32 }
+    ensures stage { (drawn : Drawn) → at_of drawn result ≡ behind_verdict (current_in drawn current.now) range both.now.least both.now.greatest word }
+    ensures fits { (drawn : Drawn) → IsCurrentRow drawn current.now → AreBounded both.now → Fits drawn result }
 {
     if is_fail(word) {
         return Stage::Past {
-            told: *told,
+            current: *current,
             range,
             both: *both,
         };
     }
-    behind_past(told, range, both, word)
+    behind_past(current, range, both, word)
 }

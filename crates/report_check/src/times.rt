@@ -4,9 +4,9 @@ ghost use Rattle.std.specs.Prelude.{◌≡◌, ◌<◌, ◌↔◌, ◌-ℤ◌, I
 ghost use Rattle.event_graph.specs.Satisfying.{Satisfies};
 ghost use Rattle.event_graph.specs.Times.{IsTime, separation};
 ghost use Rattle.drawn.specs.Drawn.{AreTimes};
-ghost use Rattle.right_report.specs.Right.Facts.{Attains, BreaksEnd, CanRise};
+ghost use Rattle.right_report.specs.Right.LineClaims.{Attains, BreaksEnd, CanRise};
 ghost use Rattle.right_report.specs.Checked.{checked};
-ghost use Rattle.report_check.specs.Step.Stages.{side_told};
+ghost use Rattle.report_check.specs.Step.Stages.{next_in};
 
 use crate::stage::NextBound;
 use cert_checker::check_ray;
@@ -70,11 +70,11 @@ pub fn attains(row: &Row, value: Bound, times: &[i64]) -> bool
     requires times { All IsTime times.now }
     ensures attains { IsTrue result ↔ Attains row.now value times.now }
 {
-    let told = separation(times, row.from, row.to);
+    let reached = separation(times, row.from, row.to);
     match value {
-        Bound::Closed(value) => told == value,
+        Bound::Closed(value) => reached == value,
         Bound::Unbounded => true,
-        Bound::Within { attained, .. } => attained.is_none_or(|value| told == value),
+        Bound::Within { attained, .. } => attained.is_none_or(|value| reached == value),
     }
 }
 
@@ -83,27 +83,27 @@ pub fn breaks(row: &Row, range: Range, word: Verdict, times: &[i64]) -> bool
     requires times { All IsTime times.now }
     ensures breaks { IsTrue result ↔ BreaksEnd row.now range word times.now }
 {
-    let told = separation(times, row.from, row.to);
+    let reached = separation(times, row.from, row.to);
     match word {
-        Verdict::FailHigh => range.high().is_some_and(|high| high < told),
-        Verdict::FailLow => range.low().is_some_and(|low| told < low),
+        Verdict::FailHigh => range.high().is_some_and(|high| high < reached),
+        Verdict::FailLow => range.low().is_some_and(|low| reached < low),
         Verdict::Pass | Verdict::Undecided => false,
     }
 }
 
 /// Whether a set of events can be raised from times without end, and a bound of a row with it. For the greatest bound the
 /// set holds the to-event and not the from-event, and for the least bound the from-event and not the to-event.
-pub fn can_rise(net: &Network, row: &Row, side: NextBound, times: &[i64], set: &[bool]) -> bool
+pub fn can_rise(net: &Network, row: &Row, coming: NextBound, times: &[i64], set: &[bool]) -> bool
     requires times { All IsTime times.now }
     requires count { length times.now ≡ net.now.events }
     requires from { row.now.from.0 < net.now.events }
     requires to { row.now.to.0 < net.now.events }
-    ensures rise { IsTrue result ↔ CanRise net.now row.now (side_told side) times.now set.now }
+    ensures rise { IsTrue result ↔ CanRise net.now row.now (next_in coming) times.now set.now }
 {
     if set.len() != net.events() as usize {
         return false;
     }
-    match side {
+    match coming {
         NextBound::Greatest => check_ray(net, times, set, row.from, row.to),
         NextBound::LeastBy(_) => check_ray(net, times, set, row.to, row.from),
     }

@@ -2,14 +2,14 @@
 
 ghost use Rattle.std.specs.Prelude.{◌≡◌, ◌↔◌, ◌<◌, ◌≤◌, [], IfErr, IfSome, IsNone, IsTrue, length};
 ghost use Rattle.branch.specs.Work.{IsMadeFor};
-ghost use Rattle.right_report.specs.Right.At.{at_heading, at_last};
+ghost use Rattle.right_report.specs.Right.ReportState.{at_heading, at_last};
 ghost use Rattle.drawn.specs.Drawn.{Drawn};
 ghost use Rattle.report_check.specs.Step.Stages.{Fits, IsLineStage, at_of};
 ghost use Rattle.report_check.specs.Step.Groups.{IsGroup, behind_lines};
-ghost use Rattle.report_check.specs.Step.Walks.{CheckSteps, CheckWalks};
+ghost use Rattle.report_check.specs.Step.CheckWalks.{CheckSteps, CheckWalks};
 
-use crate::group::{ProofGroup, step_group};
 use crate::judge::judge;
+use crate::proof_group::{ProofGroup, step_group};
 use crate::stage::Stage;
 use branch::Work;
 use cert_checker::Checker;
@@ -75,9 +75,9 @@ fn group_of(drawn: &DrawnNetwork, stage: &Stage<'_>) -> Option<ProofGroup>
         Stage::Event(number) if *number == drawn.network().events() => Some(ProofGroup::Finding(
             *number,
         )),
-        Stage::Bound { told, side } => Some(ProofGroup::Bound {
-            told: *told,
-            side: *side,
+        Stage::Bound { current, coming } => Some(ProofGroup::Bound {
+            current: *current,
+            coming: *coming,
         }),
         _ => None,
     }

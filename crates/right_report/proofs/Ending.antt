@@ -21,11 +21,11 @@ use Rattle.slack_report.specs.declared.words.FindingWord.TheVariants.{Consistent
 use Rattle.slack_report.specs.Entry.{Entry, ending}
 use Rattle.drawn.specs.Drawn.{Drawn}
 use Rattle.drawn.specs.declared.row.Row.{Row}
-use Rattle.right_report.specs.Right.At.{ReportState, ReportTally, NextBound, CurrentRow, at_heading, at_budget, at_events, at_event, at_finding, at_known, at_rows, at_row, at_bound, at_times, at_raise, at_verdict, at_past, at_slack, at_end, at_last, behind_bound, behind_finding, behind_times, behind_verdict, bounded, end_word, greatest, is_fail, is_within, judged, least_by, undecided_or_pass, with_bounds, with_verdict}
-use Rattle.right_report.specs.Right.Facts.{IsFinding, right}
+use Rattle.right_report.specs.Right.ReportState.{ReportState, ReportTally, NextBound, CurrentRow, at_heading, at_budget, at_events, at_event, at_finding, at_known, at_rows, at_row, at_bound, at_times, at_raise, at_verdict, at_past, at_slack, at_end, at_last, behind_bound, behind_finding, behind_times, behind_verdict, bounded, end_word, greatest, is_fail, is_within, judged, least_by, undecided_or_pass, with_bounds, with_verdict}
+use Rattle.right_report.specs.Right.LineClaims.{IsFinding, right}
 use Rattle.right_report.specs.Right.Following.{MayBound, MayFind, MayFollow, LinesLead}
 use Rattle.right_report.specs.Laws.{AllMet, FailEndIsSo, InconsistentEndIsSo, PassEndIsSo, SomeBroken, SomeSatisfy}
-use Rattle.right_report.specs.Told.{end_in}
+use Rattle.right_report.specs.ReportContents.{end_in}
 use Rattle.right_report.proofs.Standing.{IsTold, Stands, stands}
 
 or_first : (a b : Bool) → (a || b) ≡ false → a ≡ false
@@ -43,21 +43,21 @@ or_some false b e = inr e
 -- ---- what the rows so far say
 
 -- what a report says of the rows before this one
-pub record Tallies (drawn : Drawn) (course : ReportTally) (number : ℕ) : Type 0 where
-  pub met : course.fails ≡ false → course.within ≡ false → (k : ℕ) (r : Row) (range : Ends) → k < number → slice_get drawn.rows k ≡ Some r → r.kind ≡ Req range → IsMet drawn.net r.from r.to range
-  pub broken : course.fails ≡ true → SomeBroken drawn
-  pub satisfied : course.found ≡ Consistent → SomeSatisfy drawn.net
-  pub settled : course.found ≡ Inconsistent → ⊥
+pub record Tallies (drawn : Drawn) (tally : ReportTally) (number : ℕ) : Type 0 where
+  pub met : tally.fails ≡ false → tally.within ≡ false → (k : ℕ) (r : Row) (range : Ends) → k < number → slice_get drawn.rows k ≡ Some r → r.kind ≡ Req range → IsMet drawn.net r.from r.to range
+  pub broken : tally.fails ≡ true → SomeBroken drawn
+  pub satisfied : tally.found ≡ Consistent → SomeSatisfy drawn.net
+  pub settled : tally.found ≡ Inconsistent → ⊥
 
 abbrev Counts : Drawn → ReportState → Type 0
 Counts drawn (at_rows word) = (word ≡ Consistent → SomeSatisfy drawn.net) × (word ≡ Inconsistent → ⊥)
-Counts drawn (at_row course number later) = Tallies drawn course number
-Counts drawn (at_bound told side lines) = Tallies drawn told.course told.number
-Counts drawn (at_times told side value) = Tallies drawn told.course told.number
-Counts drawn (at_raise told side list) = Tallies drawn told.course told.number
-Counts drawn (at_verdict told range least most) = Tallies drawn told.course told.number
-Counts drawn (at_past told range least most) = Tallies drawn told.course told.number
-Counts drawn (at_slack course number later range least most) = Tallies drawn course number
+Counts drawn (at_row tally number later) = Tallies drawn tally number
+Counts drawn (at_bound current coming lines) = Tallies drawn current.tally current.number
+Counts drawn (at_times current coming value) = Tallies drawn current.tally current.number
+Counts drawn (at_raise current coming list) = Tallies drawn current.tally current.number
+Counts drawn (at_verdict current range least most) = Tallies drawn current.tally current.number
+Counts drawn (at_past current range least most) = Tallies drawn current.tally current.number
+Counts drawn (at_slack tally number later range least most) = Tallies drawn tally number
 Counts drawn (at_end word) = (word ≡ endings.Inconsistent) × IsInconsistent drawn.net
 Counts drawn other = Unit {0}
 
@@ -68,11 +68,11 @@ within_is (Closed value) w e = w
 within_is Unbounded w e = w
 within_is (Within limit attained) w e = cc
 
-module _ (drawn : Drawn) (told : CurrentRow) (is_row : slice_get drawn.rows told.number ≡ Some told.row) (c : Tallies drawn told.course told.number) where
+module _ (drawn : Drawn) (current : CurrentRow) (is_row : slice_get drawn.rows current.number ≡ Some current.row) (c : Tallies drawn current.tally current.number) where
   -- one more row
-  tallies_more : (new : ReportTally) → (new.fails ≡ false → told.course.fails ≡ false) → (new.within ≡ false → told.course.within ≡ false)
-      → (new.fails ≡ false → new.within ≡ false → (range : Ends) → told.row.kind ≡ Req range → IsMet drawn.net told.row.from told.row.to range)
-      → (new.fails ≡ true → SomeBroken drawn) → new.found ≡ told.course.found → Tallies drawn new (told.number + 1)
+  tallies_more : (new : ReportTally) → (new.fails ≡ false → current.tally.fails ≡ false) → (new.within ≡ false → current.tally.within ≡ false)
+      → (new.fails ≡ false → new.within ≡ false → (range : Ends) → current.row.kind ≡ Req range → IsMet drawn.net current.row.from current.row.to range)
+      → (new.fails ≡ true → SomeBroken drawn) → new.found ≡ current.tally.found → Tallies drawn new (current.number + 1)
   tallies_more new old_fails old_within here broken found = record {
     met = met;
     broken = broken;
@@ -80,27 +80,27 @@ module _ (drawn : Drawn) (told : CurrentRow) (is_row : slice_get drawn.rows told
     settled = λ e. c.settled (sym found ∙ e);
   }
     where
-      met : new.fails ≡ false → new.within ≡ false → (k : ℕ) (r : Row) (range : Ends) → k < told.number + 1 → slice_get drawn.rows k ≡ Some r → r.kind ≡ Req range → IsMet drawn.net r.from r.to range
+      met : new.fails ≡ false → new.within ≡ false → (k : ℕ) (r : Row) (range : Ends) → k < current.number + 1 → slice_get drawn.rows k ≡ Some r → r.kind ≡ Req range → IsMet drawn.net r.from r.to range
       met f w k r range lt get kind =
-          elim (cases_eq k told.number) [
+          elim (cases_eq k current.number) [
             | inl e ↦ (
-                let same : told.row ≡ r = same_Some told.row r (sym is_row ∙ ap (slice_get drawn.rows) (sym e) ∙ get) in
+                let same : current.row ≡ r = same_Some current.row r (sym is_row ∙ ap (slice_get drawn.rows) (sym e) ∙ get) in
                 subst (λ (x : Row). IsMet drawn.net x.from x.to range) same (here f w range (ap (λ (x : Row). x.kind) same ∙ kind)))
             | inr other ↦ (
-                let below : k < told.number = omega arith in
+                let below : k < current.number = omega arith in
                 c.met (old_fails f) (old_within w) k r range below get kind)
           ]
 
   -- a row that demands nothing
-  tallies_ask : (least most : Bound) → told.row.kind ≡ Ask → Tallies drawn (with_bounds told.course least most) (told.number + 1)
+  tallies_ask : (least most : Bound) → current.row.kind ≡ Ask → Tallies drawn (with_bounds current.tally least most) (current.number + 1)
   tallies_ask least most ask =
-      tallies_more (with_bounds told.course least most) (λ e. e) (or_first told.course.within (is_within least || is_within most))
+      tallies_more (with_bounds current.tally least most) (λ e. e) (or_first current.tally.within (is_within least || is_within most))
       (λ f w range kind. let clash : Ask ≡ Req range = sym ask ∙ kind in absurd (cc)) c.broken refl
 
   -- a row with its verdict
-  module _ (range : Ends) (least most : Bound) (kind : told.row.kind ≡ Req range) (are : AreBounds drawn.net told.row.from told.row.to least most) where
-    met_here : (word : Verdict) → verdict_of range least most ≡ word → is_fail word ≡ false → (is_within least || is_within most) ≡ false → IsMet drawn.net told.row.from told.row.to range
-    met_here verdicts.Pass e f w = requirement.pass_is_met drawn.net told.row.from told.row.to range least most are e
+  module _ (range : Ends) (least most : Bound) (kind : current.row.kind ≡ Req range) (are : AreBounds drawn.net current.row.from current.row.to least most) where
+    met_here : (word : Verdict) → verdict_of range least most ≡ word → is_fail word ≡ false → (is_within least || is_within most) ≡ false → IsMet drawn.net current.row.from current.row.to range
+    met_here verdicts.Pass e f w = requirement.pass_is_met drawn.net current.row.from current.row.to range least most are e
     met_here verdicts.FailHigh e f w = absurd (cc)
     met_here verdicts.FailLow e f w = absurd (cc)
     met_here verdicts.Undecided e f w =
@@ -112,37 +112,37 @@ module _ (drawn : Drawn) (told : CurrentRow) (is_row : slice_get drawn.rows told
     broken_here : (word : Verdict) → verdict_of range least most ≡ word → is_fail word ≡ true → SomeBroken drawn
     broken_here verdicts.Pass e f = absurd (cc)
     broken_here verdicts.FailHigh e f = record {
-      number = told.number;
-      asked = told.row;
+      number = current.number;
+      asked = current.row;
       range = range;
       is_row = is_row;
       is_kind = kind;
-      is_broken = inl (requirement.fail_high_is_broken drawn.net told.row.from told.row.to range least most are e);
+      is_broken = inl (requirement.fail_high_is_broken drawn.net current.row.from current.row.to range least most are e);
     }
     broken_here verdicts.FailLow e f = record {
-      number = told.number;
-      asked = told.row;
+      number = current.number;
+      asked = current.row;
       range = range;
       is_row = is_row;
       is_kind = kind;
-      is_broken = inr (requirement.fail_low_is_broken drawn.net told.row.from told.row.to range least most are e);
+      is_broken = inr (requirement.fail_low_is_broken drawn.net current.row.from current.row.to range least most are e);
     }
     broken_here verdicts.Undecided e f = absurd (cc)
 
-    same_range : (other : Ends) → told.row.kind ≡ Req other → range ≡ other
+    same_range : (other : Ends) → current.row.kind ≡ Req other → range ≡ other
     same_range other e = let both : Req range ≡ Req other = sym kind ∙ e in cc
 
-    tallies_word : (word : Verdict) → verdict_of range least most ≡ word → Tallies drawn (with_verdict (with_bounds told.course least most) word) (told.number + 1)
+    tallies_word : (word : Verdict) → verdict_of range least most ≡ word → Tallies drawn (with_verdict (with_bounds current.tally least most) word) (current.number + 1)
     tallies_word word e =
-        tallies_more (with_verdict (with_bounds told.course least most) word) (or_first told.course.fails (is_fail word)) (or_first told.course.within (is_within least || is_within most))
-        (λ f w other is. subst (IsMet drawn.net told.row.from told.row.to) (same_range other is)
-        (met_here word e (or_second told.course.fails (is_fail word) f) (or_second told.course.within (is_within least || is_within most) w)))
-        (λ f. elim (or_some told.course.fails (is_fail word) f) [
+        tallies_more (with_verdict (with_bounds current.tally least most) word) (or_first current.tally.fails (is_fail word)) (or_first current.tally.within (is_within least || is_within most))
+        (λ f w other is. subst (IsMet drawn.net current.row.from current.row.to) (same_range other is)
+        (met_here word e (or_second current.tally.fails (is_fail word) f) (or_second current.tally.within (is_within least || is_within most) w)))
+        (λ f. elim (or_some current.tally.fails (is_fail word) f) [
           | inl old ↦ c.broken old
           | inr new ↦ broken_here word e new
         ]) refl
 
-    counts_verdict : (word : Verdict) → verdict_of range least most ≡ word → Counts drawn (behind_verdict told range least most word)
+    counts_verdict : (word : Verdict) → verdict_of range least most ≡ word → Counts drawn (behind_verdict current range least most word)
     counts_verdict verdicts.Pass e = tallies_word verdicts.Pass e
     counts_verdict verdicts.FailHigh e = c
     counts_verdict verdicts.FailLow e = c
@@ -150,24 +150,24 @@ module _ (drawn : Drawn) (told : CurrentRow) (is_row : slice_get drawn.rows told
 
   -- ---- behind a bound
 
-  counts_judged : (least most : Bound) (kind : RowKind) → told.row.kind ≡ kind → Counts drawn (judged kind told least most)
+  counts_judged : (least most : Bound) (kind : RowKind) → current.row.kind ≡ kind → Counts drawn (judged kind current least most)
   counts_judged least most Ask e = tallies_ask least most e
   counts_judged least most (Req range) e = c
 
-  counts_bounded : (side : NextBound) (value : Bound) → Counts drawn (bounded told side value)
+  counts_bounded : (coming : NextBound) (value : Bound) → Counts drawn (bounded current coming value)
   counts_bounded greatest value = c
-  counts_bounded (least_by most) value = counts_judged value most told.row.kind refl
+  counts_bounded (least_by most) value = counts_judged value most current.row.kind refl
 
-  counts_bound : (side : NextBound) (value : Bound) → Counts drawn (behind_bound told side value)
-  counts_bound side (Closed value) = c
-  counts_bound side Unbounded = c
-  counts_bound side (Within limit (Some found)) = c
-  counts_bound side (Within limit None) = counts_bounded side (Within limit None)
+  counts_bound : (coming : NextBound) (value : Bound) → Counts drawn (behind_bound current coming value)
+  counts_bound coming (Closed value) = c
+  counts_bound coming Unbounded = c
+  counts_bound coming (Within limit (Some found)) = c
+  counts_bound coming (Within limit None) = counts_bounded coming (Within limit None)
 
-  counts_times : (side : NextBound) (value : Bound) (list : List ℤ) → Counts drawn (behind_times told side value list)
-  counts_times side (Closed value) list = counts_bounded side (Closed value)
-  counts_times side Unbounded list = c
-  counts_times side (Within limit attained) list = counts_bounded side (Within limit attained)
+  counts_times : (coming : NextBound) (value : Bound) (list : List ℤ) → Counts drawn (behind_times current coming value list)
+  counts_times coming (Closed value) list = counts_bounded coming (Closed value)
+  counts_times coming Unbounded list = c
+  counts_times coming (Within limit attained) list = counts_bounded coming (Within limit attained)
 
 -- ---- a right line keeps the tally
 
@@ -181,10 +181,10 @@ module _ (drawn : Drawn) where
   counts_find lines line next (inl h) = subst (Counts drawn) (sym h.2) tt
   counts_find lines line next (inr h) = subst (Counts drawn) (sym h.3) (counts_finding h.0 h.2)
 
-  counts_bind : (told : CurrentRow) (side : NextBound) (lines : List ProofLine) (line : Entry) (next : ReportState) → IsTold drawn told → Tallies drawn told.course told.number → MayBound (right drawn.net) told side lines line next
+  counts_bind : (current : CurrentRow) (coming : NextBound) (lines : List ProofLine) (line : Entry) (next : ReportState) → IsTold drawn current → Tallies drawn current.tally current.number → MayBound (right drawn.net) current coming lines line next
       → Counts drawn next
-  counts_bind told side lines line next t c (inl h) = subst (Counts drawn) (sym h.2) c
-  counts_bind told side lines line next t c (inr h) = subst (Counts drawn) (sym h.3) (counts_bound drawn told t.is_row c side h.0)
+  counts_bind current coming lines line next t c (inl h) = subst (Counts drawn) (sym h.2) c
+  counts_bind current coming lines line next t c (inr h) = subst (Counts drawn) (sym h.3) (counts_bound drawn current t.is_row c coming h.0)
 
   first_tally : (word : FindingWord) → (word ≡ Consistent → SomeSatisfy drawn.net) → (word ≡ Inconsistent → ⊥) → Tallies drawn (record { found = word; fails = false; within = false }) 0
   first_tally word satisfied settled = record {
@@ -203,16 +203,16 @@ module _ (drawn : Drawn) where
   counts (at_finding lines) line next s c h = counts_find lines line next h
   counts at_known line next s c h = subst (Counts drawn) (sym h.3) ((λ e. (h.0, h.2.0)), (λ e. cc))
   counts (at_rows word) line next s c h = subst (Counts drawn) (sym h.1) (first_tally word c.0 c.1)
-  counts (at_row course number []) line next s c h = subst (Counts drawn) (sym h.1) tt
-  counts (at_row course number (r ∷ later)) line next s c h = subst (Counts drawn) (sym h.1) c
-  counts (at_bound told side lines) line next s c h = counts_bind told side lines line next s.0 c h
-  counts (at_times told side value) line next s c h = subst (Counts drawn) (sym h.3) (counts_times drawn told s.0.is_row c side value h.0)
-  counts (at_raise told side list) line next s c h = subst (Counts drawn) (sym h.3) (counts_bounded drawn told s.0.is_row c side Unbounded)
-  counts (at_verdict told range least most) line next s c h =
-      subst (Counts drawn) (sym h.1) (counts_verdict drawn told s.0.is_row c range least most s.1 s.2 (verdict_of range least most) refl)
-  counts (at_past told range least most) line next s c h =
-      subst (Counts drawn) (sym h.3) (tallies_word drawn told s.0.is_row c range least most s.1 s.2 (verdict_of range least most) refl)
-  counts (at_slack course number later range least most) line next s c h = subst (Counts drawn) (sym h.1) c
+  counts (at_row tally number []) line next s c h = subst (Counts drawn) (sym h.1) tt
+  counts (at_row tally number (r ∷ later)) line next s c h = subst (Counts drawn) (sym h.1) c
+  counts (at_bound current coming lines) line next s c h = counts_bind current coming lines line next s.0 c h
+  counts (at_times current coming value) line next s c h = subst (Counts drawn) (sym h.3) (counts_times drawn current s.0.is_row c coming value h.0)
+  counts (at_raise current coming list) line next s c h = subst (Counts drawn) (sym h.3) (counts_bounded drawn current s.0.is_row c coming Unbounded)
+  counts (at_verdict current range least most) line next s c h =
+      subst (Counts drawn) (sym h.1) (counts_verdict drawn current s.0.is_row c range least most s.1 s.2 (verdict_of range least most) refl)
+  counts (at_past current range least most) line next s c h =
+      subst (Counts drawn) (sym h.3) (tallies_word drawn current s.0.is_row c range least most s.1 s.2 (verdict_of range least most) refl)
+  counts (at_slack tally number later range least most) line next s c h = subst (Counts drawn) (sym h.1) c
   counts (at_end word) line next s c h = subst (Counts drawn) (sym h.1) tt
   counts at_last line next s c h = absurd h
 
@@ -235,13 +235,13 @@ module _ (drawn : Drawn) where
       let within : k < length drawn.rows = slice_get_within drawn.rows k r get in
       omega arith
 
-  word_says : (course : ReportTally) (number : ℕ) → [] ≡ drop number drawn.rows → Tallies drawn course number → (fails : Bool) (found : FindingWord) (within : Bool)
-      → course.fails ≡ fails → course.found ≡ found → course.within ≡ within → EndSays drawn (if fails then endings.Fail else undecided_or_pass found within)
-  word_says course number none c true found within f e w = c.broken f
-  word_says course number none c false Consistent true f e w = tt
-  word_says course number none c false Consistent false f e w = (c.satisfied e, λ k r range get kind. c.met f w k r range (all_told number k r none get) get kind)
-  word_says course number none c false Inconsistent within f e w = absurd (c.settled e)
-  word_says course number none c false Unsettled within f e w = tt
+  word_says : (tally : ReportTally) (number : ℕ) → [] ≡ drop number drawn.rows → Tallies drawn tally number → (fails : Bool) (found : FindingWord) (within : Bool)
+      → tally.fails ≡ fails → tally.found ≡ found → tally.within ≡ within → EndSays drawn (if fails then endings.Fail else undecided_or_pass found within)
+  word_says tally number none c true found within f e w = c.broken f
+  word_says tally number none c false Consistent true f e w = tt
+  word_says tally number none c false Consistent false f e w = (c.satisfied e, λ k r range get kind. c.met f w k r range (all_told number k r none get) get kind)
+  word_says tally number none c false Inconsistent within f e w = absurd (c.settled e)
+  word_says tally number none c false Unsettled within f e w = tt
 
   ending_says : (here : ReportState) (word : EndWord) (next : ReportState) → Stands drawn here → Counts drawn here → MayFollow (right drawn.net) drawn here (ending word) next → EndSays drawn word
   ending_says at_heading word next s c h = absurd (cc h.0)
@@ -254,16 +254,16 @@ module _ (drawn : Drawn) where
   ending_says (at_finding lines) word next s c (inr h) = absurd (cc h.1)
   ending_says at_known word next s c h = absurd (cc h.1)
   ending_says (at_rows found) word next s c h = absurd (cc h.0)
-  ending_says (at_row course number []) word next s c h =
-      subst (EndSays drawn) (sym (same_ending word (end_word course) h.0)) (word_says course number s c course.fails course.found course.within refl refl refl)
-  ending_says (at_row course number (r ∷ later)) word next s c h = absurd (cc h.0)
-  ending_says (at_bound told side lines) word next s c (inl h) = absurd (cc h.1)
-  ending_says (at_bound told side lines) word next s c (inr h) = absurd (cc h.1)
-  ending_says (at_times told side value) word next s c h = absurd (cc h.1)
-  ending_says (at_raise told side list) word next s c h = absurd (cc h.1)
-  ending_says (at_verdict told range least most) word next s c h = absurd (cc h.0)
-  ending_says (at_past told range least most) word next s c h = absurd (cc h.1)
-  ending_says (at_slack course number later range least most) word next s c h = absurd (cc h.0)
+  ending_says (at_row tally number []) word next s c h =
+      subst (EndSays drawn) (sym (same_ending word (end_word tally) h.0)) (word_says tally number s c tally.fails tally.found tally.within refl refl refl)
+  ending_says (at_row tally number (r ∷ later)) word next s c h = absurd (cc h.0)
+  ending_says (at_bound current coming lines) word next s c (inl h) = absurd (cc h.1)
+  ending_says (at_bound current coming lines) word next s c (inr h) = absurd (cc h.1)
+  ending_says (at_times current coming value) word next s c h = absurd (cc h.1)
+  ending_says (at_raise current coming list) word next s c h = absurd (cc h.1)
+  ending_says (at_verdict current range least most) word next s c h = absurd (cc h.0)
+  ending_says (at_past current range least most) word next s c h = absurd (cc h.1)
+  ending_says (at_slack tally number later range least most) word next s c h = absurd (cc h.0)
   ending_says (at_end other) word next s c h = subst (EndSays drawn) (sym (same_ending word other h.0 ∙ c.0)) c.1
   ending_says at_last word next s c h = absurd h
 

@@ -7,29 +7,29 @@ use Rattle.slack_report.specs.declared.words.FindingWord.{FindingWord}
 use Rattle.slack_report.specs.declared.words.FindingWord.TheVariants.{Consistent, Inconsistent}
 use Rattle.slack_report.specs.Entry.{Entry, finding}
 use Rattle.drawn.specs.Drawn.{Drawn}
-use Rattle.right_report.specs.Right.At.{ReportState, at_heading, at_budget, at_events, at_event, at_finding, at_known, at_rows, at_row, at_bound, at_times, at_raise, at_verdict, at_past, at_slack, at_end, at_last, behind_finding}
-use Rattle.right_report.specs.Right.Facts.{IsFinding, right}
+use Rattle.right_report.specs.Right.ReportState.{ReportState, at_heading, at_budget, at_events, at_event, at_finding, at_known, at_rows, at_row, at_bound, at_times, at_raise, at_verdict, at_past, at_slack, at_end, at_last, behind_finding}
+use Rattle.right_report.specs.Right.LineClaims.{IsFinding, right}
 use Rattle.right_report.specs.Right.Following.{LineClaims, MayFind, MayFollow, LinesLead}
 use Rattle.right_report.specs.Laws.{ConsistentIsSo, InconsistentIsSo}
-use Rattle.right_report.specs.Told.{finding_in}
+use Rattle.right_report.specs.ReportContents.{finding_in}
 
 -- the line of a finding follows, with the lines of a proof before it
-pub record Finds (facts : LineClaims) (word : FindingWord) (next : ReportState) : Type 0 where
+pub record Finds (claims : LineClaims) (word : FindingWord) (next : ReportState) : Type 0 where
   pub lines : List ProofLine
-  pub holds : facts.finding lines word
+  pub holds : claims.finding lines word
   pub leads : next ≡ behind_finding word
 
 same_finding : (a b : FindingWord) → finding a ≡ finding b → a ≡ b
 same_finding a b e = cc
 
-module _ (facts : LineClaims) (drawn : Drawn) (word : FindingWord) (next : ReportState) where
-  find_finds : (lines : List ProofLine) → MayFind facts lines (finding word) next → Finds facts word next
+module _ (claims : LineClaims) (drawn : Drawn) (word : FindingWord) (next : ReportState) where
+  find_finds : (lines : List ProofLine) → MayFind claims lines (finding word) next → Finds claims word next
   find_finds lines (inl h) = absurd (cc h.1)
   find_finds lines (inr h) =
       let same : h.0 ≡ word = sym (same_finding word h.0 h.1) in
-      record { lines = lines; holds = subst (facts.finding lines) same h.2; leads = h.3 ∙ ap behind_finding same }
+      record { lines = lines; holds = subst (claims.finding lines) same h.2; leads = h.3 ∙ ap behind_finding same }
 
-  finds : (here : ReportState) → MayFollow facts drawn here (finding word) next → Finds facts word next
+  finds : (here : ReportState) → MayFollow claims drawn here (finding word) next → Finds claims word next
   finds at_heading h = absurd (cc h.0)
   finds at_budget h = absurd (cc h.1)
   finds at_events h = absurd (cc h.0)
@@ -38,15 +38,15 @@ module _ (facts : LineClaims) (drawn : Drawn) (word : FindingWord) (next : Repor
   finds (at_finding lines) h = find_finds lines h
   finds at_known h = absurd (cc h.1)
   finds (at_rows other) h = absurd (cc h.0)
-  finds (at_row course number []) h = absurd (cc h.0)
-  finds (at_row course number (r ∷ later)) h = absurd (cc h.0)
-  finds (at_bound told side lines) (inl h) = absurd (cc h.1)
-  finds (at_bound told side lines) (inr h) = absurd (cc h.1)
-  finds (at_times told side value) h = absurd (cc h.1)
-  finds (at_raise told side list) h = absurd (cc h.1)
-  finds (at_verdict told range least most) h = absurd (cc h.0)
-  finds (at_past told range least most) h = absurd (cc h.1)
-  finds (at_slack course number later range least most) h = absurd (cc h.0)
+  finds (at_row tally number []) h = absurd (cc h.0)
+  finds (at_row tally number (r ∷ later)) h = absurd (cc h.0)
+  finds (at_bound current coming lines) (inl h) = absurd (cc h.1)
+  finds (at_bound current coming lines) (inr h) = absurd (cc h.1)
+  finds (at_times current coming value) h = absurd (cc h.1)
+  finds (at_raise current coming list) h = absurd (cc h.1)
+  finds (at_verdict current range least most) h = absurd (cc h.0)
+  finds (at_past current range least most) h = absurd (cc h.1)
+  finds (at_slack tally number later range least most) h = absurd (cc h.0)
   finds (at_end other) h = absurd (cc h.0)
   finds at_last h = absurd h
 

@@ -10,7 +10,7 @@ use Rattle.slack_report.specs.declared.words.FindingWord.TheVariants.{Consistent
 use Rattle.slack_report.specs.declared.words.Which.{Which}
 use Rattle.slack_report.specs.Entry.{Entry, bound, budget, finding, heading, proof, times}
 use Rattle.drawn.specs.Drawn.{Drawn}
-use Rattle.right_report.specs.Right.At.{ReportState, NextBound, CurrentRow, at_heading, at_budget, at_events, at_event, at_finding, at_known, at_rows, at_row, at_bound, at_times, at_raise, at_verdict, at_past, at_slack, at_end, at_last, behind_bound, behind_finding, behind_times, which_of}
+use Rattle.right_report.specs.Right.ReportState.{ReportState, NextBound, CurrentRow, at_heading, at_budget, at_events, at_event, at_finding, at_known, at_rows, at_row, at_bound, at_times, at_raise, at_verdict, at_past, at_slack, at_end, at_last, behind_bound, behind_finding, behind_times, which_of}
 use Rattle.right_report.specs.Right.Following.{LineClaims, MayBound, MayFind, MayFollow, LinesLead}
 use Rattle.right_report.specs.Checked.{checked}
 use Rattle.right_report.specs.Laws.{CheckedHasNoWrong, OneFirstWrong}
@@ -31,20 +31,20 @@ same_proof a b e = cc
 same_bound : (which : Which) (a b : Bound) → bound which a ≡ bound which b → a ≡ b
 same_bound which a b e = cc
 
-module _ (facts : LineClaims) (drawn : Drawn) (line : Entry) (next other : ReportState) where
-  find_one : (lines : List ProofLine) → MayFind facts lines line next → MayFind facts lines line other → next ≡ other
+module _ (claims : LineClaims) (drawn : Drawn) (line : Entry) (next other : ReportState) where
+  find_one : (lines : List ProofLine) → MayFind claims lines line next → MayFind claims lines line other → next ≡ other
   find_one lines (inl a) (inl b) = a.2 ∙ ap (λ more. at_finding (lines ++ more ∷ [])) (same_proof a.0 b.0 (sym a.1 ∙ b.1)) ∙ sym b.2
   find_one lines (inl a) (inr b) = let e : proof a.0 ≡ finding b.0 = sym a.1 ∙ b.1 in absurd (cc)
   find_one lines (inr a) (inl b) = let e : finding a.0 ≡ proof b.0 = sym a.1 ∙ b.1 in absurd (cc)
   find_one lines (inr a) (inr b) = a.3 ∙ ap behind_finding (same_finding a.0 b.0 (sym a.1 ∙ b.1)) ∙ sym b.3
 
-  bind_one : (told : CurrentRow) (side : NextBound) (lines : List ProofLine) → MayBound facts told side lines line next → MayBound facts told side lines line other → next ≡ other
-  bind_one told side lines (inl a) (inl b) = a.2 ∙ ap (λ more. at_bound told side (lines ++ more ∷ [])) (same_proof a.0 b.0 (sym a.1 ∙ b.1)) ∙ sym b.2
-  bind_one told side lines (inl a) (inr b) = let e : proof a.0 ≡ bound (which_of side) b.0 = sym a.1 ∙ b.1 in absurd (cc)
-  bind_one told side lines (inr a) (inl b) = let e : bound (which_of side) a.0 ≡ proof b.0 = sym a.1 ∙ b.1 in absurd (cc)
-  bind_one told side lines (inr a) (inr b) = a.3 ∙ ap (behind_bound told side) (same_bound (which_of side) a.0 b.0 (sym a.1 ∙ b.1)) ∙ sym b.3
+  bind_one : (current : CurrentRow) (coming : NextBound) (lines : List ProofLine) → MayBound claims current coming lines line next → MayBound claims current coming lines line other → next ≡ other
+  bind_one current coming lines (inl a) (inl b) = a.2 ∙ ap (λ more. at_bound current coming (lines ++ more ∷ [])) (same_proof a.0 b.0 (sym a.1 ∙ b.1)) ∙ sym b.2
+  bind_one current coming lines (inl a) (inr b) = let e : proof a.0 ≡ bound (which_of coming) b.0 = sym a.1 ∙ b.1 in absurd (cc)
+  bind_one current coming lines (inr a) (inl b) = let e : bound (which_of coming) a.0 ≡ proof b.0 = sym a.1 ∙ b.1 in absurd (cc)
+  bind_one current coming lines (inr a) (inr b) = a.3 ∙ ap (behind_bound current coming) (same_bound (which_of coming) a.0 b.0 (sym a.1 ∙ b.1)) ∙ sym b.3
 
-  pub follow_one : (here : ReportState) → MayFollow facts drawn here line next → MayFollow facts drawn here line other → next ≡ other
+  pub follow_one : (here : ReportState) → MayFollow claims drawn here line next → MayFollow claims drawn here line other → next ≡ other
   follow_one at_heading a b = a.1 ∙ sym b.1
   follow_one at_budget a b = a.2 ∙ sym b.2
   follow_one at_events a b = a.1 ∙ sym b.1
@@ -53,14 +53,14 @@ module _ (facts : LineClaims) (drawn : Drawn) (line : Entry) (next other : Repor
   follow_one (at_finding lines) a b = find_one lines a b
   follow_one at_known a b = a.3 ∙ sym b.3
   follow_one (at_rows word) a b = a.1 ∙ sym b.1
-  follow_one (at_row course number []) a b = a.1 ∙ sym b.1
-  follow_one (at_row course number (r ∷ later)) a b = a.1 ∙ sym b.1
-  follow_one (at_bound told side lines) a b = bind_one told side lines a b
-  follow_one (at_times told side value) a b = a.3 ∙ ap (behind_times told side value) (same_times a.0 b.0 (sym a.1 ∙ b.1)) ∙ sym b.3
-  follow_one (at_raise told side list) a b = a.3 ∙ sym b.3
-  follow_one (at_verdict told range least most) a b = a.1 ∙ sym b.1
-  follow_one (at_past told range least most) a b = a.3 ∙ sym b.3
-  follow_one (at_slack course number later range least most) a b = a.1 ∙ sym b.1
+  follow_one (at_row tally number []) a b = a.1 ∙ sym b.1
+  follow_one (at_row tally number (r ∷ later)) a b = a.1 ∙ sym b.1
+  follow_one (at_bound current coming lines) a b = bind_one current coming lines a b
+  follow_one (at_times current coming value) a b = a.3 ∙ ap (behind_times current coming value) (same_times a.0 b.0 (sym a.1 ∙ b.1)) ∙ sym b.3
+  follow_one (at_raise current coming list) a b = a.3 ∙ sym b.3
+  follow_one (at_verdict current range least most) a b = a.1 ∙ sym b.1
+  follow_one (at_past current range least most) a b = a.3 ∙ sym b.3
+  follow_one (at_slack tally number later range least most) a b = a.1 ∙ sym b.1
   follow_one (at_end word) a b = a.1 ∙ sym b.1
   follow_one at_last a b = absurd a
 
@@ -116,15 +116,15 @@ module _ (drawn : Drawn) (goal : ProofGoal) where
       let same : Nothing ≡ goal = cc in
       subst (λ g. IsProof drawn.net g lines) same (subst (λ w. (checked drawn.net).finding lines w) word h.2)
 
-  bound_now : (told : CurrentRow) (side : NextBound) (lines : List ProofLine) (next : ReportState) (which : Which) (value : ℤ) → Some (goal_of told.row side value) ≡ Some goal
-      → MayBound (checked drawn.net) told side lines (bound which (Closed value)) next → IsProof drawn.net goal lines
-  bound_now told side lines next which value e (inl h) = let clash : bound which (Closed value) ≡ proof h.0 = h.1 in absurd (cc)
-  bound_now told side lines next which value e (inr h) =
-      let all : bound which (Closed value) ≡ bound (which_of side) h.0 = h.1 in
+  bound_now : (current : CurrentRow) (coming : NextBound) (lines : List ProofLine) (next : ReportState) (which : Which) (value : ℤ) → Some (goal_of current.row coming value) ≡ Some goal
+      → MayBound (checked drawn.net) current coming lines (bound which (Closed value)) next → IsProof drawn.net goal lines
+  bound_now current coming lines next which value e (inl h) = let clash : bound which (Closed value) ≡ proof h.0 = h.1 in absurd (cc)
+  bound_now current coming lines next which value e (inr h) =
+      let all : bound which (Closed value) ≡ bound (which_of coming) h.0 = h.1 in
       let same_value : h.0 ≡ Closed value = cc in
-      let same : goal_of told.row side value ≡ goal = cc in
-      let facts = subst (λ v. (checked drawn.net).bound told.course.found told.row side lines v) same_value h.2 in
-      subst (λ g. IsProof drawn.net g lines) same facts.1.1
+      let same : goal_of current.row coming value ≡ goal = cc in
+      let claims = subst (λ v. (checked drawn.net).bound current.tally.found current.row coming lines v) same_value h.2 in
+      subst (λ g. IsProof drawn.net g lines) same claims.1.1
 
   by_find : (rest : List Entry) (line : ProofLine) (lines : List ProofLine) (next : ReportState) → MayFind (checked drawn.net) lines (proof line) next → LinesLead (checked drawn.net) drawn next rest at_last
       → ((more : ProofLine) → LinesLead (checked drawn.net) drawn (at_finding (lines ++ more ∷ [])) rest at_last → Completes drawn.net goal (lines ++ more ∷ [])) → Completes drawn.net goal lines
@@ -139,18 +139,18 @@ module _ (drawn : Drawn) (goal : ProofGoal) where
   ahead_find (finding Inconsistent ∷ rest) front lines is h = complete_now drawn.net goal lines (found_now lines h.0 is h.1)
   ahead_find (line ∷ rest) front lines is h = absurd (cc)
 
-  by_bound : (rest : List Entry) (told : CurrentRow) (side : NextBound) (line : ProofLine) (lines : List ProofLine) (next : ReportState) → MayBound (checked drawn.net) told side lines (proof line) next
+  by_bound : (rest : List Entry) (current : CurrentRow) (coming : NextBound) (line : ProofLine) (lines : List ProofLine) (next : ReportState) → MayBound (checked drawn.net) current coming lines (proof line) next
       → LinesLead (checked drawn.net) drawn next rest at_last
-      → ((more : ProofLine) → LinesLead (checked drawn.net) drawn (at_bound told side (lines ++ more ∷ [])) rest at_last → Completes drawn.net goal (lines ++ more ∷ [])) → Completes drawn.net goal lines
-  by_bound rest told side line lines next (inl m) h later = complete_later drawn.net goal lines m.0 (later m.0 (subst (λ x. LinesLead (checked drawn.net) drawn x rest at_last) m.2 h))
-  by_bound rest told side line lines next (inr m) h later = let clash : proof line ≡ bound (which_of side) m.0 = m.1 in absurd (cc)
+      → ((more : ProofLine) → LinesLead (checked drawn.net) drawn (at_bound current coming (lines ++ more ∷ [])) rest at_last → Completes drawn.net goal (lines ++ more ∷ [])) → Completes drawn.net goal lines
+  by_bound rest current coming line lines next (inl m) h later = complete_later drawn.net goal lines m.0 (later m.0 (subst (λ x. LinesLead (checked drawn.net) drawn x rest at_last) m.2 h))
+  by_bound rest current coming line lines next (inr m) h later = let clash : proof line ≡ bound (which_of coming) m.0 = m.1 in absurd (cc)
 
-  ahead_bound : (rest : List Entry) (told : CurrentRow) (side : NextBound) (front lines : List ProofLine) → goal_ahead (at_bound told side front) rest ≡ Some goal
-      → LinesLead (checked drawn.net) drawn (at_bound told side lines) rest at_last → Completes drawn.net goal lines
-  ahead_bound [] told side front lines is h = absurd (cc)
-  ahead_bound (proof line ∷ rest) told side front lines is h = by_bound rest told side line lines h.0 h.1 h.2 (λ more read. ahead_bound rest told side front (lines ++ more ∷ []) is read)
-  ahead_bound (bound which (Closed value) ∷ rest) told side front lines is h = complete_now drawn.net goal lines (bound_now told side lines h.0 which value is h.1)
-  ahead_bound (line ∷ rest) told side front lines is h = absurd (cc)
+  ahead_bound : (rest : List Entry) (current : CurrentRow) (coming : NextBound) (front lines : List ProofLine) → goal_ahead (at_bound current coming front) rest ≡ Some goal
+      → LinesLead (checked drawn.net) drawn (at_bound current coming lines) rest at_last → Completes drawn.net goal lines
+  ahead_bound [] current coming front lines is h = absurd (cc)
+  ahead_bound (proof line ∷ rest) current coming front lines is h = by_bound rest current coming line lines h.0 h.1 h.2 (λ more read. ahead_bound rest current coming front (lines ++ more ∷ []) is read)
+  ahead_bound (bound which (Closed value) ∷ rest) current coming front lines is h = complete_now drawn.net goal lines (bound_now current coming lines h.0 which value is h.1)
+  ahead_bound (line ∷ rest) current coming front lines is h = absurd (cc)
 
 event_ahead : (number : ℕ) (rest : List Entry) → goal_ahead (at_event number []) rest ≡ goal_ahead (at_finding []) rest
 event_ahead number [] = refl
@@ -175,14 +175,14 @@ refused_find drawn front line rest next (inl m) more refused =
     g.2 (subst (λ l. Takes drawn.net g.0 (front ++ l ∷ [])) (sym (same_proof line m.0 m.1)) (taken drawn.net g.0 (front ++ m.0 ∷ []) whole.0 whole.1))
 
 -- no line of a proof before a bound is refused
-refused_bound : (drawn : Drawn) (told : CurrentRow) (side : NextBound) (front : List ProofLine) (line : ProofLine) (rest : List Entry) (next : ReportState)
-    → MayBound (checked drawn.net) told side front (proof line) next → LinesLead (checked drawn.net) drawn next rest at_last
-    → IsSomeAnd (goal_ahead (at_bound told side front) rest) (λ goal. Takes drawn.net goal (front ++ line ∷ []) → ⊥) → ⊥
-refused_bound drawn told side front line rest next (inr m) more refused = let clash : proof line ≡ bound (which_of side) m.0 = m.1 in absurd (cc)
-refused_bound drawn told side front line rest next (inl m) more refused =
-    let g = some_goal (goal_ahead (at_bound told side front) rest) (λ goal. Takes drawn.net goal (front ++ line ∷ []) → ⊥) refused in
+refused_bound : (drawn : Drawn) (current : CurrentRow) (coming : NextBound) (front : List ProofLine) (line : ProofLine) (rest : List Entry) (next : ReportState)
+    → MayBound (checked drawn.net) current coming front (proof line) next → LinesLead (checked drawn.net) drawn next rest at_last
+    → IsSomeAnd (goal_ahead (at_bound current coming front) rest) (λ goal. Takes drawn.net goal (front ++ line ∷ []) → ⊥) → ⊥
+refused_bound drawn current coming front line rest next (inr m) more refused = let clash : proof line ≡ bound (which_of coming) m.0 = m.1 in absurd (cc)
+refused_bound drawn current coming front line rest next (inl m) more refused =
+    let g = some_goal (goal_ahead (at_bound current coming front) rest) (λ goal. Takes drawn.net goal (front ++ line ∷ []) → ⊥) refused in
     let read = subst (λ x. LinesLead (checked drawn.net) drawn x rest at_last) m.2 more in
-    let whole = ahead_bound drawn g.0 rest told side front (front ++ m.0 ∷ []) g.1 read in
+    let whole = ahead_bound drawn g.0 rest current coming front (front ++ m.0 ∷ []) g.1 read in
     g.2 (subst (λ l. Takes drawn.net g.0 (front ++ l ∷ [])) (sym (same_proof line m.0 m.1)) (taken drawn.net g.0 (front ++ m.0 ∷ []) whole.0 whole.1))
 
 proof_not_refused : (drawn : Drawn) (here : ReportState) (line : ProofLine) (rest : List Entry) (next : ReportState) → MayFollow (checked drawn.net) drawn here (proof line) next
@@ -196,14 +196,14 @@ proof_not_refused drawn (at_event number []) line rest next h more refused =
 proof_not_refused drawn (at_finding lines) line rest next h more refused = refused_find drawn lines line rest next h more refused
 proof_not_refused drawn at_known line rest next h more refused = absurd (cc h.1)
 proof_not_refused drawn (at_rows word) line rest next h more refused = absurd (cc h.0)
-proof_not_refused drawn (at_row course number []) line rest next h more refused = absurd (cc h.0)
-proof_not_refused drawn (at_row course number (r ∷ later)) line rest next h more refused = absurd (cc h.0)
-proof_not_refused drawn (at_bound told side lines) line rest next h more refused = refused_bound drawn told side lines line rest next h more refused
-proof_not_refused drawn (at_times told side value) line rest next h more refused = absurd (cc h.1)
-proof_not_refused drawn (at_raise told side list) line rest next h more refused = absurd (cc h.1)
-proof_not_refused drawn (at_verdict told range least most) line rest next h more refused = absurd (cc h.0)
-proof_not_refused drawn (at_past told range least most) line rest next h more refused = absurd (cc h.1)
-proof_not_refused drawn (at_slack course number later range least most) line rest next h more refused = absurd (cc h.0)
+proof_not_refused drawn (at_row tally number []) line rest next h more refused = absurd (cc h.0)
+proof_not_refused drawn (at_row tally number (r ∷ later)) line rest next h more refused = absurd (cc h.0)
+proof_not_refused drawn (at_bound current coming lines) line rest next h more refused = refused_bound drawn current coming lines line rest next h more refused
+proof_not_refused drawn (at_times current coming value) line rest next h more refused = absurd (cc h.1)
+proof_not_refused drawn (at_raise current coming list) line rest next h more refused = absurd (cc h.1)
+proof_not_refused drawn (at_verdict current range least most) line rest next h more refused = absurd (cc h.0)
+proof_not_refused drawn (at_past current range least most) line rest next h more refused = absurd (cc h.1)
+proof_not_refused drawn (at_slack tally number later range least most) line rest next h more refused = absurd (cc h.0)
 proof_not_refused drawn (at_end word) line rest next h more refused = absurd (cc h.0)
 proof_not_refused drawn at_last line rest next h more refused = h
 

@@ -4,20 +4,20 @@ use Rattle.std.proofs.lemmas.List.Elements.{All-head, All-tail}
 use Rattle.slack_report.specs.Entry.{Entry, IsReportEntry}
 use Rattle.slack_report.specs.Order.{IsReport, OrderLeads, events_at}
 use Rattle.drawn.specs.Drawn.{Drawn}
-use Rattle.right_report.specs.Right.At.{ReportState, at_heading, at_budget, at_events, at_event, at_finding, at_known, at_rows, at_row, at_bound, at_times, at_raise, at_verdict, at_past, at_slack, at_end, at_last, end_word}
-use Rattle.right_report.specs.Right.Facts.{right}
+use Rattle.right_report.specs.Right.ReportState.{ReportState, at_heading, at_budget, at_events, at_event, at_finding, at_known, at_rows, at_row, at_bound, at_times, at_raise, at_verdict, at_past, at_slack, at_end, at_last, end_word}
+use Rattle.right_report.specs.Right.LineClaims.{right}
 use Rattle.right_report.specs.Right.Following.{LineClaims, MayFollow, LinesLead}
 use Rattle.right_report.specs.Right.Order.{place_of}
 use Rattle.slack_report.specs.Entry.{budget, ending, events, heading}
 use Rattle.right_report.proofs.RightOrder.{right_lines_keep_order}
 use Rattle.right_report.specs.Laws.{RightIsReport}
 
-module _ (facts : LineClaims) (drawn : Drawn) (line : Entry) (next : ReportState) where
+module _ (claims : LineClaims) (drawn : Drawn) (line : Entry) (next : ReportState) where
   -- if a line may stand in a report of so many events, it may stand where the order asks for another number of events
   other_count : (count : ℕ) (known : Entry) → line ≡ known → (IsReportEntry (length drawn.names) known → IsReportEntry count known) → IsReportEntry (length drawn.names) line → IsReportEntry count line
   other_count count known same free e = subst (IsReportEntry count) (sym same) (free (subst (IsReportEntry (length drawn.names)) same e))
 
-  entry_there : (here : ReportState) → MayFollow facts drawn here line next → IsReportEntry (length drawn.names) line → IsReportEntry (events_at (place_of drawn here)) line
+  entry_there : (here : ReportState) → MayFollow claims drawn here line next → IsReportEntry (length drawn.names) line → IsReportEntry (events_at (place_of drawn here)) line
   entry_there at_heading h e = other_count 0 heading h.0 (λ x. x) e
   entry_there at_budget h e = other_count 0 (budget h.0) h.1 (λ x. x) e
   entry_there at_events h e = other_count 0 (events (length drawn.names)) h.0 (λ x. x) e
@@ -26,14 +26,14 @@ module _ (facts : LineClaims) (drawn : Drawn) (line : Entry) (next : ReportState
   entry_there (at_finding lines) h e = e
   entry_there at_known h e = e
   entry_there (at_rows word) h e = e
-  entry_there (at_row course number []) h e = other_count 0 (ending (end_word course)) h.0 (λ x. x) e
-  entry_there (at_row course number (r ∷ later)) h e = e
-  entry_there (at_bound told side lines) h e = e
-  entry_there (at_times told side value) h e = e
-  entry_there (at_raise told side list) h e = e
-  entry_there (at_verdict told range least most) h e = e
-  entry_there (at_past told range least most) h e = e
-  entry_there (at_slack course number later range least most) h e = e
+  entry_there (at_row tally number []) h e = other_count 0 (ending (end_word tally)) h.0 (λ x. x) e
+  entry_there (at_row tally number (r ∷ later)) h e = e
+  entry_there (at_bound current coming lines) h e = e
+  entry_there (at_times current coming value) h e = e
+  entry_there (at_raise current coming list) h e = e
+  entry_there (at_verdict current range least most) h e = e
+  entry_there (at_past current range least most) h e = e
+  entry_there (at_slack tally number later range least most) h e = e
   entry_there (at_end word) h e = other_count 0 (ending word) h.0 (λ x. x) e
   entry_there at_last h e = absurd h
 

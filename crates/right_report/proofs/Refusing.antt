@@ -9,7 +9,7 @@ use Rattle.drawn.specs.Drawn.{Drawn}
 use Rattle.slack_report.proofs.Judging.{first_same, report_err, report_ok, texts_differ}
 use Rattle.right_report.specs.Checked.{checked}
 use Rattle.right_report.specs.Laws.{AcceptedTextIsNotRefused, AcceptedTextIsRight, OneRefusedLine, UnrefusedTextIsRight}
-use Rattle.right_report.specs.Right.At.{ReportState, at_heading, at_last}
+use Rattle.right_report.specs.Right.ReportState.{ReportState, at_heading, at_last}
 use Rattle.right_report.specs.Right.Following.{LinesLead}
 use Rattle.right_report.specs.Texts.{HasFirstWrong, IsRefusedText, IsRightText}
 use Rattle.right_report.specs.Wrong.{IsFirstWrong, IsFirstWrongIn, IsWrong}

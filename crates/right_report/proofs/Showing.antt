@@ -1,8 +1,8 @@
 -- Reports that show their numbers are right.
 use Rattle.std.proofs.Common.{ℕ}
 use Rattle.event_graph.specs.Network.{Net}
-use Rattle.right_report.specs.Right.At.{at_heading, at_last}
-use Rattle.right_report.specs.Right.Facts.{right}
+use Rattle.right_report.specs.Right.ReportState.{at_heading, at_last}
+use Rattle.right_report.specs.Right.LineClaims.{right}
 use Rattle.right_report.specs.Right.Following.{Implies}
 use Rattle.right_report.proofs.RightOrder.{reads_weaker}
 use Rattle.right_report.specs.Laws.{BareIsRight, ShownIsRight}
@@ -12,9 +12,9 @@ shown_implies : (net : Net) (most : ℕ) → Implies (shown net most) (right net
 shown_implies net most = record {
   finding = λ lines word h. h.0;
   known = λ list h. h;
-  bound = λ found r side lines value h. h.0;
+  bound = λ found r coming lines value h. h.0;
   times = λ r value list h. h;
-  raise = λ r side list set h. h;
+  raise = λ r coming list set h. h;
   past = λ r range word list h. h;
 }
 
@@ -22,9 +22,9 @@ bare_implies : (net : Net) (most : ℕ) → Implies (bare net most) (right net)
 bare_implies net most = record {
   finding = λ lines word h. h.0;
   known = λ list h. h;
-  bound = λ found r side lines value h. h.0;
+  bound = λ found r coming lines value h. h.0;
   times = λ r value list h. h;
-  raise = λ r side list set h. h;
+  raise = λ r coming list set h. h;
   past = λ r range word list h. h;
 }
 

@@ -11,8 +11,8 @@ use Rattle.slack_report.specs.declared.words.FindingWord.TheVariants as findings
 use Rattle.slack_report.specs.Entry.{Entry}
 use Rattle.drawn.specs.Drawn.{Drawn}
 use Rattle.drawn.specs.declared.row.Row.{Row}
-use Rattle.right_report.specs.Right.At.{NextBound, at_heading, at_last}
-use Rattle.right_report.specs.Right.Facts.{HasAttained, IsLimit, right}
+use Rattle.right_report.specs.Right.ReportState.{NextBound, at_heading, at_last}
+use Rattle.right_report.specs.Right.LineClaims.{HasAttained, IsLimit, right}
 use Rattle.right_report.specs.Right.Following.{LineClaims, LinesLead}
 use Rattle.right_report.specs.Shown.{goal_of}
 
@@ -24,9 +24,9 @@ ProvesFinding net lines findings.Unsettled = (list : List ℤ) × MeetsAlways li
 
 -- a closed bound is proved by the lines before it; the times behind it show that it is attained
 abbrev pub ProvesBound : Net → FindingWord → Row → NextBound → List ProofLine → Bound → Type 0
-ProvesBound net found r side lines (bounds.Closed value) = (found ≡ findings.Consistent) × IsProof net (goal_of r side value) lines
-ProvesBound net found r side lines bounds.Unbounded = found ≡ findings.Consistent
-ProvesBound net found r side lines (bounds.Within limit attained) = IsLimit net r side limit × HasAttained found attained
+ProvesBound net found r coming lines (bounds.Closed value) = (found ≡ findings.Consistent) × IsProof net (goal_of r coming value) lines
+ProvesBound net found r coming lines bounds.Unbounded = found ≡ findings.Consistent
+ProvesBound net found r coming lines (bounds.Within limit attained) = IsLimit net r coming limit × HasAttained found attained
 
 -- the value or the attained number of a bound is below 2^61 in absolute value; a limit is so by itself
 abbrev pub IsWithinTimes : Bound → Type 0
@@ -39,9 +39,9 @@ abbrev pub checked : Net → LineClaims
 checked net = record {
   finding = λ lines word. ProvesFinding net lines word;
   known = λ list. All IsTime list × (right net).known list;
-  bound = λ found r side lines value. IsWithinTimes value × ProvesBound net found r side lines value;
+  bound = λ found r coming lines value. IsWithinTimes value × ProvesBound net found r coming lines value;
   times = λ r value list. All IsTime list × (right net).times r value list;
-  raise = λ r side list set. (right net).raise r side list set;
+  raise = λ r coming list set. (right net).raise r coming list set;
   past = λ r range word list. All IsTime list × (right net).past r range word list;
 }
 

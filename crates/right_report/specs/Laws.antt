@@ -20,11 +20,11 @@ use Rattle.slack_report.specs.Report.{IsReportText}
 use Rattle.slack_report.specs.Text.{report_text}
 use Rattle.drawn.specs.Drawn.{Drawn}
 use Rattle.drawn.specs.declared.row.Row.{Row}
-use Rattle.right_report.specs.Right.Facts.{BeginsRightReport, IsRightReport}
+use Rattle.right_report.specs.Right.LineClaims.{BeginsRightReport, IsRightReport}
 use Rattle.right_report.specs.Checked.{IsChecked}
 use Rattle.right_report.specs.Shown.{IsBareReport, IsShownReport}
 use Rattle.right_report.specs.Texts.{IsAcceptedText, IsRefusedText, IsRightText}
-use Rattle.right_report.specs.Told.{bound_on, end_in, finding_in, set_on, verdict_on}
+use Rattle.right_report.specs.ReportContents.{bound_on, end_in, finding_in, set_on, verdict_on}
 use Rattle.right_report.specs.Wrong.{IsFirstWrongIn}
 
 -- ---- ways to be right

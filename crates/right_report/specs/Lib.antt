@@ -4,7 +4,7 @@ pub mod Shown
 pub mod Checked
 pub mod Wrong
 pub mod Texts
-pub mod Told
+pub mod ReportContents
 pub mod Writing
 pub mod Laws
 pub mod Step

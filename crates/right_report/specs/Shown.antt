@@ -10,8 +10,8 @@ use Rattle.slack_report.specs.declared.words.FindingWord.TheVariants as findings
 use Rattle.slack_report.specs.Entry.{Entry, budget}
 use Rattle.drawn.specs.Drawn.{Drawn}
 use Rattle.drawn.specs.declared.row.Row.{Row}
-use Rattle.right_report.specs.Right.At.{NextBound, at_heading, at_last, greatest, least_by}
-use Rattle.right_report.specs.Right.Facts.{right}
+use Rattle.right_report.specs.Right.ReportState.{NextBound, at_heading, at_last, greatest, least_by}
+use Rattle.right_report.specs.Right.LineClaims.{right}
 use Rattle.right_report.specs.Right.Following.{LineClaims, LinesLead}
 
 -- What has to be shown of a number as a bound of a row: no separation of the pair exceeds the number. For a least separation: no separation of
@@ -38,35 +38,35 @@ ShowsFinding net most lines findings.Unsettled = IsStoppedProof net Nothing line
 -- A closed bound has a proof within the budget, and an unbounded one a stopped proof within the budget. A bound that was left open has a stopped
 -- proof of the attained separation that used the budget up; it has no lines if nothing was attained.
 abbrev pub ShowsBound : Net → ℕ → List ProofLine → Row → NextBound → Bound → Type 0
-ShowsBound net most lines r side (bounds.Closed value) = IsProofWithin net (goal_of r side value) most lines
-ShowsBound net most lines r side bounds.Unbounded = (value : ℤ) × IsStoppedWithin net (goal_of r side value) most lines
-ShowsBound net most lines r side (bounds.Within limit None) = lines ≡ []
-ShowsBound net most lines r side (bounds.Within limit (Some found)) = IsStoppedProof net (goal_of r side found) lines most
+ShowsBound net most lines r coming (bounds.Closed value) = IsProofWithin net (goal_of r coming value) most lines
+ShowsBound net most lines r coming bounds.Unbounded = (value : ℤ) × IsStoppedWithin net (goal_of r coming value) most lines
+ShowsBound net most lines r coming (bounds.Within limit None) = lines ≡ []
+ShowsBound net most lines r coming (bounds.Within limit (Some found)) = IsStoppedProof net (goal_of r coming found) lines most
 
 -- the claims of a right report that prints the lines of its proofs
 abbrev pub shown : Net → ℕ → LineClaims
 shown net most = record (right net) {
   finding = λ lines word. (right net).finding lines word × ShowsFinding net most lines word;
-  bound = λ found r side lines value. (right net).bound found r side lines value × ShowsBound net most lines r side value;
+  bound = λ found r coming lines value. (right net).bound found r coming lines value × ShowsBound net most lines r coming value;
 }
 
 -- the claims of a right report that prints no lines of proofs; there are such lines all the same
 abbrev pub bare : Net → ℕ → LineClaims
 bare net most = record (right net) {
   finding = λ lines word. (right net).finding lines word × (lines ≡ []) × ((hidden : List ProofLine) × ShowsFinding net most hidden word);
-  bound = λ found r side lines value. (right net).bound found r side lines value × (lines ≡ []) × ((hidden : List ProofLine) × ShowsBound net most hidden r side value);
+  bound = λ found r coming lines value. (right net).bound found r coming lines value × (lines ≡ []) × ((hidden : List ProofLine) × ShowsBound net most hidden r coming value);
 }
 
 -- the second line says the budget
-abbrev pub TellsBudget : ℕ → List Entry → Type 0
-TellsBudget most lines = slice_get lines 1 ≡ Some (budget most)
+abbrev pub HasBudget : ℕ → List Entry → Type 0
+HasBudget most lines = slice_get lines 1 ≡ Some (budget most)
 
 -- a whole right report with this budget and its proofs
 pub record IsShownReport (drawn : Drawn) (most : ℕ) (lines : List Entry) : Type 0 where
   pub reads : LinesLead (shown drawn.net most) drawn at_heading lines at_last
-  pub tells : TellsBudget most lines
+  pub has_budget : HasBudget most lines
 
 -- a whole right report with this budget and without its proofs
 pub record IsBareReport (drawn : Drawn) (most : ℕ) (lines : List Entry) : Type 0 where
   pub reads : LinesLead (bare drawn.net most) drawn at_heading lines at_last
-  pub tells : TellsBudget most lines
+  pub has_budget : HasBudget most lines

@@ -1,21 +1,21 @@
 -- What a writer of a report promises: the lines that it put lead from a state to another.
 use Rattle.std.specs.Prelude.{◌≡◌, List}
-use Rattle.itv_base.specs.Outside.{CutShort, SinkView, grown}
+use Rattle.itv_base.specs.Outside.{CutShort, SinkState, grown}
 use Rattle.slack_report.specs.Entry.{Entry}
 use Rattle.slack_report.specs.Text.{report_text}
 use Rattle.drawn.specs.Drawn.{Drawn}
-use Rattle.right_report.specs.Right.At.{ReportState}
+use Rattle.right_report.specs.Right.ReportState.{ReportState}
 use Rattle.right_report.specs.Right.Following.{LineClaims, LinesLead}
 
 -- whole lines were put, and they lead from a state to another
-pub record WroteLines (facts : LineClaims) (drawn : Drawn) (here last : ReportState) (old new : SinkView) : Type 0 where
+pub record WroteLines (claims : LineClaims) (drawn : Drawn) (here last : ReportState) (old new : SinkState) : Type 0 where
   pub lines : List Entry
-  pub reads : LinesLead facts drawn here lines last
+  pub reads : LinesLead claims drawn here lines last
   pub grew : new ≡ grown old (report_text lines)
 
 -- a put failed: of lines that lead from a state to another, a front was put
-pub record WroteFront (facts : LineClaims) (drawn : Drawn) (here : ReportState) (old new : SinkView) : Type 0 where
+pub record WroteFront (claims : LineClaims) (drawn : Drawn) (here : ReportState) (old new : SinkState) : Type 0 where
   pub lines : List Entry
   pub last : ReportState
-  pub reads : LinesLead facts drawn here lines last
+  pub reads : LinesLead claims drawn here lines last
   pub cut : CutShort old new (report_text lines)

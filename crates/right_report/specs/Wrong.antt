@@ -8,7 +8,7 @@ use Rattle.requirements.specs.declared.bound.Bound.TheVariants as bounds
 use Rattle.slack_report.specs.declared.words.FindingWord.TheVariants as findings
 use Rattle.slack_report.specs.Entry.{Entry, bound, finding, proof}
 use Rattle.drawn.specs.Drawn.{Drawn}
-use Rattle.right_report.specs.Right.At.{ReportState, at_bound, at_event, at_finding, at_heading, at_last}
+use Rattle.right_report.specs.Right.ReportState.{ReportState, at_bound, at_event, at_finding, at_heading, at_last}
 use Rattle.right_report.specs.Right.Following.{MayFollow}
 use Rattle.right_report.specs.Checked.{checked}
 use Rattle.right_report.specs.Shown.{goal_of}
@@ -16,8 +16,8 @@ use Rattle.right_report.specs.Shown.{goal_of}
 -- What the lines of a proof so far have to show, if this line comes after them. Only a closed bound and an inconsistent finding need a proof;
 -- before any other line the lines of a proof are passed over.
 abbrev pub goal_by : ReportState → Entry → Option ProofGoal
-goal_by (at_bound told side lines) (bound word (bounds.Closed value)) = Some (goal_of told.row side value)
-goal_by (at_bound told side lines) other = None
+goal_by (at_bound current coming lines) (bound word (bounds.Closed value)) = Some (goal_of current.row coming value)
+goal_by (at_bound current coming lines) other = None
 goal_by (at_finding lines) (finding findings.Inconsistent) = Some Nothing
 goal_by (at_finding lines) other = None
 goal_by (at_event number []) (finding findings.Inconsistent) = Some Nothing
@@ -31,7 +31,7 @@ goal_ahead at (line ∷ lines) = goal_by at line
 
 -- the lines of a proof before a state
 abbrev pub proof_so_far : ReportState → List ProofLine
-proof_so_far (at_bound told side lines) = lines
+proof_so_far (at_bound current coming lines) = lines
 proof_so_far (at_finding lines) = lines
 proof_so_far at = []
 

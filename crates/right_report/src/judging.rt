@@ -1,7 +1,7 @@
 //! What a bound and a verdict mean for the end of a report.
 
 ghost use Rattle.std.specs.Prelude.{◌≡◌};
-ghost use Rattle.right_report.specs.Right.At.{is_fail, is_within};
+ghost use Rattle.right_report.specs.Right.ReportState.{is_fail, is_within};
 
 use requirements::{Bound, Verdict};
 

@@ -11,13 +11,13 @@ use Rattle.falling.specs.Kinds.{negated}
 use Rattle.falling.proofs.Bounding.{some_and}
 use Rattle.clauses.specs.Lines.{Goal, IsOver, IsClauseProof}
 use Rattle.clauses.proofs.Proving.{clause_proof_bounds, clause_proof_of_nothing, negated_proof_bounds, negated_proof_of_nothing}
-use Rattle.settle.specs.declared.found.ShownAnswer.{ShownAnswer}
-use Rattle.settle.specs.declared.found.Settled.{Settled}
-use Rattle.settle.specs.declared.found.Settled.TheVariants.{Closed, Unbounded, Inconsistent}
+use Rattle.settle.specs.declared.shown_answer.ShownAnswer.{ShownAnswer}
+use Rattle.settle.specs.declared.shown_answer.Settled.{Settled}
+use Rattle.settle.specs.declared.shown_answer.Settled.TheVariants.{Closed, Unbounded, Inconsistent}
 use Rattle.settle.specs.declared.line.StoredLine.{StoredLine}
 use Rattle.settle.specs.declared.race.RaceEnd.TheVariants.{Closed as ClosedBy, Unbounded as UnboundedBy, Inconsistent as InconsistentBy}
 use Rattle.settle.specs.declared.race.Race.{Race}
-use Rattle.settle.specs.Found.{IsFound, IsSettledAt, IsSettledInconsistent, IsSettledUnbounded}
+use Rattle.settle.specs.ShownAnswer.{IsFound, IsSettledAt, IsSettledInconsistent, IsSettledUnbounded}
 use Rattle.settle.specs.Proofs.{IsProofAs, IsProving, Proving, lines_of}
 use Rattle.settle.specs.Step.Racing.{AreRaceTimes, IsEnding, IsOverAs, IsRacing, line_count, lines_as}
 

@@ -3,7 +3,7 @@ use Rattle.std.proofs.Common.{◌≡◌, ◌<◌, ℤ, ◌≤ℤ◌, List, [], �
 use Rattle.std.proofs.lemmas.List.{map-append}
 use Rattle.itv_base.specs.declared.names.EventId.{EventId}
 use Rattle.event_graph.specs.Network.{Net}
-use Rattle.falling.specs.Course.{AreLimits}
+use Rattle.falling.specs.DerivationEnds.{AreLimits}
 use Rattle.clauses.specs.Checking.{Checking, TakesLine}
 use Rattle.clauses.specs.Laws.{claiming}
 use Rattle.clauses.specs.Lines.{ClauseLine, Goal, ProofLeads, State, starting}

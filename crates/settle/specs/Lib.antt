@@ -1,4 +1,4 @@
 -- The modules of definitions of this crate.
 pub mod Proofs
-pub mod Found
+pub mod ShownAnswer
 pub mod Step

@@ -1,9 +1,9 @@
 //! Choices of sides.
 
+use crate::clause_table::StoredClause;
 use crate::engine::{Engine, Proposal};
-use crate::numbered::NumberedLiteral;
+use crate::numbered_literal::NumberedLiteral;
 use crate::places::at;
-use crate::rules::StoredClause;
 use itv_base::NoMemory;
 
 // A side that may be chosen, with how much it was needed lately and with a value in picoseconds. The greatest need goes
@@ -28,18 +28,18 @@ impl Engine {
             return Ok(Proposal::Rests);
         }
         self.changes.fill(0);
-        self.labels.choose(candidate.literal)?;
+        self.assignment.choose(candidate.literal)?;
         Ok(Proposal::Nothing)
     }
 
     // The side to choose, or none if the values break no earliest constraint.
     fn first_candidate(&self) -> Option<Candidate> {
         let mut first: Option<Candidate> = None;
-        for number in 0..self.rules.earliest().len() {
-            let rule = self.rules.rule(at(self.rules.earliest(), number, 0));
-            if let Some(literal) = self.broken_side(rule) {
-                let value = self.labels.value(rule.target);
-                let need = self.need_of(rule);
+        for number in 0..self.table.earliest().len() {
+            let clause = self.table.clause(at(self.table.earliest(), number, 0));
+            if let Some(literal) = self.broken_side(clause) {
+                let value = self.assignment.value(clause.target);
+                let need = self.need_of(clause);
                 first = earlier(
                     first,
                     Candidate {
@@ -54,10 +54,10 @@ impl Engine {
     }
 
     // How much the sides of a rule were needed lately: the greatest of their counts.
-    fn need_of(&self, rule: StoredClause) -> u64 {
+    fn need_of(&self, clause: StoredClause) -> u64 {
         let mut most = 0;
-        for number in 0..rule.literals.count {
-            let side = self.rules.literal(rule, number).side;
+        for number in 0..clause.literals.count {
+            let side = self.table.literal(clause, number).side;
             most = at(&self.activity, side, 0).max(most);
         }
         most
@@ -65,15 +65,15 @@ impl Engine {
 
     // The side of an earliest constraint that is broken least and may hold. None if the values meet some side or no
     // side may hold.
-    fn broken_side(&self, rule: StoredClause) -> Option<NumberedLiteral> {
+    fn broken_side(&self, clause: StoredClause) -> Option<NumberedLiteral> {
         let mut least: Option<Candidate> = None;
-        for number in 0..rule.literals.count {
-            let literal = self.rules.literal(rule, number);
+        for number in 0..clause.literals.count {
+            let literal = self.table.literal(clause, number);
             let value = self.excess(literal);
             if value <= 0 {
                 return None;
             }
-            if !self.labels.holds(literal.opposite()) {
+            if !self.assignment.holds(literal.opposite()) {
                 least = earlier(
                     least,
                     Candidate {
@@ -92,13 +92,13 @@ impl Engine {
 
     // By how much the values break the edge of a side, in picoseconds. The values meet the edge if this is at most 0.
     fn excess(&self, literal: NumberedLiteral) -> i64 {
-        let Some(place) = self.rules.of_side(literal.side) else {
+        let Some(place) = self.table.of_side(literal.side) else {
             return 0;
         };
-        let rule = self.rules.rule(place);
-        let way = self.rules.way(rule, 0);
-        let given = self.labels.value(way.from).saturating_add(way.weight);
-        self.labels.value(rule.target).saturating_sub(given)
+        let clause = self.table.clause(place);
+        let way = self.table.way(clause, 0);
+        let given = self.assignment.value(way.from).saturating_add(way.weight);
+        self.assignment.value(clause.target).saturating_sub(given)
     }
 }
 

@@ -4,9 +4,9 @@ ghost use Rattle.std.specs.Prelude.{All};
 ghost use Rattle.event_graph.specs.Network.{IsNet};
 ghost use Rattle.clauses.specs.Checking.{IsNearClause};
 
-use crate::labels::Assignment;
+use crate::assignment::Assignment;
+use crate::clause_table::ClauseTable;
 use crate::line::StoredLine;
-use crate::rules::ClauseTable;
 use crate::sweep::Sweep;
 use clauses::{Basis, Clause};
 use event_graph::Network;
@@ -40,8 +40,8 @@ pub struct Need {
 #[derive(Debug, Drop)]
 pub struct Engine {
     pub alloc: Global,
-    pub rules: ClauseTable,
-    pub labels: Assignment,
+    pub table: ClauseTable,
+    pub assignment: Assignment,
     pub sweep: Sweep,
     pub from: EventId,
     pub to: EventId,
@@ -81,14 +81,14 @@ impl Engine {
         to: EventId,
         cap: i64,
     ) -> Result<Engine, NoMemory> {
-        let rules = ClauseTable::new(alloc, net)?;
+        let table = ClauseTable::new(alloc, net)?;
         let events = net.events() as usize;
-        let sides = rules.sides();
-        let labels = Assignment::new(alloc, events, sides, from, cap)?;
+        let sides = table.sides();
+        let assignment = Assignment::new(alloc, events, sides, from, cap)?;
         Ok(Engine {
             alloc,
-            rules,
-            labels,
+            table,
+            assignment,
             sweep: Sweep::new(alloc, net.events())?,
             from,
             to,
@@ -113,7 +113,7 @@ impl Engine {
     /// choices.
     pub fn allow(&mut self, blocks: u64) {
         self.blocks = blocks;
-        if 0 < self.labels.level() && self.outbox.is_empty() {
+        if 0 < self.assignment.level() && self.outbox.is_empty() {
             self.go_back(0);
         }
     }
@@ -160,22 +160,22 @@ impl Engine {
         requires net { IsNet net.now }
         requires kept { All IsNearClause kept.now.items }
     {
-        let rule = self.rules.len();
-        self.rules
+        let clause = self.table.len();
+        self.table
             .push_rule(net, kept, Basis::ByKept(self.adopted))?;
         self.adopted = self.adopted.saturating_add(1);
-        self.examine(rule)
+        self.examine(clause)
     }
 
     // The event that has fallen far enough for an end, if there is one.
     fn end(&self, claim: i64) -> Option<Need> {
-        if self.labels.value(self.from) < 0 {
+        if self.assignment.value(self.from) < 0 {
             return Some(Need {
                 event: self.from,
                 value: -1,
             });
         }
-        if self.labels.value(self.to) <= claim {
+        if self.assignment.value(self.to) <= claim {
             return Some(Need {
                 event: self.to,
                 value: claim,
@@ -192,7 +192,7 @@ impl Engine {
 
     // Ends the block of the choices, or the search if nothing was chosen.
     fn end_with(&mut self, need: Need) -> Result<Proposal, NoMemory> {
-        if self.labels.level() == 0 {
+        if self.assignment.level() == 0 {
             self.is_over = true;
             return Ok(Proposal::Over);
         }
@@ -204,18 +204,18 @@ impl Engine {
     // Examines the next rule of a chain, or finds the next chain, or chooses.
     fn look_on(&mut self) -> Result<Proposal, NoMemory> {
         if let Some(place) = self.link {
-            let link = self.rules.link(place);
+            let link = self.table.link(place);
             self.link = link.next;
-            self.examine(link.rule)?;
+            self.examine(link.clause)?;
             return Ok(Proposal::Nothing);
         }
-        if self.heard < self.labels.len() {
+        if self.heard < self.assignment.len() {
             self.hear();
             return Ok(Proposal::Nothing);
         }
         match self.sweep.next() {
             Some(event) => {
-                self.link = self.rules.of_event(event);
+                self.link = self.table.of_event(event);
                 Ok(Proposal::Nothing)
             }
             None => self.choose(),

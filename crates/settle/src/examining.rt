@@ -1,11 +1,11 @@
 //! What a rule says of the values and literals at the moment.
 
+use crate::assignment::TrailChange;
+use crate::clause_table::StoredClause;
 use crate::engine::Engine;
-use crate::labels::TrailChange;
 use crate::line::StoredLine;
-use crate::numbered::NumberedLiteral;
+use crate::numbered_literal::NumberedLiteral;
 use crate::places::{at, put};
-use crate::rules::StoredClause;
 use clauses::EventFall;
 use itv_base::{EventId, NoMemory};
 
@@ -23,19 +23,19 @@ enum Open {
 impl Engine {
     /// Lets an event fall or a literal hold, if a rule says so.
     pub fn examine(&mut self, place: usize) -> Result<(), NoMemory> {
-        let rule = self.rules.rule(place);
-        match self.open_of(rule) {
+        let clause = self.table.clause(place);
+        match self.open_of(clause) {
             Open::More => Ok(()),
             Open::One(literal) => {
-                if rule.ways.count == 0 {
+                if clause.ways.count == 0 {
                     return self.hold(literal, place);
                 }
                 Ok(())
             }
             Open::None => {
-                let value = self.most_of(rule);
-                if value < self.labels.value(rule.target) {
-                    return self.lower(rule.target, value, place);
+                let value = self.most_of(clause);
+                if value < self.assignment.value(clause.target) {
+                    return self.lower(clause.target, value, place);
                 }
                 Ok(())
             }
@@ -43,14 +43,14 @@ impl Engine {
     }
 
     // Which literals of a rule may hold.
-    fn open_of(&self, rule: StoredClause) -> Open {
+    fn open_of(&self, clause: StoredClause) -> Open {
         let mut open = Open::None;
-        for number in 0..rule.literals.count {
-            let literal = self.rules.literal(rule, number);
-            if self.labels.holds(literal) {
+        for number in 0..clause.literals.count {
+            let literal = self.table.literal(clause, number);
+            if self.assignment.holds(literal) {
                 return Open::More;
             }
-            if !self.labels.holds(literal.opposite()) {
+            if !self.assignment.holds(literal.opposite()) {
                 match open {
                     Open::None => open = Open::One(literal),
                     _ => return Open::More,
@@ -61,19 +61,19 @@ impl Engine {
     }
 
     // The greatest value that a way of a rule gives, or the least value that a line may give.
-    fn most_of(&self, rule: StoredClause) -> i64 {
+    fn most_of(&self, clause: StoredClause) -> i64 {
         let mut most = self.least;
-        for number in 0..rule.ways.count {
-            let way = self.rules.way(rule, number);
-            let given = self.labels.value(way.from).saturating_add(way.weight);
+        for number in 0..clause.ways.count {
+            let way = self.table.way(clause, number);
+            let given = self.assignment.value(way.from).saturating_add(way.weight);
             most = most.max(given);
         }
         most
     }
 
     // Lowers an event by a rule. After every third fall of an event, a walk back from it is to be tried.
-    fn lower(&mut self, event: EventId, value: i64, rule: usize) -> Result<(), NoMemory> {
-        self.labels.lower(event, value, rule)?;
+    fn lower(&mut self, event: EventId, value: i64, clause: usize) -> Result<(), NoMemory> {
+        self.assignment.lower(event, value, clause)?;
         self.sweep.add(event);
         if value <= self.least {
             self.low = Some(event);
@@ -86,8 +86,8 @@ impl Engine {
         } else {
             put(&mut self.changes, place, count);
         }
-        if self.labels.level() == 0 {
-            let basis = self.rules.rule(rule).basis;
+        if self.assignment.level() == 0 {
+            let basis = self.table.clause(clause).basis;
             self.outbox.push(StoredLine::Fall(EventFall {
                 event,
                 value,
@@ -98,11 +98,11 @@ impl Engine {
     }
 
     // Lets a literal hold by a rule.
-    fn hold(&mut self, literal: NumberedLiteral, rule: usize) -> Result<(), NoMemory> {
-        self.labels.hold(literal, rule)?;
-        if self.labels.level() == 0 {
-            let basis = self.rules.rule(rule).basis;
-            let named = self.rules.named(literal);
+    fn hold(&mut self, literal: NumberedLiteral, clause: usize) -> Result<(), NoMemory> {
+        self.assignment.hold(literal, clause)?;
+        if self.assignment.level() == 0 {
+            let basis = self.table.clause(clause).basis;
+            let named = self.table.named(literal);
             self.outbox.push(StoredLine::Know(named, basis))?;
         }
         Ok(())
@@ -110,10 +110,10 @@ impl Engine {
 
     /// Goes on to the rules for the literal of the next entry that was not looked at, if that entry has a literal.
     pub fn hear(&mut self) {
-        let entry = self.labels.entry(self.heard);
+        let entry = self.assignment.entry(self.heard);
         self.heard = self.heard.saturating_add(1);
         if let TrailChange::Held(literal) = entry.change {
-            self.link = self.rules.of_literal(literal);
+            self.link = self.table.of_literal(literal);
         }
     }
 }

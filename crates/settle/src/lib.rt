@@ -5,25 +5,25 @@
 //! that it is unbounded, or a proof that no times satisfy, or it says that the turns were spent.
 #![tactic(auto)]
 
+mod assignment;
 mod best;
 mod choosing;
+mod clause_table;
 mod engine;
 mod examining;
-mod found;
-mod labels;
 mod line;
-mod numbered;
+mod numbered_literal;
 mod places;
 mod prover;
 mod race;
 mod refuting;
 mod rounds;
-mod rules;
 mod settler;
+mod shown_answer;
 mod sweep;
 mod taking;
 
-pub use found::{Settled, ShownAnswer};
 pub use line::StoredLine;
 pub use settler::Settler;
+pub use shown_answer::{Settled, ShownAnswer};
 pub use taking::take_line;

@@ -1,7 +1,7 @@
 //! A search together with a checker of its lines.
 
 ghost use Rattle.std.specs.Prelude.{◌≡◌, ◌<◌, ◌≤◌, ◌+◌, ◌≤ℤ◌, [], IfOk, OnOk, length};
-ghost use Rattle.falling.specs.Course.{AreLimits};
+ghost use Rattle.falling.specs.DerivationEnds.{AreLimits};
 ghost use Rattle.clauses.specs.Laws.{claiming};
 ghost use Rattle.clauses.specs.Lines.{IsOver};
 ghost use Rattle.settle.specs.declared.prover.SearchState.TheVariants.{Over};
@@ -76,7 +76,7 @@ impl Prover {
         ensures proving { OnOk result (IsProving net.now self.new) }
         ensures goal { OnOk result (self.new.check.goal ≡ self.old.check.goal) }
         ensures more { OnOk result (length self.new.lines ≤ length self.old.lines + 1) }
-        ensures over { IfOk result (λ told. told ≡ Over → IsOver net.now self.new.check.goal self.new.check.state) }
+        ensures over { IfOk result (λ next. next ≡ Over → IsOver net.now self.new.check.goal self.new.check.state) }
     {
         let claim = self.checker.claim();
         let _events = net.events();
@@ -84,7 +84,7 @@ impl Prover {
             Proposal::Nothing => Ok(SearchState::GoesOn),
             Proposal::Line(line) => self.heed(alloc, net, line),
             Proposal::Times => Ok(SearchState::Times),
-            Proposal::Over => Ok(self.told_over(net)),
+            Proposal::Over => Ok(self.over_or_stopped(net)),
             Proposal::Rests => Ok(SearchState::Rests),
         }
     }
@@ -100,7 +100,7 @@ impl Prover {
         ensures proving { OnOk result (IsProving net.now self.new) }
         ensures goal { OnOk result (self.new.check.goal ≡ self.old.check.goal) }
         ensures more { OnOk result (length self.new.lines ≤ length self.old.lines + 1) }
-        ensures goes_on { IfOk result (λ told. told ≡ Over → ⊥) }
+        ensures goes_on { IfOk result (λ next. next ≡ Over → ⊥) }
     {
         if take_line(alloc, net, &mut self.checker, &line)? {
             self.lines.push(line)?;
@@ -111,7 +111,7 @@ impl Prover {
     }
 
     // `Over` if the lines are a proof, as the search says. Otherwise the search gives up.
-    fn told_over(&mut self, net: &Network) -> SearchState
+    fn over_or_stopped(&mut self, net: &Network) -> SearchState
         requires proving { IsProving net.now self.old }
         ensures same { self.new ≡ self.old }
         ensures over { result ≡ Over → IsOver net.now self.new.check.goal self.new.check.state }
@@ -160,7 +160,7 @@ impl Prover {
 
     /// The values of the search. The search has said that they are times.
     pub fn values(&self) -> &Vec<i64> {
-        self.engine.labels.values()
+        self.engine.assignment.values()
     }
 
     /// The lines that the checker has taken.

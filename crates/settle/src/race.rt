@@ -3,7 +3,7 @@
 ghost use Rattle.std.specs.Prelude.{◌≡◌, ◌<◌, ◌≤◌, ◌+◌, ◌^◌, pos, neg_ℤ, ◌-ℤ◌, ◌≤ℤ◌, ◌<ℤ◌, IsFalse, All, IfOk, IfSome, OnOk, length};
 ghost use Rattle.event_graph.specs.Network.{Net};
 ghost use Rattle.event_graph.specs.Times.{IsTime};
-ghost use Rattle.falling.specs.Course.{AreLimits};
+ghost use Rattle.falling.specs.DerivationEnds.{AreLimits};
 ghost use Rattle.falling.specs.Kinds.{negated};
 ghost use Rattle.settle.specs.declared.prover.SearchState.TheVariants.{Over};
 ghost use Rattle.settle.specs.Step.Racing.{IsEnding, IsOverAs, IsRacing, IsRayEnding, line_count};
@@ -111,7 +111,7 @@ impl Race {
         requires racing { IsRacing net.now self.old }
         requires negation { negation.now ≡ negated net.now }
         ensures racing { OnOk result (IsRacing net.now self.new) }
-        ensures over { IfOk result (λ told. told ≡ Over → IsOverAs self.new.view net.now self.new) }
+        ensures over { IfOk result (λ next. next ≡ Over → IsOverAs self.new.view net.now self.new) }
         ensures lines { OnOk result (line_count self.new ≤ line_count self.old + 1) }
         ensures from { self.new.from ≡ self.old.from }
         ensures to { self.new.to ≡ self.old.to }

@@ -1,7 +1,7 @@
 //! Which choices an end needs.
 
+use crate::assignment::{Assignment, TrailChange, TrailEntry};
 use crate::engine::{Engine, Need};
-use crate::labels::{Assignment, TrailChange, TrailEntry};
 use crate::line::StoredLine;
 use crate::places::{at, put};
 use clauses::{EventFall, Literal};
@@ -26,19 +26,19 @@ impl Engine {
     /// latest of its literals can be refuted. The block assumes one literal of the latest level: the latest literal
     /// from which all that is needed of that level follows.
     pub fn refute(&mut self, need: Need) -> Result<(), NoMemory> {
-        let first = self.labels.root_end();
-        let count = self.labels.len().saturating_sub(first);
+        let first = self.assignment.root_end();
+        let count = self.assignment.len().saturating_sub(first);
         let mut needs = Needs {
             first,
             values: vec![in self.alloc; None; count]?,
-            level: self.labels.level(),
+            level: self.assignment.level(),
             open: 0,
             used: Vec::new(self.alloc),
             back: 0,
         };
         self.want(&mut needs, need.event, need.value);
         self.outbox.push(StoredLine::Close)?;
-        for place in (first..self.labels.len()).rev() {
+        for place in (first..self.assignment.len()).rev() {
             if let Some(value) = needs.at(place) {
                 self.go_through(&mut needs, place, value)?;
             }
@@ -55,21 +55,21 @@ impl Engine {
 
     // Assumes the literal of a needed entry, or wants what made the entry and writes its line.
     fn go_through(&mut self, needs: &mut Needs, place: usize, value: i64) -> Result<(), NoMemory> {
-        let entry = self.labels.entry(place);
+        let entry = self.assignment.entry(place);
         needs.pass(entry);
         if let TrailChange::Held(literal) = entry.change {
             self.count_need(literal.side);
         }
         match entry.change {
             TrailChange::Held(literal) if needs.ends_at(entry) => {
-                needs.used.push(self.rules.named(literal))?;
+                needs.used.push(self.table.named(literal))?;
                 if entry.level < needs.level {
                     needs.back = needs.back.max(entry.level);
                 }
                 Ok(())
             }
-            _ => match entry.rule {
-                Some(rule) => self.put_line(needs, entry, rule, value),
+            _ => match entry.clause {
+                Some(clause) => self.put_line(needs, entry, clause, value),
                 None => Ok(()),
             },
         }
@@ -95,11 +95,11 @@ impl Engine {
         &mut self,
         needs: &mut Needs,
         entry: TrailEntry,
-        rule: usize,
+        clause: usize,
         value: i64,
     ) -> Result<(), NoMemory> {
-        self.want_reason(needs, entry, rule, value);
-        let basis = self.rules.rule(rule).basis;
+        self.want_reason(needs, entry, clause, value);
+        let basis = self.table.clause(clause).basis;
         match entry.change {
             TrailChange::Fell(fallen) => {
                 let event = fallen.event;
@@ -110,7 +110,7 @@ impl Engine {
                 }))?;
             }
             TrailChange::Held(literal) => {
-                let named = self.rules.named(literal);
+                let named = self.table.named(literal);
                 self.outbox.push(StoredLine::Know(named, basis))?;
             }
         }
@@ -118,18 +118,18 @@ impl Engine {
     }
 
     // Wants what a rule needs to make an entry.
-    fn want_reason(&self, needs: &mut Needs, entry: TrailEntry, rule: usize, value: i64) {
-        let rule = self.rules.rule(rule);
-        for number in 0..rule.literals.count {
-            let literal = self.rules.literal(rule, number);
+    fn want_reason(&self, needs: &mut Needs, entry: TrailEntry, clause: usize, value: i64) {
+        let clause = self.table.clause(clause);
+        for number in 0..clause.literals.count {
+            let literal = self.table.literal(clause, number);
             if entry.change != TrailChange::Held(literal) {
-                if let Some(place) = self.labels.place_of(literal.opposite()) {
-                    needs.lower(&self.labels, place, 0);
+                if let Some(place) = self.assignment.place_of(literal.opposite()) {
+                    needs.lower(&self.assignment, place, 0);
                 }
             }
         }
-        for number in 0..rule.ways.count {
-            let way = self.rules.way(rule, number);
+        for number in 0..clause.ways.count {
+            let way = self.table.way(clause, number);
             self.want(needs, way.from, value.saturating_sub(way.weight));
         }
     }
@@ -137,12 +137,12 @@ impl Engine {
     // Wants the earliest entry that puts an event at most at a value, if that entry is not of level 0.
     fn want(&self, needs: &mut Needs, event: EventId, value: i64) {
         let mut found = None;
-        let mut next = self.labels.last_of(event);
-        for _ in 0..self.labels.len() {
+        let mut next = self.assignment.last_of(event);
+        for _ in 0..self.assignment.len() {
             let Some(place) = next else {
                 break;
             };
-            match self.labels.entry(place).change {
+            match self.assignment.entry(place).change {
                 TrailChange::Fell(fallen) if fallen.old <= value => {
                     found = None;
                     next = fallen.before;
@@ -155,19 +155,19 @@ impl Engine {
             }
         }
         if let Some(place) = found {
-            needs.lower(&self.labels, place, value);
+            needs.lower(&self.assignment, place, value);
         }
     }
 
     /// Goes back to a level. Nothing waits then: nothing waited when that level ended.
     pub fn go_back(&mut self, level: usize) {
-        self.labels.go_back(level);
+        self.assignment.go_back(level);
         self.sweep.clear();
         self.changes.fill(0);
         self.link = None;
         self.low = None;
         self.walk = None;
-        self.heard = self.labels.len();
+        self.heard = self.assignment.len();
     }
 }
 
@@ -187,18 +187,18 @@ impl Needs {
     // Whether the literal of an entry is to be assumed: it was chosen, its level is before the latest, or all that is
     // needed of the latest level follows from it.
     fn ends_at(&self, entry: TrailEntry) -> bool {
-        entry.rule.is_none() || entry.level < self.level || self.open == 0
+        entry.clause.is_none() || entry.level < self.level || self.open == 0
     }
 
     // Needs an entry at a value. An entry that is needed already is needed at the lower of both values.
-    fn lower(&mut self, labels: &Assignment, place: usize, value: i64) {
+    fn lower(&mut self, assignment: &Assignment, place: usize, value: i64) {
         if place < self.first {
             return;
         }
         let least = match self.at(place) {
             Some(other) => other.min(value),
             None => {
-                if labels.entry(place).level == self.level {
+                if assignment.entry(place).level == self.level {
                     self.open = self.open.saturating_add(1);
                 }
                 value

@@ -1,17 +1,17 @@
 //! Loops among the ways that give events their values.
 
+use crate::assignment::TrailChange;
+use crate::clause_table::StoredClause;
 use crate::engine::Engine;
-use crate::labels::TrailChange;
 use crate::line::StoredLine;
 use crate::places::{at, put};
-use crate::rules::StoredClause;
 use clauses::{WalkStep, Way};
 use itv_base::{EventId, NoMemory};
 
 // The way that gives an event its value: the rule of the event's latest fall, and the number of its greatest way.
 #[derive(Clone, Copy)]
 struct Lead {
-    rule: StoredClause,
+    clause: StoredClause,
     through: u32,
     way: Way,
 }
@@ -59,18 +59,22 @@ impl Engine {
 
     // The way that gives an event its value, if it has fallen by a way.
     fn lead(&self, event: EventId) -> Option<Lead> {
-        let place = self.labels.last_of(event)?;
-        let number = self.labels.entry(place).rule?;
-        let rule = self.rules.rule(number);
+        let place = self.assignment.last_of(event)?;
+        let number = self.assignment.entry(place).clause?;
+        let clause = self.table.clause(number);
         let mut best = None;
         let mut most = self.least;
         let mut through = 0;
-        for number in 0..rule.ways.count {
-            let way = self.rules.way(rule, number);
-            let given = self.labels.value(way.from).saturating_add(way.weight);
+        for number in 0..clause.ways.count {
+            let way = self.table.way(clause, number);
+            let given = self.assignment.value(way.from).saturating_add(way.weight);
             if most < given {
                 most = given;
-                best = Some(Lead { rule, through, way });
+                best = Some(Lead {
+                    clause,
+                    through,
+                    way,
+                });
             }
             through = through.saturating_add(1);
         }
@@ -102,9 +106,9 @@ impl Engine {
 
     // Goes through a way. The other ways of its rule become ways out of the loop.
     fn step_back(&self, round: &mut Round, lead: Lead) -> Result<(), NoMemory> {
-        for number in 0..lead.rule.ways.count {
+        for number in 0..lead.clause.ways.count {
             if number != lead.through as usize {
-                let way = self.rules.way(lead.rule, number);
+                let way = self.table.way(lead.clause, number);
                 let weight = way.weight.saturating_add(round.sum);
                 join(
                     &mut round.out,
@@ -115,10 +119,10 @@ impl Engine {
                 )?;
             }
         }
-        round.literals = round.literals.saturating_add(lead.rule.literals.count);
+        round.literals = round.literals.saturating_add(lead.clause.literals.count);
         round.sum = round.sum.saturating_add(lead.way.weight);
         round.steps.push(WalkStep {
-            basis: lead.rule.basis,
+            basis: lead.clause.basis,
             through: lead.through,
         })?;
         Ok(())
@@ -126,7 +130,7 @@ impl Engine {
 
     // Proposes a loop, if its sum is below 0, it is small, and it lowers its event.
     fn propose(&mut self, round: Round) -> Result<(), NoMemory> {
-        let lowers = round.sum < 0 && self.most_out(&round) < self.labels.value(round.event);
+        let lowers = round.sum < 0 && self.most_out(&round) < self.assignment.value(round.event);
         if !lowers || MOST < round.literals || MOST < round.out.len() {
             return Ok(());
         }
@@ -139,7 +143,7 @@ impl Engine {
     fn most_out(&self, round: &Round) -> i64 {
         let mut most = self.least;
         for way in &round.out {
-            let given = self.labels.value(way.from).saturating_add(way.weight);
+            let given = self.assignment.value(way.from).saturating_add(way.weight);
             most = most.max(given);
         }
         most

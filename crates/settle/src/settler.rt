@@ -5,15 +5,15 @@ ghost use Rattle.std.specs.Global.{Vec};
 ghost use Rattle.itv_base.specs.declared.names.EventId.{EventId};
 ghost use Rattle.event_graph.specs.Network.{Net};
 ghost use Rattle.falling.specs.declared.view.View.TheVariants.{Negated, Plain};
-ghost use Rattle.settle.specs.declared.found.Settled.TheVariants.{Closed};
-ghost use Rattle.settle.specs.Found.{IsFound, IsMadeFor};
+ghost use Rattle.settle.specs.declared.shown_answer.Settled.TheVariants.{Closed};
+ghost use Rattle.settle.specs.ShownAnswer.{IsFound, IsMadeFor};
 ghost use Rattle.settle.specs.Step.Racing.{IsEnding, IsRacing, line_count};
 
 use crate::best::Best;
-use crate::found::{Settled, ShownAnswer};
 use crate::line::StoredLine;
 use crate::prover::Prover;
 use crate::race::{Race, RaceEnd};
+use crate::shown_answer::{Settled, ShownAnswer};
 use clauses::Claim;
 use event_graph::Network;
 use falling::{Limits, View, limits_of, negation_of};

@@ -1,10 +1,10 @@
 -- What the steps of a check promise one another.
 use Rattle.std.specs.Prelude.{◌≡◌, ◌≤◌, ◌<◌, ◌++◌, ℕ, ℤ, neg_ℤ, List, All, Some, length, take}
-use Rattle.itv_base.specs.Outside.{SinkView}
+use Rattle.itv_base.specs.Outside.{SinkState}
 use Rattle.event_graph.specs.Limits.{IsPrintedTime}
 use Rattle.event_graph.specs.Network.{Net}
 use Rattle.event_graph.specs.Satisfying.{Satisfies}
-use Rattle.falling.specs.Course.{AreLimits}
+use Rattle.falling.specs.DerivationEnds.{AreLimits}
 use Rattle.falling.specs.Kinds.{negated}
 use Rattle.slack_report.specs.declared.words.Which.{Which}
 use Rattle.slack_report.specs.declared.words.Which.TheVariants.{Max, Min}
@@ -16,8 +16,8 @@ use Rattle.settle_check.specs.declared.views.Views.{Views}
 -- ---- the text that is compared
 
 -- a draft as a view of a sink
-abbrev pub draft_told : Draft → SinkView
-draft_told draft = record { written = Some draft.bytes.items; faults = draft.faults }
+abbrev pub draft_state : Draft → SinkState
+draft_state draft = record { written = Some draft.bytes.items; faults = draft.faults }
 
 -- a text has a piece at a place, and `behind` is the place behind the piece
 pub record IsPieceAt (text : List ℕ) (place : ℕ) (piece : List ℕ) (behind : ℕ) : Type 0 where

@@ -10,10 +10,10 @@ ghost use Rattle.settle.specs.Proofs.{IsProofAs};
 ghost use Rattle.settle_report.specs.Answers.{ArePrintedTimes, IsBound, bound_of};
 ghost use Rattle.settle_check.specs.Step.{AreViewsOf, claim_of, pair_of};
 
+use crate::check_stop::CheckStop;
 use crate::pair::Pair;
 use crate::proof::proof_next;
 use crate::reader::Reader;
-use crate::stop::CheckStop;
 use crate::times::{attain, can_rise, row_times_next};
 use crate::views::Views;
 use drawn::Row;

@@ -11,8 +11,8 @@ ghost use Rattle.settle_report.specs.Answers.{AreFound, bound_of};
 ghost use Rattle.settle_report.specs.Text.{bound_text, ending_of, finding_text, front_text, judged_text};
 ghost use Rattle.settle_check.specs.Step.{IsPieceAt};
 
+use crate::check_stop::CheckStop;
 use crate::draft::Draft;
-use crate::stop::CheckStop;
 use drawn::{DrawnNetwork, Row};
 use itv_base::{PutFailed, RowKind, Sink};
 use jobs::put_row;
@@ -74,7 +74,7 @@ fn put_count<K: Sink>(
     buffer: &mut LineBuffer,
     sink: &mut K,
 ) -> Result<(), PutFailed>
-    ensures puts { Puts (K.told sink.old) (K.told sink.new) (entry_text (rows (length drawn.now.rows))) result }
+    ensures puts { Puts (K.state sink.old) (K.state sink.new) (entry_text (rows (length drawn.now.rows))) result }
 {
     let count = drawn.rows().len() as u32;
     write_item(&Item::Rows { count }, buffer, sink)
@@ -160,7 +160,7 @@ fn put_ending<K: Sink>(
     buffer: &mut LineBuffer,
     sink: &mut K,
 ) -> Result<(), PutFailed>
-    ensures puts { Puts (K.told sink.old) (K.told sink.new) (entry_text (ending word)) result }
+    ensures puts { Puts (K.state sink.old) (K.state sink.new) (entry_text (ending word)) result }
 {
     write_item(&Item::End(word), buffer, sink)
 }

@@ -3,11 +3,11 @@
 ghost use Rattle.std.specs.Prelude.{◌≡◌, true, OnOk};
 ghost use Rattle.settle_report.specs.Settle.{IsSettleText};
 
+use crate::check_stop::CheckStop;
 use crate::compare::{behind_ending, behind_finding, behind_front};
 use crate::finding::finding_next;
 use crate::reader::Reader;
 use crate::rows::rows_behind;
-use crate::stop::CheckStop;
 use crate::views::Views;
 use drawn::DrawnNetwork;
 use line_words::LineBuffer;

@@ -2,9 +2,9 @@
 
 ghost use Rattle.std.specs.Prelude.{◌≡◌, ◌≤◌, [], Some, IfOk, length, take};
 ghost use Rattle.itv_base.specs.Outside.{Puts};
-ghost use Rattle.settle_check.specs.Step.{IsPieceAt, draft_told};
+ghost use Rattle.settle_check.specs.Step.{IsPieceAt, draft_state};
 
-use crate::stop::CheckStop;
+use crate::check_stop::CheckStop;
 use itv_base::{PutFailed, Sink};
 use std::alloc::Global;
 
@@ -18,7 +18,7 @@ pub struct Draft {
 impl Draft {
     /// A draft without bytes.
     pub fn new(alloc: Global) -> Draft
-        ensures empty { draft_told result ≡ record { written = Some []; faults = 0 } }
+        ensures empty { draft_state result ≡ record { written = Some []; faults = 0 } }
     {
         Draft {
             bytes: Vec::new(alloc),
@@ -43,7 +43,7 @@ impl Draft {
 }
 
 impl Sink for Draft {
-    ghost told = { draft_told };
+    ghost state = { draft_state };
 
     fn put(&mut self, piece: &[u8]) -> Result<(), PutFailed> {
         match self.bytes.extend_from_slice(piece) {

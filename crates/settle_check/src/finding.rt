@@ -7,10 +7,10 @@ ghost use Rattle.settle.specs.Proofs.{IsProofAs};
 ghost use Rattle.settle_report.specs.Answers.{ArePrintedTimes, IsFinding, first_event};
 ghost use Rattle.settle_check.specs.Step.{AreViewsOf};
 
+use crate::check_stop::CheckStop;
 use crate::pair::Pair;
 use crate::proof::proof_next;
 use crate::reader::Reader;
-use crate::stop::CheckStop;
 use crate::times::are_printed;
 use crate::views::Views;
 use event_graph::{Network, time_of};

@@ -4,6 +4,7 @@
 
 mod answer;
 mod bound;
+mod check_stop;
 mod compare;
 mod confirm;
 mod draft;
@@ -13,7 +14,6 @@ mod past;
 mod proof;
 mod reader;
 mod rows;
-mod stop;
 mod times;
 mod views;
 

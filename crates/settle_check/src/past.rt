@@ -4,8 +4,8 @@ ghost use Rattle.std.specs.Prelude.{◌≡◌, IfOk};
 ghost use Rattle.settle_report.specs.Answers.{IsViolation, IsPastOf};
 ghost use Rattle.settle_report.specs.declared.row.RowFound.{RowFound};
 
+use crate::check_stop::CheckStop;
 use crate::reader::Reader;
-use crate::stop::CheckStop;
 use crate::times::{break_end, row_times_next};
 use drawn::Row;
 use event_graph::Network;

@@ -5,9 +5,9 @@ ghost use Rattle.clauses.specs.Lines.{IsClauseProof};
 ghost use Rattle.settle.specs.Proofs.{IsProofAs, lines_of};
 ghost use Rattle.settle_check.specs.Step.{AreViewsOf, IsPairOf};
 
+use crate::check_stop::CheckStop;
 use crate::pair::Pair;
 use crate::reader::Reader;
-use crate::stop::CheckStop;
 use crate::views::Views;
 use clauses::{Claim, ClauseChecker};
 use event_graph::Network;

@@ -1,6 +1,6 @@
 //! Reading the lines of a text, one after another.
 
-use crate::stop::CheckStop;
+use crate::check_stop::CheckStop;
 use certificate::LineFault;
 use clauses::Claim;
 use falling::View;

@@ -7,10 +7,10 @@ ghost use Rattle.settle_report.specs.Text.{behind_text, row_text, rows_text};
 ghost use Rattle.settle_check.specs.Step.{AreViewsOf, IsPieceAt};
 
 use crate::bound::bound_next;
+use crate::check_stop::CheckStop;
 use crate::compare::{behind_bound, behind_count, behind_judged, behind_row};
 use crate::past::past_next;
 use crate::reader::Reader;
-use crate::stop::CheckStop;
 use crate::views::Views;
 use drawn::DrawnNetwork;
 use jobs::row_at;

@@ -5,12 +5,12 @@ ghost use Rattle.event_graph.specs.Limits.{IsPrintedTime};
 ghost use Rattle.event_graph.specs.Satisfying.{Satisfies};
 ghost use Rattle.event_graph.specs.Times.{separation, time_of};
 ghost use Rattle.drawn.specs.Drawn.{IsRowOf};
-ghost use Rattle.right_report.specs.Right.Facts.{BreaksEnd};
+ghost use Rattle.right_report.specs.Right.LineClaims.{BreaksEnd};
 ghost use Rattle.settle_report.specs.Answers.{ArePrintedTimes, CanRise};
 ghost use Rattle.settle_check.specs.Step.{AreShownTimes};
 
+use crate::check_stop::CheckStop;
 use crate::reader::Reader;
-use crate::stop::CheckStop;
 use drawn::Row;
 use event_graph::{Network, time_of};
 use itv_base::{END_LIMIT, EventId, MAX_EVENTS, Range};
@@ -85,10 +85,10 @@ pub fn break_end(row: &Row, range: Range, word: Verdict, times: &[i64]) -> bool
     requires zero { time_of times.now row.now.from ≡ pos 0 }
     ensures breaks { IsTrue result → BreaksEnd row.now range word times.now }
 {
-    let told = separation(row, times);
+    let reached = separation(row, times);
     match word {
-        Verdict::FailHigh => range.high().is_some_and(|high| high < told),
-        Verdict::FailLow => range.low().is_some_and(|low| told < low),
+        Verdict::FailHigh => range.high().is_some_and(|high| high < reached),
+        Verdict::FailLow => range.low().is_some_and(|low| reached < low),
         Verdict::Pass | Verdict::Undecided => false,
     }
 }

@@ -3,7 +3,7 @@ use Rattle.std.proofs.Common.{◌≡◌, ℕ, suc, ◌+◌, ◌<◌, ℤ, List, 
 use Rattle.std.specs.List.{flat_map}
 use Rattle.std.specs.Bool.{⊤}
 use Rattle.itv_base.specs.Numerals.{number_text, signed_text}
-use Rattle.itv_base.specs.Outside.{CutShort, Puts, SinkView, grown}
+use Rattle.itv_base.specs.Outside.{CutShort, Puts, SinkState, grown}
 use Rattle.itv_base.specs.declared.names.EventId.{EventId}
 use Rattle.itv_base.proofs.Written.{cut_more, cut_then, puts_same, puts_then}
 use Rattle.line_words.specs.Words.{Word}
@@ -26,15 +26,15 @@ pub record Parts (a b c whole : List ℕ) : Type 0 where
 
 module _ {a b c whole : List ℕ} (parts : Parts a b c whole) where
   -- a front of the first piece is put
-  pub first_cut : (old new : SinkView) → CutShort old new a → CutShort old new whole
+  pub first_cut : (old new : SinkState) → CutShort old new a → CutShort old new whole
   first_cut old new cut = subst (CutShort old new) parts.join (cut_more old new a (b ++ c) cut)
 
   -- the first piece is put, and a front of the second
-  pub second_cut : (old first_put new : SinkView) → first_put ≡ grown old a → CutShort first_put new b → CutShort old new whole
+  pub second_cut : (old first_put new : SinkState) → first_put ≡ grown old a → CutShort first_put new b → CutShort old new whole
   second_cut old first_put new p cut = subst (CutShort old new) parts.join (cut_then old first_put new a (b ++ c) p (cut_more first_put new b c cut))
 
   -- two pieces are put, and the third or a front of it
-  pub third_puts : {E : Type 0} (old first_put second_put new : SinkView) (r : Result ⊤ E) → first_put ≡ grown old a → second_put ≡ grown first_put b
+  pub third_puts : {E : Type 0} (old first_put second_put new : SinkState) (r : Result ⊤ E) → first_put ≡ grown old a → second_put ≡ grown first_put b
       → Puts second_put new c r → Puts old new whole r
   third_puts old first_put second_put new r p q last =
       puts_same old new (a ++ (b ++ c)) whole r parts.join (puts_then old first_put new a (b ++ c) r p (puts_then first_put second_put new b c r q last))

@@ -15,7 +15,7 @@ use line_words::put_spaced;
 
 /// Puts the first word of a line, a space and the number of an event.
 pub fn put_named<K: Sink>(name: &[u8], event: EventId, sink: &mut K) -> Result<(), PutFailed>
-    ensures { Puts (K.told sink.old) (K.told sink.new) (name.now ++ spaced (number_text event.0)) result }
+    ensures { Puts (K.state sink.old) (K.state sink.new) (name.now ++ spaced (number_text event.0)) result }
 {
     let mut digits = Buffer::new();
     put_all(
@@ -30,7 +30,7 @@ pub fn put_named<K: Sink>(name: &[u8], event: EventId, sink: &mut K) -> Result<(
 
 /// Puts a space and the value, in picoseconds, to which an event falls.
 pub fn put_value<K: Sink>(fall: EventFall, sink: &mut K) -> Result<(), PutFailed>
-    ensures { Puts (K.told sink.old) (K.told sink.new) (spaced (signed_text fall.value)) result }
+    ensures { Puts (K.state sink.old) (K.state sink.new) (spaced (signed_text fall.value)) result }
 {
     let mut digits = Buffer::new();
     put_spaced(signed_text(fall.value, &mut digits).as_bytes(), sink)
@@ -38,7 +38,7 @@ pub fn put_value<K: Sink>(fall: EventFall, sink: &mut K) -> Result<(), PutFailed
 
 /// Puts a space, where a clause comes from, and the end of the line.
 pub fn put_basis_end<K: Sink>(basis: Basis, sink: &mut K) -> Result<(), PutFailed>
-    ensures { Puts (K.told sink.old) (K.told sink.new) (ended (spaced (basis_word basis))) result }
+    ensures { Puts (K.state sink.old) (K.state sink.new) (ended (spaced (basis_word basis))) result }
 {
     put_basis(basis, sink)?;
     sink.put(b"\n")
@@ -46,7 +46,7 @@ pub fn put_basis_end<K: Sink>(basis: Basis, sink: &mut K) -> Result<(), PutFaile
 
 /// Puts two words for each step, each behind a space: its basis and the number of its way.
 pub fn put_steps<K: Sink>(steps: &[WalkStep], sink: &mut K) -> Result<(), PutFailed>
-    ensures { Puts (K.told sink.old) (K.told sink.new) (flat_map spaced (step_words steps.now)) result }
+    ensures { Puts (K.state sink.old) (K.state sink.new) (flat_map spaced (step_words steps.now)) result }
 {
     for step in steps {
         put_step(*step, sink)?;
@@ -55,7 +55,7 @@ pub fn put_steps<K: Sink>(steps: &[WalkStep], sink: &mut K) -> Result<(), PutFai
 }
 
 fn put_step<K: Sink>(step: WalkStep, sink: &mut K) -> Result<(), PutFailed>
-    ensures { Puts (K.told sink.old) (K.told sink.new) (spaced (basis_word step.basis) ++ spaced (number_text step.through)) result }
+    ensures { Puts (K.state sink.old) (K.state sink.new) (spaced (basis_word step.basis) ++ spaced (number_text step.through)) result }
 {
     put_basis(step.basis, sink)?;
     put_number(b"", step.through, sink)
@@ -63,7 +63,7 @@ fn put_step<K: Sink>(step: WalkStep, sink: &mut K) -> Result<(), PutFailed>
 
 // Puts a space and where a clause comes from.
 fn put_basis<K: Sink>(basis: Basis, sink: &mut K) -> Result<(), PutFailed>
-    ensures { Puts (K.told sink.old) (K.told sink.new) (spaced (basis_word basis)) result }
+    ensures { Puts (K.state sink.old) (K.state sink.new) (spaced (basis_word basis)) result }
 {
     match basis {
         Basis::ByEdge(edge) => put_edge(edge, sink),
@@ -76,7 +76,7 @@ fn put_basis<K: Sink>(basis: Basis, sink: &mut K) -> Result<(), PutFailed>
 
 // Puts a space, a letter or none, and a number.
 fn put_number<K: Sink>(letter: &[u8], number: u32, sink: &mut K) -> Result<(), PutFailed>
-    ensures { Puts (K.told sink.old) (K.told sink.new) (spaced (letter.now ++ number_text number)) result }
+    ensures { Puts (K.state sink.old) (K.state sink.new) (spaced (letter.now ++ number_text number)) result }
 {
     let mut digits = Buffer::new();
     put_all(
@@ -91,7 +91,7 @@ fn put_number<K: Sink>(letter: &[u8], number: u32, sink: &mut K) -> Result<(), P
 
 /// Puts each literal behind a space.
 pub fn put_literals<K: Sink>(literals: &[Literal], sink: &mut K) -> Result<(), PutFailed>
-    ensures { Puts (K.told sink.old) (K.told sink.new) (flat_map spaced (map literal_word literals.now)) result }
+    ensures { Puts (K.state sink.old) (K.state sink.new) (flat_map spaced (map literal_word literals.now)) result }
 {
     for literal in literals {
         put_literal(*literal, sink)?;
@@ -101,7 +101,7 @@ pub fn put_literals<K: Sink>(literals: &[Literal], sink: &mut K) -> Result<(), P
 
 /// Puts a space and a literal.
 pub fn put_literal<K: Sink>(literal: Literal, sink: &mut K) -> Result<(), PutFailed>
-    ensures { Puts (K.told sink.old) (K.told sink.new) (spaced (literal_word literal)) result }
+    ensures { Puts (K.state sink.old) (K.state sink.new) (spaced (literal_word literal)) result }
 {
     let mut constraint = Buffer::new();
     let mut cause = Buffer::new();

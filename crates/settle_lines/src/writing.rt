@@ -23,7 +23,7 @@ pub fn write_proof<K: Sink>(
     lines: &[StoredLine],
     sink: &mut K,
 ) -> Result<(), PutFailed>
-    ensures puts { Puts (K.told sink.old) (K.told sink.new) (proof_text view claim (lines_of lines.now)) result }
+    ensures puts { Puts (K.state sink.old) (K.state sink.new) (proof_text view claim (lines_of lines.now)) result }
 {
     put_view(view, sink)?;
     put_claim(claim, sink)?;
@@ -31,7 +31,7 @@ pub fn write_proof<K: Sink>(
 }
 
 fn put_view<K: Sink>(view: View, sink: &mut K) -> Result<(), PutFailed>
-    ensures { Puts (K.told sink.old) (K.told sink.new) (view_text view) result }
+    ensures { Puts (K.state sink.old) (K.state sink.new) (view_text view) result }
 {
     match view {
         View::Plain => sink.put(b"view plain\n"),
@@ -40,7 +40,7 @@ fn put_view<K: Sink>(view: View, sink: &mut K) -> Result<(), PutFailed>
 }
 
 fn put_claim<K: Sink>(claim: i64, sink: &mut K) -> Result<(), PutFailed>
-    ensures { Puts (K.told sink.old) (K.told sink.new) (claim_text claim) result }
+    ensures { Puts (K.state sink.old) (K.state sink.new) (claim_text claim) result }
 {
     let mut digits = Buffer::new();
     put_words(
@@ -52,7 +52,7 @@ fn put_claim<K: Sink>(claim: i64, sink: &mut K) -> Result<(), PutFailed>
 
 // Puts each line with its end.
 fn put_lines<K: Sink>(lines: &[StoredLine], sink: &mut K) -> Result<(), PutFailed>
-    ensures { Puts (K.told sink.old) (K.told sink.new) (flat_map clause_line_text (lines_of lines.now)) result }
+    ensures { Puts (K.state sink.old) (K.state sink.new) (flat_map clause_line_text (lines_of lines.now)) result }
 {
     for line in lines {
         write_clause_line(line, sink)?;
@@ -62,7 +62,7 @@ fn put_lines<K: Sink>(lines: &[StoredLine], sink: &mut K) -> Result<(), PutFaile
 
 /// Writes a line of a proof and its line end. If a put failed, a front of it was written, and the sink's count of faults rose.
 pub fn write_clause_line<K: Sink>(line: &StoredLine, sink: &mut K) -> Result<(), PutFailed>
-    ensures puts { Puts (K.told sink.old) (K.told sink.new) (clause_line_text (line_of line.now)) result }
+    ensures puts { Puts (K.state sink.old) (K.state sink.new) (clause_line_text (line_of line.now)) result }
 {
     match line {
         StoredLine::Fall(fall) => put_fall(*fall, sink),
@@ -74,7 +74,7 @@ pub fn write_clause_line<K: Sink>(line: &StoredLine, sink: &mut K) -> Result<(),
 }
 
 fn put_fall<K: Sink>(fall: EventFall, sink: &mut K) -> Result<(), PutFailed>
-    ensures { Puts (K.told sink.old) (K.told sink.new) (clause_line_text (Fall fall.event fall.value fall.basis)) result }
+    ensures { Puts (K.state sink.old) (K.state sink.new) (clause_line_text (Fall fall.event fall.value fall.basis)) result }
 {
     put_named(b"fall", fall.event, sink)?;
     put_value(fall, sink)?;
@@ -82,7 +82,7 @@ fn put_fall<K: Sink>(fall: EventFall, sink: &mut K) -> Result<(), PutFailed>
 }
 
 fn put_know<K: Sink>(literal: Literal, basis: Basis, sink: &mut K) -> Result<(), PutFailed>
-    ensures { Puts (K.told sink.old) (K.told sink.new) (clause_line_text (Know literal basis)) result }
+    ensures { Puts (K.state sink.old) (K.state sink.new) (clause_line_text (Know literal basis)) result }
 {
     sink.put(b"know")?;
     put_literal(literal, sink)?;
@@ -90,7 +90,7 @@ fn put_know<K: Sink>(literal: Literal, basis: Basis, sink: &mut K) -> Result<(),
 }
 
 fn put_loop<K: Sink>(event: EventId, steps: &[WalkStep], sink: &mut K) -> Result<(), PutFailed>
-    ensures { Puts (K.told sink.old) (K.told sink.new) (clause_line_text (Loop event steps.now)) result }
+    ensures { Puts (K.state sink.old) (K.state sink.new) (clause_line_text (Loop event steps.now)) result }
 {
     put_named(b"loop", event, sink)?;
     put_steps(steps, sink)?;
@@ -98,7 +98,7 @@ fn put_loop<K: Sink>(event: EventId, steps: &[WalkStep], sink: &mut K) -> Result
 }
 
 fn put_assume<K: Sink>(literals: &[Literal], sink: &mut K) -> Result<(), PutFailed>
-    ensures { Puts (K.told sink.old) (K.told sink.new) (clause_line_text (Assume literals.now)) result }
+    ensures { Puts (K.state sink.old) (K.state sink.new) (clause_line_text (Assume literals.now)) result }
 {
     sink.put(b"assume")?;
     put_literals(literals, sink)?;

@@ -12,10 +12,10 @@ use Rattle.slack_report.specs.declared.words.Which.{Which}
 use Rattle.slack_report.specs.declared.words.Which.TheVariants.{Max, Min}
 use Rattle.drawn.specs.Drawn.{IsRowOf}
 use Rattle.drawn.specs.declared.row.Row.{Row}
-use Rattle.settle.specs.declared.found.ShownAnswer.{ShownAnswer}
-use Rattle.settle.specs.declared.found.Settled.{Settled}
-use Rattle.settle.specs.declared.found.Settled.TheVariants.{Closed, Unbounded, Inconsistent}
-use Rattle.settle.specs.Found.{IsFound, IsRightAnswer}
+use Rattle.settle.specs.declared.shown_answer.ShownAnswer.{ShownAnswer}
+use Rattle.settle.specs.declared.shown_answer.Settled.{Settled}
+use Rattle.settle.specs.declared.shown_answer.Settled.TheVariants.{Closed, Unbounded, Inconsistent}
+use Rattle.settle.specs.ShownAnswer.{IsFound, IsRightAnswer}
 use Rattle.settle.specs.Proofs.{IsProofAs}
 use Rattle.settle_report.specs.declared.finding.Finding.TheVariants as findings
 use Rattle.settle_report.specs.declared.proof.Proof.{Proof}

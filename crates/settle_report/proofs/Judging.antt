@@ -8,7 +8,7 @@ use Rattle.event_graph.specs.Times.{separation, time_of}
 use Rattle.requirements.specs.Verdicts.{breaks_high, breaks_low, meets_high, meets_low, verdict_of}
 use Rattle.requirements.specs.declared.bound.Bound.{Bound}
 use Rattle.requirements.specs.declared.verdict.Verdict.TheVariants as verdicts
-use Rattle.right_report.specs.Right.Facts.{BreaksEnd}
+use Rattle.right_report.specs.Right.LineClaims.{BreaksEnd}
 use Rattle.slack_report.specs.declared.words.Which.{Which}
 use Rattle.slack_report.specs.declared.words.Which.TheVariants.{Max, Min}
 use Rattle.drawn.specs.declared.row.Row.{Row}

@@ -1,7 +1,7 @@
 -- The whole text of the job.
 use Rattle.std.proofs.Common.{◌≡◌, ℕ, Bool, List, refl}
 use Rattle.std.specs.Prelude.{OnErr, Result, Ok, Err}
-use Rattle.itv_base.specs.Outside.{CutShort, SinkView}
+use Rattle.itv_base.specs.Outside.{CutShort, SinkState}
 use Rattle.drawn.specs.Drawn.{Drawn}
 use Rattle.jobs.specs.Ending.{answer_of}
 use Rattle.jobs.specs.declared.answer.Answer.{Answer}
@@ -17,7 +17,7 @@ module _ (drawn : Drawn) (cert : Bool) (finding : Finding) (found : List RowFoun
   answers_settle answer is = record { finding = finding; found = found; is_finding = f; are_found = a; is_text = refl; is_answer = is }
 
   -- and a front of the text begins it
-  pub begins_settle : {B E : Type 0} (result : Result B E) (old new : SinkView) → CutShort old new (settle_text drawn cert finding found)
+  pub begins_settle : {B E : Type 0} (result : Result B E) (old new : SinkState) → CutShort old new (settle_text drawn cert finding found)
       → OnErr result ((text : List ℕ) × IsSettleText drawn cert text × CutShort old new text)
   begins_settle (Ok x) old new cut = tt
   begins_settle (Err e) old new cut = (settle_text drawn cert finding found, (answer_of (ending_of drawn.rows finding found), answers_settle _ refl), cut)

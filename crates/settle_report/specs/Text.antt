@@ -12,7 +12,7 @@ use Rattle.slack_report.specs.declared.words.Which.{Which}
 use Rattle.slack_report.specs.declared.words.Which.TheVariants.{Max, Min}
 use Rattle.slack_report.specs.Entry as line
 use Rattle.slack_report.specs.Text.{entry_text, report_text, which_word}
-use Rattle.right_report.specs.Right.At.{ReportTally, course_of, end_word, is_fail, with_bounds, with_verdict}
+use Rattle.right_report.specs.Right.ReportState.{ReportTally, tally_of, end_word, is_fail, with_bounds, with_verdict}
 use Rattle.drawn.specs.Drawn.{Drawn, name_of}
 use Rattle.drawn.specs.declared.row.Row.{Row}
 use Rattle.jobs.specs.Events.{event_lines}
@@ -74,17 +74,17 @@ behind_text drawn cert Spent found = []
 
 -- the tally of the rows so far and one more
 abbrev pub with_row : ReportTally → RowKind → RowFound → ReportTally
-with_row course kinds.Ask found = with_bounds course (bound_of found.least) (bound_of found.greatest)
-with_row course (kinds.Req range) found = with_verdict (with_bounds course (bound_of found.least) (bound_of found.greatest)) (verdict_in range found)
+with_row tally kinds.Ask found = with_bounds tally (bound_of found.least) (bound_of found.greatest)
+with_row tally (kinds.Req range) found = with_verdict (with_bounds tally (bound_of found.least) (bound_of found.greatest)) (verdict_in range found)
 
 abbrev pub with_rows : ReportTally → List Row → List RowFound → ReportTally
-with_rows course [] found = course
-with_rows course (row ∷ rows) [] = course
-with_rows course (row ∷ rows) (found ∷ others) = with_rows (with_row course row.kind found) rows others
+with_rows tally [] found = tally
+with_rows tally (row ∷ rows) [] = tally
+with_rows tally (row ∷ rows) (found ∷ others) = with_rows (with_row tally row.kind found) rows others
 
 -- the word at the end, as a report with these bounds has it
 abbrev pub ending_of : List Row → Finding → List RowFound → EndWord
-ending_of rows (Consistent times) found = end_word (with_rows (course_of findings.Consistent) rows found)
+ending_of rows (Consistent times) found = end_word (with_rows (tally_of findings.Consistent) rows found)
 ending_of rows (Inconsistent proof) found = endings.Inconsistent
 ending_of rows Spent found = endings.Undecided
 

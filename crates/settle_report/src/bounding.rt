@@ -4,7 +4,7 @@ ghost use Rattle.std.specs.Prelude.{◌≡◌, ℕ, ℤ, List, IfOk};
 ghost use Rattle.event_graph.specs.Satisfying.{Satisfies};
 ghost use Rattle.event_graph.specs.Times.{IsTime};
 ghost use Rattle.drawn.specs.Drawn.{IsRowOf};
-ghost use Rattle.settle.specs.Found.{IsFound, IsMadeFor};
+ghost use Rattle.settle.specs.ShownAnswer.{IsFound, IsMadeFor};
 ghost use Rattle.settle_report.specs.Answers.{IsBound};
 ghost use Rattle.settle_report.specs.Step.{HasNearby, shown_by, source, target};
 

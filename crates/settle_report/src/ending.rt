@@ -2,7 +2,7 @@
 
 ghost use Rattle.std.specs.Prelude.{◌≡◌, ◌||◌, Bool};
 ghost use Rattle.slack_report.specs.declared.words.FindingWord.{FindingWord};
-ghost use Rattle.right_report.specs.Right.At.{course_of, end_word};
+ghost use Rattle.right_report.specs.Right.ReportState.{tally_of, end_word};
 ghost use Rattle.settle_report.specs.Answers.{AreFound, AreRowsFound, bound_of};
 ghost use Rattle.settle_report.specs.Text.{ending_of, with_row, with_rows};
 
@@ -38,7 +38,7 @@ struct Marks {
 // The tally of all rows.
 fn marks_of(drawn: &DrawnNetwork, found: &[RowFound]) -> Marks
     requires found { (cert : Bool) × AreRowsFound cert drawn.now.net drawn.now.rows found.now }
-    ensures marks { with_rows (course_of FindingWord.Consistent) drawn.now.rows found.now
+    ensures marks { with_rows (tally_of FindingWord.Consistent) drawn.now.rows found.now
         ≡ record { found = FindingWord.Consistent; fails = result.fails; within = result.within } }
 {
     let mut marks = Marks {

@@ -1,7 +1,7 @@
 //! What is found of a network.
 
 ghost use Rattle.std.specs.Prelude.{◌<◌, ℕ, IfOk};
-ghost use Rattle.settle.specs.Found.{IsFound, IsMadeFor};
+ghost use Rattle.settle.specs.ShownAnswer.{IsFound, IsMadeFor};
 ghost use Rattle.settle_report.specs.Answers.{IsFinding, first_event};
 
 use crate::proof::{Proof, proof_of};

@@ -52,7 +52,7 @@ pub fn proof_of(
 
 /// Puts a proof, if proofs are wanted.
 pub fn put_proof<K: Sink>(cert: bool, proof: &Proof, sink: &mut K) -> Result<(), PutFailed>
-    ensures puts { Puts (K.told sink.old) (K.told sink.new) (shown_text cert proof.now) result }
+    ensures puts { Puts (K.state sink.old) (K.state sink.new) (shown_text cert proof.now) result }
 {
     if cert {
         write_proof(proof.view, proof.claim, &proof.lines, sink)

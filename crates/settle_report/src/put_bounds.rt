@@ -23,7 +23,7 @@ pub fn put_finding<K: Sink>(
     buffer: &mut LineBuffer,
     sink: &mut K,
 ) -> Result<(), PutFailed>
-    ensures puts { Puts (K.told sink.old) (K.told sink.new) (finding_text cert finding.now) result }
+    ensures puts { Puts (K.state sink.old) (K.state sink.new) (finding_text cert finding.now) result }
 {
     match finding {
         Finding::Consistent(times) => {
@@ -46,7 +46,7 @@ pub fn put_bound<K: Sink>(
     buffer: &mut LineBuffer,
     sink: &mut K,
 ) -> Result<(), PutFailed>
-    ensures puts { Puts (K.told sink.old) (K.told sink.new) (bound_text cert which found.now) result }
+    ensures puts { Puts (K.state sink.old) (K.state sink.new) (bound_text cert which found.now) result }
 {
     match found {
         SettledBound::Closed(_, times, proof) => {
@@ -66,7 +66,7 @@ fn put_number<K: Sink>(
     buffer: &mut LineBuffer,
     sink: &mut K,
 ) -> Result<(), PutFailed>
-    ensures puts { Puts (K.told sink.old) (K.told sink.new) (entry_text (entry_bound which bound) ++ entry_text (entry_times times.now)) result }
+    ensures puts { Puts (K.state sink.old) (K.state sink.new) (entry_text (entry_bound which bound) ++ entry_text (entry_times times.now)) result }
 {
     write_item(&Item::Bound { which, bound }, buffer, sink)?;
     write_item(&Item::Times(times), buffer, sink)
@@ -80,7 +80,7 @@ fn put_unbounded<K: Sink>(
     buffer: &mut LineBuffer,
     sink: &mut K,
 ) -> Result<(), PutFailed>
-    ensures puts { Puts (K.told sink.old) (K.told sink.new)
+    ensures puts { Puts (K.state sink.old) (K.state sink.new)
         (entry_text (entry_bound which Unbounded) ++ (entry_text (entry_times times.now) ++ entry_text (raise ray.now))) result }
 {
     let bound = Bound::Unbounded;
@@ -91,7 +91,7 @@ fn put_unbounded<K: Sink>(
 
 // Puts that the turns were spent.
 fn put_spent<K: Sink>(which: Which, sink: &mut K) -> Result<(), PutFailed>
-    ensures puts { Puts (K.told sink.old) (K.told sink.new) (ended (line_of (which_word which ∷ codes "spent" ∷ []))) result }
+    ensures puts { Puts (K.state sink.old) (K.state sink.new) (ended (line_of (which_word which ∷ codes "spent" ∷ []))) result }
 {
     match which {
         Which::Max => sink.put(b"max spent\n"),

@@ -3,7 +3,7 @@
 ghost use Rattle.std.specs.Prelude.{◌++◌, if◌then◌else◌, [], length};
 ghost use Rattle.itv_base.specs.Outside.{Puts};
 ghost use Rattle.requirements.specs.Bounds.{HasTimes};
-ghost use Rattle.right_report.specs.Right.At.{is_fail};
+ghost use Rattle.right_report.specs.Right.ReportState.{is_fail};
 ghost use Rattle.slack_report.specs.Entry.{rows, times};
 ghost use Rattle.slack_report.specs.Text.{entry_text};
 ghost use Rattle.drawn.specs.Drawn.{IsRowOf};
@@ -32,7 +32,7 @@ pub fn put_behind<K: Sink>(
     sink: &mut K,
 ) -> Result<(), PutFailed>
     requires found { AreFound cert drawn.now.net drawn.now.rows finding.now found.now }
-    ensures puts { Puts (K.told sink.old) (K.told sink.new) (behind_text drawn.now cert finding.now found.now) result }
+    ensures puts { Puts (K.state sink.old) (K.state sink.new) (behind_text drawn.now cert finding.now found.now) result }
 {
     match finding {
         Finding::Consistent(_) => put_rows(drawn, cert, found, buffer, sink),
@@ -49,7 +49,7 @@ fn put_rows<K: Sink>(
     sink: &mut K,
 ) -> Result<(), PutFailed>
     requires found { AreRowsFound cert drawn.now.net drawn.now.rows found.now }
-    ensures puts { Puts (K.told sink.old) (K.told sink.new)
+    ensures puts { Puts (K.state sink.old) (K.state sink.new)
         (entry_text (rows (length drawn.now.rows)) ++ rows_text drawn.now cert 0 drawn.now.rows found.now) result }
 {
     let count = drawn.rows().len() as u32;
@@ -66,7 +66,7 @@ fn put_each<K: Sink>(
     sink: &mut K,
 ) -> Result<(), PutFailed>
     requires found { AreRowsFound cert drawn.now.net drawn.now.rows found.now }
-    ensures puts { Puts (K.told sink.old) (K.told sink.new) (rows_text drawn.now cert 0 drawn.now.rows found.now) result }
+    ensures puts { Puts (K.state sink.old) (K.state sink.new) (rows_text drawn.now cert 0 drawn.now.rows found.now) result }
 {
     for number in 0..drawn.rows().len() as u32 {
         let row = row_at(drawn, number);
@@ -96,7 +96,7 @@ fn put_found<K: Sink>(
     requires row { IsRowOf drawn.now.net row.now }
     requires greatest { HasTimes (bound_of found.now.greatest) }
     requires least { HasTimes (bound_of found.now.least) }
-    ensures puts { Puts (K.told sink.old) (K.told sink.new) (row_text drawn.now cert number row.now found.now) result }
+    ensures puts { Puts (K.state sink.old) (K.state sink.new) (row_text drawn.now cert number row.now found.now) result }
 {
     put_row(number, row, drawn, buffer, sink)?;
     put_bound(cert, Which::Max, &found.greatest, buffer, sink)?;
@@ -113,7 +113,7 @@ pub fn put_judged<K: Sink>(
 ) -> Result<(), PutFailed>
     requires greatest { HasTimes (bound_of found.now.greatest) }
     requires least { HasTimes (bound_of found.now.least) }
-    ensures puts { Puts (K.told sink.old) (K.told sink.new) (judged_text kind found.now) result }
+    ensures puts { Puts (K.state sink.old) (K.state sink.new) (judged_text kind found.now) result }
 {
     match kind {
         RowKind::Ask => Ok(()),
@@ -130,7 +130,7 @@ fn put_verdict<K: Sink>(
 ) -> Result<(), PutFailed>
     requires greatest { HasTimes (bound_of found.now.greatest) }
     requires least { HasTimes (bound_of found.now.least) }
-    ensures puts { Puts (K.told sink.old) (K.told sink.new) (judged_text (RowKind.Req range) found.now) result }
+    ensures puts { Puts (K.state sink.old) (K.state sink.new) (judged_text (RowKind.Req range) found.now) result }
 {
     let both = both_of(&found.least, &found.greatest);
     let word = judge(range, &both);
@@ -146,7 +146,7 @@ fn put_past<K: Sink>(
     buffer: &mut LineBuffer,
     sink: &mut K,
 ) -> Result<(), PutFailed>
-    ensures puts { Puts (K.told sink.old) (K.told sink.new) (if is_fail word then entry_text (times past.now) else []) result }
+    ensures puts { Puts (K.state sink.old) (K.state sink.new) (if is_fail word then entry_text (times past.now) else []) result }
 {
     if is_fail(word) {
         write_item(&Item::Times(past), buffer, sink)

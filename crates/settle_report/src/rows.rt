@@ -3,7 +3,7 @@
 ghost use Rattle.std.specs.Prelude.{ℤ, List, IfOk};
 ghost use Rattle.event_graph.specs.Satisfying.{Satisfies};
 ghost use Rattle.drawn.specs.Drawn.{IsRowOf};
-ghost use Rattle.settle.specs.Found.{IsMadeFor};
+ghost use Rattle.settle.specs.ShownAnswer.{IsMadeFor};
 ghost use Rattle.settle_report.specs.Answers.{AreFound, AreRowsFound, IsFinding, IsRowFound};
 
 use crate::bounding::find_bound;

@@ -2,7 +2,7 @@
 
 ghost use Rattle.std.specs.Prelude.{◌≡◌, ℕ, List, IfOk, OnErr};
 ghost use Rattle.itv_base.specs.Outside.{CutShort, Puts, grown};
-ghost use Rattle.jobs.specs.Works.{JobWrote};
+ghost use Rattle.jobs.specs.JobWrote.{JobWrote};
 ghost use Rattle.settle_report.specs.Answers.{AreFound, IsFinding};
 ghost use Rattle.settle_report.specs.Settle.{AnswersSettle, IsSettleText};
 ghost use Rattle.settle_report.specs.Text.{ending_of, front_text, settle_text};
@@ -32,7 +32,7 @@ pub fn write_settle<K: Sink>(
     cert: bool,
     sink: &mut K,
 ) -> Result<Answer, Unanswered>
-    ensures works { JobWrote (AnswersSettle drawn.now cert) (IsSettleText drawn.now cert) (K.told sink.old) (K.told sink.new) result }
+    ensures works { JobWrote (AnswersSettle drawn.now cert) (IsSettleText drawn.now cert) (K.state sink.old) (K.state sink.new) result }
 {
     let found = find_network(alloc, drawn, Wanted { turns, cert })?;
     let mut buffer = LineBuffer::new(alloc, LINE_ROOM)?;
@@ -71,8 +71,8 @@ fn put_found<K: Sink>(
 ) -> Result<Answer, PutFailed>
     requires finding { IsFinding cert drawn.now.net found.now.finding }
     requires rows { AreFound cert drawn.now.net drawn.now.rows found.now.finding found.now.rows.items }
-    ensures answers { IfOk result (λ answer. (text : List ℕ) × AnswersSettle drawn.now cert answer text × (K.told sink.new ≡ grown (K.told sink.old) text)) }
-    ensures begins { OnErr result ((text : List ℕ) × IsSettleText drawn.now cert text × CutShort (K.told sink.old) (K.told sink.new) text) }
+    ensures answers { IfOk result (λ answer. (text : List ℕ) × AnswersSettle drawn.now cert answer text × (K.state sink.new ≡ grown (K.state sink.old) text)) }
+    ensures begins { OnErr result ((text : List ℕ) × IsSettleText drawn.now cert text × CutShort (K.state sink.old) (K.state sink.new) text) }
 {
     let word = ending_of(drawn, &found.finding, &found.rows);
     put_text(drawn, cert, found, word, buffer, sink)?;
@@ -90,7 +90,7 @@ fn put_text<K: Sink>(
 ) -> Result<(), PutFailed>
     requires found { AreFound cert drawn.now.net drawn.now.rows found.now.finding found.now.rows.items }
     requires word { word ≡ ending_of drawn.now.rows found.now.finding found.now.rows.items }
-    ensures puts { Puts (K.told sink.old) (K.told sink.new) (settle_text drawn.now cert found.now.finding found.now.rows.items) result }
+    ensures puts { Puts (K.state sink.old) (K.state sink.new) (settle_text drawn.now cert found.now.finding found.now.rows.items) result }
 {
     put_front(drawn, buffer, sink)?;
     put_finding(cert, &found.finding, buffer, sink)?;
@@ -104,7 +104,7 @@ pub fn put_front<K: Sink>(
     buffer: &mut LineBuffer,
     sink: &mut K,
 ) -> Result<(), PutFailed>
-    ensures puts { Puts (K.told sink.old) (K.told sink.new) (front_text drawn.now) result }
+    ensures puts { Puts (K.state sink.old) (K.state sink.new) (front_text drawn.now) result }
 {
     sink.put(b"itv settle 1\n")?;
     put_events(drawn, buffer, sink)

@@ -11,7 +11,7 @@ use Rattle.itv_base.specs.Reading.{◌>>=◌, walk, IsReadingFault}
 use Rattle.sheet.specs.Fault.{is_memory, sheet_fault}
 use Rattle.sheet.specs.declared.groups.GroupFault.{GroupFault}
 use Rattle.sheet.specs.declared.groups.GroupFault.TheVariants.{TooManyCauses, NoMemory}
-use Rattle.sheet.specs.Groups.{openers, group_link, Places, ArePlaces, RepresentsRules, TellsFull}
+use Rattle.sheet.specs.Groups.{openers, group_link, Places, ArePlaces, RepresentsRules, IsFullFault}
 use Rattle.sheet.specs.Links.{Labels, Link, is_full, joins, link_of, with_link, with_edge, links_of, link_rules, link_rows, row_by}
 use Rattle.sheet.specs.Rule.{SheetRule}
 use Rattle.itv_base.proofs.Faults.{IsReadingFault-on}
@@ -44,7 +44,7 @@ ArePlaces-from_StandsFor front links all places stands =
 -- ---- one edge
 
 -- the fault of a full group
-joined_full : (links : List Link) (n : ℕ) (link : Link) (fault : GroupFault) → TellsFull n (is_full links link) fault → IsReadingFault is_memory (with_link n links (Some link)) (sheet_fault fault)
+joined_full : (links : List Link) (n : ℕ) (link : Link) (fault : GroupFault) → IsFullFault n (is_full links link) fault → IsReadingFault is_memory (with_link n links (Some link)) (sheet_fault fault)
 joined_full links n link (TooManyCauses m) full = rw (full.1, full.0) refl
 joined_full links n link NoMemory full = tt
 
@@ -62,7 +62,7 @@ module _ (labels : Labels) (marks : List Mark) (edges : List (List ℕ)) (links 
       → walk (with_edge labels marks) n links (drop n edges) ≡ walk (with_edge labels marks) (n + 1) (links ++ link ∷ []) (drop (n + 1) edges)
   edge-link link is room = edge_step ∙ rw (is, room)
 
-  pub edge-full : (link : Link) (fault : GroupFault) → link_of labels marks n text ≡ Ok (Some link) → TellsFull n (is_full links link) fault
+  pub edge-full : (link : Link) (fault : GroupFault) → link_of labels marks n text ≡ Ok (Some link) → IsFullFault n (is_full links link) fault
       → IsReadingFault is_memory (walk (with_edge labels marks) n links (drop n edges)) (sheet_fault fault)
   edge-full link fault is full =
       IsReadingFault-on is_memory (with_link n links (Some link)) (walk (with_edge labels marks) n links (drop n edges)) (sheet_fault fault) (λ d refused. edge_step ∙ rw (is, refused)) (joined_full links n link fault full)

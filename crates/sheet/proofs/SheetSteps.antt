@@ -6,7 +6,7 @@ use Rattle.sheet.specs.declared.edges.EdgeRules.{EdgeRules}
 use Rattle.sheet.specs.declared.fault.SheetFault.{SheetFault}
 use Rattle.sheet.specs.declared.mark.Mark.{Mark}
 use Rattle.sheet.specs.declared.pin.Pin.{Pin}
-use Rattle.sheet.specs.Contents.{SheetContents}
+use Rattle.sheet.specs.SheetContents.{SheetContents}
 use Rattle.sheet.specs.Fault.{is_memory}
 use Rattle.itv_base.specs.Reading.{◌>>=◌, IsReadingFault}
 use Rattle.sheet.specs.Lanes.{order_rules}

@@ -32,7 +32,7 @@ use Rattle.sheet.specs.declared.fault.SheetFault.{SheetFault}
 use Rattle.sheet.specs.declared.fault.SheetFault.TheVariants.{BadNode, DoubleMark, DoublePin, NoGrade, NoParam, TooManyCauses}
 use Rattle.sheet.specs.declared.mark.Mark.{Mark}
 use Rattle.sheet.specs.declared.pin.Pin.{Pin}
-use Rattle.sheet.specs.Contents.{SheetContents}
+use Rattle.sheet.specs.SheetContents.{SheetContents}
 use Rattle.sheet.specs.declared.mark.TheConstants.{MAX_MARKS}
 use Rattle.itv_base.specs.declared.limits.TheConstants.{MAX_SHIFT}
 use Rattle.itv_base.specs.declared.limits.TheConstants.{MAX_CAUSES}
@@ -41,7 +41,7 @@ use Rattle.label_grammar.specs.Label.{IsProper}
 use Rattle.label_grammar.proofs.Pieces.{ends_invert, spans_invert}
 use Rattle.label_grammar.proofs.Proper.{judged_is_proper, proper_range, proper_span}
 use Rattle.sheet.specs.Lanes.{NumberedLane, first_repeated, follows_rule, has_bad_node, lane_marks, lane_order, order_named, mark_at, marks_of, node_of, numbered, numbered_from, order_of, order_rules, pin_named, pin_of, pins_of}
-use Rattle.sheet.specs.Links.{Labels, plain, graded, told, span_ends, resolved, label_in, Link, group_rule, is_full, joins, labelled, link_of, link_rows, link_rules, link_to, links_of, number_of, open_ends, row_by, rule_opened, seen_link, source_of, with_edge, with_link}
+use Rattle.sheet.specs.Links.{Labels, plain, graded, at_edge, span_ends, resolved, label_in, Link, group_rule, is_full, joins, labelled, link_of, link_rows, link_rules, link_to, links_of, number_of, open_ends, row_by, rule_opened, seen_link, source_of, with_edge, with_link}
 use Rattle.sheet.specs.Step.{is_cause, AreWholeLabels}
 use Rattle.sheet.specs.Sheet.{grade_named, read_marks, read_pins, sheet_at, sheet_by, sheet_of}
 use Rattle.sheet.specs.Whole.{IsWhole, IsWholeRow, IsWholeRule, IsWholeSource}
@@ -148,7 +148,7 @@ range_whole (Some ends) h = h
 
 -- ---- labels
 
-told_whole : {E : Type 0} (P : LooseLabel E → Type 0) (n : ℕ) (label : Result (LooseLabel E) LabelFault) → IfOk label P → IfOk (told n label) P
+told_whole : {E : Type 0} (P : LooseLabel E → Type 0) (n : ℕ) (label : Result (LooseLabel E) LabelFault) → IfOk label P → IfOk (at_edge n label) P
 told_whole P n (Ok label) whole = whole
 told_whole P n (Err fault) whole = tt
 
@@ -182,7 +182,7 @@ label_whole plain whole n text =
     plain_whole (Err fault) proper = tt
     plain_whole (Ok label) proper = record { shift = proper.loose.shift; range = range_whole label.ends (proper_range label proper) }
 label_whole (graded grade) whole n text =
-    IfOk-bind (IsProper version_2) IsWholeLabel (told n (judged_label fixed_ends (label_of span_of text))) _
+    IfOk-bind (IsProper version_2) IsWholeLabel (at_edge n (judged_label fixed_ends (label_of span_of text))) _
     (told_whole (IsProper version_2) n (judged_label fixed_ends (label_of span_of text)) (judged_is_proper version_2 span_of spans_invert text)) (λ label proper. resolved_whole n grade label whole proper)
 
 -- ---- edges

@@ -76,11 +76,11 @@ pub record RepresentsRules (front : List SheetRule) (links : List Link) (all : L
   pub found : (group : Group) → place_of places group ≡ position_from (joins (group_link group)) (length front) (openers links)
 
 -- The fault of edge n is that its group is full. Memory may be wanted at any time.
-abbrev pub TellsFull : ℕ → Bool → GroupFault → Type 0
-TellsFull n full (TooManyCauses m) = (m ≡ n) × (full ≡ true)
-TellsFull n full NoMemory = Unit {0}
+abbrev pub IsFullFault : ℕ → Bool → GroupFault → Type 0
+IsFullFault n full (TooManyCauses m) = (m ≡ n) × (full ≡ true)
+IsFullFault n full NoMemory = Unit {0}
 
 -- the answer to one more link, the link of edge n, and the rules and the table behind it
 abbrev pub AddsLink : List SheetRule → List Link → ℕ → Link → Result ⊤ GroupFault → List SheetRule → Places → Type 0
 AddsLink front links n link (Ok x) all places = (is_full links link ≡ false) × RepresentsRules front (links ++ link ∷ []) all places
-AddsLink front links n link (Err fault) all places = TellsFull n (is_full links link) fault
+AddsLink front links n link (Err fault) all places = IsFullFault n (is_full links link) fault

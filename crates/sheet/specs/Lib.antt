@@ -6,7 +6,7 @@ pub use Rattle.label_grammar.specs.Edge
 pub use Rattle.grades.specs.Grades
 pub use Rattle.wavejson.specs.Drawing
 pub mod Rule
-pub mod Contents
+pub mod SheetContents
 pub mod Fault
 pub mod Lanes
 pub mod Links

@@ -34,9 +34,9 @@ pub data Labels : Type 0 where
   graded : Option Grade → Labels
 
 -- a label that was read, or its fault as a fault of edge n
-abbrev pub told : {E : Type 0} → ℕ → Result (LooseLabel E) LabelFault → Result (LooseLabel E) SheetFault
-told n (Ok label) = Ok label
-told n (Err fault) = Err (Label n fault)
+abbrev pub at_edge : {E : Type 0} → ℕ → Result (LooseLabel E) LabelFault → Result (LooseLabel E) SheetFault
+at_edge n (Ok label) = Ok label
+at_edge n (Err fault) = Err (Label n fault)
 
 -- the ends of a span of edge n; the ends of a parameter are the range that the grade gives for it
 abbrev pub span_ends : ℕ → Option Grade → Option Span → Result (Option Ends) SheetFault
@@ -52,8 +52,8 @@ resolved n grade label = do
 
 -- what the label of edge n says
 abbrev pub label_in : Labels → ℕ → List ℕ → Result (LooseLabel Ends) SheetFault
-label_in plain n text = told n (judged_label (λ ends. Some ends) (label_of ends_of text))
-label_in (graded grade) n text = told n (judged_label fixed_ends (label_of span_of text)) >>= resolved n grade
+label_in plain n text = at_edge n (judged_label (λ ends. Some ends) (label_of ends_of text))
+label_in (graded grade) n text = at_edge n (judged_label fixed_ends (label_of span_of text)) >>= resolved n grade
 
 -- ---- one edge
 

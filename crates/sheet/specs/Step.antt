@@ -23,7 +23,7 @@ use Rattle.sheet.specs.declared.mark.Mark.{Mark}
 use Rattle.sheet.specs.declared.pin.Pin.{Pin}
 use Rattle.itv_base.specs.Reading.{◌>>=◌, unless}
 use Rattle.sheet.specs.Lanes.{NumberedLane, numbered, first_repeated}
-use Rattle.sheet.specs.Groups.{TellsFull}
+use Rattle.sheet.specs.Groups.{IsFullFault}
 use Rattle.sheet.specs.Links.{Labels, plain, graded, Link, link_rules, link_rows}
 use Rattle.sheet.specs.Rule.{SheetRule}
 
@@ -80,7 +80,7 @@ is_cause Ask = false
 -- the answer to one more cause of a rule, the cause of edge n, and the rule behind it
 abbrev pub AddsCause : SheetRule → ℕ → Source → Result ⊤ GroupFault → SheetRule → Type 0
 AddsCause old n cause (Ok x) new = (nat_le MAX_CAUSES (length old.causes) ≡ false) × (new ≡ record old { causes = old.causes ++ cause ∷ [] })
-AddsCause old n cause (Err fault) new = TellsFull n (nat_le MAX_CAUSES (length old.causes)) fault
+AddsCause old n cause (Err fault) new = IsFullFault n (nat_le MAX_CAUSES (length old.causes)) fault
 
 -- if there is a grade, its parameters are ranges
 abbrev pub AreWholeLabels : Labels → Type 0

@@ -14,7 +14,7 @@ use Rattle.sheet.specs.declared.rule.Source.{Source}
 use Rattle.grades.specs.Grades.{HasRanges}
 use Rattle.sheet.specs.Links.{Labels, plain, graded}
 use Rattle.sheet.specs.Rule.{SheetRule}
-use Rattle.sheet.specs.Contents.{SheetContents}
+use Rattle.sheet.specs.SheetContents.{SheetContents}
 
 -- how many causes a rule of a kind may have: a linear rule has one, its from-mark; the others have 1 to `MAX_CAUSES`
 abbrev pub IsCauseCount : RuleKind → ℕ → Type 0

@@ -22,7 +22,7 @@ pub struct Sheet {
 }
 
 impl Model for Sheet {
-    ghost use Rattle.sheet.specs.Contents.{SheetContents};
+    ghost use Rattle.sheet.specs.SheetContents.{SheetContents};
     ghost use Rattle.sheet.specs.Whole.{IsWhole};
 
     ghost Value = { SheetContents };

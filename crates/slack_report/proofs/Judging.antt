@@ -132,15 +132,15 @@ tells_only bytes (Err faults.NoMemory) answer es report text = tt
 
 pub tells_line : (bytes : List ℕ) (r : Result (List Entry) ReportFault) → IsAnswer r (report_in bytes) → (line : ℕ) → IsErrOf r (faults.Line line) → IsFirstWrongLine bytes line
 tells_line bytes (Ok found) answer line is = absurd (cc)
-tells_line bytes (Err (faults.Line told)) answer line is =
-    let same : told ≡ line = cc in
+tells_line bytes (Err (faults.Line named)) answer line is =
+    let same : named ≡ line = cc in
     subst (IsFirstWrongLine bytes) (sym answer.2 ∙ same) (report_err bytes answer.0 answer.1)
 tells_line bytes (Err faults.NoMemory) answer line is = absurd (cc)
 
 pub tells_wrong : (bytes : List ℕ) (r : Result (List Entry) ReportFault) → IsAnswer r (report_in bytes) → (line : ℕ) → IsFirstWrongLine bytes line → IsLineFault r line
 tells_wrong bytes (Ok found) answer line wrong =
     let t = report_ok bytes found answer in wrong.none (record { entries = found; report = t.0; text = t.1 })
-tells_wrong bytes (Err (faults.Line told)) answer line wrong =
+tells_wrong bytes (Err (faults.Line named)) answer line wrong =
     let t = report_err_again bytes line wrong in
     let same : answer.0 ≡ t.0 = same_err answer.0 t.0 (sym answer.1 ∙ t.1) in
     answer.2 ∙ ap (λ n. n + 1) same ∙ sym t.2

@@ -13,5 +13,5 @@ IsRead (Err faults.NoMemory) entries = Unit {0}
 -- this line was reported as wrong, unless memory ran out
 abbrev pub IsLineFault : Result (List Entry) ReportFault → ℕ → Type 0
 IsLineFault (Ok found) line = ⊥
-IsLineFault (Err (faults.Line told)) line = told ≡ line
+IsLineFault (Err (faults.Line named)) line = named ≡ line
 IsLineFault (Err faults.NoMemory) line = Unit {0}

@@ -56,7 +56,7 @@ pub fn read_report(alloc: Global, bytes: &[u8]) -> Result<Report, ReportFault>
     // The text of a report is read as that report, unless memory runs out.
     ensures only { (entries : List Entry) → IsReport entries → bytes.now ≡ report_text entries → IsRead result entries }
     // The line of a fault is the first wrong line of the bytes.
-    ensures told { (line : ℕ) → IsErrOf result (ReportFault.Line line) → IsFirstWrongLine bytes.now line }
+    ensures named { (line : ℕ) → IsErrOf result (ReportFault.Line line) → IsFirstWrongLine bytes.now line }
     // If there is a first wrong line, the fault gives it, unless memory runs out.
     ensures wrong { (line : ℕ) → IsFirstWrongLine bytes.now line → IsLineFault result line }
 {

@@ -31,14 +31,14 @@ pub const LINE_ROOM: u32 = 524_288;
 
 // A word and a number.
 fn put_count<K: Sink>(word: &[u8], count: u64, sink: &mut K) -> Result<(), PutFailed>
-    ensures { Puts (K.told sink.old) (K.told sink.new) (ended (line_of (word.now ∷ number_text count ∷ []))) result }
+    ensures { Puts (K.state sink.old) (K.state sink.new) (ended (line_of (word.now ∷ number_text count ∷ []))) result }
 {
     let mut digits = Buffer::new();
     put_words(word, &[number_text(count, &mut digits).as_bytes()], sink)
 }
 
 fn put_finding<K: Sink>(word: FindingWord, sink: &mut K) -> Result<(), PutFailed>
-    ensures { Puts (K.told sink.old) (K.told sink.new) (entry_text (finding word)) result }
+    ensures { Puts (K.state sink.old) (K.state sink.new) (entry_text (finding word)) result }
 {
     match word {
         FindingWord::Consistent => put_words(b"finding", &[b"consistent"], sink),
@@ -48,7 +48,7 @@ fn put_finding<K: Sink>(word: FindingWord, sink: &mut K) -> Result<(), PutFailed
 }
 
 fn put_verdict<K: Sink>(word: Verdict, sink: &mut K) -> Result<(), PutFailed>
-    ensures { Puts (K.told sink.old) (K.told sink.new) (entry_text (verdict word)) result }
+    ensures { Puts (K.state sink.old) (K.state sink.new) (entry_text (verdict word)) result }
 {
     match word {
         Verdict::Pass => put_words(b"verdict", &[b"pass"], sink),
@@ -59,7 +59,7 @@ fn put_verdict<K: Sink>(word: Verdict, sink: &mut K) -> Result<(), PutFailed>
 }
 
 fn put_slack<K: Sink>(value: Slack, sink: &mut K) -> Result<(), PutFailed>
-    ensures { Puts (K.told sink.old) (K.told sink.new) (entry_text (slack value)) result }
+    ensures { Puts (K.state sink.old) (K.state sink.new) (entry_text (slack value)) result }
 {
     let mut low = Buffer::new();
     let mut high = Buffer::new();
@@ -74,7 +74,7 @@ fn put_slack<K: Sink>(value: Slack, sink: &mut K) -> Result<(), PutFailed>
 }
 
 fn put_end<K: Sink>(word: EndWord, sink: &mut K) -> Result<(), PutFailed>
-    ensures { Puts (K.told sink.old) (K.told sink.new) (entry_text (ending word)) result }
+    ensures { Puts (K.state sink.old) (K.state sink.new) (entry_text (ending word)) result }
 {
     match word {
         EndWord::Pass => put_words(b"end", &[b"pass"], sink),
@@ -94,7 +94,7 @@ fn which_word(which: Which) -> &'static [u8]
 }
 
 fn put_bound<K: Sink>(which: Which, value: Bound, sink: &mut K) -> Result<(), PutFailed>
-    ensures { Puts (K.told sink.old) (K.told sink.new) (entry_text (bound which value)) result }
+    ensures { Puts (K.state sink.old) (K.state sink.new) (entry_text (bound which value)) result }
 {
     let mut limit_digits = Buffer::new();
     let mut digits = Buffer::new();
@@ -131,7 +131,7 @@ fn put_bound<K: Sink>(which: Which, value: Bound, sink: &mut K) -> Result<(), Pu
 // ---- lines with names
 
 fn put_event<K: Sink>(number: u32, name: EventName<'_>, sink: &mut K) -> Result<(), PutFailed>
-    ensures { Puts (K.told sink.old) (K.told sink.new) (entry_text (event number (name_view name.entry))) result }
+    ensures { Puts (K.state sink.old) (K.state sink.new) (entry_text (event number (name_view name.entry))) result }
 {
     let mut digits = Buffer::new();
     let mut cycle = Buffer::new();
@@ -157,7 +157,7 @@ fn put_ask<K: Sink>(
     to: EventName<'_>,
     sink: &mut K,
 ) -> Result<(), PutFailed>
-    ensures { Puts (K.told sink.old) (K.told sink.new)
+    ensures { Puts (K.state sink.old) (K.state sink.new)
         (entry_text (row number Ask (name_view from.entry) (name_view to.entry))) result }
 {
     let mut digits = Buffer::new();
@@ -192,7 +192,7 @@ fn put_demand_names<K: Sink>(
     to: EventName<'_>,
     sink: &mut K,
 ) -> Result<(), PutFailed>
-    ensures { Puts (K.told sink.old) (K.told sink.new) (line_of (codes "row" ∷ number_text number ∷ codes "req"
+    ensures { Puts (K.state sink.old) (K.state sink.new) (line_of (codes "row" ∷ number_text number ∷ codes "req"
         ∷ name_word (name_view from.entry) ∷ name_word (name_view to.entry) ∷ [])) result }
 {
     let mut digits = Buffer::new();
@@ -221,7 +221,7 @@ fn put_demand_names<K: Sink>(
 
 // The range of a requirement, and the end of its line.
 fn put_range<K: Sink>(range: &Range, sink: &mut K) -> Result<(), PutFailed>
-    ensures { Puts (K.told sink.old) (K.told sink.new) (ended (spaced (range_word range.now))) result }
+    ensures { Puts (K.state sink.old) (K.state sink.new) (ended (spaced (range_word range.now))) result }
 {
     let mut low = Buffer::new();
     let mut high = Buffer::new();
@@ -244,7 +244,7 @@ fn put_demand<K: Sink>(
     to: EventName<'_>,
     sink: &mut K,
 ) -> Result<(), PutFailed>
-    ensures { Puts (K.told sink.old) (K.told sink.new)
+    ensures { Puts (K.state sink.old) (K.state sink.new)
         (entry_text (row number (Req range.now) (name_view from.entry) (name_view to.entry))) result }
 {
     put_demand_names(number, from, to, sink)?;
@@ -258,7 +258,7 @@ fn put_row<K: Sink>(
     to: EventName<'_>,
     sink: &mut K,
 ) -> Result<(), PutFailed>
-    ensures { Puts (K.told sink.old) (K.told sink.new)
+    ensures { Puts (K.state sink.old) (K.state sink.new)
         (entry_text (row number kind.now (name_view from.entry) (name_view to.entry))) result }
 {
     match kind {
@@ -271,7 +271,7 @@ fn put_row<K: Sink>(
 
 // A space and a number.
 fn put_long<K: Sink>(value: &i64, sink: &mut K) -> Result<(), PutFailed>
-    ensures { Puts (K.told sink.old) (K.told sink.new) (spaced (signed_text value.now)) result }
+    ensures { Puts (K.state sink.old) (K.state sink.new) (spaced (signed_text value.now)) result }
 {
     let mut digits = Buffer::new();
     put_spaced(signed_text(*value, &mut digits).as_bytes(), sink)
@@ -279,7 +279,7 @@ fn put_long<K: Sink>(value: &i64, sink: &mut K) -> Result<(), PutFailed>
 
 // For each number a space and the number.
 fn put_longs<K: Sink>(list: &[i64], sink: &mut K) -> Result<(), PutFailed>
-    ensures { Puts (K.told sink.old) (K.told sink.new) (flat_map spaced (map signed_text list.now)) result }
+    ensures { Puts (K.state sink.old) (K.state sink.new) (flat_map spaced (map signed_text list.now)) result }
 {
     for value in list {
         put_long(value, sink)?;
@@ -288,7 +288,7 @@ fn put_longs<K: Sink>(list: &[i64], sink: &mut K) -> Result<(), PutFailed>
 }
 
 fn put_times<K: Sink>(list: &[i64], sink: &mut K) -> Result<(), PutFailed>
-    ensures { Puts (K.told sink.old) (K.told sink.new) (entry_text (times list.now)) result }
+    ensures { Puts (K.state sink.old) (K.state sink.new) (entry_text (times list.now)) result }
 {
     sink.put(b"times")?;
     put_longs(list, sink)?;
@@ -297,7 +297,7 @@ fn put_times<K: Sink>(list: &[i64], sink: &mut K) -> Result<(), PutFailed>
 
 // A space and the number of an event, if it is in a set.
 fn put_member<K: Sink>(number: usize, is_in: bool, sink: &mut K) -> Result<(), PutFailed>
-    ensures { Puts (K.told sink.old) (K.told sink.new) (member_text number is_in) result }
+    ensures { Puts (K.state sink.old) (K.state sink.new) (member_text number is_in) result }
 {
     if !is_in {
         return Ok(());
@@ -307,7 +307,7 @@ fn put_member<K: Sink>(number: usize, is_in: bool, sink: &mut K) -> Result<(), P
 }
 
 fn put_members<K: Sink>(set: &[bool], sink: &mut K) -> Result<(), PutFailed>
-    ensures { Puts (K.told sink.old) (K.told sink.new) (flat_map spaced (members_from 0 set.now)) result }
+    ensures { Puts (K.state sink.old) (K.state sink.new) (flat_map spaced (members_from 0 set.now)) result }
 {
     for (number, is_in) in set.iter().enumerate() {
         put_member(number, *is_in, sink)?;
@@ -316,7 +316,7 @@ fn put_members<K: Sink>(set: &[bool], sink: &mut K) -> Result<(), PutFailed>
 }
 
 fn put_raise<K: Sink>(set: &[bool], sink: &mut K) -> Result<(), PutFailed>
-    ensures { Puts (K.told sink.old) (K.told sink.new) (entry_text (raise set.now)) result }
+    ensures { Puts (K.state sink.old) (K.state sink.new) (entry_text (raise set.now)) result }
 {
     sink.put(b"raise")?;
     put_members(set, sink)?;
@@ -327,7 +327,7 @@ fn put_raise<K: Sink>(set: &[bool], sink: &mut K) -> Result<(), PutFailed>
 
 // Puts an item piece by piece.
 fn put_item<K: Sink>(item: &Item<'_>, sink: &mut K) -> Result<(), PutFailed>
-    ensures { Puts (K.told sink.old) (K.told sink.new) (entry_text (item_view item.now)) result }
+    ensures { Puts (K.state sink.old) (K.state sink.new) (entry_text (item_view item.now)) result }
 {
     match item {
         Item::Heading => put_words(b"itv", &[b"report", b"1"], sink),
@@ -360,7 +360,7 @@ pub fn write_item<K: Sink>(
     buffer: &mut LineBuffer,
     sink: &mut K,
 ) -> Result<(), PutFailed>
-    ensures puts { Puts (K.told sink.old) (K.told sink.new) (entry_text (item_view item.now)) result }
+    ensures puts { Puts (K.state sink.old) (K.state sink.new) (entry_text (item_view item.now)) result }
 {
     buffer.clear();
     match put_item(item, buffer) {

@@ -1,8 +1,8 @@
 -- The lines of a summary, and a summary that was cut short.
 use Rattle.std.proofs.Common.{◌≡◌, ◌+◌, ◌<◌, ℕ, List, ◌++◌, length, get_or, drop, Err, refl, add-one, drop-cons}
 use Rattle.std.specs.List.{flat_map}
-use Rattle.itv_base.specs.Outside.{CutShort, SinkView}
-use Rattle.jobs.specs.Works.{JobWrote}
+use Rattle.itv_base.specs.Outside.{CutShort, SinkState}
+use Rattle.jobs.specs.JobWrote.{JobWrote}
 use Rattle.jobs.specs.declared.unanswered.Unanswered.TheVariants.{PutFailed}
 use Rattle.drawn.specs.Drawn.{Drawn}
 use Rattle.jobs.specs.Ending.{answer_of}
@@ -17,7 +17,7 @@ pub counts_more : (counts : List Count) (i : ℕ) (d : Count) → i < length cou
 counts_more counts i d h = rw (add-one, drop-cons counts i d h) refl
 
 -- a front of the text of a summary is a text that the job may have begun to write
-pub summary_cut : (drawn : Drawn) (size most : ℕ) (summary : Summary) (old new : SinkView) → ComesTo drawn most summary
+pub summary_cut : (drawn : Drawn) (size most : ℕ) (summary : Summary) (old new : SinkState) → ComesTo drawn most summary
     → CutShort old new (summary_text drawn size summary) → JobWrote (AnswersSummary drawn size most) (BeginsSummary drawn size most) old new (Err PutFailed)
 summary_cut drawn size most summary old new comes cut = (
   summary_text drawn size summary,

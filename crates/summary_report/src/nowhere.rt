@@ -9,7 +9,7 @@ use itv_base::{PutFailed, Sink};
 pub struct Nowhere;
 
 impl Sink for Nowhere {
-    ghost told = { λ _. record { written = None; faults = 0 } };
+    ghost state = { λ _. record { written = None; faults = 0 } };
 
     fn put(&mut self, _piece: &[u8]) -> Result<(), PutFailed> {
         Ok(())

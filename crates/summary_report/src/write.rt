@@ -4,7 +4,7 @@ ghost use Rattle.std.specs.Prelude.{◌≡◌, ◌≤◌, ◌∷◌, [], IfOk};
 ghost use Rattle.std.specs.List.{flat_map};
 ghost use Rattle.itv_base.specs.Outside.{Puts};
 ghost use Rattle.itv_base.specs.declared.limits.TheConstants.{MAX_BUDGET};
-ghost use Rattle.jobs.specs.Works.{JobWrote};
+ghost use Rattle.jobs.specs.JobWrote.{JobWrote};
 ghost use Rattle.slack_report.specs.Text.{ending_word};
 ghost use Rattle.summary_report.specs.Summary.{AnswersSummary, BeginsSummary, ComesTo, number_lines, summary_text, words_text};
 ghost use Rattle.summary_report.specs.Step.{count_text};
@@ -34,7 +34,7 @@ pub fn write_summary<K: Sink>(
     requires least { 1 ≤ budget }
     requires most { budget ≤ MAX_BUDGET }
     ensures works { JobWrote (AnswersSummary drawn.now size budget) (BeginsSummary drawn.now size budget)
-        (K.told sink.old) (K.told sink.new) result }
+        (K.state sink.old) (K.state sink.new) result }
 {
     let mut buffer = LineBuffer::new(alloc, ROOM)?;
     let summary = summed(alloc, drawn, budget)?;
@@ -63,7 +63,7 @@ fn put_summary<K: Sink>(
     buffer: &mut LineBuffer,
     sink: &mut K,
 ) -> Result<(), PutFailed>
-    ensures { Puts (K.told sink.old) (K.told sink.new) (summary_text drawn.now size summary.now) result }
+    ensures { Puts (K.state sink.old) (K.state sink.new) (summary_text drawn.now size summary.now) result }
 {
     put_numbers(drawn, size, summary, buffer, sink)?;
     put_line(b"end", end_word(summary.end), buffer, sink)
@@ -77,7 +77,7 @@ fn put_numbers<K: Sink>(
     buffer: &mut LineBuffer,
     sink: &mut K,
 ) -> Result<(), PutFailed>
-    ensures { Puts (K.told sink.old) (K.told sink.new) (flat_map words_text (number_lines drawn.now size summary.now)) result }
+    ensures { Puts (K.state sink.old) (K.state sink.new) (flat_map words_text (number_lines drawn.now size summary.now)) result }
 {
     put_counts(
         &[
@@ -142,7 +142,7 @@ fn put_counts<K: Sink>(
     buffer: &mut LineBuffer,
     sink: &mut K,
 ) -> Result<(), PutFailed>
-    ensures { Puts (K.told sink.old) (K.told sink.new) (flat_map count_text counts.now) result }
+    ensures { Puts (K.state sink.old) (K.state sink.new) (flat_map count_text counts.now) result }
 {
     for count in counts {
         put_count(count, buffer, sink)?;
@@ -155,7 +155,7 @@ fn put_count<K: Sink>(
     buffer: &mut LineBuffer,
     sink: &mut K,
 ) -> Result<(), PutFailed>
-    ensures { Puts (K.told sink.old) (K.told sink.new) (count_text count.now) result }
+    ensures { Puts (K.state sink.old) (K.state sink.new) (count_text count.now) result }
 {
     let mut digits = Buffer::new();
     let number = number_text(count.count, &mut digits);
@@ -169,7 +169,7 @@ fn put_line<K: Sink>(
     buffer: &mut LineBuffer,
     sink: &mut K,
 ) -> Result<(), PutFailed>
-    ensures { Puts (K.told sink.old) (K.told sink.new) (words_text (word.now ∷ other.now ∷ [])) result }
+    ensures { Puts (K.state sink.old) (K.state sink.new) (words_text (word.now ∷ other.now ∷ [])) result }
 {
     buffer.clear();
     match put_words(word, &[other], buffer) {

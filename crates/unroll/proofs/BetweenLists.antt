@@ -12,7 +12,7 @@ use Rattle.std.proofs.lemmas.Option.{get_or_from_slice_get, slice_get_within}
 use Rattle.sheet.specs.declared.row.SheetRow.{SheetRow}
 use Rattle.sheet.specs.declared.rule.Source.{Source}
 use Rattle.sheet.specs.Rule.{SheetRule}
-use Rattle.sheet.specs.Contents.{SheetContents}
+use Rattle.sheet.specs.SheetContents.{SheetContents}
 use Rattle.sheet.specs.Whole.{IsWhole, IsWholeRow, IsWholeRule, IsWholeSource}
 use Rattle.itv_base.specs.declared.limits.TheConstants.{MAX_EVENTS}
 use Rattle.sheet.specs.declared.mark.TheConstants.{MAX_MARKS}

@@ -10,7 +10,7 @@ use Rattle.itv_base.specs.declared.names.RuleKind.{RuleKind}
 use Rattle.event_graph.specs.Network.{named_causes}
 use Rattle.sheet.specs.declared.row.SheetRow.{SheetRow}
 use Rattle.sheet.specs.Rule.{SheetRule}
-use Rattle.sheet.specs.Contents.{SheetContents}
+use Rattle.sheet.specs.SheetContents.{SheetContents}
 use Rattle.compose.specs.declared.joins.Join.{Join}
 use Rattle.compose.specs.Numbers.{join_rule, mark_count}
 use Rattle.unroll.specs.declared.counts.Counts.{Counts}

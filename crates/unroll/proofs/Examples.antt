@@ -8,7 +8,7 @@ use Rattle.wave_string.specs.declared.mark_kind.MarkKind.TheVariants.{Bare}
 use Rattle.itv_base.specs.declared.row_kind.RowKind.TheVariants.{Ask}
 use Rattle.origin.specs.declared.origin.Origin.TheVariants.{Edge, Pin, Wire}
 use Rattle.sheet.specs.Rule.{SheetRule}
-use Rattle.sheet.specs.Contents.{SheetContents}
+use Rattle.sheet.specs.SheetContents.{SheetContents}
 use Rattle.compose.specs.Design.{Composed}
 use Rattle.unroll.specs.Cycles.{constraints_of, origins_of}
 use Rattle.unroll.specs.declared.limit.Limit.TheVariants.{Events, Constraints, Rows, Cells, SearchCells}

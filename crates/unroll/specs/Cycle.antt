@@ -3,7 +3,7 @@ use Rattle.std.specs.Prelude.{ℕ, ◌+◌, List, [], ◌∷◌, ◌++◌, lengt
 use Rattle.sheet.specs.declared.row.SheetRow.{SheetRow}
 use Rattle.sheet.specs.declared.rule.Source.{Source}
 use Rattle.sheet.specs.Rule.{SheetRule}
-use Rattle.sheet.specs.Contents.{SheetContents}
+use Rattle.sheet.specs.SheetContents.{SheetContents}
 use Rattle.compose.specs.Design.{Composed}
 use Rattle.compose.specs.Numbers.{join_rule}
 

@@ -2,7 +2,7 @@
 use Rattle.std.specs.Prelude.{ℕ, ◌*◌, List, [], ◌∷◌, ◌++◌, map}
 use Rattle.itv_base.specs.Names.{Name}
 use Rattle.drawn.specs.Drawn.{Drawn}
-use Rattle.sheet.specs.Contents.{SheetContents}
+use Rattle.sheet.specs.SheetContents.{SheetContents}
 use Rattle.compose.specs.Design.{Composed}
 use Rattle.compose.specs.Numbers.{mark_count}
 use Rattle.unroll.specs.Cycle.{rows_of, rules_of}

@@ -6,7 +6,7 @@ ghost use Rattle.unroll.specs.Cycle.{part_rows, row_behind, rows_of};
 ghost use Rattle.unroll.specs.Step.Between.{IsRowBetween};
 ghost use Rattle.unroll.specs.Step.Kept.{kept_rows};
 
-use crate::numbered::NumberedDesign;
+use crate::numbered_design::NumberedDesign;
 use itv_base::{NoMemory, RowKind};
 use origin::Origin;
 use sheet::SheetRow;

@@ -4,7 +4,7 @@ ghost use Rattle.std.specs.Prelude.{◌≡◌, ◌≤◌, ◌+◌, ◌^◌, ◌+
 ghost use Rattle.std.specs.List.{list_all};
 ghost use Rattle.itv_base.specs.declared.limits.TheConstants.{MAX_CYCLES};
 ghost use Rattle.event_graph.specs.Network.{named_causes};
-ghost use Rattle.sheet.specs.Contents.{SheetContents};
+ghost use Rattle.sheet.specs.SheetContents.{SheetContents};
 ghost use Rattle.compose.specs.Numbers.{join_rule, mark_count};
 ghost use Rattle.unroll.specs.Cycle.{part_rows, part_rules, rows_of, rules_of};
 ghost use Rattle.unroll.specs.Step.Counting.{AreCounts, AreWithin, how_often, row_cycles, rule_cycles, splittable_cycles, sums};

@@ -14,7 +14,7 @@ use crate::counts::Counts;
 use crate::fault::UnrollFault;
 use crate::names::labels_of;
 use crate::network::network_of;
-use crate::numbered::NumberedDesign;
+use crate::numbered_design::NumberedDesign;
 use crate::origins::origins_of;
 use crate::row::rows_in;
 use crate::rules::rules_of;

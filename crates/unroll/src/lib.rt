@@ -12,7 +12,7 @@ pub mod laws;
 mod limit;
 mod names;
 mod network;
-mod numbered;
+mod numbered_design;
 mod origins;
 mod row;
 mod rules;

@@ -10,7 +10,7 @@ ghost use Rattle.unroll.specs.Step.Between.{IsRuleBetween};
 ghost use Rattle.unroll.specs.Step.Kept.{kept_rules};
 
 use crate::network::rule_exists;
-use crate::numbered::NumberedDesign;
+use crate::numbered_design::NumberedDesign;
 use compose::{Join, PinJoins};
 use itv_base::{NoMemory, RuleKind};
 use origin::Origin;

@@ -16,7 +16,7 @@ use Rattle.origin.specs.declared.origin.Origin.TheVariants as drawn
 use Rattle.origin.specs.Order.{is_lane}
 use Rattle.sheet.specs.declared.row.SheetRow.{SheetRow}
 use Rattle.sheet.specs.declared.rule.Source.{Source}
-use Rattle.sheet.specs.Contents.{SheetContents}
+use Rattle.sheet.specs.SheetContents.{SheetContents}
 use Rattle.sheet.specs.Rule.{SheetRule}
 use Rattle.compose.specs.declared.joins.Join.{Join}
 use Rattle.compose.specs.declared.mark.DesignMark.{DesignMark}

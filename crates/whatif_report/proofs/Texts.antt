@@ -13,7 +13,7 @@ use Rattle.branch.specs.declared.answer.GreatestAnswer.{GreatestAnswer}
 use Rattle.requirements.specs.declared.bound.Bound.{Bound}
 use Rattle.slack_report.specs.Text.{bound_words}
 use Rattle.slack_report.specs.declared.words.FindingWord.{FindingWord}
-use Rattle.right_report.specs.Right.At.{course_of, is_within}
+use Rattle.right_report.specs.Right.ReportState.{tally_of, is_within}
 use Rattle.edits.specs.declared.edit.RangeEdit.{RangeEdit}
 use Rattle.whatif.specs.Runs.{Note}
 use Rattle.whatif_report.specs.Step.{IsCountFor, is_broken}
@@ -103,7 +103,7 @@ or_false : (b : Bool) → (b || false) ≡ b
 or_false true = refl
 or_false false = refl
 
-pub judged_none : (w : FindingWord) (rows : List RowKind) (list : List GreatestAnswer) → length list ≡ 0 → judged_rows (course_of w) rows list ≡ course_of w
+pub judged_none : (w : FindingWord) (rows : List RowKind) (list : List GreatestAnswer) → length list ≡ 0 → judged_rows (tally_of w) rows list ≡ tally_of w
 judged_none w [] list none = refl
 judged_none w (kind ∷ rows) [] none = refl
 judged_none w (kind ∷ rows) (a ∷ list) none = absurd (omega (arith, none))
@@ -117,8 +117,8 @@ judged_row_is w fails within (kinds.Req range) least most = refl
 pub judged_step : (w : FindingWord) (fails within fails_now within_now : Bool) (rows : List RowKind) (list : List GreatestAnswer) (k : ℕ) (kind c : RowKind) (most least d e : GreatestAnswer)
     (low high : Bound) → k < length rows → 2 * k + 1 < length list → kind ≡ get_or rows k c → most ≡ get_or list (2 * k) d → least ≡ get_or list (2 * k + 1) e
     → low ≡ least_bound least → high ≡ greatest_bound most → fails_now ≡ (fails || is_broken kind low high) → within_now ≡ (within || (is_within low || is_within high))
-    → judged_rows (record { found = w; fails = fails; within = within }) (drop k rows) (drop (2 * k) list) ≡ judged_rows (course_of w) rows list
-    → judged_rows (record { found = w; fails = fails_now; within = within_now }) (drop (k + 1) rows) (drop (2 * (k + 1)) list) ≡ judged_rows (course_of w) rows list
+    → judged_rows (record { found = w; fails = fails; within = within }) (drop k rows) (drop (2 * k) list) ≡ judged_rows (tally_of w) rows list
+    → judged_rows (record { found = w; fails = fails_now; within = within_now }) (drop (k + 1) rows) (drop (2 * (k + 1)) list) ≡ judged_rows (tally_of w) rows list
 judged_step w fails within fails_now within_now rows list k kind c most least d e low high here enough is_kind is_most is_least is_low is_high is_fails is_within_now before =
     let row : judged_row (record { found = w; fails = fails; within = within }) kind low high ≡ record { found = w; fails = fails_now; within = within_now } =
     judged_row_is w fails within kind low high ∙ sym (rw (is_fails, is_within_now) refl) in

@@ -6,7 +6,7 @@ use Rattle.branch.specs.declared.answer.GreatestAnswer.{GreatestAnswer}
 use Rattle.requirements.specs.Bounds.{HasTimes}
 use Rattle.requirements.specs.Verdicts.{verdict_of}
 use Rattle.requirements.specs.declared.bound.Bound.{Bound}
-use Rattle.right_report.specs.Right.At.{is_fail}
+use Rattle.right_report.specs.Right.ReportState.{is_fail}
 use Rattle.whatif.specs.Runs.{Note}
 use Rattle.whatif_report.specs.Text.{greatest_bound}
 

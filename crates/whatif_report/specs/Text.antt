@@ -18,7 +18,7 @@ use Rattle.slack_report.specs.Text.{bound_words, entry_text, range_word, verdict
 use Rattle.slack_report.specs.declared.words.EndWord.{EndWord}
 use Rattle.slack_report.specs.declared.words.FindingWord.{FindingWord}
 use Rattle.slack_report.specs.declared.words.FindingWord.TheVariants as findings
-use Rattle.right_report.specs.Right.At.{ReportTally, course_of, end_word, with_bounds, with_verdict}
+use Rattle.right_report.specs.Right.ReportState.{ReportTally, tally_of, end_word, with_bounds, with_verdict}
 use Rattle.edits.specs.declared.edit.RangeEdit.{RangeEdit}
 use Rattle.whatif.specs.Runs.{Note}
 
@@ -84,18 +84,18 @@ states_text number rows (e ∷ edits) (note ∷ notes) =
 
 -- the tally of the rows so far and one more
 abbrev pub judged_row : ReportTally → RowKind → Bound → Bound → ReportTally
-judged_row course kinds.Ask least most = with_bounds course least most
-judged_row course (kinds.Req range) least most = with_verdict (with_bounds course least most) (verdict_of range least most)
+judged_row tally kinds.Ask least most = with_bounds tally least most
+judged_row tally (kinds.Req range) least most = with_verdict (with_bounds tally least most) (verdict_of range least most)
 
 abbrev pub judged_rows : ReportTally → List RowKind → List GreatestAnswer → ReportTally
-judged_rows course [] found = course
-judged_rows course (kind ∷ others) [] = course
-judged_rows course (kind ∷ others) (most ∷ []) = course
-judged_rows course (kind ∷ others) (most ∷ least ∷ found) = judged_rows (judged_row course kind (least_bound least) (greatest_bound most)) others found
+judged_rows tally [] found = tally
+judged_rows tally (kind ∷ others) [] = tally
+judged_rows tally (kind ∷ others) (most ∷ []) = tally
+judged_rows tally (kind ∷ others) (most ∷ least ∷ found) = judged_rows (judged_row tally kind (least_bound least) (greatest_bound most)) others found
 
 -- the word at the end, by a finding and the answers for rows. A report of that state ends with the same word
 abbrev pub ending_of : List RowKind → SearchFinding → List GreatestAnswer → EndWord
-ending_of rows found list = end_word (judged_rows (course_of (found_word found)) rows list)
+ending_of rows found list = end_word (judged_rows (tally_of (found_word found)) rows list)
 
 -- the note of the last state, behind all others
 abbrev pub last_note : Note → List Note → Note

@@ -4,7 +4,7 @@ ghost use Rattle.std.specs.Prelude.{◌≡◌, ◌++◌, ◌||◌, ◌≤◌, Al
 ghost use Rattle.slack_report.specs.Entry.{ending};
 ghost use Rattle.slack_report.specs.Text.{entry_text};
 ghost use Rattle.slack_report.specs.declared.words.FindingWord.{FindingWord};
-ghost use Rattle.right_report.specs.Right.At.{course_of, end_word, is_within};
+ghost use Rattle.right_report.specs.Right.ReportState.{tally_of, end_word, is_within};
 ghost use Rattle.whatif.specs.declared.session.TheConstants.{MAX_PAIRS};
 ghost use Rattle.whatif_report.specs.Step.{IsCountFor, IsNoteOf, IsTimed, is_broken};
 ghost use Rattle.whatif_report.specs.Text.{ending_of, found_word, judged_rows, last_note};
@@ -63,7 +63,7 @@ fn judged_rows(kinds: &[RowKind], answers: &[GreatestAnswer]) -> Marks
     requires timed { All IsTimed answers.now }
     requires count { IsCountFor kinds.now answers.now }
     requires few { length kinds.now ≤ MAX_PAIRS }
-    ensures { (w : FindingWord) → judged_rows (course_of w) kinds.now answers.now ≡ record { found = w; fails = result.fails; within = result.within } }
+    ensures { (w : FindingWord) → judged_rows (tally_of w) kinds.now answers.now ≡ record { found = w; fails = result.fails; within = result.within } }
 {
     let mut marks = Marks {
         fails: false,

@@ -2,7 +2,7 @@
 
 ghost use Rattle.std.specs.Prelude.{◌≡◌, ◌<◌, ◌≤◌, All, IfOk, length};
 ghost use Rattle.edits.specs.EditLine.{IsThere};
-ghost use Rattle.jobs.specs.Works.{JobWrote};
+ghost use Rattle.jobs.specs.JobWrote.{JobWrote};
 ghost use Rattle.whatif.specs.Session.{IsPairOf};
 ghost use Rattle.whatif.specs.declared.session.TheConstants.{MAX_PAIRS};
 ghost use Rattle.whatif_report.specs.Step.{IsNoteOf};
@@ -35,7 +35,7 @@ pub fn write_whatif<K: Sink>(
     requires budget { 0 < budget }
     requires there { All (IsThere drawn.now.net) edits.now }
     ensures works { JobWrote (AnswersWhatif drawn.now budget edits.now) (BeginsWhatif drawn.now budget edits.now)
-        (K.told sink.old) (K.told sink.new) result }
+        (K.state sink.old) (K.state sink.new) result }
 {
     let rows = drawn.rows().as_slice();
     let pairs = pairs_of(alloc, rows)?;
@@ -74,15 +74,15 @@ fn write_states<K: Sink>(
     requires budget { 0 < budget }
     requires there { All (IsThere net.now) edits.now }
     ensures works { JobWrote (AnswersFor net.now pairs.now kinds.now budget edits.now) (BeginsFor net.now pairs.now kinds.now budget edits.now)
-        (K.told sink.old) (K.told sink.new) result }
+        (K.state sink.old) (K.state sink.new) result }
 {
-    let told = told_of(alloc, net, pairs, kinds, edits, budget)?;
-    sink.put(&told.text)?;
-    Ok(told.answer)
+    let decided = text_and_answer(alloc, net, pairs, kinds, edits, budget)?;
+    sink.put(&decided.text)?;
+    Ok(decided.answer)
 }
 
 // The text and the answer for a new session along edits.
-fn told_of(
+fn text_and_answer(
     alloc: Global,
     net: &Network,
     pairs: &[Pair],

@@ -10,7 +10,7 @@ use Rattle.event_graph.specs.Edges.{edge, side_edge}
 use Rattle.event_graph.specs.Network.{Constraint, IsCauseCount, IsConstraint, IsNet, cause_at}
 use Rattle.event_graph.specs.declared.cause.Cause.{Cause}
 use Rattle.origin.specs.declared.origin.Origin.{Origin}
-use Rattle.right_report.specs.Right.At.{NextBound, greatest, least_by}
+use Rattle.right_report.specs.Right.ReportState.{NextBound, greatest, least_by}
 use Rattle.slack_report.specs.declared.words.FindingWord.{FindingWord}
 use Rattle.drawn.specs.Drawn.{Drawn, OriginsFit}
 use Rattle.drawn.specs.declared.row.Row.{Row}

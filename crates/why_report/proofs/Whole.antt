@@ -1,7 +1,7 @@
 -- The whole text of the job.
 use Rattle.std.proofs.Common.{◌≡◌, ℕ, List, ◌++◌, refl}
 use Rattle.std.specs.Prelude.{OnErr, Result, Ok, Err, codes}
-use Rattle.itv_base.specs.Outside.{CutShort, SinkView}
+use Rattle.itv_base.specs.Outside.{CutShort, SinkState}
 use Rattle.itv_base.specs.Range.{Ends}
 use Rattle.itv_base.specs.declared.row_kind.RowKind.TheVariants.{Req}
 use Rattle.line_words.specs.Lines.{ended}
@@ -28,10 +28,10 @@ pub verdict_is : (range : Ends) (found : RowFound) (least most : Bound) (word : 
     → entry_text (line.verdict word) ++ (apart_text range found.apart ++ entry_text (line.slack value)) ≡ judged_text (Req range) found
 verdict_is range found least most word value is_least is_most is_word is_value = rw (is_word, is_value, is_least, is_most) refl
 
-pub why_is : (noted : Noted) (drawn : Drawn) (finding : Finding) (rows found : List RowFound) (told : FindingWord) (word : EndWord) → rows ≡ found → told ≡ word_of finding
+pub why_is : (noted : Noted) (drawn : Drawn) (finding : Finding) (rows found : List RowFound) (writable : FindingWord) (word : EndWord) → rows ≡ found → writable ≡ word_of finding
     → word ≡ ending_of drawn.rows finding found
-    → ended (codes "itv why 1") ++ (entry_text (line.finding told) ++ (found_text noted drawn finding rows ++ entry_text (line.ending word))) ≡ why_text noted drawn finding found
-why_is noted drawn finding rows found told word is_rows is_told is_word = rw (is_rows, is_told, is_word) refl
+    → ended (codes "itv why 1") ++ (entry_text (line.finding writable) ++ (found_text noted drawn finding rows ++ entry_text (line.ending word))) ≡ why_text noted drawn finding found
+why_is noted drawn finding rows found writable word is_rows is_told is_word = rw (is_rows, is_told, is_word) refl
 
 module _ (noted : Noted) (drawn : Drawn) (budget : ℕ) (finding : Finding) (found : List RowFound) (f : IsFindingFound drawn.net finding) (a : AreFound drawn finding found) (s : SettlesWithin drawn.net budget finding found) where
   -- the text says what was found
@@ -39,7 +39,7 @@ module _ (noted : Noted) (drawn : Drawn) (budget : ℕ) (finding : Finding) (fou
   answers_why answer is = record { finding = finding; found = found; is_finding = f; are_found = a; settles = s; is_text = refl; is_answer = is }
 
   -- a front of the text begins it
-  pub begins_why : {B E : Type 0} (result : Result B E) (old new : SinkView) → CutShort old new (why_text noted drawn finding found)
+  pub begins_why : {B E : Type 0} (result : Result B E) (old new : SinkState) → CutShort old new (why_text noted drawn finding found)
       → OnErr result ((text : List ℕ) × BeginsWhy noted drawn budget text × CutShort old new text)
   begins_why (Ok x) old new cut = tt
   begins_why (Err e) old new cut = (why_text noted drawn finding found, (answer_of (ending_of drawn.rows finding found), answers_why _ refl), cut)

@@ -16,7 +16,7 @@ use Rattle.explained.specs.declared.row.RowFound.{RowFound}
 use Rattle.why_report.specs.declared.drawn_by.DrawnBy.{DrawnBy}
 use Rattle.why_report.specs.declared.line.Line.{Line}
 use Rattle.why_report.specs.declared.line.Line.TheVariants as lines
-use Rattle.why_report.specs.declared.rule.DrawnCause.{DrawnCause}
+use Rattle.why_report.specs.declared.drawn_cause.DrawnCause.{DrawnCause}
 use Rattle.why_report.specs.Text.{Noted, cause_words, causes_text, rule_word, some_word}
 
 -- ---- lines

@@ -25,7 +25,7 @@ use Rattle.slack_report.specs.declared.words.Which.{Which}
 use Rattle.slack_report.specs.declared.words.Which.TheVariants.{Max, Min}
 use Rattle.slack_report.specs.Entry as line
 use Rattle.slack_report.specs.Text.{bound_words, entry_text, name_word, range_word, row_words, verdict_words}
-use Rattle.right_report.specs.Right.At.{ReportTally, course_of, end_word, with_bounds, with_verdict}
+use Rattle.right_report.specs.Right.ReportState.{ReportTally, tally_of, end_word, with_bounds, with_verdict}
 use Rattle.drawn.specs.Drawn.{Drawn, name_of}
 use Rattle.drawn.specs.declared.row.Row.{Row}
 use Rattle.explained.specs.declared.bound.BoundFound.{BoundFound}
@@ -169,19 +169,19 @@ rules_text noted drawn (is_in ∷ set) (c ∷ constraints) (drew ∷ origins) =
 
 -- the tally of the rows so far with one more
 abbrev pub with_row : ReportTally → RowKind → RowFound → ReportTally
-with_row course kinds.Ask found = with_bounds course (bound_of found.least) (bound_of found.greatest)
-with_row course (kinds.Req range) found = with_verdict (with_bounds course (bound_of found.least) (bound_of found.greatest)) (verdict_in range found)
+with_row tally kinds.Ask found = with_bounds tally (bound_of found.least) (bound_of found.greatest)
+with_row tally (kinds.Req range) found = with_verdict (with_bounds tally (bound_of found.least) (bound_of found.greatest)) (verdict_in range found)
 
 abbrev pub with_rows : ReportTally → List Row → List RowFound → ReportTally
-with_rows course [] found = course
-with_rows course (row ∷ rows) [] = course
-with_rows course (row ∷ rows) (found ∷ others) = with_rows (with_row course row.kind found) rows others
+with_rows tally [] found = tally
+with_rows tally (row ∷ rows) [] = tally
+with_rows tally (row ∷ rows) (found ∷ others) = with_rows (with_row tally row.kind found) rows others
 
 -- the word at the end, as in a report with these bounds
 abbrev pub ending_of : List Row → Finding → List RowFound → EndWord
-ending_of rows Consistent found = end_word (with_rows (course_of (word_of Consistent)) rows found)
+ending_of rows Consistent found = end_word (with_rows (tally_of (word_of Consistent)) rows found)
 ending_of rows (Inconsistent set) found = endings.Inconsistent
-ending_of rows Unsettled found = end_word (with_rows (course_of (word_of Unsettled)) rows found)
+ending_of rows Unsettled found = end_word (with_rows (tally_of (word_of Unsettled)) rows found)
 
 -- ---- the whole
 

@@ -37,7 +37,7 @@ impl<'a> DrawnBy<'a> {
 
 /// Puts a space and a word for what draws a cause or a row, and another word for its note, if there is one.
 pub fn put_by<K: Sink>(by: &DrawnBy<'_>, sink: &mut K) -> Result<(), PutFailed>
-    ensures puts { Puts (K.told sink.old) (K.told sink.new) (flat_map spaced (by_words by.now)) result }
+    ensures puts { Puts (K.state sink.old) (K.state sink.new) (flat_map spaced (by_words by.now)) result }
 {
     sink.put(b" ")?;
     put_origin(by.origin, sink)?;
@@ -46,7 +46,7 @@ pub fn put_by<K: Sink>(by: &DrawnBy<'_>, sink: &mut K) -> Result<(), PutFailed>
 
 // Puts a space and a note, if there is one.
 fn put_note<K: Sink>(note: &str, sink: &mut K) -> Result<(), PutFailed>
-    ensures { Puts (K.told sink.old) (K.told sink.new) (flat_map spaced (some_word note.now)) result }
+    ensures { Puts (K.state sink.old) (K.state sink.new) (flat_map spaced (some_word note.now)) result }
 {
     if note.is_empty() {
         return Ok(());

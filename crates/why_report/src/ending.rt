@@ -2,7 +2,7 @@
 
 ghost use Rattle.std.specs.Prelude.{◌≡◌, ◌||◌, length};
 ghost use Rattle.slack_report.specs.declared.words.FindingWord.{FindingWord};
-ghost use Rattle.right_report.specs.Right.At.{course_of, end_word};
+ghost use Rattle.right_report.specs.Right.ReportState.{tally_of, end_word};
 ghost use Rattle.explained.specs.Answers.{AreFound, bound_of, word_of};
 ghost use Rattle.why_report.specs.Text.{ending_of, with_row, with_rows};
 
@@ -48,7 +48,7 @@ struct Marks {
 // The marks that all rows leave.
 fn marks_of(drawn: &DrawnNetwork, found: &[RowFound]) -> Marks
     requires count { length found.now ≡ length drawn.now.rows }
-    ensures marks { (w : FindingWord) → with_rows (course_of w) drawn.now.rows found.now
+    ensures marks { (w : FindingWord) → with_rows (tally_of w) drawn.now.rows found.now
         ≡ record { found = w; fails = result.fails; within = result.within } }
 {
     let mut marks = Marks {

@@ -4,13 +4,13 @@
 
 mod bound;
 mod drawn_by;
+mod drawn_cause;
 mod ending;
 mod line;
 mod put_bounds;
 mod put_line;
 mod put_rows;
 mod put_rules;
-mod rule;
 mod steps;
 mod write;
 

@@ -28,7 +28,7 @@ pub fn put_bound<N: Notes, K: Sink>(
     sink: &mut K,
 ) -> Result<(), PutFailed>
     requires flags { HasFlags drawn.now.net.events found.now }
-    ensures puts { Puts (K.told sink.old) (K.told sink.new) (bound_text (N.noted notes.now) drawn.now which found.now) result }
+    ensures puts { Puts (K.state sink.old) (K.state sink.new) (bound_text (N.noted notes.now) drawn.now which found.now) result }
 {
     let bound = bound_of(found);
     write_item(&Item::Bound { which, bound }, buffer, sink)?;
@@ -45,7 +45,7 @@ fn put_behind<N: Notes, K: Sink>(
     sink: &mut K,
 ) -> Result<(), PutFailed>
     requires flags { HasFlags drawn.now.net.events found.now }
-    ensures { Puts (K.told sink.old) (K.told sink.new) (behind_text (N.noted notes.now) drawn.now which found.now) result }
+    ensures { Puts (K.state sink.old) (K.state sink.new) (behind_text (N.noted notes.now) drawn.now which found.now) result }
 {
     match found {
         BoundFound::Closed { chain, .. } => { put_steps(notes, drawn, which, chain, buffer, sink) }
@@ -62,7 +62,7 @@ fn put_raised<K: Sink>(
     sink: &mut K,
 ) -> Result<(), PutFailed>
     requires count { length set.now ≡ drawn.now.net.events }
-    ensures { Puts (K.told sink.old) (K.told sink.new) (raise_text drawn.now 0 set.now) result }
+    ensures { Puts (K.state sink.old) (K.state sink.new) (raise_text drawn.now 0 set.now) result }
 {
     for number in 0..drawn.network().events() {
         put_flag(drawn, number, set[number as usize], buffer, sink)?;
@@ -79,7 +79,7 @@ fn put_flag<K: Sink>(
     sink: &mut K,
 ) -> Result<(), PutFailed>
     requires event { number < drawn.now.net.events }
-    ensures { Puts (K.told sink.old) (K.told sink.new)
+    ensures { Puts (K.state sink.old) (K.state sink.new)
         (if is_in then ended (line_of (codes "raise" ∷ name_in drawn.now (record { 0 = number }) ∷ [])) else []) result }
 {
     if !is_in {

@@ -29,7 +29,7 @@ pub fn put_line<K: Sink>(
     buffer: &mut LineBuffer,
     sink: &mut K,
 ) -> Result<(), PutFailed>
-    ensures puts { Puts (K.told sink.old) (K.told sink.new) (ended (line_of (line_words line.now))) result }
+    ensures puts { Puts (K.state sink.old) (K.state sink.new) (ended (line_of (line_words line.now))) result }
 {
     buffer.clear();
     match put_pieces(line, buffer) {
@@ -40,7 +40,7 @@ pub fn put_line<K: Sink>(
 
 // Puts a line piece by piece.
 fn put_pieces<K: Sink>(line: &Line<'_>, sink: &mut K) -> Result<(), PutFailed>
-    ensures { Puts (K.told sink.old) (K.told sink.new) (ended (line_of (line_words line.now))) result }
+    ensures { Puts (K.state sink.old) (K.state sink.new) (ended (line_of (line_words line.now))) result }
 {
     match line {
         Line::Step {
@@ -72,7 +72,7 @@ fn put_pieces<K: Sink>(line: &Line<'_>, sink: &mut K) -> Result<(), PutFailed>
 
 // Puts what draws a cause or a row, and the end of its line.
 fn put_end<K: Sink>(by: &DrawnBy<'_>, sink: &mut K) -> Result<(), PutFailed>
-    ensures { Puts (K.told sink.old) (K.told sink.new) (flat_map spaced (by_words by.now) ++ 10 ∷ []) result }
+    ensures { Puts (K.state sink.old) (K.state sink.new) (flat_map spaced (by_words by.now) ++ 10 ∷ []) result }
 {
     put_by(by, sink)?;
     sink.put(b"\n")
@@ -85,7 +85,7 @@ fn put_weight<K: Sink>(
     weight: &i64,
     sink: &mut K,
 ) -> Result<(), PutFailed>
-    ensures { Puts (K.told sink.old) (K.told sink.new) (line_of (codes "step"
+    ensures { Puts (K.state sink.old) (K.state sink.new) (line_of (codes "step"
         ∷ name_word (name_view from.entry) ∷ name_word (name_view to.entry) ∷ signed_text weight.now ∷ [])) result }
 {
     let mut from_cycle = Buffer::new();
@@ -119,7 +119,7 @@ fn put_step<K: Sink>(
     by: &DrawnBy<'_>,
     sink: &mut K,
 ) -> Result<(), PutFailed>
-    ensures { Puts (K.told sink.old) (K.told sink.new) (ended (line_of (codes "step"
+    ensures { Puts (K.state sink.old) (K.state sink.new) (ended (line_of (codes "step"
         ∷ name_word (name_view from.entry) ∷ name_word (name_view to.entry) ∷ signed_text weight.now ∷ by_words by.now))) result }
 {
     put_weight(from, to, weight, sink)?;
@@ -133,7 +133,7 @@ fn put_ask<K: Sink>(
     to: EventName<'_>,
     sink: &mut K,
 ) -> Result<(), PutFailed>
-    ensures { Puts (K.told sink.old) (K.told sink.new) (line_of (codes "row" ∷ number_text number ∷ codes "ask"
+    ensures { Puts (K.state sink.old) (K.state sink.new) (line_of (codes "row" ∷ number_text number ∷ codes "ask"
         ∷ name_word (name_view from.entry) ∷ name_word (name_view to.entry) ∷ [])) result }
 {
     let mut digits = Buffer::new();
@@ -167,7 +167,7 @@ fn put_demand_names<K: Sink>(
     to: EventName<'_>,
     sink: &mut K,
 ) -> Result<(), PutFailed>
-    ensures { Puts (K.told sink.old) (K.told sink.new) (line_of (codes "row" ∷ number_text number ∷ codes "req"
+    ensures { Puts (K.state sink.old) (K.state sink.new) (line_of (codes "row" ∷ number_text number ∷ codes "req"
         ∷ name_word (name_view from.entry) ∷ name_word (name_view to.entry) ∷ [])) result }
 {
     let mut digits = Buffer::new();
@@ -196,7 +196,7 @@ fn put_demand_names<K: Sink>(
 
 // Puts a space and a range.
 fn put_range<K: Sink>(range: &Range, sink: &mut K) -> Result<(), PutFailed>
-    ensures { Puts (K.told sink.old) (K.told sink.new) (spaced (range_word range.now)) result }
+    ensures { Puts (K.state sink.old) (K.state sink.new) (spaced (range_word range.now)) result }
 {
     let mut low = Buffer::new();
     let mut high = Buffer::new();
@@ -220,7 +220,7 @@ fn put_demand<K: Sink>(
     to: EventName<'_>,
     sink: &mut K,
 ) -> Result<(), PutFailed>
-    ensures { Puts (K.told sink.old) (K.told sink.new)
+    ensures { Puts (K.state sink.old) (K.state sink.new)
         (line_of (codes "row" ∷ number_text number ∷ row_words (Req range.now) (name_view from.entry) (name_view to.entry))) result }
 {
     put_demand_names(number, from, to, sink)?;
@@ -235,7 +235,7 @@ pub fn put_asked<K: Sink>(
     to: EventName<'_>,
     sink: &mut K,
 ) -> Result<(), PutFailed>
-    ensures puts { Puts (K.told sink.old) (K.told sink.new)
+    ensures puts { Puts (K.state sink.old) (K.state sink.new)
         (line_of (codes "row" ∷ number_text number ∷ row_words kind.now (name_view from.entry) (name_view to.entry))) result }
 {
     match kind {
@@ -252,7 +252,7 @@ fn put_row<K: Sink>(
     by: &DrawnBy<'_>,
     sink: &mut K,
 ) -> Result<(), PutFailed>
-    ensures { Puts (K.told sink.old) (K.told sink.new) (ended (line_of (codes "row" ∷ number_text number
+    ensures { Puts (K.state sink.old) (K.state sink.new) (ended (line_of (codes "row" ∷ number_text number
         ∷ (row_words kind.now (name_view from.entry) (name_view to.entry) ++ by_words by.now)))) result }
 {
     put_asked(number, kind, from, to, sink)?;
@@ -261,7 +261,7 @@ fn put_row<K: Sink>(
 
 // Puts the line of a cause up to the kind of its constraint.
 fn put_kind<K: Sink>(kind: RuleKind, sink: &mut K) -> Result<(), PutFailed>
-    ensures { Puts (K.told sink.old) (K.told sink.new) (line_of (codes "rule" ∷ rule_word kind ∷ [])) result }
+    ensures { Puts (K.state sink.old) (K.state sink.new) (line_of (codes "rule" ∷ rule_word kind ∷ [])) result }
 {
     match kind {
         RuleKind::Lin => sink.put(b"rule lin"),
@@ -272,7 +272,7 @@ fn put_kind<K: Sink>(kind: RuleKind, sink: &mut K) -> Result<(), PutFailed>
 
 // Puts a space and a name for each of two events.
 fn put_names<K: Sink>(from: EventName<'_>, to: EventName<'_>, sink: &mut K) -> Result<(), PutFailed>
-    ensures { Puts (K.told sink.old) (K.told sink.new)
+    ensures { Puts (K.state sink.old) (K.state sink.new)
         (flat_map spaced (name_word (name_view from.entry) ∷ name_word (name_view to.entry) ∷ [])) result }
 {
     let mut from_cycle = Buffer::new();
@@ -304,7 +304,7 @@ fn put_cause<K: Sink>(
     range: &Range,
     sink: &mut K,
 ) -> Result<(), PutFailed>
-    ensures { Puts (K.told sink.old) (K.told sink.new) (line_of (codes "rule" ∷ rule_word kind
+    ensures { Puts (K.state sink.old) (K.state sink.new) (line_of (codes "rule" ∷ rule_word kind
         ∷ name_word (name_view from.entry) ∷ name_word (name_view to.entry) ∷ range_word range.now ∷ [])) result }
 {
     put_kind(kind, sink)?;
@@ -320,7 +320,7 @@ fn put_rule<K: Sink>(
     by: &DrawnBy<'_>,
     sink: &mut K,
 ) -> Result<(), PutFailed>
-    ensures { Puts (K.told sink.old) (K.told sink.new) (ended (line_of (codes "rule" ∷ rule_word kind
+    ensures { Puts (K.state sink.old) (K.state sink.new) (ended (line_of (codes "rule" ∷ rule_word kind
         ∷ name_word (name_view from.entry) ∷ name_word (name_view to.entry) ∷ range_word range.now ∷ by_words by.now))) result }
 {
     put_cause(kind, from, to, range, sink)?;
@@ -330,7 +330,7 @@ fn put_rule<K: Sink>(
 // ---- other lines
 
 fn put_raise<K: Sink>(name: EventName<'_>, sink: &mut K) -> Result<(), PutFailed>
-    ensures { Puts (K.told sink.old) (K.told sink.new) (ended (line_of (codes "raise" ∷ name_word (name_view name.entry) ∷ []))) result }
+    ensures { Puts (K.state sink.old) (K.state sink.new) (ended (line_of (codes "raise" ∷ name_word (name_view name.entry) ∷ []))) result }
 {
     let mut cycle = Buffer::new();
     put_all(
@@ -349,7 +349,7 @@ fn put_raise<K: Sink>(name: EventName<'_>, sink: &mut K) -> Result<(), PutFailed
 
 /// Puts a space and a word for each word of a bound.
 pub fn put_bound_words<K: Sink>(value: Bound, sink: &mut K) -> Result<(), PutFailed>
-    ensures puts { Puts (K.told sink.old) (K.told sink.new) (flat_map spaced (bound_words value)) result }
+    ensures puts { Puts (K.state sink.old) (K.state sink.new) (flat_map spaced (bound_words value)) result }
 {
     let mut limit_digits = Buffer::new();
     let mut digits = Buffer::new();
@@ -382,7 +382,7 @@ pub fn put_bound_words<K: Sink>(value: Bound, sink: &mut K) -> Result<(), PutFai
 
 /// Puts a space and a word for each word of a verdict.
 pub fn put_verdict_words<K: Sink>(word: Verdict, sink: &mut K) -> Result<(), PutFailed>
-    ensures puts { Puts (K.told sink.old) (K.told sink.new) (flat_map spaced (verdict_words word)) result }
+    ensures puts { Puts (K.state sink.old) (K.state sink.new) (flat_map spaced (verdict_words word)) result }
 {
     match word {
         Verdict::Pass => sink.put(b" pass"),
@@ -394,7 +394,7 @@ pub fn put_verdict_words<K: Sink>(word: Verdict, sink: &mut K) -> Result<(), Put
 
 // Puts the line of an order up to the greatest bound.
 fn put_greatest<K: Sink>(value: Bound, sink: &mut K) -> Result<(), PutFailed>
-    ensures { Puts (K.told sink.old) (K.told sink.new) (line_of (codes "order" ∷ codes "max" ∷ bound_words value)) result }
+    ensures { Puts (K.state sink.old) (K.state sink.new) (line_of (codes "order" ∷ codes "max" ∷ bound_words value)) result }
 {
     sink.put(b"order max")?;
     put_bound_words(value, sink)
@@ -402,7 +402,7 @@ fn put_greatest<K: Sink>(value: Bound, sink: &mut K) -> Result<(), PutFailed>
 
 // Puts the least bound.
 fn put_least<K: Sink>(value: Bound, sink: &mut K) -> Result<(), PutFailed>
-    ensures { Puts (K.told sink.old) (K.told sink.new) (flat_map spaced (codes "min" ∷ bound_words value)) result }
+    ensures { Puts (K.state sink.old) (K.state sink.new) (flat_map spaced (codes "min" ∷ bound_words value)) result }
 {
     sink.put(b" min")?;
     put_bound_words(value, sink)
@@ -410,14 +410,14 @@ fn put_least<K: Sink>(value: Bound, sink: &mut K) -> Result<(), PutFailed>
 
 // Puts the verdict, and the end of its line.
 fn put_verdict_end<K: Sink>(word: Verdict, sink: &mut K) -> Result<(), PutFailed>
-    ensures { Puts (K.told sink.old) (K.told sink.new) (flat_map spaced (verdict_words word) ++ 10 ∷ []) result }
+    ensures { Puts (K.state sink.old) (K.state sink.new) (flat_map spaced (verdict_words word) ++ 10 ∷ []) result }
 {
     put_verdict_words(word, sink)?;
     sink.put(b"\n")
 }
 
 fn put_order<K: Sink>(both: &BothBounds, word: Verdict, sink: &mut K) -> Result<(), PutFailed>
-    ensures { Puts (K.told sink.old) (K.told sink.new) (ended (line_of (codes "order" ∷ codes "max"
+    ensures { Puts (K.state sink.old) (K.state sink.new) (ended (line_of (codes "order" ∷ codes "max"
         ∷ (bound_words both.now.greatest ++ (codes "min" ∷ (bound_words both.now.least ++ verdict_words word)))))) result }
 {
     put_greatest(both.greatest, sink)?;

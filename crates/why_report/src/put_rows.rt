@@ -32,8 +32,8 @@ pub fn put_rows<N: Notes, K: Sink>(
     sink: &mut K,
 ) -> Result<(), PutFailed>
     requires count { length found.now ≡ length drawn.now.rows }
-    requires told { All (IsWritable drawn.now.net.events) found.now }
-    ensures puts { Puts (K.told sink.old) (K.told sink.new) (rows_text (N.noted notes.now) drawn.now 0 drawn.now.rows found.now) result }
+    requires writable { All (IsWritable drawn.now.net.events) found.now }
+    ensures puts { Puts (K.state sink.old) (K.state sink.new) (rows_text (N.noted notes.now) drawn.now 0 drawn.now.rows found.now) result }
 {
     for number in 0..drawn.rows().len() as u32 {
         let row = row_at(drawn, number);
@@ -54,8 +54,8 @@ fn put_found<N: Notes, K: Sink>(
     sink: &mut K,
 ) -> Result<(), PutFailed>
     requires row { IsRowOf drawn.now.net row.now }
-    requires told { IsWritable drawn.now.net.events found.now }
-    ensures puts { Puts (K.told sink.old) (K.told sink.new) (row_text (N.noted notes.now) drawn.now number row.now found.now) result }
+    requires writable { IsWritable drawn.now.net.events found.now }
+    ensures puts { Puts (K.state sink.old) (K.state sink.new) (row_text (N.noted notes.now) drawn.now number row.now found.now) result }
 {
     put_asked(number, row, notes, drawn, buffer, sink)?;
     put_bound(notes, drawn, Which::Max, &found.greatest, buffer, sink)?;
@@ -73,7 +73,7 @@ fn put_asked<N: Notes, K: Sink>(
     sink: &mut K,
 ) -> Result<(), PutFailed>
     requires row { IsRowOf drawn.now.net row.now }
-    ensures puts { Puts (K.told sink.old) (K.told sink.new)
+    ensures puts { Puts (K.state sink.old) (K.state sink.new)
         (ended (line_of (asked_words (N.noted notes.now) drawn.now number row.now))) result }
 {
     let from = drawn.name(row.from);
@@ -95,7 +95,7 @@ fn put_judged<K: Sink>(
     sink: &mut K,
 ) -> Result<(), PutFailed>
     requires times { HasRowTimes found.now }
-    ensures puts { Puts (K.told sink.old) (K.told sink.new) (judged_text kind found.now) result }
+    ensures puts { Puts (K.state sink.old) (K.state sink.new) (judged_text kind found.now) result }
 {
     match kind {
         RowKind::Ask => Ok(()),
@@ -111,7 +111,7 @@ fn put_verdict<K: Sink>(
     sink: &mut K,
 ) -> Result<(), PutFailed>
     requires times { HasRowTimes found.now }
-    ensures puts { Puts (K.told sink.old) (K.told sink.new) (judged_text (Req range) found.now) result }
+    ensures puts { Puts (K.state sink.old) (K.state sink.new) (judged_text (Req range) found.now) result }
 {
     let both = both_of(found);
     let word = judge(range, &both);
@@ -127,7 +127,7 @@ fn put_apart<K: Sink>(
     buffer: &mut LineBuffer,
     sink: &mut K,
 ) -> Result<(), PutFailed>
-    ensures puts { Puts (K.told sink.old) (K.told sink.new) (apart_text range apart) result }
+    ensures puts { Puts (K.state sink.old) (K.state sink.new) (apart_text range apart) result }
 {
     match apart {
         None => Ok(()),

@@ -7,9 +7,9 @@ ghost use Rattle.why_report.specs.Step.{IsBetween, causes_at, rule_words};
 ghost use Rattle.why_report.specs.Text.{rules_text};
 
 use crate::drawn_by::DrawnBy;
+use crate::drawn_cause::{DrawnCause, cause_count, rule_at};
 use crate::line::Line;
 use crate::put_line::put_line;
-use crate::rule::{DrawnCause, cause_count, rule_at};
 use drawn::DrawnNetwork;
 use itv_base::{PutFailed, Sink};
 use line_words::LineBuffer;
@@ -24,7 +24,7 @@ pub fn put_rules<N: Notes, K: Sink>(
     sink: &mut K,
 ) -> Result<(), PutFailed>
     requires count { length set.now ≡ length drawn.now.net.constraints }
-    ensures puts { Puts (K.told sink.old) (K.told sink.new)
+    ensures puts { Puts (K.state sink.old) (K.state sink.new)
         (rules_text (N.noted notes.now) drawn.now set.now drawn.now.net.constraints drawn.now.origins) result }
 {
     // Each constraint has its origins.
@@ -45,7 +45,7 @@ fn put_flagged<N: Notes, K: Sink>(
     sink: &mut K,
 ) -> Result<(), PutFailed>
     requires number { number < length drawn.now.net.constraints }
-    ensures { Puts (K.told sink.old) (K.told sink.new)
+    ensures { Puts (K.state sink.old) (K.state sink.new)
         (if is_in then causes_at (N.noted notes.now) drawn.now number else []) result }
 {
     if !is_in {
@@ -63,7 +63,7 @@ fn put_causes<N: Notes, K: Sink>(
     sink: &mut K,
 ) -> Result<(), PutFailed>
     requires number { number < length drawn.now.net.constraints }
-    ensures puts { Puts (K.told sink.old) (K.told sink.new) (causes_at (N.noted notes.now) drawn.now number) result }
+    ensures puts { Puts (K.state sink.old) (K.state sink.new) (causes_at (N.noted notes.now) drawn.now number) result }
 {
     for cause in 0..cause_count(drawn, number) {
         let rule = rule_at(drawn, number, cause);
@@ -81,7 +81,7 @@ fn put_rule<N: Notes, K: Sink>(
     sink: &mut K,
 ) -> Result<(), PutFailed>
     requires between { IsBetween drawn.now.net.events rule.now }
-    ensures puts { Puts (K.told sink.old) (K.told sink.new) (ended (line_of (rule_words (N.noted notes.now) drawn.now rule.now))) result }
+    ensures puts { Puts (K.state sink.old) (K.state sink.new) (ended (line_of (rule_words (N.noted notes.now) drawn.now rule.now))) result }
 {
     let to = drawn.name(rule.target);
     let line = Line::Rule {

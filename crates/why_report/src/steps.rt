@@ -8,9 +8,9 @@ ghost use Rattle.slack_report.specs.declared.words.Which.TheVariants.{Max, Min};
 ghost use Rattle.why_report.specs.Step.{line_words};
 ghost use Rattle.why_report.specs.Text.{edge_words, step_text, steps_text};
 
+use crate::drawn_cause::edge_by;
 use crate::line::Line;
 use crate::put_line::put_line;
-use crate::rule::edge_by;
 use drawn::DrawnNetwork;
 use event_graph::Edge;
 use itv_base::{EdgeName, PutFailed, Sink};
@@ -28,7 +28,7 @@ pub fn put_steps<N: Notes, K: Sink>(
     buffer: &mut LineBuffer,
     sink: &mut K,
 ) -> Result<(), PutFailed>
-    ensures puts { Puts (K.told sink.old) (K.told sink.new) (steps_text (N.noted notes.now) drawn.now which names.now) result }
+    ensures puts { Puts (K.state sink.old) (K.state sink.new) (steps_text (N.noted notes.now) drawn.now which names.now) result }
 {
     match which {
         Which::Max => put_onward(notes, drawn, names, buffer, sink),
@@ -44,7 +44,7 @@ fn put_onward<N: Notes, K: Sink>(
     buffer: &mut LineBuffer,
     sink: &mut K,
 ) -> Result<(), PutFailed>
-    ensures { Puts (K.told sink.old) (K.told sink.new) (steps_text (N.noted notes.now) drawn.now Max names.now) result }
+    ensures { Puts (K.state sink.old) (K.state sink.new) (steps_text (N.noted notes.now) drawn.now Max names.now) result }
 {
     for name in names {
         put_step(notes, drawn, Which::Max, *name, buffer, sink)?;
@@ -60,7 +60,7 @@ fn put_back<N: Notes, K: Sink>(
     buffer: &mut LineBuffer,
     sink: &mut K,
 ) -> Result<(), PutFailed>
-    ensures { Puts (K.told sink.old) (K.told sink.new) (steps_text (N.noted notes.now) drawn.now Min names.now) result }
+    ensures { Puts (K.state sink.old) (K.state sink.new) (steps_text (N.noted notes.now) drawn.now Min names.now) result }
 {
     for place in (0..names.len()).rev() {
         put_step(notes, drawn, Which::Min, names[place], buffer, sink)?;
@@ -77,7 +77,7 @@ fn put_step<N: Notes, K: Sink>(
     buffer: &mut LineBuffer,
     sink: &mut K,
 ) -> Result<(), PutFailed>
-    ensures { Puts (K.told sink.old) (K.told sink.new) (step_text (N.noted notes.now) drawn.now which name) result }
+    ensures { Puts (K.state sink.old) (K.state sink.new) (step_text (N.noted notes.now) drawn.now which name) result }
 {
     match drawn.network().edge(name) {
         None => Ok(()),

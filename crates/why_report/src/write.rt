@@ -3,7 +3,7 @@
 ghost use Rattle.std.specs.Prelude.{◌≡◌, ◌≤◌, ℕ, List, All, IfOk, OnErr};
 ghost use Rattle.itv_base.specs.Outside.{CutShort, Puts, grown};
 ghost use Rattle.itv_base.specs.declared.limits.TheConstants.{MAX_BUDGET};
-ghost use Rattle.jobs.specs.Works.{JobWrote};
+ghost use Rattle.jobs.specs.JobWrote.{JobWrote};
 ghost use Rattle.explained.specs.Answers.{AreFound, HasRowTimes, IsFindingFound, SettlesWithin};
 ghost use Rattle.why_report.specs.Text.{ending_of, found_text, why_text};
 ghost use Rattle.why_report.specs.Why.{AnswersWhy, BeginsWhy};
@@ -34,7 +34,7 @@ pub fn write_why<N: Notes, K: Sink>(
     requires least { 1 ≤ budget }
     requires most { budget ≤ MAX_BUDGET }
     ensures works { JobWrote (AnswersWhy (N.noted notes.now) drawn.now budget) (BeginsWhy (N.noted notes.now) drawn.now budget)
-        (K.told sink.old) (K.told sink.new) result }
+        (K.state sink.old) (K.state sink.new) result }
 {
     let found = explain(alloc, drawn, budget)?;
     let mut buffer = LineBuffer::new(alloc, LINE_ROOM)?;
@@ -54,10 +54,10 @@ fn put_found<N: Notes, K: Sink>(
     requires times { All HasRowTimes found.now.rows.items }
     ensures answers { (budget : ℕ) → SettlesWithin drawn.now.net budget found.now.finding found.now.rows.items
         → IfOk result (λ answer. (text : List ℕ) × AnswersWhy (N.noted notes.now) drawn.now budget answer text
-        × (K.told sink.new ≡ grown (K.told sink.old) text)) }
+        × (K.state sink.new ≡ grown (K.state sink.old) text)) }
     ensures begins { (budget : ℕ) → SettlesWithin drawn.now.net budget found.now.finding found.now.rows.items
         → OnErr result ((text : List ℕ) × BeginsWhy (N.noted notes.now) drawn.now budget text
-        × CutShort (K.told sink.old) (K.told sink.new) text) }
+        × CutShort (K.state sink.old) (K.state sink.new) text) }
 {
     let word = ending_of(drawn, &found.finding, &found.rows);
     put_text(notes, drawn, found, word, buffer, sink)?;
@@ -77,7 +77,7 @@ fn put_text<N: Notes, K: Sink>(
     requires rows { AreFound drawn.now found.now.finding found.now.rows.items }
     requires times { All HasRowTimes found.now.rows.items }
     requires word { word ≡ ending_of drawn.now.rows found.now.finding found.now.rows.items }
-    ensures puts { Puts (K.told sink.old) (K.told sink.new)
+    ensures puts { Puts (K.state sink.old) (K.state sink.new)
         (why_text (N.noted notes.now) drawn.now found.now.finding found.now.rows.items) result }
 {
     let finding = &found.finding;
@@ -99,7 +99,7 @@ fn put_behind<N: Notes, K: Sink>(
     requires finding { IsFindingFound drawn.now.net finding.now }
     requires rows { AreFound drawn.now finding.now found.now }
     requires times { All HasRowTimes found.now }
-    ensures puts { Puts (K.told sink.old) (K.told sink.new) (found_text (N.noted notes.now) drawn.now finding.now found.now) result }
+    ensures puts { Puts (K.state sink.old) (K.state sink.new) (found_text (N.noted notes.now) drawn.now finding.now found.now) result }
 {
     match finding {
         Finding::Consistent | Finding::Unsettled => { put_rows(notes, drawn, found, buffer, sink) }

@@ -12,12 +12,12 @@ use Rattle.requirements.specs.declared.verdict.Verdict.{Verdict}
 use Rattle.slack_report.specs.declared.words.EndWord.TheVariants as endings
 use Rattle.slack_report.specs.declared.words.FindingWord.{FindingWord}
 use Rattle.slack_report.specs.declared.words.FindingWord.TheVariants as findings
-use Rattle.right_report.specs.Right.At.{ReportState, ReportTally, at_end, at_row, at_rows, end_word, is_fail, with_verdict}
+use Rattle.right_report.specs.Right.ReportState.{ReportState, ReportTally, at_end, at_row, at_rows, end_word, is_fail, with_verdict}
 use Rattle.bounds_report.specs.Reports.{is_pass, is_undecided}
 use Rattle.bounds_report.specs.declared.desk.Desk.{Desk}
 use Rattle.bounds_report.specs.declared.tally.RowEnd.{RowEnd}
 use Rattle.bounds_report.specs.declared.tally.Tally.{Tally}
-use Rattle.bounds_report.specs.Step.Kept.{IsRoomFor}
+use Rattle.bounds_report.specs.Step.Witness.{IsRoomFor}
 
 -- what a finding leaves: known times that satisfy, or, if it is unsettled, times that meet all always-edges
 abbrev pub HasFound : Net → FindingWord → Option (List ℤ) → Type 0
@@ -37,13 +37,13 @@ pub record IsReady (net : Net) (word : FindingWord) (desk : Desk) : Type 0 where
   pub found : HasFound net word desk.work.known
 
 -- the tally behind the verdict of a row, if it has one
-abbrev pub course_with : ReportTally → Option Verdict → ReportTally
-course_with course None = course
-course_with course (Some word) = with_verdict course word
+abbrev pub tally_with : ReportTally → Option Verdict → ReportTally
+tally_with report_tally None = report_tally
+tally_with report_tally (Some word) = with_verdict report_tally word
 
 -- the tally behind a row
-abbrev pub course_after : ReportTally → RowEnd → ReportTally
-course_after course end = course_with (record course { within = course.within || end.is_within }) end.verdict
+abbrev pub tally_after : ReportTally → RowEnd → ReportTally
+tally_after report_tally end = tally_with (record report_tally { within = report_tally.within || end.is_within }) end.verdict
 
 -- the counts of some verdicts
 pub record IsTally (tally : Tally) (words : List Verdict) : Type 0 where
@@ -52,8 +52,8 @@ pub record IsTally (tally : Tally) (words : List Verdict) : Type 0 where
   pub undecided : tally.undecided ≡ count_by is_undecided words
 
 -- the tally of a report behind a finding and some rows
-abbrev pub tally_course : FindingWord → Tally → ReportTally
-tally_course word tally = record { found = word; fails = nat_lt 0 tally.fails; within = tally.is_within }
+abbrev pub tally_behind : FindingWord → Tally → ReportTally
+tally_behind word tally = record { found = word; fails = nat_lt 0 tally.fails; within = tally.is_within }
 
 -- the word for a finding
 abbrev pub word_of : SearchFinding → FindingWord
@@ -73,6 +73,6 @@ behind_known findings.Unsettled = at_rows findings.Unsettled
 
 -- the report state behind a finding and all rows; `count` is how many rows there are
 abbrev pub behind_rows : FindingWord → Tally → ℕ → ReportState
-behind_rows findings.Consistent tally count = at_row (tally_course findings.Consistent tally) count []
-behind_rows findings.Inconsistent tally count = at_end (end_word (tally_course findings.Inconsistent tally))
-behind_rows findings.Unsettled tally count = at_row (tally_course findings.Unsettled tally) count []
+behind_rows findings.Consistent tally count = at_row (tally_behind findings.Consistent tally) count []
+behind_rows findings.Inconsistent tally count = at_end (end_word (tally_behind findings.Inconsistent tally))
+behind_rows findings.Unsettled tally count = at_row (tally_behind findings.Unsettled tally) count []

@@ -10,7 +10,7 @@ use Rattle.event_graph.specs.Proof.{ProofLine}
 use Rattle.event_graph.specs.Reading.{AtEachSplit}
 use Rattle.event_graph.specs.Times.{shifted, time_of}
 use Rattle.certificate.specs.Scribing.{SinkGrew, SinkWasCut}
-use Rattle.itv_base.specs.Outside.{SinkView}
+use Rattle.itv_base.specs.Outside.{SinkState}
 use Rattle.requirements.specs.Bounds.{HasTimes, reversed}
 use Rattle.requirements.specs.declared.bound.Bound.{Bound}
 use Rattle.requirements.specs.declared.bound.Bound.TheVariants as bounds
@@ -23,7 +23,7 @@ use Rattle.bounds_report.specs.declared.pair.Pair.{Pair}
 -- the line claims of job bounds, with one more that follows from them: each number of a bound, its limit too, is below 2^61 in absolute value
 abbrev pub sized : Net → ℕ → Bool → List ℤ → LineClaims
 sized net most cert known = record (written net most cert known) {
-  bound = λ found r side lines value. (written net most cert known).bound found r side lines value × HasTimes value;
+  bound = λ found r coming lines value. (written net most cert known).bound found r coming lines value × HasTimes value;
 }
 
 -- the known times in the form in which they are printed: with event 0 at 0
@@ -56,9 +56,9 @@ pub record AnswersSearch (search : PairSearch) (known : ℤ) (left : Evidence) (
   pub needed : AtEachSplit search.net (IsNeededToBound search.net search.from search.to known) left.lines
 
 -- a search put the lines of its proof into a sink, if `cert` asks for them; the lines show something
-abbrev pub WroteProof : Bool → SinkView → SinkView → (List ProofLine → Type 0) → Type 0
+abbrev pub WroteProof : Bool → SinkState → SinkState → (List ProofLine → Type 0) → Type 0
 WroteProof cert old new Shows = (lines : List ProofLine) × SinkGrew old (printed cert lines) new × Shows lines
 
 -- a put failed while a search printed the lines of its proof
-abbrev pub WasCut : SinkView → SinkView → Type 0
+abbrev pub WasCut : SinkState → SinkState → Type 0
 WasCut old new = (lines : List ProofLine) × SinkWasCut old lines new

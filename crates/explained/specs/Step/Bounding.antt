@@ -12,7 +12,7 @@ use Rattle.requirements.specs.declared.bound.Bound.{Bound}
 use Rattle.requirements.specs.declared.bound.Bound.TheVariants as bounds
 use Rattle.slack_report.specs.declared.words.FindingWord.{FindingWord}
 use Rattle.slack_report.specs.declared.words.FindingWord.TheVariants as findings
-use Rattle.right_report.specs.Right.Facts.{HasAttained}
+use Rattle.right_report.specs.Right.LineClaims.{HasAttained}
 use Rattle.explained.specs.Answers.{CanRise, Explains}
 use Rattle.explained.specs.declared.bound.BoundFound.{BoundFound}
 use Rattle.explained.specs.declared.bound.BoundFound.TheVariants.{Closed, Unbounded, Within}
@@ -41,7 +41,7 @@ pub record IsUnboundedBy (net : Net) (word : FindingWord) (pair : Pair) (times :
 -- the limit is the root bound, and times attain the attained separation, if there is one
 pub record IsOpenBound (net : Net) (word : FindingWord) (pair : Pair) (limit value : Option ℤ) : Type 0 where
   pub root : IsRootBound net pair.from pair.to limit
-  pub told : HasAttained word value
+  pub rests : HasAttained word value
   pub attained : IfSome value (IsAttained net pair.from pair.to)
 
 -- a greatest bound behind a finding, by the times and the set of events that the search left

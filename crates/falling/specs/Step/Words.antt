@@ -1,7 +1,7 @@
 -- The words of flags.
 use Rattle.std.specs.Prelude.{◌≡◌, ◌<◌, ◌≤◌, ℕ, List, length, slice_index_or}
 use Rattle.itv_base.specs.declared.limits.TheConstants.{MAX_CONSTRAINTS}
-use Rattle.falling.specs.declared.pending.PendingFlags.TheInside.{Inside}
+use Rattle.falling.specs.declared.pending_flags.PendingFlags.TheInside.{Inside}
 
 -- the words before a place have no flag
 abbrev pub AreEmpty : List ℕ → ℕ → Type 0

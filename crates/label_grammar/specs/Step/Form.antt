@@ -28,7 +28,7 @@ written_view (Named name) = named name.now
 
 -- the label that is written
 abbrev pub form_view : {T E : Type 0} → (T → E) → Form T → LooseLabel E
-form_view told f = record { kind = f.kind; shift = f.shift; tag = option_copied f.tag; ends = option_map told f.told; note = option_copied f.note }
+form_view written f = record { kind = f.kind; shift = f.shift; tag = option_copied f.tag; ends = option_map written f.written; note = option_copied f.note }
 
 -- a number; a number beyond the limit becomes the first number beyond the limit, with the same sign
 abbrev pub capped : ℤ → ℤ

@@ -2,17 +2,17 @@
 use Rattle.std.specs.Prelude.{ℕ, List, [], None}
 use Rattle.serde_json.specs.Data.{Data}
 use Rattle.wavejson.specs.Drawing.{diagram_of}
-use Rattle.sheet.specs.Contents as sheet
+use Rattle.sheet.specs.SheetContents as sheet
 use Rattle.sheet.specs.Links.{plain}
 use Rattle.sheet.specs.Sheet.{sheet_of}
 use Rattle.netlist.specs.Netlist.{lone_netlist}
 use Rattle.compose.specs.declared.sheet_key.SheetKey.{SheetKey}
 use Rattle.plan.specs.Plan.{Planned}
-use Rattle.reading.specs.declared.place.RefusalPlace.{RefusalPlace}
-use Rattle.reading.specs.declared.place.RefusalPlace.TheVariants.{File}
+use Rattle.reading.specs.declared.refusal_place.RefusalPlace.{RefusalPlace}
+use Rattle.reading.specs.declared.refusal_place.RefusalPlace.TheVariants.{File}
 use Rattle.reading.specs.declared.refusal.Refusal.TheVariants.{Diagram, Sheet}
 use Rattle.reading.specs.Design.{with_sheet}
-use Rattle.reading.specs.Opening.{FileReading, gives, ◌>>=◌, at}
+use Rattle.reading.specs.FileReading.{FileReading, gives, ◌>>=◌, at}
 
 -- the key of a sheet without a grade
 abbrev pub plain_key : List ℕ → SheetKey

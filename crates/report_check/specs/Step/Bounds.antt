@@ -7,7 +7,7 @@ use Rattle.branch.specs.declared.answer.Root.{Root}
 use Rattle.branch.specs.declared.answer.Root.TheVariants as roots
 use Rattle.requirements.specs.declared.bound.Bound.{Bound}
 use Rattle.requirements.specs.declared.bound.Bound.TheVariants as bounds
-use Rattle.right_report.specs.Right.At.{NextBound}
+use Rattle.right_report.specs.Right.ReportState.{NextBound}
 use Rattle.drawn.specs.declared.row.Row.{Row}
 use Rattle.right_report.specs.Shown.{goal_of}
 
@@ -27,6 +27,6 @@ pub record IsBetween (net : Net) (row : Row) : Type 0 where
 
 -- what the lines before a bound are to show: for a closed bound they are to prove it, and else nothing
 abbrev pub goal_for : Row → NextBound → Bound → Option ProofGoal
-goal_for r side (bounds.Closed value) = Some (goal_of r side value)
-goal_for r side bounds.Unbounded = None
-goal_for r side (bounds.Within limit attained) = None
+goal_for r coming (bounds.Closed value) = Some (goal_of r coming value)
+goal_for r coming bounds.Unbounded = None
+goal_for r coming (bounds.Within limit attained) = None

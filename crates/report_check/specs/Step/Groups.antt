@@ -6,12 +6,12 @@ use Rattle.event_graph.specs.Proof as proofs
 use Rattle.cert_checker.specs.declared.goal.Goal.{Goal}
 use Rattle.cert_checker.specs.Checking.{goal_view}
 use Rattle.slack_report.specs.Entry.{Entry, proof}
-use Rattle.right_report.specs.Right.At.{ReportState, at_bound, at_event, at_finding}
+use Rattle.right_report.specs.Right.ReportState.{ReportState, at_bound, at_event, at_finding}
 use Rattle.drawn.specs.Drawn.{Drawn}
 use Rattle.right_report.specs.Wrong.{Takes}
-use Rattle.report_check.specs.Step.Stages.{IsSide, IsTelling, side_told, telling_of}
-use Rattle.report_check.specs.declared.group.ProofGroup.{ProofGroup}
-use Rattle.report_check.specs.declared.group.ProofGroup.TheVariants as groups
+use Rattle.report_check.specs.Step.Stages.{IsNextBound, IsCurrentRow, next_in, current_in}
+use Rattle.report_check.specs.declared.proof_group.ProofGroup.{ProofGroup}
+use Rattle.report_check.specs.declared.proof_group.ProofGroup.TheVariants as groups
 
 -- the proof lines that some lines begin with
 abbrev pub proof_front : List Entry → List ProofLine
@@ -27,11 +27,11 @@ found_behind number (line ∷ lines) = at_finding (line ∷ lines)
 -- the state of a report behind some proof lines
 abbrev pub behind_lines : Drawn → ProofGroup → List ProofLine → ReportState
 behind_lines drawn (groups.Finding number) lines = found_behind number lines
-behind_lines drawn (groups.Bound told side) lines = at_bound (telling_of drawn told) (side_told side) lines
+behind_lines drawn (groups.Bound current coming) lines = at_bound (current_in drawn current) (next_in coming) lines
 
 abbrev pub IsGroup : Drawn → ProofGroup → Type 0
 IsGroup drawn (groups.Finding number) = number ≡ length drawn.names
-IsGroup drawn (groups.Bound told side) = IsTelling drawn told × IsSide side
+IsGroup drawn (groups.Bound current coming) = IsCurrentRow drawn current × IsNextBound coming
 
 -- reading lines for one goal is reading them for the other
 abbrev pub ReadsAlike : Net → ProofGoal → ProofGoal → Type 0
@@ -70,6 +70,6 @@ ChecksFor net None lines first result = (whole : Bool) × (result ≡ Ok whole)
 ChecksFor net (Some goal) lines first result = ChecksLines net goal lines first result
 
 -- if there is a goal, `whole` says whether the lines prove it
-abbrev pub IsToldOf : Net → Option ProofGoal → List ProofLine → Bool → Type 0
-IsToldOf net None lines whole = Unit {0}
-IsToldOf net (Some goal) lines whole = IsTrue whole ↔ IsProof net goal lines
+abbrev pub IsWholeFor : Net → Option ProofGoal → List ProofLine → Bool → Type 0
+IsWholeFor net None lines whole = Unit {0}
+IsWholeFor net (Some goal) lines whole = IsTrue whole ↔ IsProof net goal lines

@@ -4,8 +4,8 @@ use Rattle.event_graph.specs.Times.{IsTime}
 use Rattle.requirements.specs.Bounds.{HasTimes}
 use Rattle.requirements.specs.declared.bound.BothBounds.{BothBounds}
 use Rattle.slack_report.specs.Entry.{Entry, proof}
-use Rattle.right_report.specs.Right.At as places
-use Rattle.right_report.specs.Right.At.{ReportState, at_heading, at_budget, at_events, at_event, at_known, at_rows, at_row, at_bound, at_times, at_raise, at_verdict, at_past, at_slack, at_end, at_last}
+use Rattle.right_report.specs.Right.ReportState as places
+use Rattle.right_report.specs.Right.ReportState.{ReportState, at_heading, at_budget, at_events, at_event, at_known, at_rows, at_row, at_bound, at_times, at_raise, at_verdict, at_past, at_slack, at_end, at_last}
 use Rattle.drawn.specs.Drawn.{Drawn}
 use Rattle.right_report.specs.Right.Following.{MayFollow}
 use Rattle.right_report.specs.Checked.{checked}
@@ -18,15 +18,15 @@ use Rattle.report_check.specs.declared.stage.CurrentRow.{CurrentRow}
 
 -- ---- the state of a stage
 
-abbrev pub course_told : ReportTally → places.ReportTally
-course_told course = record { found = course.found; fails = course.fails; within = course.within }
+abbrev pub tally_in : ReportTally → places.ReportTally
+tally_in tally = record { found = tally.found; fails = tally.fails; within = tally.within }
 
-abbrev pub side_told : NextBound → places.NextBound
-side_told Greatest = places.greatest
-side_told (LeastBy most) = places.least_by most
+abbrev pub next_in : NextBound → places.NextBound
+next_in Greatest = places.greatest
+next_in (LeastBy most) = places.least_by most
 
-abbrev pub telling_of : Drawn → CurrentRow → places.CurrentRow
-telling_of drawn told = record { course = course_told told.course; number = told.number; row = told.row; later = drop (told.number + 1) drawn.rows }
+abbrev pub current_in : Drawn → CurrentRow → places.CurrentRow
+current_in drawn current = record { tally = tally_in current.tally; number = current.number; row = current.row; later = drop (current.number + 1) drawn.rows }
 
 abbrev pub at_of : Drawn → Stage → ReportState
 at_of drawn stages.Heading = at_heading
@@ -35,28 +35,28 @@ at_of drawn stages.Events = at_events
 at_of drawn (stages.Event number) = at_event number (drop number drawn.names)
 at_of drawn stages.Known = at_known
 at_of drawn (stages.Rows word) = at_rows word
-at_of drawn (stages.Row course number) = at_row (course_told course) number (drop number drawn.rows)
-at_of drawn (stages.Bound told side) = at_bound (telling_of drawn told) (side_told side) []
-at_of drawn (stages.Times told side value) = at_times (telling_of drawn told) (side_told side) value
-at_of drawn (stages.Raise told side times) = at_raise (telling_of drawn told) (side_told side) times.now
-at_of drawn (stages.Verdict told range both) = at_verdict (telling_of drawn told) range both.least both.greatest
-at_of drawn (stages.Past told range both) = at_past (telling_of drawn told) range both.least both.greatest
-at_of drawn (stages.Slack course number range both) = at_slack (course_told course) number (drop number drawn.rows) range both.least both.greatest
+at_of drawn (stages.Row tally number) = at_row (tally_in tally) number (drop number drawn.rows)
+at_of drawn (stages.Bound current coming) = at_bound (current_in drawn current) (next_in coming) []
+at_of drawn (stages.Times current coming value) = at_times (current_in drawn current) (next_in coming) value
+at_of drawn (stages.Raise current coming times) = at_raise (current_in drawn current) (next_in coming) times.now
+at_of drawn (stages.Verdict current range both) = at_verdict (current_in drawn current) range both.least both.greatest
+at_of drawn (stages.Past current range both) = at_past (current_in drawn current) range both.least both.greatest
+at_of drawn (stages.Slack tally number range both) = at_slack (tally_in tally) number (drop number drawn.rows) range both.least both.greatest
 at_of drawn (stages.End word) = at_end word
 at_of drawn stages.Done = at_last
 
 -- ---- what a stage keeps
 
 -- the events and the number of the row are there, and the number is below 2^32
-pub record IsTelling (drawn : Drawn) (told : CurrentRow) : Type 0 where
-  pub from : told.row.from.0 < drawn.net.events
-  pub to : told.row.to.0 < drawn.net.events
-  pub number : told.number < length drawn.rows
-  pub small : told.number < 2 ^ 32
+pub record IsCurrentRow (drawn : Drawn) (current : CurrentRow) : Type 0 where
+  pub from : current.row.from.0 < drawn.net.events
+  pub to : current.row.to.0 < drawn.net.events
+  pub number : current.number < length drawn.rows
+  pub small : current.number < 2 ^ 32
 
-abbrev pub IsSide : NextBound → Type 0
-IsSide Greatest = Unit {0}
-IsSide (LeastBy most) = HasTimes most
+abbrev pub IsNextBound : NextBound → Type 0
+IsNextBound Greatest = Unit {0}
+IsNextBound (LeastBy most) = HasTimes most
 
 abbrev pub AreBounded : BothBounds → Type 0
 AreBounded both = HasTimes both.least × HasTimes both.greatest
@@ -69,13 +69,13 @@ Fits drawn stages.Events = Unit {0}
 Fits drawn (stages.Event number) = number ≤ length drawn.names
 Fits drawn stages.Known = Unit {0}
 Fits drawn (stages.Rows word) = Unit {0}
-Fits drawn (stages.Row course number) = number ≤ length drawn.rows
-Fits drawn (stages.Bound told side) = IsTelling drawn told × IsSide side
-Fits drawn (stages.Times told side value) = IsTelling drawn told × IsSide side × HasTimes value
-Fits drawn (stages.Raise told side times) = IsTelling drawn told × IsSide side × All IsTime times.now × (length times.now ≡ drawn.net.events)
-Fits drawn (stages.Verdict told range both) = IsTelling drawn told × AreBounded both
-Fits drawn (stages.Past told range both) = IsTelling drawn told × AreBounded both
-Fits drawn (stages.Slack course number range both) = (number ≤ length drawn.rows) × AreBounded both
+Fits drawn (stages.Row tally number) = number ≤ length drawn.rows
+Fits drawn (stages.Bound current coming) = IsCurrentRow drawn current × IsNextBound coming
+Fits drawn (stages.Times current coming value) = IsCurrentRow drawn current × IsNextBound coming × HasTimes value
+Fits drawn (stages.Raise current coming times) = IsCurrentRow drawn current × IsNextBound coming × All IsTime times.now × (length times.now ≡ drawn.net.events)
+Fits drawn (stages.Verdict current range both) = IsCurrentRow drawn current × AreBounded both
+Fits drawn (stages.Past current range both) = IsCurrentRow drawn current × AreBounded both
+Fits drawn (stages.Slack tally number range both) = (number ≤ length drawn.rows) × AreBounded both
 Fits drawn (stages.End word) = Unit {0}
 Fits drawn stages.Done = Unit {0}
 
@@ -93,5 +93,5 @@ Decides drawn here line (Some stage) = MayFollow (checked drawn.net) drawn here 
 -- no proof line may come at the stage
 abbrev pub IsLineStage : Drawn → Stage → Type 0
 IsLineStage drawn (stages.Event number) = number < drawn.net.events
-IsLineStage drawn (stages.Bound told side) = ⊥
+IsLineStage drawn (stages.Bound current coming) = ⊥
 IsLineStage drawn other = Unit {0}

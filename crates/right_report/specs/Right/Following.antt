@@ -12,7 +12,7 @@ use Rattle.slack_report.specs.declared.words.FindingWord.TheVariants as findings
 use Rattle.slack_report.specs.Entry.{Entry, heading, budget, events, event, proof, finding, times, rows, row, bound, raise, verdict, slack, ending}
 use Rattle.drawn.specs.Drawn.{Drawn, name_of}
 use Rattle.drawn.specs.declared.row.Row.{Row}
-use Rattle.right_report.specs.Right.At.{ReportState, ReportTally, NextBound, CurrentRow, at_heading, at_budget, at_events, at_event, at_finding, at_known, at_rows, at_row, at_bound, at_times, at_raise, at_verdict, at_past, at_slack, at_end, at_last, behind_bound, behind_finding, behind_past, behind_times, behind_verdict, bounded, course_of, end_word, greatest, which_of}
+use Rattle.right_report.specs.Right.ReportState.{ReportState, ReportTally, NextBound, CurrentRow, at_heading, at_budget, at_events, at_event, at_finding, at_known, at_rows, at_row, at_bound, at_times, at_raise, at_verdict, at_past, at_slack, at_end, at_last, behind_bound, behind_finding, behind_past, behind_times, behind_verdict, bounded, tally_of, end_word, greatest, which_of}
 
 -- What each kind of line has to say truly of the network. Several readers of a report ask for several things.
 pub record LineClaims : Type 1 where
@@ -25,52 +25,52 @@ pub record LineClaims : Type 1 where
 
 -- a line of a proof follows, or the finding after the lines of its proof
 abbrev pub MayFind : LineClaims → List ProofLine → Entry → ReportState → Type 0
-MayFind facts lines line next =
+MayFind claims lines line next =
     ((more : ProofLine) × (line ≡ proof more) × (next ≡ at_finding (lines ++ more ∷ [])))
-    ⊎ ((word : FindingWord) × (line ≡ finding word) × facts.finding lines word × (next ≡ behind_finding word))
+    ⊎ ((word : FindingWord) × (line ≡ finding word) × claims.finding lines word × (next ≡ behind_finding word))
 
 -- a line of a proof follows, or the bound after the lines of its proof
 abbrev pub MayBound : LineClaims → CurrentRow → NextBound → List ProofLine → Entry → ReportState → Type 0
-MayBound facts told side lines line next =
-    ((more : ProofLine) × (line ≡ proof more) × (next ≡ at_bound told side (lines ++ more ∷ [])))
-    ⊎ ((value : Bound) × (line ≡ bound (which_of side) value) × facts.bound told.course.found told.row side lines value × (next ≡ behind_bound told side value))
+MayBound claims current coming lines line next =
+    ((more : ProofLine) × (line ≡ proof more) × (next ≡ at_bound current coming (lines ++ more ∷ [])))
+    ⊎ ((value : Bound) × (line ≡ bound (which_of coming) value) × claims.bound current.tally.found current.row coming lines value × (next ≡ behind_bound current coming value))
 
 -- a line leads from a state to another
 abbrev pub MayFollow : LineClaims → Drawn → ReportState → Entry → ReportState → Type 0
-MayFollow facts drawn at_heading line next = (line ≡ heading) × (next ≡ at_budget)
-MayFollow facts drawn at_budget line next = (most : ℕ) × (line ≡ budget most) × (next ≡ at_events)
-MayFollow facts drawn at_events line next = (line ≡ events (length drawn.names)) × (next ≡ at_event 0 drawn.names)
-MayFollow facts drawn (at_event number (name ∷ names)) line next = (line ≡ event number name) × (next ≡ at_event (number + 1) names)
-MayFollow facts drawn (at_event number []) line next = MayFind facts [] line next
-MayFollow facts drawn (at_finding lines) line next = MayFind facts lines line next
-MayFollow facts drawn at_known line next = (list : List ℤ) × (line ≡ times list) × facts.known list × (next ≡ at_rows findings.Consistent)
-MayFollow facts drawn (at_rows word) line next = (line ≡ rows (length drawn.rows)) × (next ≡ at_row (course_of word) 0 drawn.rows)
-MayFollow facts drawn (at_row course number []) line next = (line ≡ ending (end_word course)) × (next ≡ at_last)
-MayFollow facts drawn (at_row course number (r ∷ later)) line next =
-    (line ≡ row number r.kind (name_of drawn r.from) (name_of drawn r.to)) × (next ≡ at_bound (record { course = course; number = number; row = r; later = later }) greatest [])
-MayFollow facts drawn (at_bound told side lines) line next = MayBound facts told side lines line next
-MayFollow facts drawn (at_times told side value) line next =
-    (list : List ℤ) × (line ≡ times list) × facts.times told.row value list × (next ≡ behind_times told side value list)
-MayFollow facts drawn (at_raise told side list) line next =
-    (set : List Bool) × (line ≡ raise set) × facts.raise told.row side list set × (next ≡ bounded told side bounds.Unbounded)
-MayFollow facts drawn (at_verdict told range least most) line next =
-    (line ≡ verdict (verdict_of range least most)) × (next ≡ behind_verdict told range least most (verdict_of range least most))
-MayFollow facts drawn (at_past told range least most) line next =
-    (list : List ℤ) × (line ≡ times list) × facts.past told.row range (verdict_of range least most) list × (next ≡ behind_past told range least most (verdict_of range least most))
-MayFollow facts drawn (at_slack course number later range least most) line next = (line ≡ slack (slack_of range least most)) × (next ≡ at_row course number later)
-MayFollow facts drawn (at_end word) line next = (line ≡ ending word) × (next ≡ at_last)
-MayFollow facts drawn at_last line next = ⊥
+MayFollow claims drawn at_heading line next = (line ≡ heading) × (next ≡ at_budget)
+MayFollow claims drawn at_budget line next = (most : ℕ) × (line ≡ budget most) × (next ≡ at_events)
+MayFollow claims drawn at_events line next = (line ≡ events (length drawn.names)) × (next ≡ at_event 0 drawn.names)
+MayFollow claims drawn (at_event number (name ∷ names)) line next = (line ≡ event number name) × (next ≡ at_event (number + 1) names)
+MayFollow claims drawn (at_event number []) line next = MayFind claims [] line next
+MayFollow claims drawn (at_finding lines) line next = MayFind claims lines line next
+MayFollow claims drawn at_known line next = (list : List ℤ) × (line ≡ times list) × claims.known list × (next ≡ at_rows findings.Consistent)
+MayFollow claims drawn (at_rows word) line next = (line ≡ rows (length drawn.rows)) × (next ≡ at_row (tally_of word) 0 drawn.rows)
+MayFollow claims drawn (at_row tally number []) line next = (line ≡ ending (end_word tally)) × (next ≡ at_last)
+MayFollow claims drawn (at_row tally number (r ∷ later)) line next =
+    (line ≡ row number r.kind (name_of drawn r.from) (name_of drawn r.to)) × (next ≡ at_bound (record { tally = tally; number = number; row = r; later = later }) greatest [])
+MayFollow claims drawn (at_bound current coming lines) line next = MayBound claims current coming lines line next
+MayFollow claims drawn (at_times current coming value) line next =
+    (list : List ℤ) × (line ≡ times list) × claims.times current.row value list × (next ≡ behind_times current coming value list)
+MayFollow claims drawn (at_raise current coming list) line next =
+    (set : List Bool) × (line ≡ raise set) × claims.raise current.row coming list set × (next ≡ bounded current coming bounds.Unbounded)
+MayFollow claims drawn (at_verdict current range least most) line next =
+    (line ≡ verdict (verdict_of range least most)) × (next ≡ behind_verdict current range least most (verdict_of range least most))
+MayFollow claims drawn (at_past current range least most) line next =
+    (list : List ℤ) × (line ≡ times list) × claims.past current.row range (verdict_of range least most) list × (next ≡ behind_past current range least most (verdict_of range least most))
+MayFollow claims drawn (at_slack tally number later range least most) line next = (line ≡ slack (slack_of range least most)) × (next ≡ at_row tally number later)
+MayFollow claims drawn (at_end word) line next = (line ≡ ending word) × (next ≡ at_last)
+MayFollow claims drawn at_last line next = ⊥
 
 -- lines lead one after another from a state to another
 abbrev pub LinesLead : LineClaims → Drawn → ReportState → List Entry → ReportState → Type 0
-LinesLead facts drawn at [] last = at ≡ last
-LinesLead facts drawn at (line ∷ lines) last = (next : ReportState) × MayFollow facts drawn at line next × LinesLead facts drawn next lines last
+LinesLead claims drawn at [] last = at ≡ last
+LinesLead claims drawn at (line ∷ lines) last = (next : ReportState) × MayFollow claims drawn at line next × LinesLead claims drawn next lines last
 
 -- all that one reader accepts, another reader accepts too
-pub record Implies (facts other : LineClaims) : Type 0 where
-  pub finding : (lines : List ProofLine) (word : FindingWord) → facts.finding lines word → other.finding lines word
-  pub known : (list : List ℤ) → facts.known list → other.known list
-  pub bound : (found : FindingWord) (r : Row) (side : NextBound) (lines : List ProofLine) (value : Bound) → facts.bound found r side lines value → other.bound found r side lines value
-  pub times : (r : Row) (value : Bound) (list : List ℤ) → facts.times r value list → other.times r value list
-  pub raise : (r : Row) (side : NextBound) (list : List ℤ) (set : List Bool) → facts.raise r side list set → other.raise r side list set
-  pub past : (r : Row) (range : Ends) (word : Verdict) (list : List ℤ) → facts.past r range word list → other.past r range word list
+pub record Implies (claims other : LineClaims) : Type 0 where
+  pub finding : (lines : List ProofLine) (word : FindingWord) → claims.finding lines word → other.finding lines word
+  pub known : (list : List ℤ) → claims.known list → other.known list
+  pub bound : (found : FindingWord) (r : Row) (coming : NextBound) (lines : List ProofLine) (value : Bound) → claims.bound found r coming lines value → other.bound found r coming lines value
+  pub times : (r : Row) (value : Bound) (list : List ℤ) → claims.times r value list → other.times r value list
+  pub raise : (r : Row) (coming : NextBound) (list : List ℤ) (set : List Bool) → claims.raise r coming list set → other.raise r coming list set
+  pub past : (r : Row) (range : Ends) (word : Verdict) (list : List ℤ) → claims.past r range word list → other.past r range word list

@@ -9,8 +9,8 @@ use Rattle.slack_report.specs.Entry.{Entry}
 use Rattle.slack_report.specs.Order.{before_event, before_row, is_required, next}
 use Rattle.drawn.specs.Drawn.{Drawn}
 use Rattle.drawn.specs.declared.row.Row.{Row}
-use Rattle.right_report.specs.Right.At.{ReportState, CurrentRow, at_heading, at_budget, at_events, at_event, at_finding, at_known, at_rows, at_row, at_bound, at_times, at_raise, at_verdict, at_past, at_slack, at_end, at_last, which_of}
-use Rattle.right_report.specs.Right.Facts.{right}
+use Rattle.right_report.specs.Right.ReportState.{ReportState, CurrentRow, at_heading, at_budget, at_events, at_event, at_finding, at_known, at_rows, at_row, at_bound, at_times, at_raise, at_verdict, at_past, at_slack, at_end, at_last, which_of}
+use Rattle.right_report.specs.Right.LineClaims.{right}
 use Rattle.right_report.specs.Right.Following.{MayFollow}
 
 abbrev pub is_unbounded : Bound → Bool
@@ -33,13 +33,13 @@ place_of drawn (at_event number names) = before_event (length drawn.names) numbe
 place_of drawn (at_finding lines) = at.Finding (length drawn.names)
 place_of drawn at_known = at.FoundTimes (length drawn.names)
 place_of drawn (at_rows word) = at.Rows (length drawn.names)
-place_of drawn (at_row course number later) = before_row (length drawn.names) number (length later)
-place_of drawn (at_bound row side lines) = at.Bound (spot_of drawn row) (which_of side)
-place_of drawn (at_times row side value) = at.Times (spot_of drawn row) (which_of side) (is_unbounded value)
-place_of drawn (at_raise row side list) = at.Raise (spot_of drawn row) (which_of side)
+place_of drawn (at_row tally number later) = before_row (length drawn.names) number (length later)
+place_of drawn (at_bound row coming lines) = at.Bound (spot_of drawn row) (which_of coming)
+place_of drawn (at_times row coming value) = at.Times (spot_of drawn row) (which_of coming) (is_unbounded value)
+place_of drawn (at_raise row coming list) = at.Raise (spot_of drawn row) (which_of coming)
 place_of drawn (at_verdict row range least most) = at.Verdict (spot_behind drawn (row.number + 1) row.later true)
 place_of drawn (at_past row range least most) = at.FailTimes (spot_behind drawn (row.number + 1) row.later true)
-place_of drawn (at_slack course number later range least most) = at.Slack (spot_behind drawn number later true)
+place_of drawn (at_slack tally number later range least most) = at.Slack (spot_behind drawn number later true)
 place_of drawn (at_end word) = at.End
 place_of drawn at_last = at.Nothing
 

@@ -8,7 +8,7 @@ use Rattle.event_graph.specs.Times.{separation}
 use Rattle.falling.specs.declared.view.View.{View}
 use Rattle.falling.specs.declared.view.View.TheVariants.{Plain, Negated}
 use Rattle.falling.specs.Cap.{IsNearValue, far_line}
-use Rattle.falling.specs.Course.{AreLimits}
+use Rattle.falling.specs.DerivationEnds.{AreLimits}
 use Rattle.falling.specs.Kinds.{negated}
 use Rattle.clauses.specs.Lines.{IsOver}
 use Rattle.settle.specs.declared.best.Best.{Best}

@@ -1,7 +1,7 @@
 -- The numbers of the first marks of parts.
 use Rattle.std.specs.Prelude.{◌≡◌, ◌≤◌, ℕ, ◌+◌, List, [], ◌∷◌, length}
 use Rattle.itv_base.specs.declared.limits.TheConstants.{MAX_EVENTS}
-use Rattle.sheet.specs.Contents.{SheetContents}
+use Rattle.sheet.specs.SheetContents.{SheetContents}
 use Rattle.compose.specs.Design.{Composed, IsDesign}
 use Rattle.compose.specs.Numbers.{mark_count}
 

@@ -2,7 +2,7 @@
 use Rattle.std.specs.Prelude.{ℕ, ◌+◌, List, [], ◌∷◌, ◌++◌, map}
 use Rattle.drawn.specs.declared.event_label.EventLabel.{EventLabel}
 use Rattle.sheet.specs.declared.mark.Mark.{Mark}
-use Rattle.sheet.specs.Contents.{SheetContents}
+use Rattle.sheet.specs.SheetContents.{SheetContents}
 
 abbrev pub label_of : ℕ → ℕ → Mark → EventLabel
 label_of part cycle mark = record { part = part; mark = mark.name; cycle = cycle }

@@ -1,7 +1,7 @@
 use Rattle.std.proofs.Common.{List, ℤ, length, ap, sym, subst, ◌∙◌}
 use Rattle.std.proofs.lemmas.List.{with_items_is}
 use Rattle.branch.specs.Answers.{evidence}
-use Rattle.bounds_report.specs.Step.Kept.{IsShiftedTo}
+use Rattle.bounds_report.specs.Step.Witness.{IsShiftedTo}
 use Rattle.bounds_report.proofs.Answering.{kept_from, not_unbounded}
 use Rattle.bounds_report.proofs.bounding.keep.Goals as goal
 

@@ -1,7 +1,7 @@
 use Rattle.std.proofs.Common.{◌≡◌, ◌∙◌, ℤ, Option, true, ap, neg_ℤ, subst, sym}
 use Rattle.requirements.specs.Verdicts.{breaks_low}
 use Rattle.slack_report.specs.declared.words.Which.TheVariants as sorts
-use Rattle.bounds_report.specs.Step.Kept.{IsBeyond}
+use Rattle.bounds_report.specs.Step.Witness.{IsBeyond}
 use Rattle.bounds_report.proofs.Passing.{beyond_low, end_time, low_breaks}
 use Rattle.bounds_report.proofs.past.broken_low.Goals as goal
 use Rattle.event_graph.proofs.MovingOn.{read_time}

@@ -7,6 +7,6 @@ use Rattle.bounds_report.proofs.write.put_events.Goals as goal
 pub returns : goal.returns
 returns g c = record {
   goes = λ net most cert basis.
-      events_go (sized net most cert basis) c.args.drawn.now c.args.drawn.now.net.events (g.K.Sink.told c.args.sink.now) (g.K.Sink.told c.put_events.new.sink) c.put_events.result
+      events_go (sized net most cert basis) c.args.drawn.now c.args.drawn.now.net.events (g.K.Sink.state c.args.sink.now) (g.K.Sink.state c.put_events.new.sink) c.put_events.result
       (c.network-network.ensures.names ∙ ap (λ (net : Net). net.events) c.network-network.ensures.network) c.put_events.ensures;
 }

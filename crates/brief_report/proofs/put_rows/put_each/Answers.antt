@@ -2,7 +2,7 @@ use Rattle.std.proofs.lemmas.Result.{err_from_is_err_and}
 use Rattle.std.proofs.Common.{◌<◌, length, subst, sym, arith}
 use Rattle.itv_base.proofs.Written.{left_after, left_cut}
 use Rattle.explained.specs.Answers.{HasRowTimes}
-use Rattle.brief_report.proofs.Telling.{next_is}
+use Rattle.brief_report.proofs.RowLines.{next_is}
 use Rattle.brief_report.proofs.put_rows.put_each.Goals as goal
 
 pub row_at-row-requires : goal.row_at-row-requires

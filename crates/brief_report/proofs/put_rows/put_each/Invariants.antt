@@ -8,5 +8,5 @@ use Rattle.brief_report.proofs.put_rows.put_each.Given as goal
 -- the lines of the first rows are put
 abbrev pub invariant-loop-at : goal.invariant-loop-at
 invariant-loop-at g l =
-    Left (g.K.Sink.told l.fn.sink) (g.K.Sink.told l.sink) (flat_map (numbered_row_text (g.N.Notes.noted l.notes) l.drawn) (drop l.at (ordered (numbered_rows l.drawn l.found))))
+    Left (g.K.Sink.state l.fn.sink) (g.K.Sink.state l.sink) (flat_map (numbered_row_text (g.N.Notes.noted l.notes) l.drawn) (drop l.at (ordered (numbered_rows l.drawn l.found))))
     (flat_map (numbered_row_text (g.N.Notes.noted l.notes) l.drawn) (ordered (numbered_rows l.drawn l.found)))

@@ -2,7 +2,7 @@ use Rattle.std.proofs.Common.{ap, ◌∙◌, refl}
 use Rattle.itv_base.proofs.Written.{puts_same}
 use Rattle.line_words.specs.Lines.{ended, line_of}
 use Rattle.why_report.specs.Text.{origin_words}
-use Rattle.brief_report.proofs.Telling.{told_is}
+use Rattle.brief_report.proofs.RowLines.{told_is}
 use Rattle.brief_report.proofs.put_rows.put_row.Goals as goal
 
 pub returns : goal.returns

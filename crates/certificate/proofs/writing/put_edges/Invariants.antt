@@ -7,4 +7,4 @@ use Rattle.certificate.proofs.writing.put_edges.Given as goal
 
 abbrev pub invariant-loop-edge : goal.invariant-loop-edge
 invariant-loop-edge g l =
-    Left (g.K.Sink.told l.fn.sink) (g.K.Sink.told l.sink) (flat_map spaced (map edge_word (drop l.edge-index l.edges))) (flat_map spaced (map edge_word l.edges))
+    Left (g.K.Sink.state l.fn.sink) (g.K.Sink.state l.sink) (flat_map spaced (map edge_word (drop l.edge-index l.edges))) (flat_map spaced (map edge_word l.edges))

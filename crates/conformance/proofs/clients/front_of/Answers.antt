@@ -1,5 +1,5 @@
 use Rattle.std.proofs.Common.{◌∙◌, refl, sym, ap}
-use Rattle.itv_base.specs.Memory.{MemSink, shelf_told, sink_told}
+use Rattle.itv_base.specs.Memory.{MemSink, shelf_state, sink_state}
 use Rattle.itv_base.specs.Outside.{FaultCounted}
 use Rattle.itv_cli.specs.Run.{Call, HasWriteFault, call_of}
 use Rattle.words.specs.Task.{Task, bounds}
@@ -9,7 +9,7 @@ use Rattle.conformance.proofs.clients.front_of.Goals as goal
 
 pub returns-in-WriteFault : goal.returns-in-WriteFault
 returns-in-WriteFault c =
-    let call : Call = call_of c.args.words.now (shelf_told c.args.shelf.now) (shelf_told c.run.new.shelf) (sink_told c.in_ok-sink.sink) (sink_told c.run.new.sink) in
+    let call : Call = call_of c.args.words.now (shelf_state c.args.shelf.now) (shelf_state c.run.new.shelf) (sink_state c.in_ok-sink.sink) (sink_state c.run.new.sink) in
     let m : HasWriteFault call = c.in-WriteFault.ensures.means in
     let begins : (asked : Task) → Asks c.args.words.now asked → ¬ (FaultCounted c.args.shelf.now.faults c.run.new.shelf.faults) → IsFrontOf c.args.shelf.now.files asked c.in_ok-from_slice-in-WriteFault.field-0.items =
     λ asked asks quiet. front_over call c.args.shelf.now.files asked refl asks quiet m.text c.in_ok-from_slice-in-WriteFault.field-0.items m.cut.front.0 m.wanted

@@ -1,15 +1,15 @@
 use Rattle.std.proofs.Common.{◌⊎◌, ◌∙◌, refl, sym, ap}
-use Rattle.itv_base.specs.Memory.{MemSink, shelf_told, sink_told}
+use Rattle.itv_base.specs.Memory.{MemSink, shelf_state, sink_state}
 use Rattle.jobs.specs.declared.answer.Answer.TheVariants.{DesignRefused}
 use Rattle.words.specs.Task.{Task}
 use Rattle.itv_cli.specs.Run.{Call, HasRefused, call_of}
 use Rattle.conformance.specs.Clients.{Asks, IsAnswerOf, IsRefusalOf}
-use Rattle.conformance.proofs.Telling.{refused_line, refused_others, refused_over_files, refused_wrote, sink_holds}
+use Rattle.conformance.proofs.KnownFiles.{refused_line, refused_others, refused_over_files, refused_wrote, sink_holds}
 use Rattle.conformance.proofs.clients.refusal_of.Goals as goal
 
 pub returns-in-Refused : goal.returns-in-Refused
 returns-in-Refused c =
-    let call : Call = call_of c.args.words.now (shelf_told c.args.shelf.now) (shelf_told c.run.new.shelf) (sink_told c.in_ok-sink.sink) (sink_told c.run.new.sink) in
+    let call : Call = call_of c.args.words.now (shelf_state c.args.shelf.now) (shelf_state c.run.new.shelf) (sink_state c.in_ok-sink.sink) (sink_state c.run.new.sink) in
     let m : HasRefused call = c.in-Refused.ensures.means in
     let either : (asked : Task) → Asks c.args.words.now asked
     → IsRefusalOf c.args.shelf.now.files asked c.in_ok-from_slice-in-Refused.field-0.items ⊎ IsAnswerOf c.args.shelf.now.files asked DesignRefused c.in_ok-from_slice-in-Refused.field-0.items =

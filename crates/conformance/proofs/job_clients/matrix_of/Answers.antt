@@ -1,13 +1,13 @@
 use Rattle.std.proofs.Common.{refl}
-use Rattle.itv_base.specs.Memory.{shelf_told, sink_told}
+use Rattle.itv_base.specs.Memory.{shelf_state, sink_state}
 use Rattle.itv_cli.specs.Run.{Call, call_of}
 use Rattle.conformance.proofs.JobEnds.{matrix_bounds, matrix_none}
-use Rattle.conformance.proofs.Telling.{sink_bytes}
+use Rattle.conformance.proofs.KnownFiles.{sink_bytes}
 use Rattle.conformance.proofs.job_clients.matrix_of.Goals as goal
 
 pub returns : goal.returns
 returns c =
-    let call : Call = call_of c.args.words.now (shelf_told c.args.shelf.now) (shelf_told c.run.new.shelf) (sink_told c.args.sink.now) (sink_told c.run.new.sink) in
+    let call : Call = call_of c.args.words.now (shelf_state c.args.shelf.now) (shelf_state c.run.new.shelf) (sink_state c.args.sink.now) (sink_state c.run.new.sink) in
     record {
       bounds = λ drawn asks e.
           let (text, is, wrote) = matrix_bounds call c.args.shelf.now.files drawn refl asks c.run.result c.run.ensures.means e in

@@ -11,7 +11,7 @@ use Rattle.fall_report.proofs.bounding.put_number.Goals as goal
 pub returns-in_err-write_item : goal.returns-in_err-write_item
 returns-in_err-write_item g c =
     let p = err_from_is_err_and c.from_residual.result c.from_residual.ensures.1 in
-    rw p.1 (subst (λ (value : ℤ). CutShort (g.K.Sink.told c.args.sink.now) (g.K.Sink.told c.write_item.new.sink) (entry_text (bound c.args.which (Closed value)) ++ entry_text (times c.args.times.now)))
+    rw p.1 (subst (λ (value : ℤ). CutShort (g.K.Sink.state c.args.sink.now) (g.K.Sink.state c.write_item.new.sink) (entry_text (bound c.args.which (Closed value)) ++ entry_text (times c.args.times.now)))
     (to_z-of_z w64 c.args.value c.ranges.value) (cut_more _ _ _ _ c.in_err-write_item.ensures.puts))
 
 pub returns : goal.returns

@@ -1,6 +1,6 @@
 use Rattle.std.proofs.Common.{[], sym, subst, ◌∙◌, arith}
 use Rattle.fall_report.specs.Shows.{first_event}
-use Rattle.fall_report.specs.Step.{ShowsFinding, told_finding}
+use Rattle.fall_report.specs.Step.{ShowsFinding, shown_finding}
 use Rattle.fall_report.proofs.Going.{quiet_none}
 use Rattle.fall_report.proofs.Viewing.{near_times, shows_empty, shows_finding}
 use Rattle.fall_report.proofs.finding.find.Goals as goal
@@ -17,7 +17,7 @@ returns-clause-shows g c =
     let (lines, grew, a) = c.in_ok-fallen.ensures.answers in (
       lines,
       grew,
-      subst (λ found. ShowsFinding c.args.net.now c.args.wanted.turns lines (told_finding found c.greatest_of.new.solver.times)) (sym c.found_by.ensures.found)
+      subst (λ found. ShowsFinding c.args.net.now c.args.wanted.turns lines (shown_finding found c.greatest_of.new.solver.times)) (sym c.found_by.ensures.found)
           (shows_finding c.args.net.now c.args.solver.now.negation c.args.wanted.turns lines c.greatest_of.new.solver.times c.greatest_of.new.solver.ray c.in_ok-fallen.fallen (omega (arith, c.events.ensures.count, c.if-events-eq0.false)) c.requires.made.negation a.0 a.1
           (near_times c.args.net.now c.args.solver.now.limits c.args.solver.now.negation first_event first_event c.args.wanted.turns lines c.greatest_of.new.solver.times c.greatest_of.new.solver.ray c.in_ok-fallen.fallen
           c.events.ensures.net c.requires.made.limits c.requires.made.negation (omega (arith, c.events.ensures.count, c.if-events-eq0.false)) (omega (arith, c.events.ensures.count, c.if-events-eq0.false)) a.1)),

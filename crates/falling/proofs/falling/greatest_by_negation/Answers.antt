@@ -1,6 +1,6 @@
 use Rattle.std.proofs.Common.{◌<◌, ap, sym, subst}
 use Rattle.event_graph.specs.Network.{Net}
-use Rattle.falling.specs.Course.{AreLimits}
+use Rattle.falling.specs.DerivationEnds.{AreLimits}
 use Rattle.falling.specs.Kinds.{IsPlain}
 use Rattle.falling.proofs.NegatedNets.{has_times, limits_negated, near_answer, no_times, other_answer, plain_negated, turned_answer}
 use Rattle.falling.proofs.falling.greatest_by_negation.Goals as goal
@@ -18,9 +18,9 @@ turn_round-requires g c =
     let limits : AreLimits c.args.negation.now c.args.guide.now.limits =
     subst (λ (n : Net). AreLimits n c.args.guide.now.limits) (sym c.requires.negation) (limits_negated c.args.net.now c.args.guide.now.limits c.requires.limits) in
     record {
-      near = near_answer c.args.negation.now c.args.asked.to c.args.asked.from c.args.asked.turns lines.0 c.greatest.new.values c.greatest.new.ray c.in-Ok.told.fallen
+      near = near_answer c.args.negation.now c.args.asked.to c.args.asked.from c.args.asked.turns lines.0 c.greatest.new.values c.greatest.new.ray c.in-Ok.counted.fallen
           c.events.ensures.net (subst (λ n. c.args.asked.to.0 < n) (sym (ap (λ (n : Net). n.events) c.requires.negation)) c.requires.to) limits.small
-          (has_times c.in-Ok.told.fallen c.in-Closed.is) lines.3;
+          (has_times c.in-Ok.counted.fallen c.in-Closed.is) lines.3;
     }
 
 pub returns-in-Closed-clause-lines : goal.returns-in-Closed-clause-lines
@@ -30,7 +30,7 @@ returns-in-Closed-clause-lines g c =
       lines.1,
       lines.2,
       turned_answer c.args.negation.now c.args.asked.from c.args.asked.to c.args.asked.turns lines.0 c.greatest.new.values c.turn_round.new.times c.greatest.new.ray c.turn_round.new.ray
-          c.in-Ok.told.fallen (has_times c.in-Ok.told.fallen c.in-Closed.is) lines.3 c.turn_round.ensures.times c.turn_round.ensures.ray c.args.net.now c.events-events.ensures.net
+          c.in-Ok.counted.fallen (has_times c.in-Ok.counted.fallen c.in-Closed.is) lines.3 c.turn_round.ensures.times c.turn_round.ensures.ray c.args.net.now c.events-events.ensures.net
           c.requires.negation,
     )
 
@@ -40,6 +40,6 @@ returns-in-Inconsistent-clause-lines g c =
       lines.0,
       lines.1,
       lines.2,
-      other_answer c.args.negation.now c.args.asked.from c.args.asked.to c.args.asked.turns lines.0 c.greatest.new.values c.greatest.new.ray c.in-Ok.told.fallen
-          (no_times c.in-Ok.told.fallen c.in-Inconsistent.is) lines.3 c.args.net.now c.events-events.ensures.net c.requires.negation,
+      other_answer c.args.negation.now c.args.asked.from c.args.asked.to c.args.asked.turns lines.0 c.greatest.new.values c.greatest.new.ray c.in-Ok.counted.fallen
+          (no_times c.in-Ok.counted.fallen c.in-Inconsistent.is) lines.3 c.args.net.now c.events-events.ensures.net c.requires.negation,
     )

@@ -9,9 +9,9 @@ pub returns-in_err-push_grade : goal.returns-in_err-push_grade
 returns-in_err-push_grade c =
     let p = err_from_is_err_and c.from_residual.result c.from_residual.ensures.1 in
     rw (p.1, p.2, ← c.loop-g.invariant)
-    (walk_fault is_memory with_grade c.loop-g.g c.loop-g.g c.loop-g.grades c.args.told.now c.index-told-g.result c.in_err-push_grade.field-0.0 c.loop-g-test.true c.index-told-g.is c.in_err-push_grade.ensures)
+    (walk_fault is_memory with_grade c.loop-g.g c.loop-g.g c.loop-g.grades c.args.written.now c.index-written-g.result c.in_err-push_grade.field-0.0 c.loop-g-test.true c.index-written-g.is c.in_err-push_grade.ensures)
 
 pub loop-g-preserved : goal.loop-g-preserved
 loop-g-preserved c =
-    sym (walk_on with_grade c.loop-g.g c.loop-g.g c.loop-g.grades c.push_grade.new.grades c.args.told.now c.index-told-g.result c.loop-g-test.true c.index-told-g.is c.in_ok-push_grade.ensures)
+    sym (walk_on with_grade c.loop-g.g c.loop-g.g c.loop-g.grades c.push_grade.new.grades c.args.written.now c.index-written-g.result c.loop-g-test.true c.index-written-g.is c.in_ok-push_grade.ensures)
     ∙ c.loop-g.invariant

@@ -5,4 +5,4 @@ use Rattle.grades.proofs.read.ranged_grades.Given as goal
 
 -- from the grades so far, the grades that are left lead to what all grades give
 abbrev pub invariant-loop-g : goal.invariant-loop-g
-invariant-loop-g l = walk with_grade l.g l.grades (drop l.g l.told) ≡ walk with_grade 0 [] l.told
+invariant-loop-g l = walk with_grade l.g l.grades (drop l.g l.written) ≡ walk with_grade 0 [] l.written

@@ -1,8 +1,8 @@
 use Rattle.std.proofs.Common.{List, ℕ, Ok, refl}
 use Rattle.itv_base.specs.declared.limits.TheConstants.{REPORT_LIMIT}
 use Rattle.drawn.specs.Drawn.{Drawn}
-use Rattle.reading.specs.declared.place.RefusalPlace.TheVariants.{Report}
-use Rattle.reading.specs.Opening.{FileReading, gives, ◌>>=◌, file_at}
+use Rattle.reading.specs.declared.refusal_place.RefusalPlace.TheVariants.{Report}
+use Rattle.reading.specs.FileReading.{FileReading, gives, ◌>>=◌, file_at}
 use Rattle.reading.proofs.Opens.{opens_then, opens_up}
 use Rattle.itv_cli.specs.declared.ready.Ready.{Ready}
 use Rattle.itv_cli.specs.declared.ready.Ready.TheVariants.{Confirm}
@@ -15,19 +15,19 @@ with_report report drawn = file_at Report report REPORT_LIMIT >>= (λ bytes. giv
 
 pub returns-in_err-drawn-clause-opens : goal.returns-in_err-drawn-clause-opens
 returns-in_err-drawn-clause-opens g c =
-    design_up c.args.design.now (with_report c.args.report.now) (g.H.Shelf.told c.args.shelf.now) (g.H.Shelf.told c.open_design.new.shelf) c.in_err-drawn.field-0.0 c.from_residual.result
+    design_up c.args.design.now (with_report c.args.report.now) (g.H.Shelf.state c.args.shelf.now) (g.H.Shelf.state c.open_design.new.shelf) c.in_err-drawn.field-0.0 c.from_residual.result
     c.from_residual.ensures.1 c.in_err-drawn.ensures.opens
 
 pub returns-in_err-report-clause-opens : goal.returns-in_err-report-clause-opens
 returns-in_err-report-clause-opens g c =
-    design_then c.args.design.now (with_report c.args.report.now) (g.H.Shelf.told c.args.shelf.now) (g.H.Shelf.told c.open_design.new.shelf) (g.H.Shelf.told c.fetch_file.new.shelf) c.in_ok-drawn.drawn c.from_residual-in_err-report.result
+    design_then c.args.design.now (with_report c.args.report.now) (g.H.Shelf.state c.args.shelf.now) (g.H.Shelf.state c.open_design.new.shelf) (g.H.Shelf.state c.fetch_file.new.shelf) c.in_ok-drawn.drawn c.from_residual-in_err-report.result
     c.in_ok-drawn.ensures.opens
-    (opens_up (λ (bytes : List ℕ). bytes) (λ (given : Ready). given) (file_at Report c.args.report.now REPORT_LIMIT) (λ bytes. gives (Confirm c.in_ok-drawn.drawn bytes)) (g.H.Shelf.told c.open_design.new.shelf) (g.H.Shelf.told c.fetch_file.new.shelf)
+    (opens_up (λ (bytes : List ℕ). bytes) (λ (given : Ready). given) (file_at Report c.args.report.now REPORT_LIMIT) (λ bytes. gives (Confirm c.in_ok-drawn.drawn bytes)) (g.H.Shelf.state c.open_design.new.shelf) (g.H.Shelf.state c.fetch_file.new.shelf)
     c.in_err-report.field-0.0 c.from_residual-in_err-report.result c.from_residual-in_err-report.ensures.1 c.in_err-report.ensures.opens)
 
 pub returns-clause-opens : goal.returns-clause-opens
 returns-clause-opens g c =
-    design_then c.args.design.now (with_report c.args.report.now) (g.H.Shelf.told c.args.shelf.now) (g.H.Shelf.told c.open_design.new.shelf) (g.H.Shelf.told c.fetch_file.new.shelf) c.in_ok-drawn.drawn
+    design_then c.args.design.now (with_report c.args.report.now) (g.H.Shelf.state c.args.shelf.now) (g.H.Shelf.state c.open_design.new.shelf) (g.H.Shelf.state c.fetch_file.new.shelf) c.in_ok-drawn.drawn
     (Ok (Confirm c.in_ok-drawn.drawn c.in_ok-report.report)) c.in_ok-drawn.ensures.opens
-    (opens_then (λ (bytes : List ℕ). bytes) (λ (given : Ready). given) (file_at Report c.args.report.now REPORT_LIMIT) (λ bytes. gives (Confirm c.in_ok-drawn.drawn bytes)) (g.H.Shelf.told c.open_design.new.shelf) (g.H.Shelf.told c.fetch_file.new.shelf)
-    (g.H.Shelf.told c.fetch_file.new.shelf) c.in_ok-report.report (Ok (Confirm c.in_ok-drawn.drawn c.in_ok-report.report)) c.in_ok-report.ensures.opens (refl, refl))
+    (opens_then (λ (bytes : List ℕ). bytes) (λ (given : Ready). given) (file_at Report c.args.report.now REPORT_LIMIT) (λ bytes. gives (Confirm c.in_ok-drawn.drawn bytes)) (g.H.Shelf.state c.open_design.new.shelf) (g.H.Shelf.state c.fetch_file.new.shelf)
+    (g.H.Shelf.state c.fetch_file.new.shelf) c.in_ok-report.report (Ok (Confirm c.in_ok-drawn.drawn c.in_ok-report.report)) c.in_ok-report.ensures.opens (refl, refl))

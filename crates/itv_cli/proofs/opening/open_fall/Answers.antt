@@ -4,10 +4,10 @@ use Rattle.itv_cli.proofs.opening.open_fall.Goals as goal
 
 pub returns-in_err-drawn-clause-opens : goal.returns-in_err-drawn-clause-opens
 returns-in_err-drawn-clause-opens g c =
-    design_up c.args.design.now (fall_at c.args.budget c.args.cert) (g.H.Shelf.told c.args.shelf.now) (g.H.Shelf.told c.open_design.new.shelf) c.in_err-drawn.field-0.0 c.from_residual.result
+    design_up c.args.design.now (fall_at c.args.budget c.args.cert) (g.H.Shelf.state c.args.shelf.now) (g.H.Shelf.state c.open_design.new.shelf) c.in_err-drawn.field-0.0 c.from_residual.result
     c.from_residual.ensures.1 c.in_err-drawn.ensures.opens
 
 pub returns-clause-opens : goal.returns-clause-opens
 returns-clause-opens g c =
-    design_then c.args.design.now (fall_at c.args.budget c.args.cert) (g.H.Shelf.told c.args.shelf.now) (g.H.Shelf.told c.open_design.new.shelf) (g.H.Shelf.told c.open_design.new.shelf) c.in_ok-drawn.drawn c.for_fall.result
-    c.in_ok-drawn.ensures.opens (c.for_fall.ensures.reads (g.H.Shelf.told c.open_design.new.shelf))
+    design_then c.args.design.now (fall_at c.args.budget c.args.cert) (g.H.Shelf.state c.args.shelf.now) (g.H.Shelf.state c.open_design.new.shelf) (g.H.Shelf.state c.open_design.new.shelf) c.in_ok-drawn.drawn c.for_fall.result
+    c.in_ok-drawn.ensures.opens (c.for_fall.ensures.reads (g.H.Shelf.state c.open_design.new.shelf))

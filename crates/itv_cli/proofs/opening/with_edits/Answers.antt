@@ -1,7 +1,7 @@
 use Rattle.std.proofs.Common.{List, ℕ}
 use Rattle.edits.specs.declared.file.TheConstants.{MAX_EDITS_BYTES}
-use Rattle.reading.specs.declared.place.RefusalPlace.TheVariants.{Edits}
-use Rattle.reading.specs.Opening.{file_at}
+use Rattle.reading.specs.declared.refusal_place.RefusalPlace.TheVariants.{Edits}
+use Rattle.reading.specs.FileReading.{file_at}
 use Rattle.reading.proofs.Opens.{opens_then, opens_up}
 use Rattle.itv_cli.specs.declared.ready.Ready.{Ready}
 use Rattle.itv_cli.specs.Job.{edits_in}
@@ -10,10 +10,10 @@ use Rattle.itv_cli.proofs.opening.with_edits.Goals as goal
 pub returns-in_err-bytes-clause-opens : goal.returns-in_err-bytes-clause-opens
 returns-in_err-bytes-clause-opens g c =
     opens_up (λ (bytes : List ℕ). bytes) (λ (given : Ready). given) (file_at Edits c.args.edits.now MAX_EDITS_BYTES) (λ bytes. edits_in c.args.budget c.args.drawn bytes)
-    (g.H.Shelf.told c.args.shelf.now) (g.H.Shelf.told c.fetch_file.new.shelf) c.in_err-bytes.field-0.0 c.from_residual.result c.from_residual.ensures.1 c.in_err-bytes.ensures.opens
+    (g.H.Shelf.state c.args.shelf.now) (g.H.Shelf.state c.fetch_file.new.shelf) c.in_err-bytes.field-0.0 c.from_residual.result c.from_residual.ensures.1 c.in_err-bytes.ensures.opens
 
 pub returns-clause-opens : goal.returns-clause-opens
 returns-clause-opens g c =
     opens_then (λ (bytes : List ℕ). bytes) (λ (given : Ready). given) (file_at Edits c.args.edits.now MAX_EDITS_BYTES) (λ bytes. edits_in c.args.budget c.args.drawn bytes)
-    (g.H.Shelf.told c.args.shelf.now) (g.H.Shelf.told c.fetch_file.new.shelf) (g.H.Shelf.told c.fetch_file.new.shelf) c.in_ok-bytes.bytes c.for_edits.result c.in_ok-bytes.ensures.opens
-    (rw c.as_slice.ensures.items at (c.for_edits.ensures.reads (g.H.Shelf.told c.fetch_file.new.shelf)))
+    (g.H.Shelf.state c.args.shelf.now) (g.H.Shelf.state c.fetch_file.new.shelf) (g.H.Shelf.state c.fetch_file.new.shelf) c.in_ok-bytes.bytes c.for_edits.result c.in_ok-bytes.ensures.opens
+    (rw c.as_slice.ensures.items at (c.for_edits.ensures.reads (g.H.Shelf.state c.fetch_file.new.shelf)))

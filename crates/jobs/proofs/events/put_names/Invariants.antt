@@ -6,4 +6,4 @@ use Rattle.jobs.proofs.events.put_names.Given as goal
 
 abbrev pub invariant-loop-number : goal.invariant-loop-number
 invariant-loop-number g l =
-    Left (g.K.Sink.told l.fn.sink) (g.K.Sink.told l.sink) (report_text (events_from l.number (drop l.number l.drawn.names))) (report_text (events_from 0 l.drawn.names))
+    Left (g.K.Sink.state l.fn.sink) (g.K.Sink.state l.sink) (report_text (events_from l.number (drop l.number l.drawn.names))) (report_text (events_from 0 l.drawn.names))

@@ -5,4 +5,4 @@ use Rattle.lint_report.proofs.put_found.put_orders.Given as goal
 
 -- the lines of the first rows are put
 abbrev pub invariant-loop-number : goal.invariant-loop-number
-invariant-loop-number g l = Left (g.K.Sink.told l.fn.sink) (g.K.Sink.told l.sink) (orders_text l.drawn l.number (drop l.number l.found)) (orders_text l.drawn 0 l.found)
+invariant-loop-number g l = Left (g.K.Sink.state l.fn.sink) (g.K.Sink.state l.sink) (orders_text l.drawn l.number (drop l.number l.found)) (orders_text l.drawn 0 l.found)

@@ -8,5 +8,5 @@ use Rattle.matrix_report.proofs.lines.put_entries.Given as goal
 
 abbrev pub invariant-loop-to : goal.invariant-loop-to
 invariant-loop-to g l =
-    Left (g.K.Sink.told l.fn.sink) (g.K.Sink.told l.sink) (flat_map spaced (map end_text (numbers_of (drop l.to (get_or l.matrix l.from [])))))
+    Left (g.K.Sink.state l.fn.sink) (g.K.Sink.state l.sink) (flat_map spaced (map end_text (numbers_of (drop l.to (get_or l.matrix l.from [])))))
     (flat_map spaced (map end_text (numbers_of (get_or l.matrix l.from []))))

@@ -7,4 +7,4 @@ use Rattle.matrix_report.proofs.lines.put_rows.Given as goal
 
 abbrev pub invariant-loop-from : goal.invariant-loop-from
 invariant-loop-from g l =
-    Left (g.K.Sink.told l.fn.sink) (g.K.Sink.told l.sink) (flat_map row_text (entries_of (drop l.from l.matrix))) (flat_map row_text (entries_of l.matrix))
+    Left (g.K.Sink.state l.fn.sink) (g.K.Sink.state l.sink) (flat_map row_text (entries_of (drop l.from l.matrix))) (flat_map row_text (entries_of l.matrix))

@@ -1,6 +1,6 @@
 use Rattle.std.proofs.Common.{◌≡◌, length}
 use Rattle.minplus.specs.Matrix.{IsSquare, cells}
-use Rattle.minplus.specs.Step.Stage.{PivotStage}
+use Rattle.minplus.specs.Step.PivotStage.{PivotStage}
 use Rattle.minplus.proofs.closing.close.Given as goal
 
 abbrev pub invariant-loop-event : goal.invariant-loop-event

@@ -4,18 +4,18 @@ use Rattle.reading.proofs.design.draw_plan.Goals as goal
 
 pub returns-in-Err : goal.returns-in-Err
 returns-in-Err c = record {
-  draws = λ told. drawn_same told c.netlist.result.now c.args.plan.now.netlist c.sheets.result.now.entries c.args.plan.now.sheets (Err c.join_stop.result) c.netlist.ensures.netlist c.sheets.ensures.sheets
-      (rw c.join_stop.ensures (joins_refused told c.netlist.result.now c.sheets.result.now c.in-Err.fault c.in-Err.ensures.answer));
+  draws = λ state. drawn_same state c.netlist.result.now c.args.plan.now.netlist c.sheets.result.now.entries c.args.plan.now.sheets (Err c.join_stop.result) c.netlist.ensures.netlist c.sheets.ensures.sheets
+      (rw c.join_stop.ensures (joins_refused state c.netlist.result.now c.sheets.result.now c.in-Err.fault c.in-Err.ensures.answer));
 }
 
 pub returns-in-Ok-unroll : goal.returns-in-Ok-unroll
 returns-in-Ok-unroll c = record {
-  draws = λ told. drawn_same told c.netlist.result.now c.args.plan.now.netlist c.sheets.result.now.entries c.args.plan.now.sheets (Ok c.in-Ok-unroll.drawn) c.netlist.ensures.netlist c.sheets.ensures.sheets
-      (drawn_ready told c.netlist.result.now c.sheets.result.now c.in-Ok.design c.in-Ok.ensures.answer c.in-Ok-unroll.drawn c.in-Ok-unroll.ensures.answer, refl);
+  draws = λ state. drawn_same state c.netlist.result.now c.args.plan.now.netlist c.sheets.result.now.entries c.args.plan.now.sheets (Ok c.in-Ok-unroll.drawn) c.netlist.ensures.netlist c.sheets.ensures.sheets
+      (drawn_ready state c.netlist.result.now c.sheets.result.now c.in-Ok.design c.in-Ok.ensures.answer c.in-Ok-unroll.drawn c.in-Ok-unroll.ensures.answer, refl);
 }
 
 pub returns : goal.returns
 returns c = record {
-  draws = λ told. drawn_same told c.netlist.result.now c.args.plan.now.netlist c.sheets.result.now.entries c.args.plan.now.sheets (Err c.limit_stop.result) c.netlist.ensures.netlist c.sheets.ensures.sheets
-      (rw c.limit_stop.ensures (limits_refused told c.netlist.result.now c.sheets.result.now c.in-Ok.design c.in-Ok.ensures.answer c.in-Err-unroll.fault c.in-Err-unroll.ensures.answer));
+  draws = λ state. drawn_same state c.netlist.result.now c.args.plan.now.netlist c.sheets.result.now.entries c.args.plan.now.sheets (Err c.limit_stop.result) c.netlist.ensures.netlist c.sheets.ensures.sheets
+      (rw c.limit_stop.ensures (limits_refused state c.netlist.result.now c.sheets.result.now c.in-Ok.design c.in-Ok.ensures.answer c.in-Err-unroll.fault c.in-Err-unroll.ensures.answer));
 }

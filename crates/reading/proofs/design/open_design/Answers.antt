@@ -6,12 +6,12 @@ use Rattle.reading.proofs.design.open_design.Goals as goal
 
 pub returns-in_err-plan : goal.returns-in_err-plan
 returns-in_err-plan g c = record {
-  opens = opens_up (λ (p : Planned). p) (λ (d : Drawn). d) (plan_at c.args.name.now) (λ plan. drawn_at plan.netlist plan.sheets) (g.H.Shelf.told c.args.shelf.now) (g.H.Shelf.told c.open_plan.new.shelf) c.in_err-plan.field-0.0 c.from_residual.result
+  opens = opens_up (λ (p : Planned). p) (λ (d : Drawn). d) (plan_at c.args.name.now) (λ plan. drawn_at plan.netlist plan.sheets) (g.H.Shelf.state c.args.shelf.now) (g.H.Shelf.state c.open_plan.new.shelf) c.in_err-plan.field-0.0 c.from_residual.result
       c.from_residual.ensures.1 c.in_err-plan.ensures.opens;
 }
 
 pub returns : goal.returns
 returns g c = record {
-  opens = opens_then (λ (p : Planned). p) (λ (d : Drawn). d) (plan_at c.args.name.now) (λ plan. drawn_at plan.netlist plan.sheets) (g.H.Shelf.told c.args.shelf.now) (g.H.Shelf.told c.open_plan.new.shelf) (g.H.Shelf.told c.open_plan.new.shelf) c.in_ok-plan.plan
-      c.draw_plan.result c.in_ok-plan.ensures.opens (c.draw_plan.ensures.draws (g.H.Shelf.told c.open_plan.new.shelf));
+  opens = opens_then (λ (p : Planned). p) (λ (d : Drawn). d) (plan_at c.args.name.now) (λ plan. drawn_at plan.netlist plan.sheets) (g.H.Shelf.state c.args.shelf.now) (g.H.Shelf.state c.open_plan.new.shelf) (g.H.Shelf.state c.open_plan.new.shelf) c.in_ok-plan.plan
+      c.draw_plan.result c.in_ok-plan.ensures.opens (c.draw_plan.ensures.draws (g.H.Shelf.state c.open_plan.new.shelf));
 }

@@ -1,19 +1,19 @@
 use Rattle.std.proofs.Common.{Ok, ap, refl}
 use Rattle.serde_json.specs.View.{view}
 use Rattle.plan.specs.Plan.{Planned}
-use Rattle.reading.specs.Opening.{ready}
+use Rattle.reading.specs.FileReading.{ready}
 use Rattle.reading.proofs.Drawing.{netlist_up, netlist_on}
 use Rattle.reading.proofs.PartSheets.{parts_drawn}
 use Rattle.reading.proofs.planning.open_netlist.Goals as goal
 
 pub returns-in_err-sheets : goal.returns-in_err-sheets
 returns-in_err-sheets g c =
-    netlist_up (g.H.Shelf.told c.args.shelf.now) (g.H.Shelf.told c.open_sheets.new.shelf) (view c.args.tree.now) c.in-Ok.netlist c.in-Ok.ensures.answer c.from_residual.result c.in_err-sheets.field-0.0 c.from_residual.ensures.1 c.in_err-sheets.ensures
+    netlist_up (g.H.Shelf.state c.args.shelf.now) (g.H.Shelf.state c.open_sheets.new.shelf) (view c.args.tree.now) c.in-Ok.netlist c.in-Ok.ensures.answer c.from_residual.result c.in_err-sheets.field-0.0 c.from_residual.ensures.1 c.in_err-sheets.ensures
 
 pub of-requires : goal.of-requires
-of-requires g c = record { sheets = parts_drawn (g.H.Shelf.told c.args.shelf.now) c.in-Ok.netlist c.in_ok-sheets.sheets.entries c.in_ok-sheets.ensures.0 }
+of-requires g c = record { sheets = parts_drawn (g.H.Shelf.state c.args.shelf.now) c.in-Ok.netlist c.in_ok-sheets.sheets.entries c.in_ok-sheets.ensures.0 }
 
 pub returns : goal.returns
 returns g c =
-    netlist_on (g.H.Shelf.told c.args.shelf.now) (g.H.Shelf.told c.open_sheets.new.shelf) (view c.args.tree.now) c.in-Ok.netlist c.in-Ok.ensures.answer (Ok c.in_ok-plan.plan) c.in_ok-sheets.sheets c.in_ok-sheets.ensures
+    netlist_on (g.H.Shelf.state c.args.shelf.now) (g.H.Shelf.state c.open_sheets.new.shelf) (view c.args.tree.now) c.in-Ok.netlist c.in-Ok.ensures.answer (Ok c.in_ok-plan.plan) c.in_ok-sheets.sheets c.in_ok-sheets.ensures
     (ap (λ (p : Planned). ready p) c.in_ok-plan.ensures.plan, refl)

@@ -1,9 +1,9 @@
 use Rattle.std.proofs.Common.{Ok, ap, refl, subst, sym}
 use Rattle.serde_json.specs.View.{view}
-use Rattle.sheet.specs.Contents.{SheetContents}
+use Rattle.sheet.specs.SheetContents.{SheetContents}
 use Rattle.plan.specs.Plan.{Planned}
-use Rattle.reading.specs.declared.place.RefusalPlace.TheVariants.{File}
-use Rattle.reading.specs.Opening.{FileReading, gives, ready}
+use Rattle.reading.specs.declared.refusal_place.RefusalPlace.TheVariants.{File}
+use Rattle.reading.specs.FileReading.{FileReading, gives, ready}
 use Rattle.reading.specs.Step.{Opens}
 use Rattle.reading.specs.Step.Lone.{lone_plan, plain_sheet_at}
 use Rattle.reading.proofs.LoneSheets.{lone_is}
@@ -11,13 +11,13 @@ use Rattle.reading.proofs.Opens.{opens_then, opens_up}
 use Rattle.reading.proofs.planning.read_lone.Goals as goal
 
 pub returns-in_err-sheet : goal.returns-in_err-sheet
-returns-in_err-sheet c told =
-    subst (λ (o : FileReading Planned). Opens (λ (p : Planned). p) told told o c.from_residual.result) (sym (lone_is c.args.name.now (view c.args.tree.now)))
-    (opens_up (λ (s : SheetContents). s) (λ (p : Planned). p) (plain_sheet_at (File 0) (view c.args.tree.now)) (λ sheet. gives (lone_plan c.args.name.now sheet)) told told c.in_err-sheet.field-0.0 c.from_residual.result
-    c.from_residual.ensures.1 (c.in_err-sheet.ensures told))
+returns-in_err-sheet c state =
+    subst (λ (o : FileReading Planned). Opens (λ (p : Planned). p) state state o c.from_residual.result) (sym (lone_is c.args.name.now (view c.args.tree.now)))
+    (opens_up (λ (s : SheetContents). s) (λ (p : Planned). p) (plain_sheet_at (File 0) (view c.args.tree.now)) (λ sheet. gives (lone_plan c.args.name.now sheet)) state state c.in_err-sheet.field-0.0 c.from_residual.result
+    c.from_residual.ensures.1 (c.in_err-sheet.ensures state))
 
 pub returns : goal.returns
-returns c told =
-    subst (λ (o : FileReading Planned). Opens (λ (p : Planned). p) told told o (Ok c.in_ok-plan.plan)) (sym (lone_is c.args.name.now (view c.args.tree.now)))
-    (opens_then (λ (s : SheetContents). s) (λ (p : Planned). p) (plain_sheet_at (File 0) (view c.args.tree.now)) (λ sheet. gives (lone_plan c.args.name.now sheet)) told told told c.in_ok-sheet.sheet (Ok c.in_ok-plan.plan) (c.in_ok-sheet.ensures told)
+returns c state =
+    subst (λ (o : FileReading Planned). Opens (λ (p : Planned). p) state state o (Ok c.in_ok-plan.plan)) (sym (lone_is c.args.name.now (view c.args.tree.now)))
+    (opens_then (λ (s : SheetContents). s) (λ (p : Planned). p) (plain_sheet_at (File 0) (view c.args.tree.now)) (λ sheet. gives (lone_plan c.args.name.now sheet)) state state state c.in_ok-sheet.sheet (Ok c.in_ok-plan.plan) (c.in_ok-sheet.ensures state)
     (ap (λ (p : Planned). ready p) c.in_ok-plan.ensures, refl))

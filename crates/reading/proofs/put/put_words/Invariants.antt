@@ -7,4 +7,4 @@ use Rattle.reading.proofs.put.put_words.Given as goal
 
 abbrev pub invariant-loop-word : goal.invariant-loop-word
 invariant-loop-word g l =
-    Left (g.K.Sink.told l.fn.sink) (g.K.Sink.told l.sink) (flat_map spaced (map word_spelled (drop l.word-index l.words))) (flat_map spaced (map word_spelled l.words))
+    Left (g.K.Sink.state l.fn.sink) (g.K.Sink.state l.sink) (flat_map spaced (map word_spelled (drop l.word-index l.words))) (flat_map spaced (map word_spelled l.words))

@@ -5,4 +5,4 @@ use Rattle.redraw.proofs.write.put_bytes.Given as goal
 
 -- some bytes are put
 abbrev pub invariant-loop-byte : goal.invariant-loop-byte
-invariant-loop-byte g l = Left (g.K.Sink.told l.fn.sink) (g.K.Sink.told l.sink) (escaped (drop l.byte-index l.text)) (escaped l.text)
+invariant-loop-byte g l = Left (g.K.Sink.state l.fn.sink) (g.K.Sink.state l.sink) (escaped (drop l.byte-index l.text)) (escaped l.text)

@@ -2,7 +2,7 @@ use Rattle.std.proofs.Common.{◌≡◌, ◌≤◌, ap, length, drop, arith, sub
 use Rattle.std.proofs.Math.ListN.{drop_of_length-le}
 use Rattle.event_graph.proofs.EdgesMet.{All-found}
 use Rattle.slack_report.specs.Items.{item_view}
-use Rattle.right_report.specs.Right.At.{at_end}
+use Rattle.right_report.specs.Right.ReportState.{at_end}
 use Rattle.drawn.specs.Drawn.{IsRowOf}
 use Rattle.report_check.specs.Step.Stages.{Decides}
 use Rattle.report_check.proofs.Placing.{end_decides}
@@ -14,7 +14,7 @@ returns-then-number-len c =
     let past : length c.args.drawn.now.rows ≤ c.args.number = omega (arith, rows, c.len.ensures.count, c.if-number-len.true) in
     record {
       decides =
-          end_decides c.args.drawn.now c.args.course c.args.number (drop c.args.number c.args.drawn.now.rows) (item_view c.args.item.now) c.judge_end.result
+          end_decides c.args.drawn.now c.args.tally c.args.number (drop c.args.number c.args.drawn.now.rows) (item_view c.args.item.now) c.judge_end.result
           (drop_of_length-le c.args.drawn.now.rows past)
           (subst (λ word. Decides c.args.drawn.now (at_end word) (item_view c.args.item.now) c.judge_end.result) c.end_word.ensures.word c.judge_end.ensures.decides);
     }

@@ -1,5 +1,5 @@
 use Rattle.std.proofs.Common.{◌≡◌, ◌≤◌, arith, length, true, false, sym, ◌∙◌}
-use Rattle.right_report.specs.Right.At.{at_heading}
+use Rattle.right_report.specs.Right.ReportState.{at_heading}
 use Rattle.report_check.specs.Step.Stages.{at_of}
 use Rattle.report_check.proofs.Leading.{end_wrong, walk_wrong, wrong_within}
 use Rattle.report_check.proofs.walk.walk.Goals as goal

@@ -7,4 +7,4 @@ use Rattle.settle_lines.proofs.put.put_literals.Given as goal
 
 abbrev pub invariant-loop-literal : goal.invariant-loop-literal
 invariant-loop-literal g l =
-    Left (g.K.Sink.told l.fn.sink) (g.K.Sink.told l.sink) (flat_map spaced (map literal_word (drop l.literal-index l.literals))) (flat_map spaced (map literal_word l.literals))
+    Left (g.K.Sink.state l.fn.sink) (g.K.Sink.state l.sink) (flat_map spaced (map literal_word (drop l.literal-index l.literals))) (flat_map spaced (map literal_word l.literals))

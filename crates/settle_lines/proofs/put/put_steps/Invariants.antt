@@ -7,4 +7,4 @@ use Rattle.settle_lines.proofs.put.put_steps.Given as goal
 
 abbrev pub invariant-loop-step : goal.invariant-loop-step
 invariant-loop-step g l =
-    Left (g.K.Sink.told l.fn.sink) (g.K.Sink.told l.sink) (flat_map spaced (step_words (drop l.step-index l.steps))) (flat_map spaced (step_words l.steps))
+    Left (g.K.Sink.state l.fn.sink) (g.K.Sink.state l.sink) (flat_map spaced (step_words (drop l.step-index l.steps))) (flat_map spaced (step_words l.steps))

@@ -7,4 +7,4 @@ use Rattle.settle_lines.proofs.writing.put_lines.Given as goal
 
 abbrev pub invariant-loop-line : goal.invariant-loop-line
 invariant-loop-line g l =
-    Left (g.K.Sink.told l.fn.sink) (g.K.Sink.told l.sink) (flat_map clause_line_text (lines_of (drop l.line-index l.lines))) (flat_map clause_line_text (lines_of l.lines))
+    Left (g.K.Sink.state l.fn.sink) (g.K.Sink.state l.sink) (flat_map clause_line_text (lines_of (drop l.line-index l.lines))) (flat_map clause_line_text (lines_of l.lines))

@@ -1,6 +1,6 @@
 use Rattle.std.proofs.Common.{◌≡◌, drop}
 use Rattle.slack_report.specs.declared.words.FindingWord.TheVariants.{Consistent}
-use Rattle.right_report.specs.Right.At.{course_of}
+use Rattle.right_report.specs.Right.ReportState.{tally_of}
 use Rattle.settle_report.specs.Text.{with_rows}
 use Rattle.settle_report.proofs.ending.marks_of.Given as goal
 
@@ -8,4 +8,4 @@ use Rattle.settle_report.proofs.ending.marks_of.Given as goal
 abbrev pub invariant-loop-number : goal.invariant-loop-number
 invariant-loop-number l =
     with_rows (record { found = Consistent; fails = l.marks.fails; within = l.marks.within }) (drop l.number l.drawn.rows) (drop l.number l.found)
-    ≡ with_rows (course_of Consistent) l.drawn.rows l.found
+    ≡ with_rows (tally_of Consistent) l.drawn.rows l.found

@@ -6,5 +6,5 @@ use Rattle.settle_report.proofs.put_rows.put_each.Given as goal
 -- the texts of the first rows are put
 abbrev pub invariant-loop-number : goal.invariant-loop-number
 invariant-loop-number g l =
-    Left (g.K.Sink.told l.fn.sink) (g.K.Sink.told l.sink) (rows_text l.drawn l.cert l.number (drop l.number l.drawn.rows) (drop l.number l.found))
+    Left (g.K.Sink.state l.fn.sink) (g.K.Sink.state l.sink) (rows_text l.drawn l.cert l.number (drop l.number l.drawn.rows) (drop l.number l.found))
     (rows_text l.drawn l.cert 0 l.drawn.rows l.found)

@@ -7,8 +7,8 @@ returns-clause-ok c = tells_ok c.args.bytes.now c.read_whole.result c.read_whole
 pub returns-clause-only : goal.returns-clause-only
 returns-clause-only c = tells_only c.args.bytes.now c.read_whole.result c.read_whole.ensures
 
-pub returns-clause-told : goal.returns-clause-told
-returns-clause-told c = tells_line c.args.bytes.now c.read_whole.result c.read_whole.ensures
+pub returns-clause-named : goal.returns-clause-named
+returns-clause-named c = tells_line c.args.bytes.now c.read_whole.result c.read_whole.ensures
 
 pub returns-clause-wrong : goal.returns-clause-wrong
 returns-clause-wrong c = tells_wrong c.args.bytes.now c.read_whole.result c.read_whole.ensures

@@ -7,4 +7,4 @@ use Rattle.slack_report.proofs.write.put_longs.Given as goal
 
 abbrev pub invariant-loop-value : goal.invariant-loop-value
 invariant-loop-value g l =
-    Left (g.K.Sink.told l.fn.sink) (g.K.Sink.told l.sink) (flat_map spaced (map signed_text (drop l.value-index l.list))) (flat_map spaced (map signed_text l.list))
+    Left (g.K.Sink.state l.fn.sink) (g.K.Sink.state l.sink) (flat_map spaced (map signed_text (drop l.value-index l.list))) (flat_map spaced (map signed_text l.list))

@@ -7,4 +7,4 @@ use Rattle.slack_report.proofs.write.put_members.Given as goal
 
 abbrev pub invariant-loop-number : goal.invariant-loop-number
 invariant-loop-number g l =
-    Left (g.K.Sink.told l.fn.sink) (g.K.Sink.told l.sink) (flat_map spaced (members_from l.number (drop l.number l.set))) (flat_map spaced (members_from 0 l.set))
+    Left (g.K.Sink.state l.fn.sink) (g.K.Sink.state l.sink) (flat_map spaced (members_from l.number (drop l.number l.set))) (flat_map spaced (members_from 0 l.set))

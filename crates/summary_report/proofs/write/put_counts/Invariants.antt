@@ -6,4 +6,4 @@ use Rattle.summary_report.proofs.write.put_counts.Given as goal
 
 abbrev pub invariant-loop-count : goal.invariant-loop-count
 invariant-loop-count g l =
-    Left (g.K.Sink.told l.fn.sink) (g.K.Sink.told l.sink) (flat_map count_text (drop l.count-index l.counts)) (flat_map count_text l.counts)
+    Left (g.K.Sink.state l.fn.sink) (g.K.Sink.state l.sink) (flat_map count_text (drop l.count-index l.counts)) (flat_map count_text l.counts)

@@ -7,6 +7,6 @@ use Rattle.why_report.proofs.put_rules.put_causes.Given as goal
 -- the first causes are put
 abbrev pub invariant-loop-cause : goal.invariant-loop-cause
 invariant-loop-cause g l =
-    Left (g.K.Sink.told l.fn.sink) (g.K.Sink.told l.sink)
+    Left (g.K.Sink.state l.fn.sink) (g.K.Sink.state l.sink)
     (causes_text (g.N.Notes.noted l.notes) l.drawn (constraint_at l.drawn l.number) (drop l.cause (constraint_at l.drawn l.number).causes) (drop l.cause (origins_at l.drawn l.number)))
     (causes_at (g.N.Notes.noted l.notes) l.drawn l.number)

@@ -8,5 +8,5 @@ use Rattle.why_report.proofs.steps.put_back.Given as goal
 -- the last steps are put
 abbrev pub invariant-loop-place : goal.invariant-loop-place
 invariant-loop-place g l =
-    Left (g.K.Sink.told l.fn.sink) (g.K.Sink.told l.sink) (flat_map (step_text (g.N.Notes.noted l.notes) l.drawn Min) (reverse (take l.place l.names)))
+    Left (g.K.Sink.state l.fn.sink) (g.K.Sink.state l.sink) (flat_map (step_text (g.N.Notes.noted l.notes) l.drawn Min) (reverse (take l.place l.names)))
     (flat_map (step_text (g.N.Notes.noted l.notes) l.drawn Min) (reverse l.names))

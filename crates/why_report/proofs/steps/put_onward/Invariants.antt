@@ -8,5 +8,5 @@ use Rattle.why_report.proofs.steps.put_onward.Given as goal
 -- the first steps are put
 abbrev pub invariant-loop-name : goal.invariant-loop-name
 invariant-loop-name g l =
-    Left (g.K.Sink.told l.fn.sink) (g.K.Sink.told l.sink) (flat_map (step_text (g.N.Notes.noted l.notes) l.drawn Max) (drop l.name-index l.names))
+    Left (g.K.Sink.state l.fn.sink) (g.K.Sink.state l.sink) (flat_map (step_text (g.N.Notes.noted l.notes) l.drawn Max) (drop l.name-index l.names))
     (flat_map (step_text (g.N.Notes.noted l.notes) l.drawn Max) l.names)

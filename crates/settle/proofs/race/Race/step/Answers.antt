@@ -11,7 +11,7 @@ pub returns-in-Negated-clause-over : goal.returns-in-Negated-clause-over
 returns-in-Negated-clause-over c =
     subst
     (λ (v : View). IfOk c.step-in-Negated.result
-    (λ (told : SearchState). told ≡ Over
+    (λ (next : SearchState). next ≡ Over
     → IsOverAs v c.args.net.now
     (record {
       from = c.args.self.now.from;
@@ -24,5 +24,5 @@ returns-in-Negated-clause-over c =
       blocks = c.args.self.now.blocks;
     })))
     (sym c.in-Negated.is)
-    (subst (λ (n : Net). IfOk c.step-in-Negated.result (λ (told : SearchState). told ≡ Over → IsOver n c.step-in-Negated.new.self.check.goal c.step-in-Negated.new.self.check.state))
+    (subst (λ (n : Net). IfOk c.step-in-Negated.result (λ (next : SearchState). next ≡ Over → IsOver n c.step-in-Negated.new.self.check.goal c.step-in-Negated.new.self.check.state))
     c.requires.negation c.step-in-Negated.ensures.over)

@@ -1,0 +1,30 @@
+use Rattle.std.proofs.Common.{refl}
+use Rattle.slack_report.specs.Entry.{times}
+use Rattle.right_report.specs.Right.ReportState.{behind_past, behind_verdict}
+use Rattle.bounds_report.specs.Step.Searched.{sized}
+use Rattle.bounds_report.proofs.Passing.{end_time, past_high_may, past_low_may}
+use Rattle.bounds_report.proofs.WriterSteps.{goes_line}
+use Rattle.bounds_report.proofs.past.print_past.Goals as goal
+use Rattle.event_graph.proofs.MovingOn.{read_time}
+
+pub returns-in-FailHigh-clause-goes : goal.returns-in-FailHigh-clause-goes
+returns-in-FailHigh-clause-goes g c = λ most cert basis drawn current f t.
+    let least = c.args.both.now.least in
+    let greatest = c.args.both.now.greatest in
+    let limit = c.broken_high.result in
+    let puts = c.print_passed.ensures.puts in
+    goes_line (sized c.args.net.now most cert basis) drawn (behind_verdict current c.args.range least greatest c.args.word) (behind_past current c.args.range least greatest c.args.word) _ _ (times puts.0) _
+    (past_high_may c.args.net.now most cert basis drawn current c.args.range least greatest c.args.pair f t c.args.word limit _ puts.0 c.in-FailHigh.is c.requires.word c.broken_high.ensures.end
+    (read_time limit (end_time limit c.broken_high.ensures.limit)) puts.1)
+    refl puts.2
+
+pub returns-in-FailLow-clause-goes : goal.returns-in-FailLow-clause-goes
+returns-in-FailLow-clause-goes g c = λ most cert basis drawn current f t.
+    let least = c.args.both.now.least in
+    let greatest = c.args.both.now.greatest in
+    let limit = c.broken_low.result in
+    let puts = c.print_passed-in-FailLow.ensures.puts in
+    goes_line (sized c.args.net.now most cert basis) drawn (behind_verdict current c.args.range least greatest c.args.word) (behind_past current c.args.range least greatest c.args.word) _ _ (times puts.0) _
+    (past_low_may c.args.net.now most cert basis drawn current c.args.range least greatest c.args.pair f t c.args.word limit _ puts.0 c.in-FailLow.is c.requires.word c.broken_low.ensures.end
+    (read_time limit (end_time limit c.broken_low.ensures.limit)) puts.1)
+    refl puts.2

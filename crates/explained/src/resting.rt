@@ -1,0 +1,67 @@
+//! Whether a verdict rests on the order of a lane.
+
+ghost use Rattle.std.specs.Prelude.{◌≡◌, IfSome};
+ghost use Rattle.event_graph.specs.Network.{Net};
+ghost use Rattle.drawn.specs.Drawn.{IsRowOf};
+ghost use Rattle.explained.specs.Answers.{AreRowBounds, AreSettledApart, HasTimesApart, RestsOnOrder};
+ghost use Rattle.explained.specs.Step.Settling.{IsEnough, IsEnoughApart};
+ghost use Rattle.explained.specs.Step.Standing.{IsNotInconsistent, net_in};
+ghost use Rattle.explained.specs.Step.Resting.{AreBoundsApart};
+
+use crate::bounding::both_bounds;
+use crate::desk::Apart;
+use crate::pair::Pair;
+use drawn::Row;
+use itv_base::{Range, RowKind};
+use requirements::{BothBounds, Verdict, judge};
+
+/// Both bounds of a row in the network apart, or `None`. A requirement has them if it passes in the drawn network, and does not pass by them. `both`
+/// are its bounds in the drawn network.
+pub fn bounds_apart(row: &Row, both: &BothBounds, apart: &mut Option<Apart>) -> Option<BothBounds>
+    requires settled { IfSome apart.old (λ a. IsNotInconsistent a.net a.searches) }
+    requires row { IfSome apart.old (λ a. IsRowOf a.net row.now) }
+    ensures settled { IfSome apart.new (λ a. IsNotInconsistent a.net a.searches) }
+    ensures same { (net : Net) → net_in net apart.new ≡ net_in net apart.old }
+    ensures rests { (net : Net) → AreRowBounds net row.now both.now
+        → AreBoundsApart (net_in net apart.old) row.now row.now.kind both.now result }
+    ensures enough { IsEnoughApart apart.old → IsEnoughApart apart.new }
+    ensures settles { IsEnoughApart apart.old → AreSettledApart result }
+    ensures times { HasTimesApart result }
+{
+    match row.kind {
+        RowKind::Ask => None,
+        RowKind::Req(range) => {
+            if judge(range, both) != Verdict::Pass {
+                return None;
+            }
+            match apart {
+                // The network apart is the network itself, where the row passes.
+                None => None,
+                Some(apart) => broken_apart(row, range, apart),
+            }
+        }
+    }
+}
+
+// Both bounds of a row in the network apart, if the row does not pass by them.
+fn broken_apart(row: &Row, range: Range, apart: &mut Apart) -> Option<BothBounds>
+    requires settled { IsNotInconsistent apart.old.net apart.old.searches }
+    requires row { IsRowOf apart.old.net row.now }
+    ensures settled { IsNotInconsistent apart.new.net apart.new.searches }
+    ensures same { apart.new.net ≡ apart.old.net }
+    ensures rests { RestsOnOrder apart.old.net row.now range result }
+    ensures enough { IsEnough apart.old.net apart.old.searches → IsEnough apart.new.net apart.new.searches }
+    ensures settles { IsEnough apart.old.net apart.old.searches → AreSettledApart result }
+    ensures times { HasTimesApart result }
+{
+    let pair = Pair {
+        from: row.from,
+        to: row.to,
+    };
+    let both = both_bounds(&apart.net, pair, &mut apart.searches);
+    if judge(range, &both) == Verdict::Pass {
+        None
+    } else {
+        Some(both)
+    }
+}

@@ -1,0 +1,41 @@
+//! The nets of a netlist.
+
+ghost use Rattle.std.specs.Prelude.{◌≡◌};
+
+use crate::pin::PinTexts;
+use itv_base::{Listing, Range};
+use std::marker::Model;
+
+/// A net: its first pin drives each of the others, with a delay in picoseconds.
+#[derive(Debug, Drop)]
+pub struct PinNet {
+    pub(crate) pins: PinTexts,
+    pub(crate) delay: Range,
+}
+
+impl Model for PinNet {
+    ghost use Rattle.netlist.specs.NetlistContents.{JoinedPins};
+
+    ghost Value = { JoinedPins };
+
+    ghost view = { λ n. record { pins = n.pins; delay = n.delay } };
+}
+
+impl PinNet {
+    /// The pins in order, at least one.
+    pub fn pins(&self) -> &PinTexts
+        ensures pins { result.now ≡ self.now.pins }
+    {
+        &self.pins
+    }
+
+    /// The range of the delay from the first pin to each other pin, in picoseconds.
+    pub fn delay(&self) -> Range
+        ensures delay { result ≡ self.now.delay }
+    {
+        self.delay
+    }
+}
+
+/// Nets in the order in which they are listed.
+pub type Nets = Listing<PinNet>;
