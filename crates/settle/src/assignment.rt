@@ -22,7 +22,7 @@ pub struct ValueFall {
     pub before: Option<usize>,
 }
 
-/// An entry of the trail: a change, the rule that made it, and its level. A choice has no rule.
+/// An entry of the trail: a change, the clause that made it, and its level. A choice has no clause.
 #[derive(Clone, Copy, Debug, PartialEq, Eq)]
 pub struct TrailEntry {
     pub change: TrailChange,
@@ -115,7 +115,7 @@ impl Assignment {
         at(&self.starts, 0, self.trail.len())
     }
 
-    /// Lowers an event to a value by a rule.
+    /// Lowers an event to a value by a clause.
     pub fn lower(&mut self, event: EventId, value: i64, clause: usize) -> Result<(), NoMemory> {
         let place = self.trail.len();
         let change = TrailChange::Fell(ValueFall {
@@ -130,7 +130,7 @@ impl Assignment {
         Ok(())
     }
 
-    /// Lets a literal hold by a rule.
+    /// Lets a literal hold by a clause.
     pub fn hold(&mut self, literal: NumberedLiteral, clause: usize) -> Result<(), NoMemory> {
         let place = self.trail.len();
         self.push(TrailChange::Held(literal), Some(clause))?;

@@ -53,7 +53,7 @@ impl Engine {
         first
     }
 
-    // How much the sides of a rule were needed lately: the greatest of their counts.
+    // How much the sides of a clause were needed lately: the greatest of their counts.
     fn need_of(&self, clause: StoredClause) -> u64 {
         let mut most = 0;
         for number in 0..clause.literals.count {

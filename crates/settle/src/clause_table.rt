@@ -1,4 +1,4 @@
-//! The table of rules: every clause that the search knows, in one form.
+//! The table of clauses: every clause that the search knows, in one form.
 
 ghost use Rattle.std.specs.Prelude.{◌<◌, All, length};
 ghost use Rattle.event_graph.specs.Network.{IsNet};
@@ -28,17 +28,17 @@ pub struct StoredClause {
     pub ways: Stretch,
 }
 
-/// A rule in a chain, and the place of the next link.
+/// A clause in a chain, and the place of the next link.
 #[derive(Clone, Copy, Debug, PartialEq, Eq)]
 pub struct ChainLink {
     pub clause: usize,
     pub next: Option<usize>,
 }
 
-// What a read gives where there is no rule, literal, way or link.
+// What a read gives where there is no clause, literal, way or link.
 const NO_SPAN: Stretch = Stretch { first: 0, count: 0 };
 
-const NO_RULE: StoredClause = StoredClause {
+const NO_CLAUSE: StoredClause = StoredClause {
     basis: Basis::ByKept(0),
     target: EventId(0),
     literals: NO_SPAN,
@@ -66,36 +66,36 @@ const NO_LINK: ChainLink = ChainLink {
     next: None,
 };
 
-/// The rules of a network, and behind them the rules of kept clauses.
+/// The clauses of a network, and behind them the kept clauses.
 ///
-/// A rule stands in the chain of each event from which one of its ways leads, and in the chain of the opposite of each
-/// of its literals. When such an event falls or such an opposite holds, the rule may say more.
+/// A clause stands in the chain of each event from which one of its ways leads, and in the chain of the opposite of each
+/// of its literals. When such an event falls or such an opposite holds, the clause may say more.
 #[derive(Debug, Drop)]
 pub struct ClauseTable {
-    table: Vec<StoredClause>,
+    clauses: Vec<StoredClause>,
     literals: Vec<NumberedLiteral>,
     ways: Vec<Way>,
     links: Vec<ChainLink>,
     by_event: Vec<Option<usize>>,
     by_literal: Vec<Option<usize>>,
     sides: Vec<Literal>,
-    side_rules: Vec<Option<usize>>,
+    side_clauses: Vec<Option<usize>>,
     first_sides: Vec<usize>,
     earliest: Vec<usize>,
 }
 
 impl ClauseTable {
-    /// The rules of a network. No clauses are kept yet.
+    /// The clauses of a network. No clauses are kept yet.
     pub fn new(alloc: Global, net: &Network) -> Result<ClauseTable, NoMemory> {
         let mut table = ClauseTable {
-            table: Vec::new(alloc),
+            clauses: Vec::new(alloc),
             literals: Vec::new(alloc),
             ways: Vec::new(alloc),
             links: Vec::new(alloc),
             by_event: vec![in alloc; None; net.events() as usize]?,
             by_literal: Vec::new(alloc),
             sides: Vec::new(alloc),
-            side_rules: Vec::new(alloc),
+            side_clauses: Vec::new(alloc),
             first_sides: Vec::new(alloc),
             earliest: Vec::new(alloc),
         };
@@ -123,14 +123,14 @@ impl ClauseTable {
                 cause,
                 is_met: true,
             })?;
-            self.side_rules.push(None)?;
+            self.side_clauses.push(None)?;
             self.by_literal.push(None)?;
             self.by_literal.push(None)?;
         }
         Ok(())
     }
 
-    // Adds the rules of a constraint.
+    // Adds the clauses of a constraint.
     fn push_constraint(&mut self, net: &Network, number: u32) -> Result<(), NoMemory>
         requires net { IsNet net.now }
         requires number { number < length net.now.constraints }
@@ -141,7 +141,7 @@ impl ClauseTable {
             self.push_edge(net, number, cause, Side::Lower)?;
         }
         if is_choice(net, number, RuleKind::Late) {
-            self.push_rule(net, &[], Basis::ByLatest(number))?;
+            self.push_clause(net, &[], Basis::ByLatest(number))?;
         }
         if is_choice(net, number, RuleKind::Early) {
             for cause in 0..count {
@@ -152,7 +152,7 @@ impl ClauseTable {
         Ok(())
     }
 
-    // Adds the rule of an always-edge.
+    // Adds the clause of an always-edge.
     fn push_edge(
         &mut self,
         net: &Network,
@@ -168,12 +168,12 @@ impl ClauseTable {
             side,
         };
         if net.is_always(name) {
-            self.push_rule(net, &[], Basis::ByEdge(name))?;
+            self.push_clause(net, &[], Basis::ByEdge(name))?;
         }
         Ok(())
     }
 
-    // Adds the rules of a side's edge and of the opposite edge.
+    // Adds the clauses of a side's edge and of the opposite edge.
     fn push_side(&mut self, net: &Network, constraint: u32, cause: u32) -> Result<(), NoMemory>
         requires net { IsNet net.now }
     {
@@ -182,29 +182,29 @@ impl ClauseTable {
             cause,
             is_met: true,
         };
-        let place = self.table.len();
-        self.push_rule(net, &[], Basis::BySide(met))?;
-        if place < self.table.len() {
+        let place = self.clauses.len();
+        self.push_clause(net, &[], Basis::BySide(met))?;
+        if place < self.clauses.len() {
             let side = self.number_of(met).side;
-            put(&mut self.side_rules, side, Some(place));
+            put(&mut self.side_clauses, side, Some(place));
         }
-        self.push_rule(net, &[], Basis::BySide(met.opposite()))
+        self.push_clause(net, &[], Basis::BySide(met.opposite()))
     }
 
-    // Adds the rule that a side of an earliest constraint is met, if no low end is open.
+    // Adds the clause that a side of an earliest constraint is met, if no low end is open.
     fn push_earliest(&mut self, net: &Network, number: u32) -> Result<(), NoMemory>
         requires net { IsNet net.now }
     {
-        let place = self.table.len();
-        self.push_rule(net, &[], Basis::ByEarliest(number))?;
-        if place < self.table.len() {
+        let place = self.clauses.len();
+        self.push_clause(net, &[], Basis::ByEarliest(number))?;
+        if place < self.clauses.len() {
             self.earliest.push(place)?;
         }
         Ok(())
     }
 
-    /// Adds the rule of the clause of a basis, if there is one.
-    pub fn push_rule(
+    /// Adds the clause of a basis, if there is one.
+    pub fn push_clause(
         &mut self,
         net: &Network,
         kept: &[Clause],
@@ -216,7 +216,7 @@ impl ClauseTable {
         let Some(shape) = shape_of(net, kept, basis) else {
             return Ok(());
         };
-        let clause = self.table.len();
+        let clause = self.clauses.len();
         let first_literal = self.literals.len();
         for place in 0..shape.literals {
             if let Some(literal) = literal_at(net, kept, basis, place) {
@@ -229,7 +229,7 @@ impl ClauseTable {
                 self.push_way(clause, way)?;
             }
         }
-        self.table.push(StoredClause {
+        self.clauses.push(StoredClause {
             basis,
             target: shape.target,
             literals: Stretch {
@@ -244,7 +244,7 @@ impl ClauseTable {
         Ok(())
     }
 
-    // Adds a literal of a rule, unless the rule has it already. `first` is the place of the rule's first literal.
+    // Adds a literal of a clause, unless the clause has it already. `first` is the place of the clause's first literal.
     fn push_literal(
         &mut self,
         clause: usize,
@@ -265,7 +265,7 @@ impl ClauseTable {
         Ok(())
     }
 
-    // Adds a way of a rule.
+    // Adds a way of a clause.
     fn push_way(&mut self, clause: usize, way: Way) -> Result<(), NoMemory> {
         self.ways.push(way)?;
         let head = way.from.0 as usize;
@@ -294,14 +294,14 @@ impl ClauseTable {
         }
     }
 
-    /// The rule of the edge of a side, if there is one.
+    /// The clause of the edge of a side, if there is one.
     pub fn of_side(&self, side: usize) -> Option<usize> {
-        at(&self.side_rules, side, None)
+        at(&self.side_clauses, side, None)
     }
 
-    /// The number of rules.
+    /// The number of clauses.
     pub fn len(&self) -> usize {
-        self.table.len()
+        self.clauses.len()
     }
 
     /// The number of sides.
@@ -309,12 +309,12 @@ impl ClauseTable {
         self.sides.len()
     }
 
-    /// The rule at a place.
+    /// The clause at a place.
     pub fn clause(&self, place: usize) -> StoredClause {
-        at(&self.table, place, NO_RULE)
+        at(&self.clauses, place, NO_CLAUSE)
     }
 
-    /// The literal at a place of a rule.
+    /// The literal at a place of a clause.
     pub fn literal(&self, clause: StoredClause, number: usize) -> NumberedLiteral {
         at(
             &self.literals,
@@ -323,7 +323,7 @@ impl ClauseTable {
         )
     }
 
-    /// The way at a place of a rule.
+    /// The way at a place of a clause.
     pub fn way(&self, clause: StoredClause, number: usize) -> Way {
         at(&self.ways, clause.ways.first.saturating_add(number), NO_WAY)
     }
@@ -333,17 +333,17 @@ impl ClauseTable {
         at(&self.links, place, NO_LINK)
     }
 
-    /// The first link of the chain of rules with a way from an event.
+    /// The first link of the chain of clauses with a way from an event.
     pub fn of_event(&self, event: EventId) -> Option<usize> {
         at(&self.by_event, event.0 as usize, None)
     }
 
-    /// The first link of the chain of rules with the opposite of a literal.
+    /// The first link of the chain of clauses with the opposite of a literal.
     pub fn of_literal(&self, literal: NumberedLiteral) -> Option<usize> {
         at(&self.by_literal, literal.place(), None)
     }
 
-    /// The rules that say that a side of an earliest constraint is met.
+    /// The clauses that say that a side of an earliest constraint is met.
     pub fn earliest(&self) -> &Vec<usize> {
         &self.earliest
     }

@@ -60,7 +60,7 @@ pub struct Engine {
     pub low: Option<EventId>,
     /// An event from which a walk back is to be tried.
     pub walk: Option<EventId>,
-    /// How many of the checker's kept clauses are rules of the search.
+    /// How many of the checker's kept clauses the search has stored.
     pub adopted: u32,
     /// Lines to be proposed, the last one first.
     pub outbox: Vec<StoredLine>,
@@ -155,14 +155,14 @@ impl Engine {
         self.look_on()
     }
 
-    // Makes a rule of the next clause that the checker keeps, and examines it.
+    // Stores the next clause that the checker keeps, and examines it.
     fn adopt(&mut self, net: &Network, kept: &Vec<Clause>) -> Result<(), NoMemory>
         requires net { IsNet net.now }
         requires kept { All IsNearClause kept.now.items }
     {
         let clause = self.table.len();
         self.table
-            .push_rule(net, kept, Basis::ByKept(self.adopted))?;
+            .push_clause(net, kept, Basis::ByKept(self.adopted))?;
         self.adopted = self.adopted.saturating_add(1);
         self.examine(clause)
     }
@@ -201,7 +201,7 @@ impl Engine {
         Ok(Proposal::Nothing)
     }
 
-    // Examines the next rule of a chain, or finds the next chain, or chooses.
+    // Examines the next clause of a chain, or finds the next chain, or chooses.
     fn look_on(&mut self) -> Result<Proposal, NoMemory> {
         if let Some(place) = self.link {
             let link = self.table.link(place);

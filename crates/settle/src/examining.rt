@@ -1,4 +1,4 @@
-//! What a rule says of the values and literals at the moment.
+//! What a clause says of the values and literals at the moment.
 
 use crate::assignment::TrailChange;
 use crate::clause_table::StoredClause;
@@ -9,7 +9,7 @@ use crate::places::{at, put};
 use clauses::EventFall;
 use itv_base::{EventId, NoMemory};
 
-// Which literals of a rule may hold.
+// Which literals of a clause may hold.
 #[derive(Clone, Copy)]
 enum Open {
     /// None may hold.
@@ -21,7 +21,7 @@ enum Open {
 }
 
 impl Engine {
-    /// Lets an event fall or a literal hold, if a rule says so.
+    /// Lets an event fall or a literal hold, if a clause says so.
     pub fn examine(&mut self, place: usize) -> Result<(), NoMemory> {
         let clause = self.table.clause(place);
         match self.open_of(clause) {
@@ -42,7 +42,7 @@ impl Engine {
         }
     }
 
-    // Which literals of a rule may hold.
+    // Which literals of a clause may hold.
     fn open_of(&self, clause: StoredClause) -> Open {
         let mut open = Open::None;
         for number in 0..clause.literals.count {
@@ -60,7 +60,7 @@ impl Engine {
         open
     }
 
-    // The greatest value that a way of a rule gives, or the least value that a line may give.
+    // The greatest value that a way of a clause gives, or the least value that a line may give.
     fn most_of(&self, clause: StoredClause) -> i64 {
         let mut most = self.least;
         for number in 0..clause.ways.count {
@@ -71,7 +71,7 @@ impl Engine {
         most
     }
 
-    // Lowers an event by a rule. After every third fall of an event, a walk back from it is to be tried.
+    // Lowers an event by a clause. After every third fall of an event, a walk back from it is to be tried.
     fn lower(&mut self, event: EventId, value: i64, clause: usize) -> Result<(), NoMemory> {
         self.assignment.lower(event, value, clause)?;
         self.sweep.add(event);
@@ -97,7 +97,7 @@ impl Engine {
         Ok(())
     }
 
-    // Lets a literal hold by a rule.
+    // Lets a literal hold by a clause.
     fn hold(&mut self, literal: NumberedLiteral, clause: usize) -> Result<(), NoMemory> {
         self.assignment.hold(literal, clause)?;
         if self.assignment.level() == 0 {
@@ -108,7 +108,7 @@ impl Engine {
         Ok(())
     }
 
-    /// Goes on to the rules for the literal of the next entry that was not looked at, if that entry has a literal.
+    /// Goes on to the clauses for the literal of the next entry that was not looked at, if that entry has a literal.
     pub fn hear(&mut self) {
         let entry = self.assignment.entry(self.heard);
         self.heard = self.heard.saturating_add(1);

@@ -117,7 +117,7 @@ impl Engine {
         Ok(())
     }
 
-    // Wants what a rule needs to make an entry.
+    // Wants what a clause needs to make an entry.
     fn want_reason(&self, needs: &mut Needs, entry: TrailEntry, clause: usize, value: i64) {
         let clause = self.table.clause(clause);
         for number in 0..clause.literals.count {

@@ -8,7 +8,7 @@ use crate::places::{at, put};
 use clauses::{WalkStep, Way};
 use itv_base::{EventId, NoMemory};
 
-// The way that gives an event its value: the rule of the event's latest fall, and the number of its greatest way.
+// The way that gives an event its value: the clause of the event's latest fall, and the number of its greatest way.
 #[derive(Clone, Copy)]
 struct Lead {
     clause: StoredClause,
@@ -104,7 +104,7 @@ impl Engine {
         Ok(())
     }
 
-    // Goes through a way. The other ways of its rule become ways out of the loop.
+    // Goes through a way. The other ways of its clause become ways out of the loop.
     fn step_back(&self, round: &mut Round, lead: Lead) -> Result<(), NoMemory> {
         for number in 0..lead.clause.ways.count {
             if number != lead.through as usize {

@@ -1,4 +1,4 @@
-//! Events whose rules are to be examined again.
+//! Events whose clauses are to be examined again.
 
 use crate::places::{at, put};
 use itv_base::{EventId, NoMemory};
