@@ -13,5 +13,5 @@ mod BrokenSplits
 mod ListWalks
 mod GivenEdges
 mod MetSplits
-mod Looking
+pub mod Looking
 mod KnownTimes

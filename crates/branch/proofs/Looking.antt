@@ -1,15 +1,17 @@
 -- What the times of a case show about the case.
-use Rattle.std.proofs.Common.{◌≡◌, ◌⊎◌, ◌<◌, ◌≤ℤ◌, ◌<ℤ◌, ℕ, ℤ, pos, Bool, List, length, All, Some, None, sym, subst, inl, inr, arith}
+use Rattle.std.proofs.Common.{◌≡◌, ◌⊎◌, ◌<◌, ◌*◌, ◌≤ℤ◌, ◌<ℤ◌, ℕ, ℤ, pos, neg_ℤ, Bool, List, length, All, Some, None, sym, subst, inl, inr, arith}
 use Rattle.std.proofs.lemmas.Int.{ints}
 use Rattle.std.proofs.lemmas.List.Elements.{All-weaker}
 use Rattle.itv_base.specs.declared.names.EventId.{EventId}
 use Rattle.event_graph.specs.Bounds.{IsRay}
+use Rattle.event_graph.specs.Limits.{reach_limit}
 use Rattle.event_graph.specs.Network.{IsNet, Net}
 use Rattle.event_graph.specs.Proof.{Case}
 use Rattle.event_graph.specs.Satisfying.{Breaks, Satisfies}
 use Rattle.event_graph.specs.Times.{IsTime, separation}
 use Rattle.event_graph.specs.Usable.{MeetsUsable}
 use Rattle.diff_bounds.specs.Limits.{IsTimely}
+use Rattle.branch.specs.Work.{IsClose}
 use Rattle.branch.specs.Step.Cases.{IsFree, IsSearchCase}
 use Rattle.branch.specs.Step.Raising.{AreRaised, IsNearSeparation}
 use Rattle.branch.specs.Step.Searched.{IsOpen}
@@ -56,6 +58,17 @@ ray_at net chosen from to reach old new ray is_net is_ray are_raised satisfies =
 
 pub near_times : (times : List ℤ) → All IsTimely times → All IsTime times
 near_times times near = All-weaker IsTimely IsTime (λ t n. (omega (arith, ints), omega (arith, ints))) times near
+
+pub close_times : (times : List ℤ) → All IsClose times → All IsTime times
+close_times times close = All-weaker IsClose IsTime (λ t n. (omega (arith, ints), omega (arith, ints))) times close
+
+-- how large the separation of close times is
+pub close_separation : (times : List ℤ) (from to : EventId) → All IsClose times → from.0 < length times → to.0 < length times
+    → (neg_ℤ (pos (9 * reach_limit)) ≤ℤ separation times from to) × (separation times from to ≤ℤ pos (9 * reach_limit))
+close_separation times from to close from_within to_within =
+    let first = close from.0 (pos 0) from_within in
+    let last = close to.0 (pos 0) to_within in
+    (omega (arith, ints, first.0, first.1, last.0, last.1), omega (arith, ints, first.0, first.1, last.0, last.1))
 
 -- the separation of timely times is near
 pub near_separation : (times : List ℤ) (from to : EventId) → All IsTimely times → from.0 < length times → to.0 < length times → IsNearSeparation (separation times from to)

@@ -1,6 +1,6 @@
 //! The search for the greatest separation of a pair of events.
 
-ghost use Rattle.std.specs.Prelude.{◌≡◌, ◌<◌, ◌≤◌, ◌≤ℤ◌, ◌-ℤ◌, ℤ, List, [], IfOk, IfSome, OnOk, OnErr, Some, All, length};
+ghost use Rattle.std.specs.Prelude.{◌≡◌, ◌<◌, ◌≤◌, ◌≤ℤ◌, ℤ, List, [], IfOk, IfSome, OnOk, OnErr, Some, All, length};
 ghost use Rattle.itv_base.specs.Outside.{FaultCounted};
 ghost use Rattle.event_graph.specs.Network.{IsNet};
 ghost use Rattle.event_graph.specs.Proof.{Bound, ProofLine};
@@ -13,7 +13,6 @@ ghost use Rattle.branch.specs.Lines.{IsAccepted};
 ghost use Rattle.branch.specs.Needed.{IsNeededToBound};
 ghost use Rattle.branch.specs.Work.{IsClose};
 ghost use Rattle.branch.specs.Step.Cases.{work_left};
-ghost use Rattle.diff_bounds.specs.Limits.{IsTimely};
 ghost use Rattle.branch.specs.Step.Raising.{IsNearSeparation};
 ghost use Rattle.branch.specs.Step.Searched.{Advances, IsBestSoFar, EndsAs, SearchEnds, IsAtCase, IsBoundCut, IsCutAfter, IsTrialFor, Keeps, aimed};
 
@@ -197,25 +196,4 @@ fn step<S: Scribe>(
             Ok(None)
         }
     }
-}
-
-/// The separation of two events.
-pub fn separation_of(times: &[i64], from: EventId, to: EventId) -> i64
-    requires from { from.0 < length times.now }
-    requires to { to.0 < length times.now }
-    requires near { All IsTimely times.now }
-    ensures value { result ≡ separation times.now from to }
-    ensures near { IsNearSeparation result }
-{
-    difference(times[from.0 as usize], times[to.0 as usize])
-}
-
-// How much later one time is than another.
-fn difference(from: i64, to: i64) -> i64
-    requires from { IsTimely from }
-    requires to { IsTimely to }
-    ensures value { result ≡ to -ℤ from }
-    ensures near { IsNearSeparation result }
-{
-    to - from
 }

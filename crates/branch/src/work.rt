@@ -13,13 +13,13 @@ ghost use Rattle.branch.specs.Work.{IsClose, IsMadeFor, IsKnownReach, IsStart, k
 
 use crate::answer::{GreatestAnswer, Root, SearchFinding};
 use crate::best::{Aim, Best};
-use crate::bounding::{bound_pair, root_of, separation_of};
+use crate::bounding::{bound_pair, root_of};
 use crate::distances::Distances;
 use crate::finding::find_times;
 use crate::search::Search;
 use crate::trial::Trial;
 use diff_bounds::Bounds;
-use event_graph::{Decisions, Network, Scribe, ScribeFailed};
+use event_graph::{Decisions, Network, Scribe, ScribeFailed, separation};
 use itv_base::{END_LIMIT, EventId, MAX_EVENTS, NoMemory};
 use std::alloc::Global;
 use std::marker::Model;
@@ -192,7 +192,7 @@ pub fn greatest<S: Scribe>(
         × AtEachSplit net.now (IsNeededToBound net.now from to (known_separation work.old from to)) lines) }
     ensures rose { OnErr result (FaultCounted (S.faults scribe.old) (S.faults scribe.new)) }
 {
-    let known = separation_of(&work.known, from, to);
+    let known = separation(&work.known, from, to);
     work.best.take(known, &work.known);
     bound_pair(
         net,
@@ -238,7 +238,7 @@ pub fn greatest_from<S: Scribe>(
         × AtEachSplit net.now (IsNeededToBound net.now from to (separation times.now from to)) lines) }
     ensures rose { OnErr result (FaultCounted (S.faults scribe.old) (S.faults scribe.new)) }
 {
-    let known = close_separation(times, from, to);
+    let known = separation(times, from, to);
     work.best.take(known, times);
     bound_pair(
         net,
@@ -249,16 +249,6 @@ pub fn greatest_from<S: Scribe>(
         budget,
         scribe,
     )
-}
-
-// The separation of two events in close times.
-fn close_separation(times: &[i64], from: EventId, to: EventId) -> i64
-    requires from { from.0 < length times.now }
-    requires to { to.0 < length times.now }
-    requires close { All IsClose times.now }
-    ensures { result ≡ separation times.now from to }
-{
-    times[to.0 as usize] - times[from.0 as usize]
 }
 
 /// The root bound of a pair of events: its greatest separation over the times that meet the always-edges alone. The known times,

@@ -1,16 +1,16 @@
 //! How events are reached, backwards along the edges that times meet with equality.
 
-ghost use Rattle.std.specs.Prelude.{◌≡◌, ◌<◌, ◌-ℤ◌, ℕ, false, All, IfNone, IfSome, IsTrue, length};
+ghost use Rattle.std.specs.Prelude.{◌≡◌, ◌<◌, ℕ, false, All, IfNone, IfSome, IsTrue, length};
 ghost use Rattle.itv_base.specs.declared.names.EdgeName.{EdgeName as NameOfEdge};
 ghost use Rattle.itv_base.specs.declared.names.EventId.{EventId as EventIdOf};
 ghost use Rattle.event_graph.specs.Network.{IsNet};
-ghost use Rattle.event_graph.specs.Times.{IsTime, separation};
+ghost use Rattle.event_graph.specs.Times.{IsTime};
 ghost use Rattle.chains.specs.Chain.{IsTight};
 ghost use Rattle.chains.specs.Closed.{Has, IsClosedSet};
 ghost use Rattle.chains.specs.Step.Spreading.{IsSpread, IsTightEdge, LooksAt};
 
 use crate::spread::Spread;
-use event_graph::{Edge, Network};
+use event_graph::{Edge, Network, separation};
 use itv_base::{EdgeName, EventId, Side};
 
 /// Reaches events backwards until the one that is looked for is reached, or no more can be. Returns whether it was reached.
@@ -111,23 +111,4 @@ fn tight_edge(net: &Network, times: &[i64], name: EdgeName) -> Option<Edge>
     } else {
         None
     }
-}
-
-// How much later the second event comes than the first, in picoseconds.
-fn separation(times: &[i64], from: EventId, to: EventId) -> i64
-    requires from { from.0 < length times.now }
-    requires to { to.0 < length times.now }
-    requires times { All IsTime times.now }
-    ensures { result ≡ separation times.now from to }
-{
-    difference(times[to.0 as usize], times[from.0 as usize])
-}
-
-// A time less another.
-fn difference(time: i64, earlier: i64) -> i64
-    requires time { IsTime time }
-    requires earlier { IsTime earlier }
-    ensures { result ≡ time -ℤ earlier }
-{
-    time - earlier
 }

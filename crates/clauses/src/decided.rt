@@ -1,6 +1,6 @@
 //! What a proof and times say of a pair.
 
-ghost use Rattle.std.specs.Prelude.{◌≡◌, ◌↔◌, ◌<◌, ◌<ℤ◌, IsTrue, All, length};
+ghost use Rattle.std.specs.Prelude.{◌≡◌, ◌↔◌, ◌<ℤ◌, IsTrue, All, length};
 ghost use Rattle.event_graph.specs.Satisfying.{Satisfies};
 ghost use Rattle.event_graph.specs.Times.{IsTime, separation};
 ghost use Rattle.clauses.specs.declared.decided.ProofVerdict.TheVariants.{Closed, Open};
@@ -8,9 +8,8 @@ ghost use Rattle.clauses.specs.Checking.{IsChecking, IsVerdict, SaysNothing};
 
 use crate::checker::ClauseChecker;
 use crate::claim::Claim;
-use event_graph::Network;
+use event_graph::{Network, separation};
 use falling::Limits;
-use itv_base::EventId;
 
 /// What a proof and times say of the pair of a goal: its greatest separation in picoseconds, or that no times satisfy
 /// the network, or nothing.
@@ -77,16 +76,6 @@ fn attains(net: &Network, checker: &ClauseChecker, times: &[i64]) -> bool
     ensures attains { IsTrue result ↔ (Satisfies times.now net.now
         × (separation times.now checker.now.goal.from checker.now.goal.to ≡ checker.now.goal.claim)) }
 {
-    is_separation(times, checker.from(), checker.to(), checker.claim())
+    separation(times, checker.from(), checker.to()) == checker.claim().value
         && net.broken(times).is_none()
-}
-
-// Whether times have this separation from the one event to the other.
-fn is_separation(times: &[i64], from: EventId, to: EventId, claim: Claim) -> bool
-    requires times { All IsTime times.now }
-    requires from { from.0 < length times.now }
-    requires to { to.0 < length times.now }
-    ensures { IsTrue result ↔ (separation times.now from to ≡ claim.value) }
-{
-    times[to.0 as usize] - times[from.0 as usize] == claim.value
 }

@@ -25,4 +25,4 @@ pub use line::Line;
 pub use network::Network;
 pub use push_fault::PushFault;
 pub use scribe::{Quiet, Scribe, ScribeFailed};
-pub use times::{move_all, time_of};
+pub use times::{move_all, separation, time_of};

@@ -1,7 +1,7 @@
 //! Lists of times.
 
 ghost use Rattle.std.specs.Prelude.{◌≡◌, ◌<◌, ◌-ℤ◌, All, length};
-ghost use Rattle.event_graph.specs.Times.{IsTime, moved, time_of};
+ghost use Rattle.event_graph.specs.Times.{IsTime, moved, separation, time_of};
 
 use itv_base::EventId;
 
@@ -13,6 +13,15 @@ pub fn time_of(times: &[i64], event: EventId) -> i64
         None => 0,
         Some(time) => *time,
     }
+}
+
+/// How much later the second event comes than the first, in picoseconds. The time of an event that is not there is 0. All times are
+/// below 2^61 picoseconds in absolute value.
+pub fn separation(times: &[i64], from: EventId, to: EventId) -> i64
+    requires times { All IsTime times.now }
+    ensures value { result ≡ separation times.now from to }
+{
+    since(time_of(times, from), time_of(times, to))
 }
 
 /// Subtracts the time of an event from all times. The event is there, and all times are below 2^61 picoseconds in

@@ -1,8 +1,8 @@
 //! Whether a report may have some times or a set of events.
 
-ghost use Rattle.std.specs.Prelude.{◌≡◌, ◌<◌, ◌↔◌, ◌-ℤ◌, IsTrue, All, length};
+ghost use Rattle.std.specs.Prelude.{◌≡◌, ◌<◌, ◌↔◌, IsTrue, All, length};
 ghost use Rattle.event_graph.specs.Satisfying.{Satisfies};
-ghost use Rattle.event_graph.specs.Times.{IsTime, separation};
+ghost use Rattle.event_graph.specs.Times.{IsTime};
 ghost use Rattle.drawn.specs.Drawn.{AreTimes};
 ghost use Rattle.right_report.specs.Right.LineClaims.{Attains, BreaksEnd, CanRise};
 ghost use Rattle.right_report.specs.Checked.{checked};
@@ -11,7 +11,7 @@ ghost use Rattle.report_check.specs.Step.Stages.{next_in};
 use crate::stage::NextBound;
 use cert_checker::check_ray;
 use drawn::Row;
-use event_graph::{Network, time_of};
+use event_graph::{Network, separation, time_of};
 use itv_base::{EventId, Range};
 use requirements::{Bound, Verdict};
 
@@ -47,22 +47,6 @@ pub fn are_times(net: &Network, row: &Row, times: &[i64]) -> bool
     ensures times { IsTrue result ↔ (All IsTime times.now × AreTimes net.now row.now times.now) }
 {
     satisfy(net, times) && time_of(times, row.from) == 0
-}
-
-// How much later one time is than another.
-fn difference(from: i64, to: i64) -> i64
-    requires from { IsTime from }
-    requires to { IsTime to }
-    ensures value { result ≡ to -ℤ from }
-{
-    to - from
-}
-
-fn separation(times: &[i64], from: EventId, to: EventId) -> i64
-    requires times { All IsTime times.now }
-    ensures value { result ≡ separation times.now from to }
-{
-    difference(time_of(times, from), time_of(times, to))
 }
 
 /// Whether times have the separation that a bound of a row gives.

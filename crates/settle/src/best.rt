@@ -7,7 +7,7 @@ ghost use Rattle.settle.specs.Step.Racing.{AreRaceTimes};
 ghost use Rattle.falling.specs.Cap.{IsNearValue};
 
 use clauses::Claim;
-use event_graph::Network;
+use event_graph::{Network, separation};
 use falling::View;
 use itv_base::{END_LIMIT, EventId, MAX_EVENTS, NoMemory};
 use std::alloc::Global;
@@ -81,11 +81,9 @@ fn is_less(claim: Claim, other: Claim) -> bool
 // The separation of a pair in times.
 fn separation_of(times: &Vec<i64>, from: EventId, to: EventId) -> Claim
     requires times { All IsTime times.now.items }
-    requires from { from.0 < length times.now.items }
-    requires to { to.0 < length times.now.items }
     ensures { result.value ≡ separation times.now.items from to }
 {
     Claim {
-        value: times[to.0 as usize] - times[from.0 as usize],
+        value: separation(times, from, to),
     }
 }

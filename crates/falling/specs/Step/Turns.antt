@@ -1,5 +1,5 @@
 -- What a solver knows between two turns.
-use Rattle.std.specs.Prelude.{◌≡◌, ◌<◌, ◌⊎◌, ℕ, ℤ, pos, neg_ℤ, ◌+ℤ◌, ◌≤ℤ◌, List, All, Option, Some, None, option_map, IsSome, IsSomeAnd, IsTrue, length, slice_get}
+use Rattle.std.specs.Prelude.{◌≡◌, ◌<◌, ◌⊎◌, ℕ, ℤ, ◌+ℤ◌, List, All, Option, Some, None, option_map, IsSome, IsSomeAnd, IsTrue, length, slice_get}
 use Rattle.itv_base.specs.declared.names.EdgeName.{EdgeName}
 use Rattle.itv_base.specs.declared.names.EventId.{EventId}
 use Rattle.itv_base.specs.declared.names.RuleKind.{RuleKind}
