@@ -226,7 +226,7 @@ fn a_report_keeps_within_the_limits(rt: HostRuntime) -> Result<(), Fail> {
     Ok(())
 }
 
-// Puts another line in place of the line with this number. The text must be refused at line `told`.
+// Puts another line in place of the line with this number. The text must be refused at line `reported`.
 fn expect_forged(
     rt: &(impl Abort + AllocGlobal),
     text: &str,
