@@ -196,7 +196,7 @@ fn is_row(item: &Item<'_>, number: u64, drawn: &DrawnNetwork, row: &Row) -> bool
             from,
             to,
         } => {
-            u64::from(*current) == number
+            u64::from(*written) == number
                 && same_kind(kind, &row.kind)
                 && same_name(*from, drawn.name(row.from))
                 && same_name(*to, drawn.name(row.to))
@@ -209,7 +209,7 @@ fn judge_end(drawn: &DrawnNetwork, word: EndWord, item: &Item<'_>) -> Option<Sta
     ensures decides { Decides drawn.now (at_end word) (item_view item.now) result }
 {
     match item {
-        Item::End(current) if *current == word => Some(Stage::Done),
+        Item::End(written) if *written == word => Some(Stage::Done),
         _ => None,
     }
 }
