@@ -81,7 +81,7 @@ fn broken_high(range: Range, both: &BothBounds) -> i64
     ensures end { range.high ≡ Some result }
     ensures limit { IsEnd (Some result) }
     ensures beyond { IsBeyond Which.Max both.now.greatest result }
-    ensures current { HasFoundValue both.now.greatest }
+    ensures found { HasFoundValue both.now.greatest }
 {
     match range.high() {
         Some(high) => high,
@@ -95,7 +95,7 @@ fn broken_low(range: Range, both: &BothBounds) -> i64
     ensures end { range.low ≡ Some (neg_ℤ result) }
     ensures limit { IsEnd (Some result) }
     ensures beyond { IsBeyond Which.Min both.now.least result }
-    ensures current { HasFoundValue both.now.least }
+    ensures found { HasFoundValue both.now.least }
 {
     match range.low() {
         Some(low) => negated(low),

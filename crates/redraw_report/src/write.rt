@@ -83,7 +83,7 @@ fn put_first<K: Sink>(
     work: &mut DrawSpace,
     sink: &mut K,
 ) -> Result<Answer, PutFailed>
-    requires current { ShowsFail drawn.now items.now }
+    requires fail { ShowsFail drawn.now items.now }
     ensures answers { IfOk result (λ answer. (text : List ℕ) × Draws drawn.now items.now answer text
         × (K.state sink.new ≡ grown (K.state sink.old) text)) }
     ensures begins { OnErr result ((answer : Answer) × (text : List ℕ) × Draws drawn.now items.now answer text
