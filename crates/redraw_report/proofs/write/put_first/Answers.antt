@@ -16,7 +16,7 @@ returns-then-is_wide-clause-answers g c =
     (λ answer h. (
       refusal_text Design (Wide c.in-Some.fail.row),
       draws_wide c.args.drawn.now c.args.items.now (fail_view c.in-Some.fail) c.row_at-row.result.now (sym c.in-Some.ensures.found)
-          (found_broken c.args.drawn.now (first_failed c.args.items.now) c.in-Some.fail c.requires.current c.in-Some.ensures.found) c.row_at-row.ensures.row c.row_at-row.ensures.within
+          (found_broken c.args.drawn.now (first_failed c.args.items.now) c.in-Some.fail c.requires.fail c.in-Some.ensures.found) c.row_at-row.ensures.row c.row_at-row.ensures.within
           (c.network-network.ensures.names ∙ ap (λ (n : Net). n.events) c.network-network.ensures.network) answer _ (sym c.is_wide.ensures ∙ c.if-is_wide.true) h.0 refl,
       h.1,
     )) c.put_wide.ensures.answer
@@ -28,7 +28,7 @@ returns-then-is_wide-clause-begins g c =
       DesignRefused,
       refusal_text Design (Wide c.in-Some.fail.row),
       draws_wide c.args.drawn.now c.args.items.now (fail_view c.in-Some.fail) c.row_at-row.result.now (sym c.in-Some.ensures.found)
-          (found_broken c.args.drawn.now (first_failed c.args.items.now) c.in-Some.fail c.requires.current c.in-Some.ensures.found) c.row_at-row.ensures.row c.row_at-row.ensures.within
+          (found_broken c.args.drawn.now (first_failed c.args.items.now) c.in-Some.fail c.requires.fail c.in-Some.ensures.found) c.row_at-row.ensures.row c.row_at-row.ensures.within
           (c.network-network.ensures.names ∙ ap (λ (n : Net). n.events) c.network-network.ensures.network) DesignRefused _ (sym c.is_wide.ensures ∙ c.if-is_wide.true) refl refl,
       cut,
     )) c.put_wide.ensures.cut
@@ -39,7 +39,7 @@ returns-else-is_wide-clause-answers g c =
     (λ answer h. (
       redrawn c.args.drawn.now c.in-Some.fail.row c.in-Some.fail.times.now,
       draws_row c.args.drawn.now c.args.items.now (fail_view c.in-Some.fail) c.row_at-row.result.now (sym c.in-Some.ensures.found)
-          (found_broken c.args.drawn.now (first_failed c.args.items.now) c.in-Some.fail c.requires.current c.in-Some.ensures.found) c.row_at-row.ensures.row c.row_at-row.ensures.within
+          (found_broken c.args.drawn.now (first_failed c.args.items.now) c.in-Some.fail c.requires.fail c.in-Some.ensures.found) c.row_at-row.ensures.row c.row_at-row.ensures.within
           (c.network-network.ensures.names ∙ ap (λ (n : Net). n.events) c.network-network.ensures.network) answer _ (sym c.is_wide.ensures ∙ c.if-is_wide.false) h.0 refl,
       h.1,
     )) c.put_drawing.ensures.answer
@@ -51,7 +51,7 @@ returns-else-is_wide-clause-begins g c =
       SomeFail,
       redrawn c.args.drawn.now c.in-Some.fail.row c.in-Some.fail.times.now,
       draws_row c.args.drawn.now c.args.items.now (fail_view c.in-Some.fail) c.row_at-row.result.now (sym c.in-Some.ensures.found)
-          (found_broken c.args.drawn.now (first_failed c.args.items.now) c.in-Some.fail c.requires.current c.in-Some.ensures.found) c.row_at-row.ensures.row c.row_at-row.ensures.within
+          (found_broken c.args.drawn.now (first_failed c.args.items.now) c.in-Some.fail c.requires.fail c.in-Some.ensures.found) c.row_at-row.ensures.row c.row_at-row.ensures.within
           (c.network-network.ensures.names ∙ ap (λ (n : Net). n.events) c.network-network.ensures.network) SomeFail _ (sym c.is_wide.ensures ∙ c.if-is_wide.false) refl refl,
       cut,
     )) c.put_drawing.ensures.cut
