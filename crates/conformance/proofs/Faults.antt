@@ -41,11 +41,11 @@ told_on files (fetches place name most next) k x e = on_by files next k most pla
 bounds_ready : (files : Files) (design : List ℕ) (budget : ℕ) (cert : Bool) (drawn : Drawn) → Draws files design drawn → end_over files (opening (bounds design budget cert)) ≡ ready (given.Bounds drawn budget cert)
 bounds_ready files design budget cert drawn draws = told_on files (design_at design) (λ d. gives (given.Bounds d budget cert)) drawn draws
 
-module _ (call : Call) (files : Files) (asked : Task) (current : call.shelf_before.files ≡ Some files) (asks : Asks call.words asked) (quiet : ¬ (FaultCounted call.shelf_before.faults call.shelf_after.faults)) where
+module _ (call : Call) (files : Files) (asked : Task) (known : call.shelf_before.files ≡ Some files) (asks : Asks call.words asked) (quiet : ¬ (FaultCounted call.shelf_before.faults call.shelf_after.faults)) where
   -- if no fetch failed, the reading came to the end that the files say
   told_is : (end : End Ready) → HasRead call end → end_over files (opening asked) ≡ end
-  told_is (ready given) came = ready_over call files asked given current asks came
-  told_is (refused place why) came = refused_over call files asked place why current asks came
+  told_is (ready given) came = ready_over call files asked given known asks came
+  told_is (refused place why) came = refused_over call files asked place why known asks came
   told_is (unread place name) came = absurd (quiet (came_over call asked (unread place name) asks came).1.rose)
 
   wanted_over : (text : List ℕ) → IntendedText call text → ToWrite (end_over files (opening asked)) text

@@ -92,10 +92,10 @@ none_word endings.Fail e = absurd (cc e)
 none_word endings.Inconsistent e = refl
 none_word endings.Undecided e = absurd (cc e)
 
-module _ (call : Call) (files : Files) (budget : ℕ) (cert : Bool) (drawn : Drawn) (current : call.shelf_before.files ≡ Some files) (asks : AsksBounds call.words files budget cert drawn) where
+module _ (call : Call) (files : Files) (budget : ℕ) (cert : Bool) (drawn : Drawn) (known : call.shelf_before.files ≡ Some files) (asks : AsksBounds call.words files budget cert drawn) where
   bounds_said : (answer : Answer) (m : HasAnswered call answer) → AnswersBounds drawn budget cert answer m.text
   bounds_said answer m =
-      let h = reported_over files asks.design budget cert answer m.text (answer_over call files (bounds asks.design budget cert) answer m.text current m refl (record { words = asks.words; own = refl })) in
+      let h = reported_over files asks.design budget cert answer m.text (answer_over call files (bounds asks.design budget cert) answer m.text known m refl (record { words = asks.words; own = refl })) in
       subst (λ (d : Drawn). AnswersBounds d budget cert answer m.text) (same_ready h.drawn drawn (sym h.draws ∙ asks.draws)) h.answers
 
   begins : (answer : Answer) (text : List ℕ) (a : AnswersBounds drawn budget cert answer text) → BeginsRightReport drawn a.reports.lines
@@ -122,10 +122,10 @@ module _ (call : Call) (files : Files) (budget : ℕ) (cert : Bool) (drawn : Dra
 -- with the lines of proofs the text is accepted
 pub bounds_accepted : (call : Call) (files : Files) (budget : ℕ) (drawn : Drawn) (result : Outcome) → call.shelf_before.files ≡ Some files → AsksBounds call.words files budget true drawn → OutcomeMeans call result → IsReportEnd result
     → (text : List ℕ) × IsAcceptedText drawn text × (call.sink_after ≡ grown call.sink_before text)
-bounds_accepted call files budget drawn result current asks means end =
+bounds_accepted call files budget drawn result known asks means end =
     let answer = answer_of end.0 in
     let m = answered_by call result answer (λ same. never_refused end.0 (sym same)) means end.1 in
-    let a = bounds_said call files budget true drawn current asks answer m in
+    let a = bounds_said call files budget true drawn known asks answer m in
     let comes = told_comes files (design_at asks.design) drawn asks.draws in
     let accepted = written_is_accepted drawn budget a.reports.lines a.reports.is_written (drawn_names_have_form (told_shelf files) asks.design drawn comes) (drawn_ranges_have_form (told_shelf files) asks.design drawn comes) in
     (m.text, subst (IsAcceptedText drawn) (sym a.reports.is_text) accepted, m.wrote)
@@ -157,10 +157,10 @@ record HasChecked (files : Files) (report : List ℕ) (drawn : Drawn) (answer : 
   is_file : file_of files report ≡ Some bytes
   answers : AnswersCheck drawn bytes answer text
 
-module _ (call : Call) (files : Files) (report : List ℕ) (drawn : Drawn) (current : call.shelf_before.files ≡ Some files) (asks : AsksCheck call.words files report drawn) where
+module _ (call : Call) (files : Files) (report : List ℕ) (drawn : Drawn) (known : call.shelf_before.files ≡ Some files) (asks : AsksCheck call.words files report drawn) where
   check_said : (answer : Answer) (m : HasAnswered call answer) → HasChecked files report drawn answer m.text
   check_said answer m =
-      let a = answer_over call files (check asks.design report) answer m.text current m refl (record { words = asks.words; own = refl }) in
+      let a = answer_over call files (check asks.design report) answer m.text known m refl (record { words = asks.words; own = refl }) in
       let (other, draws, more) = told_behind files (design_at asks.design) (λ d. file_at Report report REPORT_LIMIT >>= (λ bytes. gives (given.Check d bytes))) a.given a.reads in
       let (bytes, had, is) = told_then files (file_at Report report REPORT_LIMIT) (λ bytes. given.Check other bytes) a.given more in
       let same : other ≡ drawn = same_ready other drawn (sym draws ∙ asks.draws) in
@@ -197,11 +197,11 @@ module _ (call : Call) (files : Files) (report : List ℕ) (drawn : Drawn) (curr
 
 -- ---- jobs settle and confirm
 
-module _ (call : Call) (files : Files) (report : List ℕ) (drawn : Drawn) (current : call.shelf_before.files ≡ Some files) (asks : AsksConfirm call.words files report drawn) where
+module _ (call : Call) (files : Files) (report : List ℕ) (drawn : Drawn) (known : call.shelf_before.files ≡ Some files) (asks : AsksConfirm call.words files report drawn) where
   pub confirm_right : (result : Outcome) → OutcomeMeans call result → result ≡ ends.AllPass → IsSettledFile files report drawn
   confirm_right result means e =
       let m = answered_by call result answers.AllPass (λ same. cc same) means e in
-      let a = answer_over call files (confirm asks.design report) answers.AllPass m.text current m refl (record { words = asks.words; own = refl }) in
+      let a = answer_over call files (confirm asks.design report) answers.AllPass m.text known m refl (record { words = asks.words; own = refl }) in
       let (other, draws, more) = told_behind files (design_at asks.design) (λ d. file_at Report report REPORT_LIMIT >>= (λ bytes. gives (given.Confirm d bytes))) a.given a.reads in
       let (bytes, had, is) = told_then files (file_at Report report REPORT_LIMIT) (λ bytes. given.Confirm other bytes) a.given more in
       let same : other ≡ drawn = same_ready other drawn (sym draws ∙ asks.draws) in
@@ -209,10 +209,10 @@ module _ (call : Call) (files : Files) (report : List ℕ) (drawn : Drawn) (curr
       subst (λ (d : Drawn). AnswersConfirm d bytes answers.AllPass m.text) same (subst (λ g. Answers g answers.AllPass m.text) (sym is) a.answers) in
       record { bytes = bytes; is_file = file_had files Report report REPORT_LIMIT bytes had; is_settled = said.0 }
 
-module _ (call : Call) (files : Files) (budget : ℕ) (cert : Bool) (drawn : Drawn) (current : call.shelf_before.files ≡ Some files) (asks : AsksSettle call.words files budget cert drawn) where
+module _ (call : Call) (files : Files) (budget : ℕ) (cert : Bool) (drawn : Drawn) (known : call.shelf_before.files ≡ Some files) (asks : AsksSettle call.words files budget cert drawn) where
   settle_said : (answer : Answer) (m : HasAnswered call answer) → AnswersSettle drawn cert answer m.text
   settle_said answer m =
-      let a = answer_over call files (settle asks.design budget cert) answer m.text current m refl (record { words = asks.words; own = refl }) in
+      let a = answer_over call files (settle asks.design budget cert) answer m.text known m refl (record { words = asks.words; own = refl }) in
       let (other, draws, is) = told_then files (design_at asks.design) (λ d. given.Settle d budget cert) a.given a.reads in
       let same : other ≡ drawn = same_ready other drawn (sym draws ∙ asks.draws) in
       subst (λ (d : Drawn). AnswersSettle d cert answer m.text) same (subst (λ g. Answers g answer m.text) (sym is) a.answers)
@@ -228,10 +228,10 @@ matrix_had : (files : Files) (drawn : Drawn) (to : Ready) (test : Bool) (place :
 matrix_had files drawn to true place why e = absurd (cc e)
 matrix_had files drawn to false place why e = same_ready (given.Matrix drawn) to e
 
-module _ (call : Call) (files : Files) (drawn : Drawn) (current : call.shelf_before.files ≡ Some files) (asks : AsksMatrix call.words files drawn) where
+module _ (call : Call) (files : Files) (drawn : Drawn) (known : call.shelf_before.files ≡ Some files) (asks : AsksMatrix call.words files drawn) where
   matrix_said : (answer : Answer) (m : HasAnswered call answer) → AnswersMatrix drawn answer m.text
   matrix_said answer m =
-      let a = answer_over call files (matrix asks.design) answer m.text current m refl (record { words = asks.words; own = refl }) in
+      let a = answer_over call files (matrix asks.design) answer m.text known m refl (record { words = asks.words; own = refl }) in
       let (other, draws, more) = told_behind files (design_at asks.design) matrix_at a.given a.reads in
       let is : given.Matrix other ≡ a.given = matrix_had files other a.given (nat_lt MAX_MATRIX_EVENTS other.net.events) _ _ more in
       subst (λ (d : Drawn). AnswersMatrix d answer m.text) (same_ready other drawn (sym draws ∙ asks.draws)) (subst (λ g. Answers g answer m.text) (sym is) a.answers)

@@ -96,16 +96,16 @@ came_over call asked end asks came =
     rw asks.own at (subst (λ t. ReadsOver (made_for t) call.shelf_before call.shelf_after t end) (same_asked call.words asked came.asked asks.words came.words) came.ends)
 
 pub ready_over : (call : Call) (files : Files) (asked : Task) (given : Ready) → call.shelf_before.files ≡ Some files → Asks call.words asked → HasRead call (ready given) → end_over files (opening asked) ≡ ready given
-ready_over call files asked given current asks came = told_ready call.shelf_before files (opening asked) given current (came_over call asked (ready given) asks came).0
+ready_over call files asked given known asks came = told_ready call.shelf_before files (opening asked) given known (came_over call asked (ready given) asks came).0
 
 pub refused_over : (call : Call) (files : Files) (asked : Task) (place : RefusalPlace) (why : Refusal) → call.shelf_before.files ≡ Some files → Asks call.words asked → HasRead call (refused place why)
     → end_over files (opening asked) ≡ refused place why
-refused_over call files asked place why current asks came = told_refused call.shelf_before files (opening asked) place why current (came_over call asked (refused place why) asks came).0
+refused_over call files asked place why known asks came = told_refused call.shelf_before files (opening asked) place why known (came_over call asked (refused place why) asks came).0
 
 -- what was answered, over known files
 pub answer_over : (call : Call) (files : Files) (asked : Task) (answer : Answer) (bytes : List ℕ) → call.shelf_before.files ≡ Some files → (m : HasAnswered call answer) → m.text ≡ bytes → Asks call.words asked
     → IsAnswerOf files asked answer bytes
-answer_over call files asked answer bytes current m is asks = record { given = m.given; reads = ready_over call files asked m.given current asks m.came; answers = subst (λ t. Answers m.given answer t) is m.answers }
+answer_over call files asked answer bytes known m is asks = record { given = m.given; reads = ready_over call files asked m.given known asks m.came; answers = subst (λ t. Answers m.given answer t) is m.answers }
 
 -- ---- job bounds
 
@@ -175,26 +175,26 @@ sink_holds old new text e fresh = sym (sink_bytes old new text e ∙ ap (λ befo
 -- a run of job bounds that ends undecided
 pub bounds_below : (call : Call) (files : Files) (result : Outcome) (design : List ℕ) (budget : ℕ) (cert : Bool) (drawn : Drawn) → call.shelf_before.files ≡ Some files → OutcomeMeans call result
     → taken call.words ≡ task (bounds design budget cert) → Draws files design drawn → result ≡ ends.Undecided → budget < cause_choices drawn.net.constraints
-bounds_below call files result design budget cert drawn current means is draws e =
+bounds_below call files result design budget cert drawn known means is draws e =
     let m : HasAnswered call answers.Undecided = subst (λ end. OutcomeMeans call end) e means in
     below_over files design budget cert m.text drawn
-    (reported_over files design budget cert answers.Undecided m.text (answer_over call files (bounds design budget cert) answers.Undecided m.text current m refl (record { words = is; own = refl }))) draws
+    (reported_over files design budget cert answers.Undecided m.text (answer_over call files (bounds design budget cert) answers.Undecided m.text known m refl (record { words = is; own = refl }))) draws
 
 -- what a run that passes writes, over known files
 pub passed : (call : Call) (files : Files) (bytes : List ℕ) → call.shelf_before.files ≡ Some files → (m : HasAnswered call answers.AllPass) → m.text ≡ bytes → (asked : Task) → Asks call.words asked
     → IsAnswerOf files asked answers.AllPass bytes
-passed call files bytes current m is asked asks = answer_over call files asked answers.AllPass bytes current m is asks
+passed call files bytes known m is asked asks = answer_over call files asked answers.AllPass bytes known m is asks
 
 pub passed_right : (call : Call) (files : Files) (bytes : List ℕ) → call.shelf_before.files ≡ Some files → (m : HasAnswered call answers.AllPass) → m.text ≡ bytes → (design : List ℕ) (budget : ℕ) (cert : Bool)
     → taken call.words ≡ task (bounds design budget cert) → IsRightReportOf files design bytes
-passed_right call files bytes current m is design budget cert words =
+passed_right call files bytes known m is design budget cert words =
     right_over files design budget cert answers.AllPass bytes
-    (reported_over files design budget cert answers.AllPass bytes (answer_over call files (bounds design budget cert) answers.AllPass bytes current m is (record { words = words; own = refl })))
+    (reported_over files design budget cert answers.AllPass bytes (answer_over call files (bounds design budget cert) answers.AllPass bytes known m is (record { words = words; own = refl })))
 
 -- a run that is refused by its reading
 refused_so : (call : Call) (files : Files) (bytes : List ℕ) → call.shelf_before.files ≡ Some files → (m : IsRefused call) → refusal_text m.place m.why ≡ bytes → (asked : Task) → Asks call.words asked
     → IsRefusalOf files asked bytes
-refused_so call files bytes current m is asked asks = record { place = m.place; why = m.why; reads = refused_over call files asked m.place m.why current asks m.came; text = sym is }
+refused_so call files bytes known m is asked asks = record { place = m.place; why = m.why; reads = refused_over call files asked m.place m.why known asks m.came; text = sym is }
 
 -- the line that a refused run wrote
 abbrev pub refused_line : (call : Call) → HasRefused call → List ℕ
@@ -208,8 +208,8 @@ refused_wrote call (inr m) = m.wrote
 -- a run that is refused
 pub refused_over_files : (call : Call) (files : Files) (bytes : List ℕ) → call.shelf_before.files ≡ Some files → (m : HasRefused call) → refused_line call m ≡ bytes → (asked : Task) → Asks call.words asked
     → IsRefusalOf files asked bytes ⊎ IsAnswerOf files asked answers.DesignRefused bytes
-refused_over_files call files bytes current (inl m) is asked asks = inl (refused_so call files bytes current m is asked asks)
-refused_over_files call files bytes current (inr m) is asked asks = inr (answer_over call files asked answers.DesignRefused bytes current m is asks)
+refused_over_files call files bytes known (inl m) is asked asks = inl (refused_so call files bytes known m is asked asks)
+refused_over_files call files bytes known (inr m) is asked asks = inr (answer_over call files asked answers.DesignRefused bytes known m is asks)
 
 -- a network that is not too large for a matrix is given
 small_by : (files : Files) (b : Bool) (drawn : Drawn) (why : Refusal) (to : Ready) → end_over files (if b then refuses Design why else gives (given.Matrix drawn)) ≡ ready to → given.Matrix drawn ≡ to
@@ -289,8 +289,8 @@ refused_others files asked bytes own other (inr h) = let (design, budget, is) = 
 -- a task whose reading gave something over some files is not refused over these files
 pub not_both : (first second : Call) (files : Files) (asked : Task) → first.shelf_before.files ≡ Some files → second.shelf_before.files ≡ Some files → Asks first.words asked → Asks second.words asked
     → HasAnswered first answers.AllPass → IsRefused second → ⊥
-not_both first second files asked current again asks also m r =
-    cc (ready_over first files asked m.given current asks m.came, refused_over second files asked r.place r.why again also r.came)
+not_both first second files asked known again asks also m r =
+    cc (ready_over first files asked m.given known asks m.came, refused_over second files asked r.place r.why again also r.came)
 
 -- ---- job redraw
 
@@ -345,8 +345,8 @@ redraws_once files design budget one two a b =
 -- a task that passed is not refused for what was found
 pub not_found : (first second : Call) (files : Files) (asked : Task) → first.shelf_before.files ≡ Some files → second.shelf_before.files ≡ Some files → Asks first.words asked → Asks second.words asked
     → HasAnswered first answers.AllPass → HasAnswered second answers.DesignRefused → ⊥
-not_found first second files asked current again asks also m r =
-    let a = answer_over first files asked answers.AllPass m.text current m refl asks in
+not_found first second files asked known again asks also m r =
+    let a = answer_over first files asked answers.AllPass m.text known m refl asks in
     let b = answer_over second files asked answers.DesignRefused r.text again r refl also in
     let (design, budget, is) = refused_redraws files asked r.text asks.own b in
     redraws_once files design budget m.text r.text (subst (λ t. IsAnswerOf files t answers.AllPass m.text) is a) (subst (λ t. IsAnswerOf files t answers.DesignRefused r.text) is b)
@@ -358,18 +358,18 @@ passed_kept call m asked asks = (came_over call asked (ready m.given) asks m.cam
 -- two runs on a shelf, the first of which passed
 pub twice : (words : List (List ℕ)) (shelf mid last : ShelfState) (one one' two two' : SinkState) (files : Files) (asked : Task) (once again : Outcome) → shelf.files ≡ Some files
     → OutcomeMeans (call_of words shelf mid one one') once → OutcomeMeans (call_of words mid last two two') again → Asks words asked → once ≡ ends.AllPass → again ≡ ends.Refused → ⊥
-twice words shelf mid last one one' two two' files asked once again current means means' asks e e' =
+twice words shelf mid last one one' two two' files asked once again known means means' asks e e' =
     let m : HasAnswered (call_of words shelf mid one one') answers.AllPass = subst (λ end. OutcomeMeans (call_of words shelf mid one one') end) e means in
-    let again_told = ap (λ (t : ShelfState). t.files) (passed_kept (call_of words shelf mid one one') m asked asks) ∙ current in
+    let again_told = ap (λ (t : ShelfState). t.files) (passed_kept (call_of words shelf mid one one') m asked asks) ∙ known in
     elim (subst (λ end. OutcomeMeans (call_of words mid last two two') end) e' means') [
-      | inl r ↦ not_both (call_of words shelf mid one one') (call_of words mid last two two') files asked current again_told asks asks m r
-      | inr r ↦ not_found (call_of words shelf mid one one') (call_of words mid last two two') files asked current again_told asks asks m r
+      | inl r ↦ not_both (call_of words shelf mid one one') (call_of words mid last two two') files asked known again_told asks asks m r
+      | inr r ↦ not_found (call_of words shelf mid one one') (call_of words mid last two two') files asked known again_told asks asks m r
     ]
 
 -- which end a run comes to over known files
 pub decided : (call : Call) (files : Files) (result : Outcome) (asked : Task) → call.shelf_before.files ≡ Some files → Completes call result → Asks call.words asked → ¬ (FaultCounted call.shelf_before.faults call.shelf_after.faults)
     → ¬ (FaultCounted call.sink_before.faults call.sink_after.faults) → (result ≡ ends.NoMemory) ⊎ OutcomeBy (end_over files (opening asked)) result
-decided call files result asked current completes asks quiet silent = by_files (rw asks.own at (completes asked asks.words (record { shelf = quiet; sink = silent })))
+decided call files result asked known completes asks quiet silent = by_files (rw asks.own at (completes asked asks.words (record { shelf = quiet; sink = silent })))
   where
     some_files : (o : Option Files) → o ≡ Some files → IfSome o (λ fs. OutcomeBy (end_over fs (opening asked)) result) → OutcomeBy (end_over files (opening asked)) result
     some_files None e h = absurd (cc e)
@@ -377,27 +377,27 @@ decided call files result asked current completes asks quiet silent = by_files (
 
     by_files : (result ≡ ends.NoMemory) ⊎ FilesDecide None call.shelf_before.files asked result → (result ≡ ends.NoMemory) ⊎ OutcomeBy (end_over files (opening asked)) result
     by_files (inl none) = inl none
-    by_files (inr by) = inr (some_files call.shelf_before.files current by)
+    by_files (inr by) = inr (some_files call.shelf_before.files known by)
 
 -- a run of job fall that answered
 fall_answered : (call : Call) (files : Files) (answer : Answer) (design : List ℕ) (budget : ℕ) (cert : Bool) (drawn : Drawn) → call.shelf_before.files ≡ Some files → HasAnswered call answer
     → taken call.words ≡ task (fall design budget cert) → Draws files design drawn → (bytes : List ℕ) × AnswersFall drawn budget cert answer bytes
-fall_answered call files answer design budget cert drawn current m is draws = (
+fall_answered call files answer design budget cert drawn known m is draws = (
   m.text,
   fallen_of files design budget cert answer m.text drawn
-      (fallen_over files design budget cert answer m.text (answer_over call files (fall design budget cert) answer m.text current m refl (record { words = is; own = refl }))) draws,
+      (fallen_over files design budget cert answer m.text (answer_over call files (fall design budget cert) answer m.text known m refl (record { words = is; own = refl }))) draws,
 )
 
 -- a run of job fall that ends undecided
 pub fall_below : (call : Call) (files : Files) (result : Outcome) (design : List ℕ) (budget : ℕ) (cert : Bool) (drawn : Drawn) → call.shelf_before.files ≡ Some files → OutcomeMeans call result
     → taken call.words ≡ task (fall design budget cert) → Draws files design drawn → result ≡ ends.Undecided → budget < enough_turns drawn.net
-fall_below call files result design budget cert drawn current means is draws e =
-    let (bytes, a) = fall_answered call files answers.Undecided design budget cert drawn current (subst (λ end. OutcomeMeans call end) e means) is draws in
+fall_below call files result design budget cert drawn known means is draws e =
+    let (bytes, a) = fall_answered call files answers.Undecided design budget cert drawn known (subst (λ end. OutcomeMeans call end) e means) is draws in
     undecided_has_few_turns drawn budget cert bytes a
 
 -- a run of job fall that ends inconsistent
 pub fall_none : (call : Call) (files : Files) (result : Outcome) (design : List ℕ) (budget : ℕ) (cert : Bool) (drawn : Drawn) → call.shelf_before.files ≡ Some files → OutcomeMeans call result
     → taken call.words ≡ task (fall design budget cert) → Draws files design drawn → result ≡ ends.Inconsistent → IsInconsistent drawn.net
-fall_none call files result design budget cert drawn current means is draws e =
-    let (bytes, a) = fall_answered call files answers.Inconsistent design budget cert drawn current (subst (λ end. OutcomeMeans call end) e means) is draws in
+fall_none call files result design budget cert drawn known means is draws e =
+    let (bytes, a) = fall_answered call files answers.Inconsistent design budget cert drawn known (subst (λ end. OutcomeMeans call end) e means) is draws in
     inconsistent_has_no_times drawn budget cert bytes a

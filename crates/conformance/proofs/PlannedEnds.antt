@@ -55,10 +55,10 @@ use Rattle.conformance.proofs.KnownFiles.{answer_over, never_refused, same_ready
 -- A job that is opened by a plan answers for the plan and the network that the files give.
 module _ (job : List ℕ → ℕ → Task) (made : Planned × Drawn → ℕ → Ready) (opens : (design : List ℕ) (budget : ℕ) → opening (job design budget) ≡ (planned_at design >>= (λ both. gives (made both budget))))
     (own : (design : List ℕ) (budget : ℕ) → made_for (job design budget) ≡ None) where
-  module _ (call : Call) (files : Files) (budget : ℕ) (plan : Planned) (drawn : Drawn) (current : call.shelf_before.files ≡ Some files) (asks : AsksPlanned job call.words files budget plan drawn) where
+  module _ (call : Call) (files : Files) (budget : ℕ) (plan : Planned) (drawn : Drawn) (known : call.shelf_before.files ≡ Some files) (asks : AsksPlanned job call.words files budget plan drawn) where
     planned_said : (answer : Answer) (m : HasAnswered call answer) → Answers (made (plan, drawn) budget) answer m.text
     planned_said answer m =
-        let a = answer_over call files (job asks.design budget) answer m.text current m refl (record { words = asks.words; own = own asks.design budget }) in
+        let a = answer_over call files (job asks.design budget) answer m.text known m refl (record { words = asks.words; own = own asks.design budget }) in
         let reads = subst (λ o. end_over files o ≡ ready a.given) (opens asks.design budget) a.reads in
         let (other, plans, is) = told_then files (planned_at asks.design) (λ (p : Planned × Drawn). made p budget) a.given reads in
         let same : other ≡ (plan, drawn) = same_ready other (plan, drawn) (sym plans ∙ asks.plans) in
@@ -143,13 +143,13 @@ settled_end rows Unsettled found settled all e = settled refl
 below_choices : (choices budget : ℕ) → (choices ≤ budget → ⊥) → budget < choices
 below_choices choices budget past = omega (arith, past)
 
-module _ (call : Call) (files : Files) (budget : ℕ) (plan : Planned) (drawn : Drawn) (current : call.shelf_before.files ≡ Some files) (asks : AsksWhy call.words files budget plan drawn) where
+module _ (call : Call) (files : Files) (budget : ℕ) (plan : Planned) (drawn : Drawn) (known : call.shelf_before.files ≡ Some files) (asks : AsksWhy call.words files budget plan drawn) where
   why_said : (answer : Answer) (m : HasAnswered call answer) → AnswersWhy (plan_note plan) drawn budget answer m.text
-  why_said answer m = planned_said tasks.why (λ p b. given.Why p.0 p.1 b) (λ design b. refl) (λ design b. refl) call files budget plan drawn current asks answer m
+  why_said answer m = planned_said tasks.why (λ p b. given.Why p.0 p.1 b) (λ design b. refl) (λ design b. refl) call files budget plan drawn known asks answer m
 
   pub why_wrote : (result : Outcome) → OutcomeMeans call result → (end : IsReportEnd result)
       → (text : List ℕ) × AnswersWhy (plan_note plan) drawn budget (answer_of end.0) text × (call.sink_after ≡ grown call.sink_before text)
-  why_wrote result means end = planned_wrote tasks.why (λ p b. given.Why p.0 p.1 b) (λ design b. refl) (λ design b. refl) call files budget plan drawn current asks result means end
+  why_wrote result means end = planned_wrote tasks.why (λ p b. given.Why p.0 p.1 b) (λ design b. refl) (λ design b. refl) call files budget plan drawn known asks result means end
 
   pub why_none : (result : Outcome) → OutcomeMeans call result → result ≡ ends.Inconsistent → IsInconsistent drawn.net
   why_none result means e =
@@ -166,13 +166,13 @@ module _ (call : Call) (files : Files) (budget : ℕ) (plan : Planned) (drawn : 
 
 -- ---- job brief
 
-module _ (call : Call) (files : Files) (budget : ℕ) (plan : Planned) (drawn : Drawn) (current : call.shelf_before.files ≡ Some files) (asks : AsksBrief call.words files budget plan drawn) where
+module _ (call : Call) (files : Files) (budget : ℕ) (plan : Planned) (drawn : Drawn) (known : call.shelf_before.files ≡ Some files) (asks : AsksBrief call.words files budget plan drawn) where
   brief_said : (answer : Answer) (m : HasAnswered call answer) → AnswersBrief (plan_note plan) drawn budget answer m.text
-  brief_said answer m = planned_said tasks.brief (λ p b. given.Brief p.0 p.1 b) (λ design b. refl) (λ design b. refl) call files budget plan drawn current asks answer m
+  brief_said answer m = planned_said tasks.brief (λ p b. given.Brief p.0 p.1 b) (λ design b. refl) (λ design b. refl) call files budget plan drawn known asks answer m
 
   pub brief_wrote : (result : Outcome) → OutcomeMeans call result → (end : IsReportEnd result)
       → (text : List ℕ) × AnswersBrief (plan_note plan) drawn budget (answer_of end.0) text × (call.sink_after ≡ grown call.sink_before text)
-  brief_wrote result means end = planned_wrote tasks.brief (λ p b. given.Brief p.0 p.1 b) (λ design b. refl) (λ design b. refl) call files budget plan drawn current asks result means end
+  brief_wrote result means end = planned_wrote tasks.brief (λ p b. given.Brief p.0 p.1 b) (λ design b. refl) (λ design b. refl) call files budget plan drawn known asks result means end
 
   pub brief_decides : (result : Outcome) → OutcomeMeans call result → result ≡ ends.Undecided → budget < cause_choices drawn.net.constraints
   brief_decides result means e =
@@ -202,13 +202,13 @@ none_warned drawn warnings found e = no_length warnings (eqb-true (length warnin
 same_ok : {A E : Type 0} (r : Result A E) (one two : A) → r ≡ Ok one → r ≡ Ok two → one ≡ two
 same_ok r one two is also = cc (is, also)
 
-module _ (call : Call) (files : Files) (budget : ℕ) (plan : Planned) (drawn : Drawn) (current : call.shelf_before.files ≡ Some files) (asks : AsksLint call.words files budget plan drawn) where
+module _ (call : Call) (files : Files) (budget : ℕ) (plan : Planned) (drawn : Drawn) (known : call.shelf_before.files ≡ Some files) (asks : AsksLint call.words files budget plan drawn) where
   lint_said : (answer : Answer) (m : HasAnswered call answer) → AnswersLint plan drawn budget answer m.text
-  lint_said answer m = planned_said tasks.lint (λ p b. given.Lint p.0 p.1 b) (λ design b. refl) (λ design b. refl) call files budget plan drawn current asks answer m
+  lint_said answer m = planned_said tasks.lint (λ p b. given.Lint p.0 p.1 b) (λ design b. refl) (λ design b. refl) call files budget plan drawn known asks answer m
 
   pub lint_wrote : (result : Outcome) → OutcomeMeans call result → (end : IsReportEnd result)
       → (text : List ℕ) × AnswersLint plan drawn budget (answer_of end.0) text × (call.sink_after ≡ grown call.sink_before text)
-  lint_wrote result means end = planned_wrote tasks.lint (λ p b. given.Lint p.0 p.1 b) (λ design b. refl) (λ design b. refl) call files budget plan drawn current asks result means end
+  lint_wrote result means end = planned_wrote tasks.lint (λ p b. given.Lint p.0 p.1 b) (λ design b. refl) (λ design b. refl) call files budget plan drawn known asks result means end
 
   pub lint_clean : (result : Outcome) → OutcomeMeans call result → result ≡ ends.AllPass → HasNoWarning plan
   lint_clean result means e =

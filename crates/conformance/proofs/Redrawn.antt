@@ -210,8 +210,8 @@ pub record IsDrawnAgain (files : Files) (name : List ℕ) : Type 0 where
 -- the answer that a run gives to such a design
 fails_so : (call : Call) (files : Files) (name : List ℕ) (budget : ℕ) (cert : Bool) (answer : Answer) → call.shelf_before.files ≡ Some files → taken call.words ≡ task (bounds name budget cert) → 1 ≤ budget
     → IsDrawnAgain files name → HasAnswered call answer → answer ≡ answers.SomeFail
-fails_so call files name budget cert answer current words some d m =
-    let r = reported_over files name budget cert answer m.text (answer_over call files (bounds name budget cert) answer m.text current m refl (record { words = words; own = refl })) in
+fails_so call files name budget cert answer known words some d m =
+    let r = reported_over files name budget cert answer m.text (answer_over call files (bounds name budget cert) answer m.text known m refl (record { words = words; own = refl })) in
     let same : r.drawn ≡ d.again = same_ready r.drawn d.again (sym r.draws ∙ d.reads) in
     bounds_fails d.again budget cert answer m.text some d.always (subst (λ (x : Drawn). AnswersBounds x budget cert answer m.text) same r.answers)
 
@@ -227,7 +227,7 @@ gives_again files (fetches place name most next) f x e = given_file files most n
   given_file files most next f x place name None more e = absurd (cc e)
   given_file files most next f x place name (Some bytes) more e = more (take most bytes) e
 
-module _ (call : Call) (files : Files) (name : List ℕ) (budget : ℕ) (cert : Bool) (current : call.shelf_before.files ≡ Some files) (faithful : call.shelf_before.is_faithful ≡ true)
+module _ (call : Call) (files : Files) (name : List ℕ) (budget : ℕ) (cert : Bool) (known : call.shelf_before.files ≡ Some files) (faithful : call.shelf_before.is_faithful ≡ true)
     (words : taken call.words ≡ task (bounds name budget cert)) (some : 1 ≤ budget) (d : IsDrawnAgain files name) where
   asks : Asks call.words (bounds name budget cert)
   asks = record { words = words; own = refl }
@@ -240,21 +240,21 @@ module _ (call : Call) (files : Files) (name : List ℕ) (budget : ℕ) (cert : 
 
   -- the end of such a run
   pub ends_with_fail : (result : ends.Outcome) → OutcomeMeans call result → (result ≡ SomeFail) ⊎ ((result ≡ WriteFault) ⊎ (result ≡ NoMemory))
-  ends_with_fail AllPass m = absurd (cc (fails_so call files name budget cert answers.AllPass current words some d m))
+  ends_with_fail AllPass m = absurd (cc (fails_so call files name budget cert answers.AllPass known words some d m))
   ends_with_fail Help m = absurd (cc (m.words, words))
   ends_with_fail SomeFail m = inl refl
-  ends_with_fail Inconsistent m = absurd (cc (fails_so call files name budget cert answers.Inconsistent current words some d m))
-  ends_with_fail Undecided m = absurd (cc (fails_so call files name budget cert answers.Undecided current words some d m))
-  ends_with_fail Refused (inl m) = absurd (cc (reads_it, refused_over call files (bounds name budget cert) m.place m.why current asks m.came))
-  ends_with_fail Refused (inr m) = absurd (cc (fails_so call files name budget cert answers.DesignRefused current words some d m))
+  ends_with_fail Inconsistent m = absurd (cc (fails_so call files name budget cert answers.Inconsistent known words some d m))
+  ends_with_fail Undecided m = absurd (cc (fails_so call files name budget cert answers.Undecided known words some d m))
+  ends_with_fail Refused (inl m) = absurd (cc (reads_it, refused_over call files (bounds name budget cert) m.place m.why known asks m.came))
+  ends_with_fail Refused (inr m) = absurd (cc (fails_so call files name budget cert answers.DesignRefused known words some d m))
   ends_with_fail ReadFault m =
       let over = came_over call (bounds name budget cert) (unread m.place m.name) asks m.came in
-      let none = missing_in call.shelf_before.files m.name current (over.1.missing faithful) in
-      absurd (cc (reads_it, told_unread call.shelf_before files (opening (bounds name budget cert)) m.place m.name current none over.0))
+      let none = missing_in call.shelf_before.files m.name known (over.1.missing faithful) in
+      absurd (cc (reads_it, told_unread call.shelf_before files (opening (bounds name budget cert)) m.place m.name known none over.0))
   ends_with_fail WriteFault m = inr (inl refl)
   ends_with_fail NoMemory m = inr (inr refl)
   ends_with_fail BadWords m = absurd (cc (m.words, words))
-  ends_with_fail CheckRefused m = absurd (cc (fails_so call files name budget cert answers.CheckRefused current words some d m))
+  ends_with_fail CheckRefused m = absurd (cc (fails_so call files name budget cert answers.CheckRefused known words some d m))
 
 -- ---- a run of job redraw, and a run of job bounds on what it drew
 
@@ -269,8 +269,8 @@ pub redrawn_ends : (first second : Call) (files : Files) (shelf fresh : MemShelf
     → first.shelf_before.files ≡ Some files → (m : HasAnswered first answers.SomeFail) → m.text ≡ bytes → taken first.words ≡ task (redraw design budget)
     → second.shelf_before ≡ shelf_state shelf → shelf ≡ record fresh { files = finite.insert fresh.files name bytes } → fresh.failing ≡ [] → taken second.words ≡ task (bounds name most cert)
     → OutcomeMeans second result → (result ≡ SomeFail) ⊎ ((result ≡ WriteFault) ⊎ (result ≡ NoMemory))
-redrawn_ends first second files shelf fresh design name bytes budget most cert result current m is words on added none again means =
-    let (drawn, draws, a) = redrawn_over files design budget answers.SomeFail bytes (answer_over first files (redraw design budget) answers.SomeFail bytes current m is (record { words = words; own = refl })) in
+redrawn_ends first second files shelf fresh design name bytes budget most cert result known m is words on added none again means =
+    let (drawn, draws, a) = redrawn_over files design budget answers.SomeFail bytes (answer_over first files (redraw design budget) answers.SomeFail bytes known m is (record { words = words; own = refl })) in
     let (network, reads, always) = drawn_again files (finite.insert fresh.files name bytes) design name drawn budget bytes draws a (there fresh.files name bytes) in
     let holds : second.shelf_before.files ≡ Some (finite.insert fresh.files name bytes) =
     ap (λ (t : ShelfState). t.files) on ∙ ap (λ (s : MemShelf). Some s.files) added in
