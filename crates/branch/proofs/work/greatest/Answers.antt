@@ -37,10 +37,10 @@ known_is g c =
     (known_separation_is inside.has_known inside.known.items Satisfying from to known ∙ sym (read_is g c) ∙ sym passed)
 
 -- the known times are times
-pub separation-known-requires-clause-times : goal.separation-known-requires-clause-times
-separation-known-requires-clause-times g c =
+pub separation-known-requires : goal.separation-known-requires
+separation-known-requires g c =
     let timely = known_timely c.work.inside c.args.work.now c.args.net.now c.work.invariant c.work.view_is c.requires.known in
-    subst (λ (times : List ℤ). All IsTime times) (sym c.deref.ensures.value) (near_times c.work.inside.known.items timely)
+    record { times = subst (λ (times : List ℤ). All IsTime times) (sym c.deref.ensures.value) (near_times c.work.inside.known.items timely) }
 
 pub bound_pair-requires-clause-near : goal.bound_pair-requires-clause-near
 bound_pair-requires-clause-near g c =

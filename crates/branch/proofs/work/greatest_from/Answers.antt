@@ -20,8 +20,8 @@ start_is g c =
     subst (λ (v : ℤ). start ≡ to_z w64 (of_z w64 v)) (sym c.separation-known.ensures.value) (sym passed)
 
 -- the given times are times
-pub separation-known-requires-clause-times : goal.separation-known-requires-clause-times
-separation-known-requires-clause-times g c = close_times c.args.times.now c.requires.close
+pub separation-known-requires : goal.separation-known-requires
+separation-known-requires g c = record { times = close_times c.args.times.now c.requires.close }
 
 pub returns-clause-lines : goal.returns-clause-lines
 returns-clause-lines g c =

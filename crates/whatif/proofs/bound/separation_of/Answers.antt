@@ -3,8 +3,8 @@ use Rattle.std.proofs.Common.{◌≤ℤ◌, ℤ, sym, subst, neg_ℤ, pos}
 use Rattle.event_graph.specs.Limits.{reach_limit}
 use Rattle.whatif.proofs.bound.separation_of.Goals as goal
 
-pub separation-requires-clause-times : goal.separation-requires-clause-times
-separation-requires-clause-times c = close_times c.args.times.now c.requires.close
+pub separation-requires : goal.separation-requires
+separation-requires c = record { times = close_times c.args.times.now c.requires.close }
 
 pub returns-clause-low : goal.returns-clause-low
 returns-clause-low c =
