@@ -63,8 +63,8 @@ few_causes Early count h = h.1
 
 edge_named : (net : Net) (name : EdgeName) (e : Edge) → IsNet net → edge net name ≡ Some e → IsEdgeName name
 edge_named net name e is_net h =
-    let a = then_some (λ (c : Constraint). option_and_then (side_edge name.coming c.target) (slice_get c.causes name.cause)) (slice_get net.constraints name.constraint) e h in
-    let b = then_some (side_edge name.coming a.0.target) (slice_get a.0.causes name.cause) e a.2 in
+    let a = then_some (λ (c : Constraint). option_and_then (side_edge name.side c.target) (slice_get c.causes name.cause)) (slice_get net.constraints name.constraint) e h in
+    let b = then_some (side_edge name.side a.0.target) (slice_get a.0.causes name.cause) e a.2 in
     let c = all_get (IsConstraint net.events) net.constraints name.constraint a.0 is_net.constraints a.1 in
     let few : length a.0.causes ≤ MAX_CAUSES = few_causes a.0.kind (length a.0.causes) c.0.count in
     let cause : name.cause < length a.0.causes = some_in a.0.causes name.cause b.0 b.1 in

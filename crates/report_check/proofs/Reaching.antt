@@ -30,19 +30,19 @@ low_weight : (from to : EventId) (o : Option ℤ) → IsEnd o → weight_of (opt
 low_weight from to None end = omega (arith, ints)
 low_weight from to (Some low) end = let least : neg_ℤ END_LIMIT ≤ℤ low = end.0 in omega (arith, ints)
 
-side_weight : (coming : EdgeSide) (target : EventId) (c : Cause) → AreEnds c.range → weight_of (side_edge coming target c) ≤ℤ END_LIMIT
+side_weight : (side : EdgeSide) (target : EventId) (c : Cause) → AreEnds c.range → weight_of (side_edge side target c) ≤ℤ END_LIMIT
 side_weight Upper target c ends = high_weight c.event target c.range.high ends.1
 side_weight Lower target c ends = low_weight target c.event c.range.low ends.0
 
 module _ (net : Net) (ends : HasEnds net) where
   by_cause : (name : EdgeName) (k : Constraint) → slice_get net.constraints name.constraint ≡ Some k → (o : Option Cause) → slice_get k.causes name.cause ≡ o
-      → weight_of (option_and_then (side_edge name.coming k.target) o) ≤ℤ END_LIMIT
+      → weight_of (option_and_then (side_edge name.side k.target) o) ≤ℤ END_LIMIT
   by_cause name k is None found = omega (arith, ints)
   by_cause name k is (Some c) found =
-      side_weight name.coming k.target c (ends name.constraint name.cause c (ap (option_and_then (λ (x : Constraint). slice_get x.causes name.cause)) is ∙ found))
+      side_weight name.side k.target c (ends name.constraint name.cause c (ap (option_and_then (λ (x : Constraint). slice_get x.causes name.cause)) is ∙ found))
 
   by_constraint : (name : EdgeName) (o : Option Constraint) → slice_get net.constraints name.constraint ≡ o
-      → weight_of (option_and_then (λ (c : Constraint). option_and_then (side_edge name.coming c.target) (slice_get c.causes name.cause)) o) ≤ℤ END_LIMIT
+      → weight_of (option_and_then (λ (c : Constraint). option_and_then (side_edge name.side c.target) (slice_get c.causes name.cause)) o) ≤ℤ END_LIMIT
   by_constraint name None is = omega (arith, ints)
   by_constraint name (Some k) is = by_cause name k is (slice_get k.causes name.cause) refl
 

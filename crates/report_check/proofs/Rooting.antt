@@ -26,7 +26,7 @@ use Rattle.report_check.specs.Step.Stages.{next_in}
 edge_there : (net : Net) (name : EdgeName) (e : Edge) → edge net name ≡ Some e → (c : Constraint) × (slice_get net.constraints name.constraint ≡ Some c)
 edge_there net name e is = by_constraint (slice_get net.constraints name.constraint) refl is where
   by_constraint : (o : Option Constraint) → slice_get net.constraints name.constraint ≡ o
-      → option_and_then (λ (c : Constraint). option_and_then (side_edge name.coming c.target) (slice_get c.causes name.cause)) o ≡ Some e
+      → option_and_then (λ (c : Constraint). option_and_then (side_edge name.side c.target) (slice_get c.causes name.cause)) o ≡ Some e
       → (c : Constraint) × (slice_get net.constraints name.constraint ≡ Some c)
   by_constraint None there found = absurd (cc found)
   by_constraint (Some c) there found = (c, there)

@@ -1,5 +1,5 @@
 use Rattle.branch.proofs.Looking.{close_separation, close_times}
-use Rattle.std.proofs.Common.{◌≤ℤ◌, ℤ, sym, subst, neg_ℤ, pos}
+use Rattle.std.proofs.Common.{◌*◌, ◌≤ℤ◌, ℤ, sym, subst, neg_ℤ, pos}
 use Rattle.event_graph.specs.Limits.{reach_limit}
 use Rattle.whatif.proofs.bound.separation_of.Goals as goal
 
