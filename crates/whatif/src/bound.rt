@@ -21,7 +21,7 @@ use crate::proving::is_proof;
 use branch::{GreatestAnswer, MAX_START, SearchFinding, Work, greatest, greatest_from};
 use cert_checker::{Checker, Goal};
 use certificate::TreeScribe;
-use event_graph::{Network, ScribeFailed, separation};
+use event_graph::{Network, ScribeFailed};
 use itv_base::NoMemory;
 use std::alloc::Global;
 use std::marker::Model;
@@ -216,7 +216,7 @@ fn separation_of(times: &[i64], pair: Pair) -> i64
     ensures low { neg_ℤ (pos (9 * reach_limit)) ≤ℤ result }
     ensures high { result ≤ℤ pos (9 * reach_limit) }
 {
-    separation(times, pair.from, pair.to)
+    times[pair.to.0 as usize] - times[pair.from.0 as usize]
 }
 
 // Whether the lines are there and are a proof of a bound.
