@@ -13,5 +13,5 @@ mod BrokenSplits
 mod ListWalks
 mod GivenEdges
 mod MetSplits
-pub mod Looking
+mod Looking
 mod KnownTimes

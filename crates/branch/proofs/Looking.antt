@@ -1,10 +1,9 @@
 -- What the times of a case show about the case.
-use Rattle.std.proofs.Common.{◌≡◌, ◌⊎◌, ◌<◌, ◌*◌, ◌≤ℤ◌, ◌<ℤ◌, ℕ, ℤ, pos, neg_ℤ, Bool, List, length, All, Some, None, sym, subst, inl, inr, arith}
+use Rattle.std.proofs.Common.{◌≡◌, ◌⊎◌, ◌<◌, ◌≤ℤ◌, ◌<ℤ◌, ℕ, ℤ, pos, Bool, List, length, All, Some, None, sym, subst, inl, inr, arith}
 use Rattle.std.proofs.lemmas.Int.{ints}
 use Rattle.std.proofs.lemmas.List.Elements.{All-weaker}
 use Rattle.itv_base.specs.declared.names.EventId.{EventId}
 use Rattle.event_graph.specs.Bounds.{IsRay}
-use Rattle.event_graph.specs.Limits.{reach_limit}
 use Rattle.event_graph.specs.Network.{IsNet, Net}
 use Rattle.event_graph.specs.Proof.{Case}
 use Rattle.event_graph.specs.Satisfying.{Breaks, Satisfies}
@@ -61,14 +60,6 @@ near_times times near = All-weaker IsTimely IsTime (λ t n. (omega (arith, ints)
 
 pub close_times : (times : List ℤ) → All IsClose times → All IsTime times
 close_times times close = All-weaker IsClose IsTime (λ t n. (omega (arith, ints), omega (arith, ints))) times close
-
--- how large the separation of close times is
-pub close_separation : (times : List ℤ) (from to : EventId) → All IsClose times → from.0 < length times → to.0 < length times
-    → (neg_ℤ (pos (9 * reach_limit)) ≤ℤ separation times from to) × (separation times from to ≤ℤ pos (9 * reach_limit))
-close_separation times from to close from_within to_within =
-    let first = close from.0 (pos 0) from_within in
-    let last = close to.0 (pos 0) to_within in
-    (omega (arith, ints, first.0, first.1, last.0, last.1), omega (arith, ints, first.0, first.1, last.0, last.1))
 
 -- the separation of timely times is near
 pub near_separation : (times : List ℤ) (from to : EventId) → All IsTimely times → from.0 < length times → to.0 < length times → IsNearSeparation (separation times from to)

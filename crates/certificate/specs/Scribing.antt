@@ -7,11 +7,11 @@ use Rattle.certificate.specs.Text.{proof_text}
 
 -- ---- writing them
 
--- the view of a sink grew by just the texts of the lines
+-- the state of a sink grew by just the texts of the lines
 abbrev pub SinkGrew : SinkState → List ProofLine → SinkState → Type 0
 SinkGrew old lines new = new ≡ grown old (proof_text lines)
 
--- the view of a sink grew by a front of their texts, and its count of faults rose
+-- the state of a sink grew by a front of their texts, and its count of faults rose
 abbrev pub SinkWasCut : SinkState → List ProofLine → SinkState → Type 0
 SinkWasCut old lines new = CutShort old new (proof_text lines)
 

@@ -22,13 +22,13 @@ pub record MemShelf : Type 0 where
   pub faults : ℕ
   pub last : List ℕ
 
--- the parts of such a shelf, as its model is coded
+-- the parts of a shelf in memory, as its model is coded
 abbrev pub mem_shelf_code : Coded MemShelf
 mem_shelf_code =
     code_by (Files × (List ℕ × (ℕ × (ℕ × List ℕ)))) (coded× (map.code {R = slice_cmp nat_cmp} (coded_list coded_ℕ) (coded_list coded_ℕ)) (coded× (coded_list coded_ℕ) (coded× coded_ℕ (coded× coded_ℕ (coded_list coded_ℕ)))))
     (λ s. (s.files, (s.failing, (s.calls, (s.faults, s.last))))) (λ p. record { files = p.0; failing = p.1.0; calls = p.1.1.0; faults = p.1.1.1.0; last = p.1.1.1.1 }) (λ _. refl)
 
--- The view of such a shelf. The shelf is faithful if no call is to fail.
+-- The state of a shelf in memory. The shelf is faithful if no call is to fail.
 abbrev pub shelf_state : MemShelf → ShelfState
 shelf_state s = record { files = Some s.files; faults = s.faults; last = s.last; is_faithful = length s.failing == 0 }
 
@@ -52,7 +52,7 @@ pub record MemSink : Type 0 where
   pub calls : ℕ
   pub faults : ℕ
 
--- the view of such a sink
+-- the state of a sink in memory
 abbrev pub sink_state : MemSink → SinkState
 sink_state s = record { written = Some s.bytes; faults = s.faults }
 

@@ -50,7 +50,7 @@ HasFront listed name most bytes = IfSome listed (λ files. option_map (take most
 abbrev pub IsMissing : Option Files → List ℕ → Type 0
 IsMissing listed name = IfSome listed (λ files. IsNone (file_of files name))
 
--- a fetch of a name failed: the count rose, the name is the last that failed, and the rest of the view is unchanged; a faithful shelf has no file of
+-- a fetch of a name failed: the count rose, the name is the last that failed, and the rest of the state is unchanged; a faithful shelf has no file of
 -- the name
 pub record FailedFor (name : List ℕ) (old new : ShelfState) : Type 0 where
   pub files : new.files ≡ old.files
@@ -61,7 +61,7 @@ pub record FailedFor (name : List ℕ) (old new : ShelfState) : Type 0 where
   pub missing : old.is_faithful ≡ true → IsMissing old.files name
 
 -- What a fetch returns and leaves. It returns at most so many bytes. If contracts see the files, these are the first bytes of the file. Only a fetch
--- that failed changes the view of the shelf.
+-- that failed changes the state of the shelf.
 abbrev pub Fetches : ShelfState → ShelfState → List ℕ → ℕ → Result (Vec ℕ) FetchFault → Type 0
 Fetches old new name most (Ok bytes) = (new ≡ old) × (length bytes.items ≤ most) × HasFront old.files name most bytes.items
 Fetches old new name most (Err Failed) = FailedFor name old new
@@ -74,7 +74,7 @@ pub record Failures : Type 0 where
 
 -- ---- puts
 
--- the view of a sink with some bytes more
+-- the state of a sink with some bytes more
 abbrev pub grown : SinkState → List ℕ → SinkState
 grown state bytes = record state { written = option_map (λ known. known ++ bytes) state.written }
 

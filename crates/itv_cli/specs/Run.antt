@@ -14,7 +14,7 @@ use Rattle.itv_cli.specs.declared.outcome.Outcome.TheVariants.{AllPass, Help, So
 use Rattle.itv_cli.specs.declared.ready.Ready.{Ready}
 use Rattle.itv_cli.specs.Job.{Answers, MayHaveWritten, made_for, opening}
 
--- a run: its words, and the views of the shelf and the sink before and after it
+-- a run: its words, and the states of the shelf and the sink before and after it
 pub record Call : Type 0 where
   pub words : List (List ℕ)
   pub shelf_before : ShelfState
@@ -22,14 +22,14 @@ pub record Call : Type 0 where
   pub sink_before : SinkState
   pub sink_after : SinkState
 
--- a run, from the views before and after it
+-- a run, from the states before and after it
 abbrev pub call_of : List (List ℕ) → ShelfState → ShelfState → SinkState → SinkState → Call
 call_of words shelf shelf' sink sink' = record { words = words; shelf_before = shelf; shelf_after = shelf'; sink_before = sink; sink_after = sink' }
 
 -- ---- what was read
 
 -- The reading for a task came to an end, over the files of the shelf or over files that were made for the task. These files decide the end.
--- Made files leave the view of the shelf unchanged.
+-- Made files leave the state of the shelf unchanged.
 abbrev pub ReadsOver : Option Files → ShelfState → ShelfState → Task → End Ready → Type 0
 ReadsOver None old new asked end = RunsToEnd old new (opening asked) end
 ReadsOver (Some made) old new asked end = (end ≡ end_over made (opening asked)) × (new ≡ old)
@@ -40,7 +40,7 @@ pub record HasRead (call : Call) (end : End Ready) : Type 0 where
   pub words : taken call.words ≡ task asked
   pub ends : ReadsOver (made_for asked) call.shelf_before call.shelf_after asked end
 
--- no fetch of the run failed: the view of the shelf is unchanged
+-- no fetch of the run failed: the state of the shelf is unchanged
 abbrev pub IsShelfUnchanged : Call → Type 0
 IsShelfUnchanged call = call.shelf_after ≡ call.shelf_before
 
@@ -150,7 +150,7 @@ OutcomeBy (ready given) outcome = (answer : Answer) × (text : List ℕ) × Answ
 OutcomeBy (refused place why) outcome = outcome ≡ Refused
 OutcomeBy (unread place name) outcome = outcome ≡ ReadFault
 
--- the files of the shelf, if its view has them, or the files that were made for a task decide the end
+-- the files of the shelf, if its state has them, or the files that were made for a task decide the end
 abbrev pub FilesDecide : Option Files → Option Files → Task → Outcome → Type 0
 FilesDecide None listed asked outcome = IfSome listed (λ files. OutcomeBy (end_over files (opening asked)) outcome)
 FilesDecide (Some made) listed asked outcome = OutcomeBy (end_over made (opening asked)) outcome

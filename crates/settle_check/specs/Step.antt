@@ -15,7 +15,7 @@ use Rattle.settle_check.specs.declared.views.Views.{Views}
 
 -- ---- the text that is compared
 
--- a draft as a view of a sink
+-- a draft as the state of a sink
 abbrev pub draft_state : Draft → SinkState
 draft_state draft = record { written = Some draft.bytes.items; faults = draft.faults }
 

@@ -53,7 +53,7 @@ pub fn write_whatif<K: Sink>(
 
 // The text of all states, and the answer of the job.
 #[derive(Drop)]
-struct Told {
+struct Decided {
     text: Vec<u8>,
     answer: Answer,
 }
@@ -89,7 +89,7 @@ fn text_and_answer(
     kinds: &[RowKind],
     edits: &[RangeEdit],
     budget: u64,
-) -> Result<Told, NoMemory>
+) -> Result<Decided, NoMemory>
     requires within { All (IsPairOf net.now.events) pairs.now }
     requires count { length kinds.now ≡ length pairs.now }
     requires few { length kinds.now ≤ MAX_PAIRS }
@@ -110,7 +110,7 @@ fn states_of(
     session: &mut Session,
     kinds: &[RowKind],
     edits: &[RangeEdit],
-) -> Result<Told, NoMemory>
+) -> Result<Decided, NoMemory>
     requires count { length kinds.now ≡ length session.old.pairs }
     requires few { length kinds.now ≤ MAX_PAIRS }
     requires there { All (IsThere session.old.net) edits.now }
@@ -126,7 +126,7 @@ fn states_of(
     let notes = run_edits(alloc, session, edits)?;
     let text = text_of(alloc, kinds, &first, edits, &notes)?;
     let word = end_word(kinds, last_of(&first, &notes));
-    Ok(Told {
+    Ok(Decided {
         text,
         answer: answer_of(word),
     })
