@@ -7,7 +7,7 @@ use Rattle.requirements.specs.declared.bound.BothBounds.{BothBounds}
 use Rattle.drawn.specs.declared.row.Row.{Row}
 use Rattle.explained.specs.Answers.{IsApart, verdict_by}
 
--- the bounds of a row in the network apart, if its verdict bounds on the order of a lane; by its bounds in the drawn network
+-- the bounds of a row in the network apart, if its verdict rests on the order of a lane; by its bounds in the drawn network
 abbrev pub AreBoundsApart : Net → Row → RowKind → BothBounds → Option BothBounds → Type 0
 AreBoundsApart apart row kinds.Ask both bounds = bounds ≡ None
 AreBoundsApart apart row (kinds.Req range) both bounds = IsApart apart row range (verdict_by range both) bounds
