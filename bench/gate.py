@@ -99,7 +99,7 @@ class Gate:
         process.crate = crate_in(words, folder) or process.crate
         process.kind = kind_in(words, folder) or process.kind
 
-    def told(self, process, what):
+    def of_nearest(self, process, what):
         """The crate or the kind of a process, or of the nearest process above it that has one."""
         while process:
             if getattr(process, what):
@@ -111,7 +111,7 @@ class Gate:
         """The processor seconds by crate and kind."""
         sums = {}
         for process in self.seen.values():
-            crate, kind = self.told(process, "crate"), self.told(process, "kind") or "proof"
+            crate, kind = self.of_nearest(process, "crate"), self.of_nearest(process, "kind") or "proof"
             if crate:
                 row = sums.setdefault(crate, dict.fromkeys(KINDS, 0.0))
                 row[kind] += process.seconds

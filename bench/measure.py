@@ -45,7 +45,7 @@ def seconds(command, folder, stdin=None, runs=3, limit=BOTH):
     return best, out
 
 
-def bounds_told(text):
+def bound_lines(text):
     return [line for line in text.decode().splitlines() if line.startswith(("max ", "min ", "finding incons"))]
 
 
@@ -118,9 +118,9 @@ def there(solvers):
     return [solver for solver in solvers if shutil.which(solver[0])]
 
 
-def solver_cells(net, folder, told, solvers=SOLVERS):
-    """For each solver that is there the seconds for both sides of the first row, with a mark where its numbers are others than those told."""
-    wanted = [re.fullmatch(r"(?:max|min) (-?\d+)", line) for line in told[:2]] or [None, None]
+def solver_cells(net, folder, printed, solvers=SOLVERS):
+    """For each solver that is there the seconds for both sides of the first row, with a mark where its numbers differ from the program's."""
+    wanted = [re.fullmatch(r"(?:max|min) (-?\d+)", line) for line in printed[:2]] or [None, None]
     cells = []
     for name, suffix, make, command, pattern in there(solvers):
         total, differs = 0.0, False
@@ -154,9 +154,9 @@ def row(cells):
     print("| " + " | ".join(cells) + " |", flush=True)
 
 
-def outcome(report, told):
+def outcome(report, printed):
     """Whether both programs gave the same bounds, and how many of them their budgets left open."""
-    ours, theirs = bounds_told(report), bounds_told(told)
+    ours, theirs = bound_lines(report), bound_lines(printed)
     if not ours or not theirs:
         return "not compared"
     if ours != theirs:
@@ -169,10 +169,10 @@ def measure_network(program, peer, net, is_search):
     with tempfile.TemporaryDirectory() as folder:
         lay_out(net.files(), folder)
         took, report = seconds([program, "main.json"], folder)
-        took_peer, told = seconds([peer], folder, net.lines().encode())
+        took_peer, printed = seconds([peer], folder, net.lines().encode())
         ratio = "" if took is None or took_peer is None else f"{took / took_peer:.2f}"
-        solvers = solver_cells(net, folder, bounds_told(told)) if is_search else []
-        row([net.name, show(took), show(took_peer), ratio, outcome(report, told)] + solvers)
+        solvers = solver_cells(net, folder, bound_lines(printed)) if is_search else []
+        row([net.name, show(took), show(took_peer), ratio, outcome(report, printed)] + solvers)
 
 
 def measure_fall(program, net):
@@ -180,18 +180,18 @@ def measure_fall(program, net):
         lay_out(net.files(), folder)
         took, report = seconds([program, "main.json"], folder)
         took_fall, fallen = seconds([program, "--job=fall", f"--budget={FALL_BUDGET}", "main.json"], folder)
-        told = [", ".join(f"`{line}`" for line in bounds_told(text)) for text in (report, fallen)]
-        row([net.name, show(took), show(took_fall)] + solver_cells(net, folder, bounds_told(fallen), SOLVERS[:1]) + [told[0], "the same" if told[0] == told[1] else told[1]])
+        printed = [", ".join(f"`{line}`" for line in bound_lines(text)) for text in (report, fallen)]
+        row([net.name, show(took), show(took_fall)] + solver_cells(net, folder, bound_lines(fallen), SOLVERS[:1]) + [printed[0], "the same" if printed[0] == printed[1] else printed[1]])
 
 
 def measure_settle(program, peer, net):
     with tempfile.TemporaryDirectory() as folder:
         lay_out(net.files(), folder)
         took, settled = seconds([program, "--job=settle", "main.json"], folder)
-        took_peer, told = seconds([peer], folder, net.lines().encode())
+        took_peer, printed = seconds([peer], folder, net.lines().encode())
         took_search, _ = seconds([program, "main.json"], folder)
-        says = ", ".join(f"`{line}`" for line in bounds_told(settled)) + ("" if bounds_told(settled) == bounds_told(told) else " DIFFERENT")
-        row([net.name, show(took), show(took_peer), show(took_search)] + solver_cells(net, folder, bounds_told(settled), SOLVERS[:1]) + [says])
+        says = ", ".join(f"`{line}`" for line in bound_lines(settled)) + ("" if bound_lines(settled) == bound_lines(printed) else " DIFFERENT")
+        row([net.name, show(took), show(took_peer), show(took_search)] + solver_cells(net, folder, bound_lines(settled), SOLVERS[:1]) + [says])
 
 
 def measure_reading(program, name, files):

@@ -3,10 +3,10 @@
 
     bench/closure/measure.py [FOLDER] [RUNS]
 
-Builds the Rust program of this folder with the machine's cargo three times: for the processors that cargo builds for if it is told
-nothing, for those that the toolchain builds for (x86-64-v2), and for this machine's. Builds the proved program of lanes/ on a copy of
-the crates below it in FOLDER, a new one if none is named, which takes some minutes. Then all programs run one after another, RUNS
-times (15 if left out), and of each time that they tell the least counts, in milliseconds."""
+Builds the Rust program of this folder with the machine's cargo three times: for cargo's own choice of processor, for the processor that
+the toolchain builds for (x86-64-v2), and for this machine's. Builds the proved program of lanes/ on a copy of the crates below it in
+FOLDER, a new one if none is named, which takes some minutes. Then all programs run one after another, RUNS times (15 if left out). Of
+each time that they print the least counts, in milliseconds."""
 import os
 import subprocess
 import sys
@@ -40,8 +40,8 @@ def main():
     for what in ends:
         if what.startswith("closure") and len(ends[what]) != 1:
             sys.exit(f"{what}: the programs differ: {ends[what]}")
-        told = [f"{program} {least[what, program] / 1e6:.1f}" for program in programs if (what, program) in least]
-        print(f"{what}: " + ", ".join(told))
+        shown = [f"{program} {least[what, program] / 1e6:.1f}" for program in programs if (what, program) in least]
+        print(f"{what}: " + ", ".join(shown))
 
 
 if __name__ == "__main__":

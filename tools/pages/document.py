@@ -72,7 +72,7 @@ class Entry:
         return None
 
     def order(self):
-        """Failed ones first, those that nothing bounds in front; then undecided ones, then by slack, and questions last."""
+        """The place of the row in the page: failed rows come first, unbounded ones in front of them. Undecided rows follow, then the others by slack, and questions last."""
         slack = self.row.least_slack()
         kind = ["fail", "undecided", "pass", None].index(self.row.verdict)
         lack = ["unbounded", "not known", None].index(self.lack())
@@ -195,8 +195,8 @@ def figure_of(design, report, matrix, entry, which):
     return f"<figure>{caption}\n{picture}{steps_of(design, bound)}</figure>"
 
 
-def telling_bound(row):
-    """The bound that tells more of a row: of the side that fails, or else of that with less to spare; the greatest one of a question."""
+def main_bound(row):
+    """The bound that says more of a row: on the side that fails, or else on the side with less to spare. For a question it is the greatest one."""
     low, high = row.slack
     if row.kind == "ask" or row.side:
         return BROKEN.get(row.side, "max")
@@ -206,9 +206,9 @@ def telling_bound(row):
 
 
 def section_of(design, report, matrix, entry):
-    """The diagrams of a row, the more telling one first: that of the side that fails, or has less to spare."""
+    """The diagrams of a row, first the diagram of the side that fails or has less to spare."""
     row = entry.row
-    first = telling_bound(row)
+    first = main_bound(row)
     order = (first, "min" if first == "max" else "max")
     figures = "\n".join(figure_of(design, report, matrix, entry, which) for which in order)
     verdict = f': <span class="verdict-{row.verdict}">{SIGNS[row.verdict]}</span>' if row.verdict else ""

@@ -182,10 +182,10 @@ class Picture:
         for event, low, last in windows:
             left, right = self.canvas.clip(self.canvas.x(low)), self.canvas.clip(self.canvas.x(last))
             sides += [[(x, high), (x, high + WAVE)] for x in (left, right) if self.canvas.left < x < self.canvas.right]
-            told = f"{escaped(self.design.event_title(event))}: {in_ps(low)} to {in_ps(last)}"
+            title = f"{escaped(self.design.event_title(event))}: {in_ps(low)} to {in_ps(last)}"
             self.canvas.put(
                 f'<rect class="window" data-event="{escaped(event)}" data-low="{low}" data-high="{last}" x="{point(left)}" y="{high}" '
-                f'width="{point(right - left)}" height="{WAVE}"><title>{told}</title></rect>'
+                f'width="{point(right - left)}" height="{WAVE}"><title>{title}</title></rect>'
             )
         self.canvas.put("</g>")
         if sides:
@@ -211,9 +211,9 @@ class Picture:
     def put_mark(self, event, y, kind):
         """A mark at its time, with a small arrow where nothing holds it."""
         time, x = self.times[event], self.x(event)
-        told = f"{escaped(self.design.event_title(event))}: {in_ps(time)}"
+        title = f"{escaped(self.design.event_title(event))}: {in_ps(time)}"
         self.canvas.put(
-            f'<circle class="{kind}" data-event="{escaped(event)}" data-ps="{time}" cx="{point(x)}" cy="{point(y)}" r="2.6"><title>{told}</title></circle>'
+            f'<circle class="{kind}" data-event="{escaped(event)}" data-ps="{time}" cx="{point(x)}" cy="{point(y)}" r="2.6"><title>{title}</title></circle>'
         )
         if event in self.raised:
             self.canvas.path("raised", [(x + 4, y), (x + 14, y)], [(x + 18, y), (x + 13, y - 3), (x + 13, y + 3)], closed=True)

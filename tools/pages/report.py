@@ -110,7 +110,7 @@ class Matrix:
 
 
 class Rule:
-    """A rule of those that contradict each other: its kind, its events, its range, and where it is drawn."""
+    """One of the rules that contradict each other: its kind, its events, its range, and where it is drawn."""
 
     def __init__(self, words):
         self.kind, self.start, self.end, self.range = words[:4]
