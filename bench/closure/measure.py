@@ -6,7 +6,7 @@
 Builds the Rust program of this folder with the machine's cargo three times: for cargo's own choice of processor, for the processor that
 the toolchain builds for (x86-64-v2), and for this machine's. Builds the proved program of lanes/ on a copy of the crates below it in
 FOLDER, a new one if none is named, which takes some minutes. Then all programs run one after another, RUNS times (15 if left out). Of
-each time that they print the least counts, in milliseconds."""
+each time that they print, the least counts, in milliseconds."""
 import os
 import subprocess
 import sys
