@@ -26,7 +26,7 @@ pub closed_at : (net : Net) (times : List ℤ) (set : List Bool) (name : EdgeNam
     → DoesNotEnter net times set name
 closed_at net times set name e is_edge enters tight = rw is_edge enters
 
--- an edge that the times do not meet with equality does not enter any set
+-- an edge that is not tight does not enter any set
 pub closed_loose : (net : Net) (times : List ℤ) (set : List Bool) (name : EdgeName) → (IsTight net times name → ⊥) → DoesNotEnter net times set name
 closed_loose net times set name loose tight = absurd (loose tight)
 
@@ -48,7 +48,7 @@ pub spread_on : (net : Net) (times : List ℤ) (to : EventId) (name : EdgeName) 
     → e.from.0 < length spread.reached → Has spread.reached e.to → IsSpread net times to spread → IsSpread net times to (spread_by spread e.from name)
 spread_on net times to name e spread is_edge within has is = record {
   count = length-set spread.reached e.from.0 true ∙ is.count;
-  lead = (rw is_edge.named is_edge.tight, rw is_edge.named (is.each e.to has), is.lead);
+  lead = ((rw is_edge.named is_edge.tight, is_edge.binds), rw is_edge.named (is.each e.to has), is.lead);
   each = λ event has_event. elim (cases_eq event.0 e.from.0) [
     | inl same ↦ inl (rw is_edge.named (sym (same_event event e.from same)))
     | inr other ↦ inr (is.each event (sym (get_or-set_other spread.reached e.from.0 event.0 true false other) ∙ has_event))
@@ -73,7 +73,7 @@ looked_on net times name e spread is_edge within has = record {
 pub looked_none : (net : Net) (times : List ℤ) (spread : Spread) → LooksAt net times (λ name. ⊥) spread spread
 looked_none net times spread = record { events = refl; spreads = λ to is. is; more = omega arith; none = λ same. (refl, λ name seen. absurd seen) }
 
--- first some edges were looked at, and then others: so all edges of a set were, if each of them that the times meet with equality is among these
+-- first some edges were looked at, and then others: so all edges of a set were, if each of them that is tight is among these
 pub looked_further : (net : Net) (times : List ℤ) (First Second Seen : EdgeName → Type 0) (old mid new : Spread) → LooksAt net times First old mid
     → LooksAt net times Second mid new → ((name : EdgeName) → IsTight net times name → Seen name → First name ⊎ Second name) → LooksAt net times Seen old new
 looked_further net times First Second Seen old mid new first second among = record {
@@ -172,7 +172,7 @@ pub causes_all : (net : Net) (times : List ℤ) (number count : ℕ) (old new : 
 causes_all net times number count old new is_net counted looked =
     looked_fewer net times (HasCauseBelow number (max count 1)) (λ (name : EdgeName). name.constraint ≡ number) old new looked
     (λ name tight is_number.
-    let (e, is_edge, rest) = some_and (edge net name) _ tight in
+    let (e, is_edge, rest) = some_and (edge net name) _ tight.0 in
     let (k, at_k, below) = edge_within net name e is_net is_edge in
     let same : cause_count_of k ≡ count = counted_is cause_count_of (slice_get net.constraints number) k count counted (ap (slice_get net.constraints) (sym is_number) ∙ at_k) in
     (is_number, subst (λ n. name.cause < max n 1) same below))
@@ -201,7 +201,7 @@ pub constraints_all : (net : Net) (times : List ℤ) (old new : Spread) → IsNe
 constraints_all net times old new is_net looked =
     looked_fewer net times (HasConstraintBelow (length net.constraints)) IsAny old new looked
     (λ name tight any.
-    let (e, is_edge, rest) = some_and (edge net name) _ tight in
+    let (e, is_edge, rest) = some_and (edge net name) _ tight.0 in
     let (k, at_k, below) = edge_within net name e is_net is_edge in
     slice_get_within net.constraints name.constraint k at_k)
 

@@ -1,4 +1,4 @@
--- Events from which edges that times meet with equality lead to one event.
+-- Events from which tight edges lead to one event: edges that bind, and that times meet with equality.
 use Rattle.std.specs.Prelude.{◌≡◌, ◌≤◌, ◌+◌, ◌⊎◌, true, false, ℕ, ℤ, Bool, List, [], ◌∷◌, length, count_by, cond, reverse, replicate, Some, IsSomeAnd, slice_set, vec_capacity}
 use Rattle.itv_base.specs.declared.names.EdgeName.{EdgeName}
 use Rattle.itv_base.specs.declared.names.EventId.{EventId}
@@ -7,7 +7,7 @@ use Rattle.event_graph.specs.Edges.{edge}
 use Rattle.event_graph.specs.Network.{Net}
 use Rattle.event_graph.specs.Times.{separation}
 use Rattle.chains.specs.declared.spread.Spread.TheInside.{Inside}
-use Rattle.chains.specs.Chain.{IsTight}
+use Rattle.chains.specs.Chain.{IsBinding, IsTight}
 use Rattle.chains.specs.Closed.{Has, DoesNotEnter}
 
 -- A flag for each event says whether it was reached. Each reached event but one has an edge that leads from it; the edge of the event that was
@@ -44,7 +44,7 @@ abbrev pub IsReached : Net → EventId → List EdgeName → EventId → Type 0
 IsReached net to [] event = event ≡ to
 IsReached net to (name ∷ names) event = LeadsFrom net event name ⊎ IsReached net to names event
 
--- the times meet each edge with equality, and each edge leads to an event that the edges behind it reach
+-- each edge is tight, and leads to an event that the edges after it in the list reach
 abbrev pub LeadOn : Net → List ℤ → EventId → List EdgeName → Type 0
 LeadOn net times to [] = Unit {0}
 LeadOn net times to (name ∷ names) =
@@ -57,10 +57,11 @@ pub record IsSpread (net : Net) (times : List ℤ) (to : EventId) (spread : Spre
   pub each : (event : EventId) → Has spread.reached event → IsReached net to spread.found event
   pub end : Has spread.reached to
 
--- the edge of a name is there, and the times meet it with equality
+-- the edge of a name is there and binds, and the times meet it with equality
 pub record IsTightEdge (net : Net) (times : List ℤ) (name : EdgeName) (e : Edge) : Type 0 where
   pub named : edge net name ≡ Some e
   pub tight : separation times e.from e.to ≡ e.weight
+  pub binds : IsBinding net times name
 
 -- Some edges were looked at. No event is lost, and new events are reached by edges found. If no event is new, no edge that was looked at
 -- leads into the reached events from outside.
