@@ -61,23 +61,23 @@ impl Work {
     {
         let events = net.events() as usize;
         Ok(Work {
-            search: Search {
-                bounds: Bounds::new(alloc, net)?,
-                cases: Decisions::new(alloc, net.len())?,
-                leaves: 0,
-                budget: 0,
+            known: Vec::from_elem(alloc, 0, events)?,
+            has_known: false,
+            best: Best {
+                value: 0,
+                times: Vec::from_elem(alloc, 0, events)?,
             },
             trial: Trial {
                 candidate: Vec::from_elem(alloc, 0, events)?,
                 ray: Vec::from_elem(alloc, false, events)?,
                 distances: Distances::new(alloc, net)?,
             },
-            best: Best {
-                value: 0,
-                times: Vec::from_elem(alloc, 0, events)?,
+            search: Search {
+                cases: Decisions::new(alloc, net.len())?,
+                bounds: Bounds::new(alloc, net)?,
+                leaves: 0,
+                budget: 0,
             },
-            known: Vec::from_elem(alloc, 0, events)?,
-            has_known: false,
         })
     }
 

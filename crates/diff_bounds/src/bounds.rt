@@ -79,15 +79,15 @@ impl Bounds {
         let levels = net.splittable_count();
         Ok(Bounds {
             events,
-            out: out_edges(alloc, net)?,
-            chosen: ChosenEdges::new(alloc, events, levels)?,
-            guess: Guess::new(alloc, events)?,
-            trail: Trail::new(alloc, events + events, levels)?,
-            pending: Pending::new(alloc, events)?,
             settled: false,
             source: None,
-            walk: Vec::from_elem(alloc, NO_EDGE, events as usize)?,
             count: 0,
+            walk: Vec::from_elem(alloc, NO_EDGE, events as usize)?,
+            out: out_edges(alloc, net)?,
+            pending: Pending::new(alloc, events)?,
+            guess: Guess::new(alloc, events)?,
+            chosen: ChosenEdges::new(alloc, events, levels)?,
+            trail: Trail::new(alloc, events + events, levels)?,
         })
     }
 
