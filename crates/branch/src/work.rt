@@ -30,7 +30,7 @@ pub const MAX_START: i64 = 3 * END_LIMIT * MAX_EVENTS as i64;
 
 /// The working memory of the searches on one network. It keeps the times that the last [`find`] found, which are the known times.
 /// It also keeps what the last search found out.
-#[derive(Debug, Drop)]
+#[derive(Drop)]
 pub struct Work {
     search: Search,
     trial: Trial,

@@ -38,7 +38,7 @@ use trail::Trail;
 /// adds an edge, and a [`retreat`](Bounds::retreat) gives the graph back as it stood before. One [`Trail`] keeps the graphs, so a level costs what it
 /// changes. The first half of its slots has the label of each event from the source, the second half the feasible times. Labels fall along edges. The
 /// event whose label has fallen furthest comes first. The feasible times are potentials, which show in advance that the labels settle.
-#[derive(Debug, Drop)]
+#[derive(Drop)]
 pub struct Bounds {
     events: u32,
     out: ByEvent<Arc>,
