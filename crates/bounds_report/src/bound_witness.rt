@@ -9,7 +9,7 @@ use itv_base::{EventId, NoMemory};
 use std::alloc::Global;
 
 /// Times of all events in picoseconds, and for each event whether it is in the set of events that can be raised by any number.
-#[derive(Debug, Drop)]
+#[derive(Drop)]
 pub struct BoundWitness {
     pub times: Vec<i64>,
     pub set: Vec<bool>,

@@ -27,10 +27,10 @@ impl Desk {
         ensures set { IfOk result (IsSet net.now) }
     {
         Ok(Desk {
-            work: Work::new(alloc, net)?,
+            buffer: LineBuffer::new(alloc, LINE_ROOM)?,
             greatest: BoundWitness::new(alloc, net.events())?,
             least: BoundWitness::new(alloc, net.events())?,
-            buffer: LineBuffer::new(alloc, LINE_ROOM)?,
+            work: Work::new(alloc, net)?,
         })
     }
 }

@@ -7,14 +7,14 @@ use itv_base::EventId;
 use slack_report::Which;
 
 /// Two events. Their separation is the time of `to` less the time of `from`.
-#[derive(Clone, Copy, Debug)]
+#[derive(Clone, Copy)]
 pub struct Pair {
     pub from: EventId,
     pub to: EventId,
 }
 
 /// An extreme of a pair: its greatest or its least separation.
-#[derive(Clone, Copy, Debug)]
+#[derive(Clone, Copy)]
 pub struct Extreme {
     pub which: Which,
     pub pair: Pair,

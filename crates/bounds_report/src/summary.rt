@@ -3,7 +3,7 @@
 use slack_report::EndWord;
 
 /// What a report comes to: its end, and how many requirements pass, fail and are left undecided.
-#[derive(Clone, Copy, Debug, PartialEq, Eq)]
+#[derive(Clone, Copy)]
 pub struct Summary {
     pub end: EndWord,
     pub passes: u32,

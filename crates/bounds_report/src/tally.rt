@@ -11,14 +11,14 @@ use requirements::Verdict;
 use slack_report::{EndWord, FindingWord};
 
 /// What a row comes to: its verdict, if it has one, and whether one of its bounds is `Within`.
-#[derive(Clone, Copy, Debug)]
+#[derive(Clone, Copy)]
 pub struct RowEnd {
     pub verdict: Option<Verdict>,
     pub is_within: bool,
 }
 
 /// How many requirements pass, fail and are undecided so far, and whether some bound is `Within`.
-#[derive(Clone, Copy, Debug)]
+#[derive(Clone, Copy)]
 pub struct Tally {
     pub passes: u32,
     pub fails: u32,

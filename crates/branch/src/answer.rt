@@ -1,7 +1,7 @@
 //! What the searches answer.
 
 /// Whether any times satisfy a network.
-#[derive(Clone, Copy, Debug, PartialEq, Eq)]
+#[derive(Clone, Copy, PartialEq, Eq)]
 pub enum SearchFinding {
     /// Some times do.
     Consistent,
@@ -12,7 +12,7 @@ pub enum SearchFinding {
 }
 
 /// The greatest separation of a pair of events, in picoseconds.
-#[derive(Clone, Copy, Debug, PartialEq, Eq)]
+#[derive(Clone, Copy)]
 pub enum GreatestAnswer {
     /// It is this number.
     Closed(i64),
@@ -23,7 +23,7 @@ pub enum GreatestAnswer {
 }
 
 /// The greatest separation of a pair over the times that meet the always-edges alone, in picoseconds.
-#[derive(Clone, Copy, Debug, PartialEq, Eq)]
+#[derive(Clone, Copy)]
 pub enum Root {
     /// No times meet the always-edges.
     NoTimes,

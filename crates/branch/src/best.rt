@@ -6,7 +6,7 @@ use itv_base::EventId;
 
 /// The pair whose greatest separation the search is for, and the separation of the times that the search starts from, in
 /// picoseconds.
-#[derive(Clone, Copy, Debug)]
+#[derive(Clone, Copy)]
 pub struct Aim {
     pub from: EventId,
     pub to: EventId,
@@ -14,7 +14,7 @@ pub struct Aim {
 }
 
 /// The greatest separation attained so far, in picoseconds, and satisfying times that have it.
-#[derive(Debug, Drop)]
+#[derive(Drop)]
 pub struct Best {
     pub value: i64,
     pub times: Vec<i64>,

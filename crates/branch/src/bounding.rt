@@ -101,7 +101,7 @@ pub fn root_of(net: &Network, search: &mut Search, from: EventId, to: EventId) -
 }
 
 /// How the search for a bound ends.
-#[derive(Clone, Copy, Debug, PartialEq, Eq)]
+#[derive(Clone, Copy)]
 pub enum Ending {
     /// The best separation is the greatest.
     Shown,

@@ -12,7 +12,7 @@ use itv_base::{EventId, RuleKind};
 
 /// The edge that the choice of a cause gives: the time of `to` less the time of `from` is at most `weight` picoseconds. If `weight`
 /// is `None`, the edge is open and demands nothing.
-#[derive(Clone, Copy, Debug)]
+#[derive(Clone, Copy)]
 pub struct ChoiceEdge {
     pub from: EventId,
     pub to: EventId,

@@ -16,7 +16,7 @@ use std::marker::Model;
 /// the first event that a wanted constraint enters by its choice side. A latest constraint enters its target, and an earliest one
 /// enters each cause. Contracts see the constraints with two or more causes, and say that the constraint picked is a wanted one.
 /// Only *which* constraint is picked depends on this search; that the answer is right does not.
-#[derive(Debug, Drop)]
+#[derive(Drop)]
 pub struct Distances {
     // The constraints with two or more causes, by their numbers.
     rules: Vec<Splittable>,

@@ -16,7 +16,7 @@ use crate::trial::Trial;
 use event_graph::Network;
 
 /// What to do with a case.
-#[derive(Clone, Copy, Debug, PartialEq, Eq)]
+#[derive(Clone, Copy)]
 pub enum Look {
     /// Close it: its greatest separation is no more than the best.
     Beaten,

@@ -16,7 +16,7 @@ use event_graph::{Choice, Decisions, Network, Scribe, ScribeFailed};
 use itv_base::EventId;
 
 /// A search: the bounds, the choices of the case at hand, how many cases are closed, and how many may be.
-#[derive(Debug, Drop)]
+#[derive(Drop)]
 pub struct Search {
     pub bounds: Bounds,
     pub cases: Decisions,
@@ -25,7 +25,7 @@ pub struct Search {
 }
 
 /// How a search comes to its next case.
-#[derive(Clone, Copy, Debug, PartialEq, Eq)]
+#[derive(Clone, Copy)]
 pub enum NextCase {
     /// The bounds stand on it.
     Entered,

@@ -15,7 +15,7 @@ use std::marker::Model;
 
 /// A constraint with two or more causes. Times that meet all always-edges break it if and only if they break all its choice edges,
 /// so it keeps no other edge. Contracts see its number and these edges.
-#[derive(Debug, Drop)]
+#[derive(Drop)]
 pub struct Splittable {
     number: u32,
     edges: Vec<ChoiceEdge>,

@@ -3,7 +3,7 @@
 use crate::distances::Distances;
 
 /// Candidate times of a case in picoseconds, a flag for each event that can be raised from them, and the distances of constraints.
-#[derive(Debug, Drop)]
+#[derive(Drop)]
 pub struct Trial {
     pub candidate: Vec<i64>,
     pub ray: Vec<bool>,

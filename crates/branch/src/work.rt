@@ -30,7 +30,7 @@ pub const MAX_START: i64 = 3 * END_LIMIT * MAX_EVENTS as i64;
 
 /// The working memory of the searches on one network. It keeps the times that the last [`find`] found, which are the known times.
 /// It also keeps what the last search found out.
-#[derive(Debug, Drop)]
+#[derive(Drop)]
 pub struct Work {
     search: Search,
     trial: Trial,
@@ -61,23 +61,23 @@ impl Work {
     {
         let events = net.events() as usize;
         Ok(Work {
-            search: Search {
-                bounds: Bounds::new(alloc, net)?,
-                cases: Decisions::new(alloc, net.len())?,
-                leaves: 0,
-                budget: 0,
+            known: Vec::from_elem(alloc, 0, events)?,
+            has_known: false,
+            best: Best {
+                value: 0,
+                times: Vec::from_elem(alloc, 0, events)?,
             },
             trial: Trial {
                 candidate: Vec::from_elem(alloc, 0, events)?,
                 ray: Vec::from_elem(alloc, false, events)?,
                 distances: Distances::new(alloc, net)?,
             },
-            best: Best {
-                value: 0,
-                times: Vec::from_elem(alloc, 0, events)?,
+            search: Search {
+                cases: Decisions::new(alloc, net.len())?,
+                bounds: Bounds::new(alloc, net)?,
+                leaves: 0,
+                budget: 0,
             },
-            known: Vec::from_elem(alloc, 0, events)?,
-            has_known: false,
         })
     }
 

@@ -10,7 +10,7 @@ use requirements::{Slack, Verdict, judge, slack};
 use why_report::both_of;
 
 /// The verdict on a requirement, and its slacks in picoseconds.
-#[derive(Clone, Copy, Debug)]
+#[derive(Clone, Copy)]
 pub struct Judged {
     pub word: Verdict,
     pub slack: Slack,

@@ -7,7 +7,7 @@ use requirements::BothBounds;
 use why_report::DrawnBy;
 
 /// What the line of a row says. Bounds are in picoseconds, and rows have their numbers from 0.
-#[derive(Clone, Copy, Debug)]
+#[derive(Clone, Copy)]
 pub struct RowLine<'a> {
     pub number: u32,
     pub kind: RowKind,
@@ -23,7 +23,7 @@ pub struct RowLine<'a> {
 }
 
 /// A line of the text.
-#[derive(Clone, Copy, Debug)]
+#[derive(Clone, Copy)]
 pub enum Line<'a> {
     /// A row.
     Row(RowLine<'a>),

@@ -6,7 +6,7 @@ ghost use Rattle.brief_report.specs.Step.{place_count};
 use crate::row_rank::{FAILS, PASSES, RowRank, UNDECIDED};
 
 /// How many rows there are, and how many requirements pass, fail and are left undecided.
-#[derive(Clone, Copy, Debug)]
+#[derive(Clone, Copy)]
 pub struct RowCounts {
     pub rows: u64,
     pub pass: u64,

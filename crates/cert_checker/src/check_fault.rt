@@ -5,7 +5,7 @@ use std::fmt;
 
 /// The first fault of a line of a proof, in the order in which the check looks for them. The edges of a path or of a
 /// loop have places from 0, and sums are in picoseconds.
-#[derive(Clone, Copy, Debug, PartialEq, Eq)]
+#[derive(Clone, Copy, Debug)]
 pub enum CheckFault {
     /// The lines before are a whole proof already.
     AfterEnd,

@@ -20,7 +20,7 @@ use std::marker::Model;
 /// It is made for a network, and every later call is given the same network. After [`Checker::begin`] the whole question
 /// is open. Each line that [`Checker::take`] accepts splits the first open case or closes it. The lines are a proof once no
 /// case is open. No call but `new` takes memory.
-#[derive(Debug, Drop)]
+#[derive(Drop)]
 pub struct Checker {
     goal: Goal,
     is_open: bool,

@@ -3,7 +3,7 @@
 use itv_base::EventId;
 
 /// What a proof is to show of a network.
-#[derive(Clone, Copy, Debug, PartialEq, Eq)]
+#[derive(Clone, Copy)]
 pub enum Goal {
     /// That no satisfying separation of a pair of events exceeds a value, in picoseconds.
     Bound {

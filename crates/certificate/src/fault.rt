@@ -6,7 +6,7 @@ ghost use Rattle.certificate.specs.declared.fault.LineFault.TheVariants.{NoMemor
 use itv_base::NoMemory as OutOfMemory;
 
 /// Why a text was not read as a line of a proof.
-#[derive(Clone, Copy, Debug, PartialEq, Eq)]
+#[derive(Clone, Copy)]
 pub enum LineFault {
     /// The text is not the text of a line.
     BadLine,

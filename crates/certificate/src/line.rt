@@ -7,7 +7,7 @@ use itv_base::EdgeName;
 
 /// A line of a proof that owns its edges. It splits the case at hand by the causes of a constraint, or closes the case by a path or by
 /// a loop.
-#[derive(Debug, Drop)]
+#[derive(Drop)]
 pub enum OwnedLine {
     Split(u32),
     Path(Vec<EdgeName>),

@@ -1,7 +1,7 @@
 //! How lines of a proof are stored.
 
 /// What a stored line is, without its edges.
-#[derive(Clone, Copy, Debug, PartialEq, Eq)]
+#[derive(Clone, Copy)]
 pub enum StoredKind {
     Split(u32),
     Path,
@@ -9,7 +9,7 @@ pub enum StoredKind {
 }
 
 /// A stored line: its kind, and the number of edges of all lines up to its end.
-#[derive(Clone, Copy, Debug, PartialEq, Eq)]
+#[derive(Clone, Copy)]
 pub struct Stored {
     pub kind: StoredKind,
     pub end: usize,

@@ -14,7 +14,7 @@ use std::alloc::Global;
 use std::marker::Model;
 
 /// Keeps lines of a proof, as many as it has room for. A line that doesn't fit counts as a fault and changes nothing else.
-#[derive(Debug, Drop)]
+#[derive(Drop)]
 pub struct TreeScribe {
     stored: Vec<Stored>,
     edges: Vec<EdgeName>,

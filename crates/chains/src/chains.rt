@@ -16,7 +16,7 @@ use std::marker::Model;
 
 /// The memory in which chains of a network are found, one after another. It has a flag for each event and room for the names of two edges for
 /// each event. Contracts see the number of events and the chain that was found last.
-#[derive(Debug, Drop)]
+#[derive(Drop)]
 pub struct Chains {
     spread: Spread,
     names: Vec<EdgeName>,

@@ -12,7 +12,7 @@ use std::marker::Model;
 
 /// Marks the constraints that the lines of a proof name: the constraints that a line splits by, and the constraints of the edges of a path or
 /// a loop. It takes every line, so it never fails. Contracts see a flag for each constraint.
-#[derive(Debug, Drop)]
+#[derive(Drop)]
 pub struct Marking {
     marks: Vec<bool>,
 }

@@ -9,7 +9,7 @@ use std::marker::Model;
 
 /// The events from which edges lead to one event, the target, and the edges by which they were reached: one edge for each of these events
 /// except the target. Contracts see a flag for each event, and the edges, the edge that was found last first.
-#[derive(Debug, Drop)]
+#[derive(Drop)]
 pub struct Spread {
     reached: Vec<bool>,
     found: Vec<EdgeName>,

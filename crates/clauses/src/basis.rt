@@ -4,7 +4,7 @@ use crate::literal::Literal;
 use itv_base::EdgeName;
 
 /// Where a clause comes from. Constraints are counted from 0, and so are the clauses that were kept.
-#[derive(Clone, Copy, Debug, PartialEq, Eq)]
+#[derive(Clone, Copy)]
 pub enum Basis {
     /// An always-edge.
     ByEdge(EdgeName),
@@ -20,7 +20,7 @@ pub enum Basis {
 
 /// A step of a walk back from an event. It takes the clause of a basis and goes through one of its ways, counted from
 /// 0.
-#[derive(Clone, Copy, Debug, PartialEq, Eq)]
+#[derive(Clone, Copy)]
 pub struct WalkStep {
     pub basis: Basis,
     pub through: u32,

@@ -5,7 +5,7 @@ use crate::literal::Literal;
 use std::marker::Model;
 
 /// An open block: the literals that it assumes, and the frame under these assumptions.
-#[derive(Debug, Drop)]
+#[derive(Drop)]
 pub struct Block {
     pub assumed: Vec<Literal>,
     pub frame: Frame,

@@ -30,7 +30,7 @@ use std::marker::Model;
 /// value, adds a known literal, keeps a clause, or opens or closes a block. The lines are a proof once
 /// [`ClauseChecker::is_over`] returns true. A refused line changes nothing. The checker allocates memory for the
 /// clauses line by line.
-#[derive(Debug, Drop)]
+#[derive(Drop)]
 pub struct ClauseChecker {
     limits: Limits,
     from: EventId,

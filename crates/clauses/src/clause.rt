@@ -6,7 +6,7 @@ use itv_base::EventId;
 use std::marker::Model;
 
 /// A clause that was kept: some literal holds, or the target comes within some way.
-#[derive(Debug, Drop)]
+#[derive(Drop)]
 pub struct Clause {
     pub literals: Vec<Literal>,
     pub target: EventId,

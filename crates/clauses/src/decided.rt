@@ -13,7 +13,7 @@ use falling::Limits;
 
 /// What a proof and times say of the pair of a goal: its greatest separation in picoseconds, or that no times satisfy
 /// the network, or nothing.
-#[derive(Clone, Copy, Debug, PartialEq, Eq)]
+#[derive(Clone, Copy)]
 pub enum ProofVerdict {
     Closed(i64),
     Inconsistent,

@@ -5,11 +5,9 @@ ghost use Rattle.std.specs.Prelude.{◌≡◌};
 use crate::literal::Literal;
 use itv_base::EventId;
 use std::alloc::{AllocError, AllocFailed};
-use std::error::Error;
-use std::fmt;
 
 /// The first fault of a fall, in the order of the checks. Values are in picoseconds.
-#[derive(Clone, Copy, Debug, PartialEq, Eq)]
+#[derive(Clone, Copy)]
 pub enum FallLineFault {
     /// There is no clause of the basis.
     NoClause,
@@ -25,23 +23,8 @@ pub enum FallLineFault {
     BelowLeast,
 }
 
-impl fmt::Display for FallLineFault {
-    fn fmt<W: fmt::Write>(&self, f: &mut fmt::Formatter<W>) -> fmt::Result {
-        match self {
-            FallLineFault::NoClause => write!(f, "there is no such clause"),
-            FallLineFault::OtherTarget(event) => write!(f, "the clause bounds event {}", event.0),
-            FallLineFault::MayHold(literal) => write!(f, "{literal} may hold"),
-            FallLineFault::TooLow(value) => write!(f, "a way gives {value}"),
-            FallLineFault::NotLower(value) => write!(f, "the event is at {value} already"),
-            FallLineFault::BelowLeast => write!(f, "the value is below the least"),
-        }
-    }
-}
-
-impl Error for FallLineFault {}
-
 /// The first fault of a literal that is to be known, in the order of the checks.
-#[derive(Clone, Copy, Debug, PartialEq, Eq)]
+#[derive(Clone, Copy)]
 pub enum KnowFault {
     /// There is no clause of the basis.
     NoClause,
@@ -57,21 +40,6 @@ pub enum KnowFault {
     NoMemory,
 }
 
-impl fmt::Display for KnowFault {
-    fn fmt<W: fmt::Write>(&self, f: &mut fmt::Formatter<W>) -> fmt::Result {
-        match self {
-            KnowFault::NoClause => write!(f, "there is no such clause"),
-            KnowFault::HasWays => write!(f, "the clause has a way"),
-            KnowFault::NoLiteral => write!(f, "the clause does not have the literal"),
-            KnowFault::MayHold(literal) => write!(f, "{literal} may hold"),
-            KnowFault::Known => write!(f, "the literal is known already"),
-            KnowFault::NoMemory => write!(f, "out of memory"),
-        }
-    }
-}
-
-impl Error for KnowFault {}
-
 impl<T: Drop> From<AllocFailed<T>> for KnowFault {
     ghost use Rattle.clauses.specs.declared.fault.KnowFault.TheVariants.{NoMemory};
 
@@ -83,7 +51,7 @@ impl<T: Drop> From<AllocFailed<T>> for KnowFault {
 }
 
 /// The first fault of a step of a walk, in the order of the checks.
-#[derive(Clone, Copy, Debug, PartialEq, Eq)]
+#[derive(Clone, Copy)]
 pub enum StepFault {
     /// There is no clause of the basis.
     NoClause,
@@ -97,20 +65,6 @@ pub enum StepFault {
     NoMemory,
 }
 
-impl fmt::Display for StepFault {
-    fn fmt<W: fmt::Write>(&self, f: &mut fmt::Formatter<W>) -> fmt::Result {
-        match self {
-            StepFault::NoClause => write!(f, "there is no such clause"),
-            StepFault::OtherTarget(event) => write!(f, "the clause bounds event {}", event.0),
-            StepFault::NoWay => write!(f, "the clause has no such way"),
-            StepFault::TooWide => write!(f, "the sum is too wide"),
-            StepFault::NoMemory => write!(f, "out of memory"),
-        }
-    }
-}
-
-impl Error for StepFault {}
-
 impl<T: Drop> From<AllocFailed<T>> for StepFault {
     ghost use Rattle.clauses.specs.declared.fault.StepFault.TheVariants.{NoMemory};
 
@@ -122,7 +76,7 @@ impl<T: Drop> From<AllocFailed<T>> for StepFault {
 }
 
 /// The first fault of a loop, in the order of the checks. Sums are in picoseconds.
-#[derive(Clone, Copy, Debug, PartialEq, Eq)]
+#[derive(Clone, Copy)]
 pub enum LoopFault {
     /// The step with this number, counted from 0, has this fault.
     AtStep(usize, StepFault),
@@ -133,19 +87,6 @@ pub enum LoopFault {
     /// Memory was wanted and not found.
     NoMemory,
 }
-
-impl fmt::Display for LoopFault {
-    fn fmt<W: fmt::Write>(&self, f: &mut fmt::Formatter<W>) -> fmt::Result {
-        match self {
-            LoopFault::AtStep(number, fault) => write!(f, "step {number}: {fault}"),
-            LoopFault::NotBack(event) => write!(f, "the steps lead to event {}", event.0),
-            LoopFault::NotBelow(sum) => write!(f, "the steps lead back by {sum}"),
-            LoopFault::NoMemory => write!(f, "out of memory"),
-        }
-    }
-}
-
-impl Error for LoopFault {}
 
 impl<T: Drop> From<AllocFailed<T>> for LoopFault {
     ghost use Rattle.clauses.specs.declared.fault.LoopFault.TheVariants.{NoMemory};
@@ -158,24 +99,13 @@ impl<T: Drop> From<AllocFailed<T>> for LoopFault {
 }
 
 /// Why literals are not assumed.
-#[derive(Clone, Copy, Debug, PartialEq, Eq)]
+#[derive(Clone, Copy)]
 pub enum AssumeFault {
     /// The first literal that has no edge: there is no such cause, or its low end is open.
     OpenEnd(Literal),
     /// Memory was wanted and not found.
     NoMemory,
 }
-
-impl fmt::Display for AssumeFault {
-    fn fmt<W: fmt::Write>(&self, f: &mut fmt::Formatter<W>) -> fmt::Result {
-        match self {
-            AssumeFault::OpenEnd(literal) => write!(f, "{literal} has no edge"),
-            AssumeFault::NoMemory => write!(f, "out of memory"),
-        }
-    }
-}
-
-impl Error for AssumeFault {}
 
 impl From<AllocError> for AssumeFault {
     ghost use Rattle.clauses.specs.declared.fault.AssumeFault.TheVariants.{NoMemory};
@@ -198,7 +128,7 @@ impl<T: Drop> From<AllocFailed<T>> for AssumeFault {
 }
 
 /// Why no block is closed.
-#[derive(Clone, Copy, Debug, PartialEq, Eq)]
+#[derive(Clone, Copy)]
 pub enum CloseFault {
     /// No block is open.
     NoBlock,
@@ -207,18 +137,6 @@ pub enum CloseFault {
     /// Memory was wanted and not found.
     NoMemory,
 }
-
-impl fmt::Display for CloseFault {
-    fn fmt<W: fmt::Write>(&self, f: &mut fmt::Formatter<W>) -> fmt::Result {
-        match self {
-            CloseFault::NoBlock => write!(f, "no block is open"),
-            CloseFault::NotEnded => write!(f, "the block has not ended"),
-            CloseFault::NoMemory => write!(f, "out of memory"),
-        }
-    }
-}
-
-impl Error for CloseFault {}
 
 impl From<AllocError> for CloseFault {
     ghost use Rattle.clauses.specs.declared.fault.CloseFault.TheVariants.{NoMemory};

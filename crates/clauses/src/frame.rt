@@ -8,7 +8,7 @@ use itv_base::EventId;
 use std::marker::Model;
 
 /// The value of each event, in picoseconds, and the literals that are known to hold.
-#[derive(Debug, Drop)]
+#[derive(Drop)]
 pub struct Frame {
     pub values: Vec<i64>,
     pub known: Vec<Literal>,

@@ -19,7 +19,7 @@ use falling::Limits;
 use itv_base::EventId;
 
 /// A fall of an event to a value, in picoseconds, by the clause of a basis.
-#[derive(Clone, Copy, Debug, PartialEq, Eq)]
+#[derive(Clone, Copy)]
 pub struct EventFall {
     pub event: EventId,
     pub value: i64,
@@ -27,7 +27,7 @@ pub struct EventFall {
 }
 
 // A value that a way gives, in picoseconds.
-#[derive(Clone, Copy, Debug, PartialEq, Eq)]
+#[derive(Clone, Copy)]
 struct Given {
     value: i64,
 }

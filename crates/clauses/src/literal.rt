@@ -2,23 +2,14 @@
 
 ghost use Rattle.std.specs.Prelude.{◌≡◌};
 
-use std::fmt;
-
 /// Whether the lower side of a cause of a latest or earliest constraint is met. If it is met, the target comes no
 /// earlier than the cause plus its low end. If not, the target comes earlier. Constraints and their causes are counted
 /// from 0.
-#[derive(Clone, Copy, Debug, PartialEq, Eq)]
+#[derive(Clone, Copy, PartialEq, Eq)]
 pub struct Literal {
     pub constraint: u32,
     pub cause: u32,
     pub is_met: bool,
-}
-
-impl fmt::Display for Literal {
-    fn fmt<W: fmt::Write>(&self, f: &mut fmt::Formatter<W>) -> fmt::Result {
-        let kind = if self.is_met { "met" } else { "not met" };
-        write!(f, "that side {}.{} is {kind}", self.constraint, self.cause)
-    }
 }
 
 impl Literal {

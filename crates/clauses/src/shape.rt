@@ -17,7 +17,7 @@ use event_graph::{Edge, Network};
 use itv_base::{EdgeName, EventId, RuleKind, Side};
 
 /// The target of a clause, and how many literals and ways it has.
-#[derive(Clone, Copy, Debug, PartialEq, Eq)]
+#[derive(Clone, Copy)]
 pub struct Shape {
     pub target: EventId,
     pub literals: usize,

@@ -21,7 +21,7 @@ use std::marker::Model;
 
 /// A walk back from an event, and what it shows: one of the literals holds, or the event comes at most `here.weight`
 /// picoseconds after `here.from`, or the event comes within one of the ways. The walk is at `here.from`.
-#[derive(Debug, Drop)]
+#[derive(Drop)]
 pub struct Walk {
     pub literals: Vec<Literal>,
     pub here: Way,

@@ -10,7 +10,7 @@ use std::marker::Model;
 
 /// A design: its cycles, its parts with their names and sheets, the joins of its nets, and the rules and rows of its wires. Rules and rows are
 /// between the numbers of the design's marks. A design borrows its sheets and copies none.
-#[derive(Debug, Drop)]
+#[derive(Drop)]
 pub struct Design<'a> {
     pub(crate) cycles: u32,
     pub(crate) parts: Texts,

@@ -13,7 +13,7 @@ use thiserror::Error;
 /// the pin itself. Then each pin has to have as many marks as the first one. Then, pin by pin and mark by mark, the kinds of the marks have to fit.
 /// After all nets the wires are checked in order, both parts before both marks. Nets, pins of a net, marks of a pin and wires have numbers from 0,
 /// and comments are counted among the wires.
-#[derive(Clone, Copy, Debug, PartialEq, Eq, Error)]
+#[derive(Clone, Copy, Debug, Error)]
 pub enum JoinFault {
     /// The numbers of a net and its pin. No part has the name that the pin has.
     #[error("pin {1} of net {0} is of no part")]

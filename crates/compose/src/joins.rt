@@ -11,7 +11,7 @@ use std::marker::Model;
 
 /// A join: the mark `from` drives the mark `to` in the same cycle, with a delay in picoseconds. `origin` says which pin of which net has the mark
 /// `to`.
-#[derive(Clone, Copy, Debug, PartialEq, Eq)]
+#[derive(Clone, Copy)]
 pub struct Join {
     pub from: DesignMark,
     pub to: DesignMark,
@@ -21,7 +21,7 @@ pub struct Join {
 
 /// The joins of one pin of a net: mark k of the driving pin drives mark k of this pin, with the net's delay. Each of both pins has `marks` marks.
 /// `driver` and `driven` are the first marks of the two pins, and `origin` says which pin this is.
-#[derive(Clone, Copy, Debug, PartialEq, Eq)]
+#[derive(Clone, Copy)]
 pub struct PinJoins {
     pub driver: DesignMark,
     pub driven: DesignMark,
@@ -59,7 +59,7 @@ fn mark_behind(mark: DesignMark, k: u32) -> DesignMark
 
 /// The joins of nets: net by net, within a net pin by pin, within a pin mark by mark. A netlist of four megabytes may have tens of millions of joins,
 /// so this type keeps them pin by pin. Contracts see the list of all joins.
-#[derive(Debug, Drop)]
+#[derive(Drop)]
 pub struct Joins {
     pins: Vec<PinJoins>,
 }

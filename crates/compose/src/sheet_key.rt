@@ -8,7 +8,7 @@ use netlist::Part;
 use std::alloc::Global;
 
 /// The key of a part's sheet: the name of the sheet, and the speed grade of the part, if it has one.
-#[derive(Debug, PartialEq, Eq, Hash, Drop)]
+#[derive(PartialEq, Eq, Hash, Drop)]
 pub struct SheetKey {
     pub sheet: Text,
     pub grade: Option<Text>,

@@ -15,7 +15,7 @@ use sheet::{MAX_MARKS, Pin, Sheet};
 use std::alloc::Global;
 
 /// A pin of a design: the number of its part, and its marks on the part's sheet. There are `count` marks, from number `first` on.
-#[derive(Clone, Copy, Debug, PartialEq, Eq)]
+#[derive(Clone, Copy)]
 pub struct Terminal {
     pub part: u32,
     pub first: u32,

@@ -20,14 +20,14 @@ use sheet::{Link, MAX_MARKS, Mark, Places, Rules, Sheet, SheetRows, push_link, p
 use std::alloc::Global;
 
 /// The rules and the rows of wires, between the numbers of their marks.
-#[derive(Debug, Drop)]
+#[derive(Drop)]
 pub struct NumberedWires {
     pub rules: Rules,
     pub rows: SheetRows,
 }
 
 /// The two marks that a wire joins.
-#[derive(Clone, Copy, Debug, PartialEq, Eq)]
+#[derive(Clone, Copy)]
 pub struct WireEnds {
     pub from: DesignMark,
     pub to: DesignMark,

@@ -7,7 +7,7 @@ use itv_base::NoMemory as OutOfMemory;
 use thiserror::Error;
 
 /// Why no design of a size was made.
-#[derive(Clone, Copy, Debug, PartialEq, Eq, Error)]
+#[derive(Clone, Copy, Debug, Error)]
 pub enum GenFault {
     /// There is no design of this size.
     #[error("there is no design of size {0}")]

@@ -4,7 +4,7 @@ use event_graph::Edge;
 use itv_base::EdgeName;
 
 /// An edge of a network, with its name.
-#[derive(Clone, Copy, Debug)]
+#[derive(Clone, Copy)]
 pub struct Arc {
     pub name: EdgeName,
     pub edge: Edge,

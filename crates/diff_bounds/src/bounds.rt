@@ -38,7 +38,7 @@ use trail::Trail;
 /// adds an edge, and a [`retreat`](Bounds::retreat) gives the graph back as it stood before. One [`Trail`] keeps the graphs, so a level costs what it
 /// changes. The first half of its slots has the label of each event from the source, the second half the feasible times. Labels fall along edges. The
 /// event whose label has fallen furthest comes first. The feasible times are potentials, which show in advance that the labels settle.
-#[derive(Debug, Drop)]
+#[derive(Drop)]
 pub struct Bounds {
     events: u32,
     out: ByEvent<Arc>,
@@ -79,15 +79,15 @@ impl Bounds {
         let levels = net.splittable_count();
         Ok(Bounds {
             events,
-            out: out_edges(alloc, net)?,
-            chosen: ChosenEdges::new(alloc, events, levels)?,
-            guess: Guess::new(alloc, events)?,
-            trail: Trail::new(alloc, events + events, levels)?,
-            pending: Pending::new(alloc, events)?,
             settled: false,
             source: None,
-            walk: Vec::from_elem(alloc, NO_EDGE, events as usize)?,
             count: 0,
+            walk: Vec::from_elem(alloc, NO_EDGE, events as usize)?,
+            out: out_edges(alloc, net)?,
+            pending: Pending::new(alloc, events)?,
+            guess: Guess::new(alloc, events)?,
+            chosen: ChosenEdges::new(alloc, events, levels)?,
+            trail: Trail::new(alloc, events + events, levels)?,
         })
     }
 

@@ -10,7 +10,7 @@ use std::marker::Model;
 
 /// The chosen edges, the oldest one first. The edges that start at one event are linked: the latest one is found first, and each leads to the one
 /// chosen before it. Contracts see the edges, the number of events, and the number of edges for which there is room.
-#[derive(Debug, Drop)]
+#[derive(Drop)]
 pub struct ChosenEdges {
     arcs: Vec<Arc>,
     // For each edge the place of the latest one before it that starts at the same event.

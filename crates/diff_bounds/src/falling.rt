@@ -20,7 +20,7 @@ use trail::{Stamp, Trail};
 const FAR: i64 = 1 << 60;
 
 /// What one fall of labels works on.
-#[derive(Clone, Copy, Debug)]
+#[derive(Clone, Copy)]
 pub struct Run {
     /// The slot of the label of event 0. The slots of the other events follow it.
     pub base: u32,
@@ -31,7 +31,7 @@ pub struct Run {
 }
 
 /// What relaxing an edge has done.
-#[derive(Clone, Copy, Debug, PartialEq, Eq)]
+#[derive(Clone, Copy)]
 pub enum Relaxation {
     /// The label at the end is low enough.
     Kept,

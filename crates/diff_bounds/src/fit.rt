@@ -1,7 +1,7 @@
 //! Whether edges allow times.
 
 /// Whether the edges of a graph allow times.
-#[derive(Clone, Copy, Debug, PartialEq, Eq)]
+#[derive(Clone, Copy, PartialEq, Eq)]
 pub enum Fit {
     /// Some times meet all of the edges.
     Fits,

@@ -15,7 +15,7 @@ use std::alloc::Global;
 use std::marker::Model;
 
 /// A time for each event, in picoseconds. Contracts see the times.
-#[derive(Debug, Drop)]
+#[derive(Drop)]
 pub struct Guess {
     times: Vec<i64>,
     // The events in the order in which their edges are followed.

@@ -13,7 +13,7 @@ use std::marker::Model;
 ///
 /// Where labels had settled, and then edges that start at one event were added, this is the order of Dijkstra's algorithm with the old labels as
 /// potentials: an event that was taken does not fall again. Only the time that a fall takes rests on this.
-#[derive(Debug, Drop)]
+#[derive(Drop)]
 pub struct Pending {
     heap: Vec<Waiter>,
     // The place in the heap of each event that waits.

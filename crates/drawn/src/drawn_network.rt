@@ -15,7 +15,7 @@ use std::marker::Model;
 
 /// A drawn network: a network, the origins of the causes of its constraints, the names of its events, and the rows that are asked
 /// for between them.
-#[derive(Debug, Drop)]
+#[derive(Drop)]
 pub struct DrawnNetwork {
     network: Network,
     origins: Origins,

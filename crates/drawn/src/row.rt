@@ -5,7 +5,7 @@ use origin::Origin;
 
 /// A separation that is asked for: from which event to which, what is wanted of it, and what draws it, which is an edge of a sheet
 /// or of the netlist.
-#[derive(Clone, Copy, Debug, PartialEq, Eq)]
+#[derive(Clone, Copy)]
 pub struct Row {
     pub kind: RowKind,
     pub from: EventId,

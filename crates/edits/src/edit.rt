@@ -4,7 +4,7 @@ use itv_base::{Listing, Range};
 
 /// Another range, in picoseconds, for a cause of a constraint. The numbers of both count from 0. Cause 0 of a linear constraint is its
 /// from-event.
-#[derive(Clone, Copy, Debug, PartialEq, Eq)]
+#[derive(Clone, Copy)]
 pub struct RangeEdit {
     pub constraint: u32,
     pub cause: u32,

@@ -8,7 +8,7 @@ use std::alloc::AllocFailed;
 use thiserror::Error;
 
 /// The first fault of a file of edits. A line has its number, counted from 1.
-#[derive(Clone, Copy, Debug, PartialEq, Eq, Error)]
+#[derive(Clone, Copy, Debug, Error)]
 pub enum EditsFault {
     /// There are more bytes than [`MAX_EDITS_BYTES`](crate::MAX_EDITS_BYTES).
     #[error("the file is too long")]

@@ -8,7 +8,7 @@ use std::alloc::Global;
 use std::marker::Model;
 
 /// A list of values for each event. Contracts see the lists by the numbers of their events.
-#[derive(Debug, Drop)]
+#[derive(Drop)]
 pub struct ByEvent<T> {
     lists: Vec<Vec<T>>,
 }

@@ -9,7 +9,7 @@ use crate::edge::Edge;
 use itv_base::{EventId, Range, Side};
 
 /// A cause of a constraint: an event, and the range of the delay from it to the target, in picoseconds.
-#[derive(Clone, Copy, Debug, PartialEq, Eq)]
+#[derive(Clone, Copy)]
 pub struct Cause {
     pub event: EventId,
     pub range: Range,

@@ -3,7 +3,7 @@
 use std::marker::Model;
 
 /// A cause of a constraint that is chosen: the numbers of both, from 0.
-#[derive(Clone, Copy, Debug, PartialEq, Eq)]
+#[derive(Clone, Copy)]
 pub struct Choice {
     pub constraint: u32,
     pub cause: u32,

@@ -9,7 +9,7 @@ use itv_base::{EventId, Range, RuleKind, Side};
 use std::marker::Model;
 
 /// A constraint: its kind, its target and its causes. A linear one has its from-event as its one cause.
-#[derive(Debug, Drop)]
+#[derive(Drop)]
 pub struct Constraint {
     pub kind: RuleKind,
     pub target: EventId,

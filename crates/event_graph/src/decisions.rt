@@ -11,7 +11,7 @@ use std::marker::Model;
 
 /// A stack of choices, at most one of each constraint, and a table that gives the choice of a constraint without a
 /// search. Contracts see the number of constraints for which there is room, and the choices, the latest one first.
-#[derive(Debug, Drop)]
+#[derive(Drop)]
 pub struct Decisions {
     // The choices, the oldest one first.
     choices: Vec<Choice>,

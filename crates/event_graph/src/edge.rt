@@ -3,7 +3,7 @@
 use itv_base::EventId;
 
 /// An edge between two events: the time of `to` less the time of `from` is at most `weight`, in picoseconds.
-#[derive(Clone, Copy, Debug, PartialEq, Eq)]
+#[derive(Clone, Copy)]
 pub struct Edge {
     pub from: EventId,
     pub to: EventId,

@@ -22,7 +22,7 @@ use std::marker::Model;
 
 /// A network: a number of events, named by their numbers from 0, and the constraints on their times,
 /// numbered from 0 in the order in which they were added. All ends are in picoseconds.
-#[derive(Debug, Drop)]
+#[derive(Drop)]
 pub struct Network {
     events: u32,
     constraints: Vec<Constraint>,

@@ -9,7 +9,7 @@ use std::error::Error;
 use std::fmt;
 
 /// Why a constraint was not added to a network.
-#[derive(Clone, Copy, Debug, PartialEq, Eq)]
+#[derive(Clone, Copy, Debug)]
 pub enum PushFault {
     /// The network is full: it has this many constraints, the most that it may have.
     Full(u32),

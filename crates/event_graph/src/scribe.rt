@@ -9,7 +9,7 @@ use std::error::Error;
 use std::fmt;
 
 /// A line of a proof was not written whole.
-#[derive(Clone, Copy, Debug, PartialEq, Eq)]
+#[derive(Clone, Copy, Debug)]
 pub struct ScribeFailed;
 
 impl fmt::Display for ScribeFailed {
@@ -64,7 +64,7 @@ pub trait Scribe {
 }
 
 /// Writes nothing down, and never fails.
-#[derive(Clone, Copy, Debug)]
+#[derive(Clone, Copy)]
 pub struct Quiet;
 
 impl Scribe for Quiet {

@@ -8,7 +8,7 @@ use requirements::Bound;
 
 /// The greatest or the least separation of a row, in picoseconds, with what makes it so. A least separation is minus the greatest separation of the
 /// reversed pair, and what makes it so is said of this pair.
-#[derive(Debug, Drop)]
+#[derive(Drop)]
 pub enum BoundFound {
     /// The separation, and a chain of edges from one event of the pair to the other, whose weights sum to it.
     Closed {

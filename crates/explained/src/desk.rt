@@ -16,7 +16,7 @@ use slack_report::FindingWord;
 use std::alloc::Global;
 
 /// The network apart from the order of lanes, and the memory for its searches.
-#[derive(Debug, Drop)]
+#[derive(Drop)]
 pub struct Apart {
     pub net: Network,
     pub searches: Searches,
@@ -24,7 +24,7 @@ pub struct Apart {
 
 /// The memory for the searches of a drawn network and for its chains. Where some constraint keeps the order of a lane, it has the network apart and
 /// the memory for its searches too.
-#[derive(Debug, Drop)]
+#[derive(Drop)]
 pub struct Desk {
     pub searches: Searches,
     pub chains: Chains,

@@ -1,7 +1,7 @@
 //! What is found of a network.
 
 /// Whether some times satisfy a network.
-#[derive(Debug, Drop)]
+#[derive(Drop)]
 pub enum Finding {
     /// Some times satisfy it.
     Consistent,

@@ -19,7 +19,7 @@ use slack_report::FindingWord;
 use std::alloc::Global;
 
 /// What is found of a network and of each of its rows, in order. Behind an inconsistent finding `rows` is empty.
-#[derive(Debug, Drop)]
+#[derive(Drop)]
 pub struct NetworkFound {
     pub finding: Finding,
     pub rows: Vec<RowFound>,

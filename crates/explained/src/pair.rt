@@ -5,7 +5,7 @@ ghost use Rattle.std.specs.Prelude.{◌≡◌};
 use itv_base::EventId;
 
 /// Two events. Their separation is the time of `to` less the time of `from`.
-#[derive(Clone, Copy, Debug)]
+#[derive(Clone, Copy)]
 pub struct Pair {
     pub from: EventId,
     pub to: EventId,

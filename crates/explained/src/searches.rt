@@ -18,7 +18,7 @@ use slack_report::FindingWord;
 use std::alloc::Global;
 
 /// The memory for the searches of a network, what was found of the network, and how many cases a search may close.
-#[derive(Debug, Drop)]
+#[derive(Drop)]
 pub struct Searches {
     pub work: Work,
     pub word: FindingWord,

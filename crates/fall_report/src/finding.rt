@@ -20,7 +20,7 @@ use line_words::LineBuffer;
 use slack_report::{FindingWord, Item, write_item};
 
 /// The finding of a network.
-#[derive(Clone, Copy, Debug, PartialEq, Eq)]
+#[derive(Clone, Copy)]
 pub enum FallFinding {
     /// Some times satisfy it.
     Consistent,

@@ -2,7 +2,7 @@
 
 /// How the job is asked for: the most lines of the derivation of the finding and of each bound, and whether the lines
 /// are printed.
-#[derive(Clone, Copy, Debug)]
+#[derive(Clone, Copy)]
 pub struct Wanted {
     pub turns: u64,
     pub cert: bool,

@@ -20,7 +20,7 @@ use std::alloc::Global;
 use std::marker::Model;
 
 /// A flag for each constraint that may be able to lower a value, and the constraints that follow each event.
-#[derive(Debug, Drop)]
+#[derive(Drop)]
 pub struct Agenda {
     followers: ByEvent<u32>,
     pending: PendingFlags,

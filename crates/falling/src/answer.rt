@@ -1,7 +1,7 @@
 //! Answers about a pair of events.
 
 /// What falling values say of the greatest separation of a pair of events.
-#[derive(Clone, Copy, Debug, PartialEq, Eq)]
+#[derive(Clone, Copy)]
 pub enum Fallen {
     /// It is this number of picoseconds.
     Closed(i64),
@@ -14,7 +14,7 @@ pub enum Fallen {
 }
 
 // An answer, and the number of turns that it took.
-#[derive(Clone, Copy, Debug, PartialEq, Eq)]
+#[derive(Clone, Copy)]
 pub struct CountedAnswer {
     pub fallen: Fallen,
     pub turns: u64,

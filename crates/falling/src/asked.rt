@@ -3,7 +3,7 @@
 use itv_base::EventId;
 
 // A pair of events, and how many lines a derivation may have.
-#[derive(Clone, Copy, Debug, PartialEq, Eq)]
+#[derive(Clone, Copy)]
 pub struct Asked {
     pub from: EventId,
     pub to: EventId,

@@ -21,7 +21,7 @@ use std::marker::Model;
 ///
 /// It is made for a network, and every later call gets the same network. After [`FallChecker::begin`] the source is at 0 and every other event
 /// at the cap; each line that is taken lowers the value of an event. No call but `new` takes memory.
-#[derive(Debug, Drop)]
+#[derive(Drop)]
 pub struct FallChecker {
     limits: Limits,
     source: EventId,

@@ -16,7 +16,7 @@ use event_graph::Network;
 use itv_base::EventId;
 
 /// How a derivation went: no line is allowed any more, the derivation has ended, or its turns were spent.
-#[derive(Clone, Copy, Debug, PartialEq, Eq)]
+#[derive(Clone, Copy)]
 pub enum DerivationEnd {
     Settled,
     Ended,
@@ -24,7 +24,7 @@ pub enum DerivationEnd {
 }
 
 // How a derivation went, and the number of its lines.
-#[derive(Clone, Copy, Debug, PartialEq, Eq)]
+#[derive(Clone, Copy)]
 pub struct Descent {
     pub end: DerivationEnd,
     pub turns: u64,

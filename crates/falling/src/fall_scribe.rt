@@ -10,7 +10,7 @@ use std::error::Error;
 use std::fmt;
 
 /// A line of a derivation was not noted whole.
-#[derive(Clone, Copy, Debug, PartialEq, Eq)]
+#[derive(Clone, Copy, Debug)]
 pub struct FallScribeFailed;
 
 impl fmt::Display for FallScribeFailed {
@@ -63,7 +63,7 @@ pub trait FallScribe {
 }
 
 /// Notes nothing, and never fails.
-#[derive(Clone, Copy, Debug)]
+#[derive(Clone, Copy)]
 pub struct QuietFall;
 
 impl FallScribe for QuietFall {

@@ -32,7 +32,7 @@ use std::marker::Model;
 ///
 /// It is made for a network, and every later call gets the same network. A network that is not plain is solved by its negation: the pair is
 /// turned round, and the times are negated. No call but `new` takes memory.
-#[derive(Debug, Drop)]
+#[derive(Drop)]
 pub struct Falling {
     negation: Option<Network>,
     enough: u128,

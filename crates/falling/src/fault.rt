@@ -4,7 +4,7 @@ use std::error::Error;
 use std::fmt;
 
 /// Choices of both kinds: the least numbers of a latest and of an earliest constraint with two or more causes.
-#[derive(Clone, Copy, Debug, PartialEq, Eq)]
+#[derive(Clone, Copy, Debug)]
 pub struct Mixed {
     pub late: u32,
     pub early: u32,
@@ -23,7 +23,7 @@ impl fmt::Display for Mixed {
 impl Error for Mixed {}
 
 /// The first fault of a line of a derivation. The checker looks for faults in the order below. Values are in picoseconds.
-#[derive(Clone, Copy, Debug, PartialEq, Eq)]
+#[derive(Clone, Copy, Debug)]
 pub enum FallCheckFault {
     /// The lines before have ended the derivation already.
     AfterEnd,

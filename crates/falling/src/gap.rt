@@ -11,7 +11,7 @@ use crate::limits::Limits;
 use event_graph::Network;
 
 /// A number of picoseconds. Each value is at most the level or beyond it.
-#[derive(Clone, Copy, Debug, PartialEq, Eq)]
+#[derive(Clone, Copy)]
 pub struct Level {
     pub value: i64,
 }

@@ -12,7 +12,7 @@ use event_graph::Network;
 
 /// The numbers of a network, in picoseconds. A derivation starts the events other than its source at `cap`. A pair is unbounded from the value
 /// `far` on. `lowest` is the least value that does not end a derivation. `width` is the greatest absolute value of a finite end.
-#[derive(Clone, Copy, Debug, PartialEq, Eq)]
+#[derive(Clone, Copy)]
 pub struct Limits {
     pub cap: i64,
     pub far: i64,

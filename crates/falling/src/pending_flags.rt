@@ -11,7 +11,7 @@ use std::marker::Model;
 
 /// A flag for each number of a constraint: the bits of words of 64 bits, the least number first. Contracts see
 /// the words.
-#[derive(Debug, Drop)]
+#[derive(Drop)]
 pub struct PendingFlags {
     words: Vec<u64>,
     start: usize,

@@ -209,7 +209,7 @@ fn high_of(net: &Network, number: u32, cause: u32, values: &[i64]) -> Option<Due
 }
 
 // A value in picoseconds that is due.
-#[derive(Clone, Copy, Debug, PartialEq, Eq)]
+#[derive(Clone, Copy)]
 pub struct Due {
     pub value: i64,
 }

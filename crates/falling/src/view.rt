@@ -9,7 +9,7 @@ use event_graph::Network;
 use itv_base::RuleKind;
 
 /// Which network is solved. The choices of the network, its constraints with two or more causes, are all of one kind.
-#[derive(Clone, Copy, Debug, PartialEq, Eq)]
+#[derive(Clone, Copy)]
 pub enum View {
     /// The network itself, which has no earliest choice.
     Plain,

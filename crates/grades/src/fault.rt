@@ -9,7 +9,7 @@ use thiserror::Error;
 
 /// The first fault of the grades of a tree. The form of all grades is checked before any range. Grades and parameters are numbered from 0 in the byte
 /// order of their names.
-#[derive(Clone, Copy, Debug, PartialEq, Eq, Error)]
+#[derive(Clone, Copy, Debug, Error)]
 pub enum GradesFault {
     /// `itv_grades` is there and has not the form: an object from names to objects from names to lists of two ends, each a whole number or null.
     #[error("`itv_grades` has not the form of speed grades")]

@@ -13,7 +13,7 @@ use std::alloc::Global;
 use std::marker::Model;
 
 /// A parameter with its two ends.
-#[derive(Debug, Drop)]
+#[derive(Drop)]
 pub struct LooseParameter {
     pub name: Text,
     pub ends: EndPair,
@@ -32,7 +32,7 @@ impl Model for LooseParameter {
 pub type LooseParameters = Listing<LooseParameter>;
 
 /// A grade with its parameters.
-#[derive(Debug, Drop)]
+#[derive(Drop)]
 pub struct LooseGrade {
     pub name: Text,
     pub parameters: LooseParameters,

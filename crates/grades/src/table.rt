@@ -12,7 +12,7 @@ use std::alloc::Global;
 use std::marker::Model;
 
 /// The grades of a sheet in the byte order of their names. Contracts see a list of grades.
-#[derive(Debug, Drop)]
+#[derive(Drop)]
 pub struct Grades {
     pub(crate) grades: Listing<Grade>,
 }

@@ -7,7 +7,7 @@ use std::alloc::Global;
 use std::marker::Model;
 
 /// A list of things of one type, each by its number from 0. Contracts see the list itself.
-#[derive(Debug, Drop)]
+#[derive(Drop)]
 pub struct Listing<T> {
     items: Vec<T>,
 }

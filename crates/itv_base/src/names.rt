@@ -1,11 +1,11 @@
 //! The names of events and of edges.
 
 /// An event of a network, by its number from 0.
-#[derive(Clone, Copy, Debug, PartialEq, Eq, Hash)]
+#[derive(Clone, Copy, PartialEq, Eq)]
 pub struct EventId(pub u32);
 
 /// How a constraint reads its causes.
-#[derive(Clone, Copy, Debug, PartialEq, Eq, Hash)]
+#[derive(Clone, Copy, PartialEq, Eq, Hash)]
 pub enum RuleKind {
     /// The separation of two events lies in a range.
     Lin,
@@ -16,7 +16,7 @@ pub enum RuleKind {
 }
 
 /// A side of a range: the side of its low end, or the side of its high end.
-#[derive(Clone, Copy, Debug, PartialEq, Eq, Hash)]
+#[derive(Clone, Copy, PartialEq, Eq)]
 pub enum Side {
     Lower,
     Upper,
@@ -24,7 +24,7 @@ pub enum Side {
 
 /// An edge of a network, by the numbers from 0 of its constraint and of its cause, and by its side. The cause of a linear
 /// constraint is 0.
-#[derive(Clone, Copy, Debug, PartialEq, Eq, Hash)]
+#[derive(Clone, Copy)]
 pub struct EdgeName {
     pub constraint: u32,
     pub cause: u32,
@@ -32,7 +32,7 @@ pub struct EdgeName {
 }
 
 /// What an event is called in a report: its part, its mark (a visible character of ASCII) and its cycle from 0.
-#[derive(Clone, Copy, Debug, PartialEq, Eq)]
+#[derive(Clone, Copy)]
 pub struct EventName<'a> {
     pub part: &'a str,
     pub mark: u8,

@@ -9,7 +9,7 @@ use thiserror::Error;
 
 /// A range of whole numbers of picoseconds. Each end is a number within [`END_LIMIT`] in absolute value, or open. The low end
 /// isn't above the high end.
-#[derive(Clone, Copy, Debug, PartialEq, Eq)]
+#[derive(Clone, Copy)]
 pub struct Range {
     low: Option<i64>,
     high: Option<i64>,
@@ -28,7 +28,7 @@ impl Model for Range {
 }
 
 /// Why two ends make no range.
-#[derive(Clone, Copy, Debug, PartialEq, Eq, Error)]
+#[derive(Clone, Copy, Debug, Error)]
 pub enum RangeFault {
     /// A finite end is beyond [`END_LIMIT`] in absolute value.
     #[error("an end is too wide")]

@@ -3,7 +3,7 @@
 use crate::range::Range;
 
 /// What is wanted of a separation: to know its bounds, or that it lies in a range of picoseconds.
-#[derive(Clone, Copy, Debug, PartialEq, Eq)]
+#[derive(Clone, Copy)]
 pub enum RowKind {
     Ask,
     Req(Range),

@@ -7,7 +7,7 @@ ghost use Rattle.itv_base.specs.Outside.{SinkState, Puts};
 use thiserror::Error;
 
 /// A piece was not written whole.
-#[derive(Clone, Copy, Debug, PartialEq, Eq, Error)]
+#[derive(Clone, Copy, Debug, Error)]
 #[error("the output could not be written")]
 pub struct PutFailed;
 

@@ -15,7 +15,7 @@ use std::marker::Model;
 use thiserror::Error;
 
 /// Memory was wanted and not found.
-#[derive(Clone, Copy, Debug, PartialEq, Eq, Error)]
+#[derive(Clone, Copy, Debug, Error)]
 #[error("out of memory")]
 pub struct NoMemory;
 
@@ -32,7 +32,7 @@ impl<T: Drop> From<AllocFailed<T>> for NoMemory {
 }
 
 /// A text that is owned. Contracts see the list of its bytes.
-#[derive(Debug, Drop)]
+#[derive(Drop)]
 pub struct Text {
     inner: String,
 }

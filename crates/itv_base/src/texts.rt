@@ -7,7 +7,7 @@ use std::alloc::Global;
 use std::marker::Model;
 
 /// A list of texts. Contracts see a list of lists of bytes.
-#[derive(Debug, Drop)]
+#[derive(Drop)]
 pub struct Texts {
     items: Vec<Text>,
 }

@@ -3,7 +3,7 @@
 ghost use Rattle.std.specs.Prelude.{◌≡◌};
 
 /// How a run ends. The clauses of `run` say what each end means and when it comes.
-#[derive(Clone, Copy, Debug, PartialEq, Eq)]
+#[derive(Clone, Copy)]
 pub enum Outcome {
     /// What the job wrote has no bad news: every requirement passes and every bound is settled, or there is a matrix, or the report
     /// is accepted.

@@ -13,7 +13,7 @@ use reading::{Stop, draw_plan, open_plan};
 use std::alloc::Global;
 
 /// A plan, and the network that it draws.
-#[derive(Debug, Drop)]
+#[derive(Drop)]
 pub struct PlannedNetwork {
     pub plan: Plan,
     pub drawn: DrawnNetwork,

@@ -7,7 +7,7 @@ use itv_base::Listing;
 use plan::Plan;
 
 /// What is read for a job, with what its words ask for.
-#[derive(Debug, Drop)]
+#[derive(Drop)]
 pub enum Ready {
     /// To bound the rows of a drawn network: the cases that each search may close, and whether proofs are written.
     Bounds {

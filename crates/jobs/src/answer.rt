@@ -6,7 +6,7 @@ ghost use Rattle.jobs.specs.Ending.{answer_of};
 use slack_report::EndWord;
 
 /// How a job ends when all of its text is written.
-#[derive(Clone, Copy, Debug, PartialEq, Eq)]
+#[derive(Clone, Copy)]
 pub enum Answer {
     /// No line of the text is bad news.
     AllPass,

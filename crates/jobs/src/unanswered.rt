@@ -6,7 +6,7 @@ ghost use Rattle.jobs.specs.declared.unanswered.Unanswered.{Unanswered};
 use itv_base::{NoMemory, PutFailed};
 
 /// Why a job has no answer.
-#[derive(Clone, Copy, Debug, PartialEq, Eq)]
+#[derive(Clone, Copy)]
 pub enum Unanswered {
     /// The output could not be written.
     PutFailed,

@@ -8,7 +8,7 @@ ghost use Rattle.json_tree.specs.Pairs.{ends_view};
 use serde_json::Value;
 
 /// Two ends in picoseconds. `None` is an open end. It is not yet known whether they are a range.
-#[derive(Clone, Copy, Debug, PartialEq, Eq)]
+#[derive(Clone, Copy)]
 pub struct EndPair {
     pub low: Option<i64>,
     pub high: Option<i64>,

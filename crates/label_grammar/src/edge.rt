@@ -6,7 +6,7 @@ ghost use Rattle.label_grammar.specs.Edge.{edge_view, edge_of};
 use itv_base::is_mark;
 
 /// What the text of an edge says.
-#[derive(Clone, Copy, Debug, PartialEq, Eq)]
+#[derive(Clone, Copy)]
 pub enum EdgeText<'a> {
     /// The label does not begin with `@`, so the edge means nothing.
     Comment,

@@ -6,7 +6,7 @@ ghost use Rattle.label_grammar.specs.Label.{kind_text};
 use itv_base::Range;
 
 /// What a label says of its edge.
-#[derive(Clone, Copy, Debug, PartialEq, Eq)]
+#[derive(Clone, Copy, PartialEq, Eq)]
 pub enum Kind {
     /// The separation of the two events lies in the range.
     Lin,
@@ -36,7 +36,7 @@ impl Kind {
 }
 
 /// A timing label. Its texts are slices of the text that it was read from.
-#[derive(Clone, Copy, Debug, PartialEq, Eq)]
+#[derive(Clone, Copy)]
 pub struct Label<'a> {
     pub kind: Kind,
     /// How many cycles the from-event is before the to-event, at most [`MAX_SHIFT`](itv_base::MAX_SHIFT).
@@ -50,7 +50,7 @@ pub struct Label<'a> {
 }
 
 /// Why a text is no label. A reader reports the first of these that applies.
-#[derive(Clone, Copy, Debug, PartialEq, Eq)]
+#[derive(Clone, Copy, Debug)]
 pub enum LabelFault {
     /// The text does not have the form of a label.
     BadLabel,

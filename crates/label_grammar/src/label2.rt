@@ -4,7 +4,7 @@ use crate::label::Kind;
 use itv_base::Range;
 
 /// What gives the ends of a label of version 2. A name is a slice of the text that it was read from.
-#[derive(Clone, Copy, Debug, PartialEq, Eq)]
+#[derive(Clone, Copy)]
 pub enum Span<'a> {
     /// The range of the separation in picoseconds.
     Fixed(Range),
@@ -14,7 +14,7 @@ pub enum Span<'a> {
 
 /// A timing label of version 2, in which a parameter may stand for the range. Its texts are slices of the text that it was read
 /// from.
-#[derive(Clone, Copy, Debug, PartialEq, Eq)]
+#[derive(Clone, Copy)]
 pub struct Label2<'a> {
     pub kind: Kind,
     /// How many cycles the from-event is before the to-event, at most [`MAX_SHIFT`](itv_base::MAX_SHIFT).

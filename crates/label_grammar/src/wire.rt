@@ -6,7 +6,7 @@ ghost use Rattle.label_grammar.specs.Wire.{wire_view, wire_of, part_mark_of};
 use itv_base::{is_mark, is_name};
 
 /// What the text of a wire says.
-#[derive(Clone, Copy, Debug, PartialEq, Eq)]
+#[derive(Clone, Copy)]
 pub enum WireText<'a> {
     /// There are not two spaces, or the label does not begin with `@`, so the wire means nothing.
     Comment,

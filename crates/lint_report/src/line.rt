@@ -3,7 +3,7 @@
 use warnings::Warning;
 
 /// A line.
-#[derive(Clone, Copy, Debug)]
+#[derive(Clone, Copy)]
 pub enum Line<'a> {
     /// A warning of the drawing.
     Drawing(&'a Warning),

@@ -9,7 +9,7 @@ use std::error::Error;
 use std::fmt;
 
 /// Why a network has no matrix.
-#[derive(Clone, Copy, Debug, PartialEq, Eq)]
+#[derive(Clone, Copy, Debug)]
 pub enum MatrixFault {
     /// The network has this number of events, and a matrix may not have so many.
     TooMany(u32),

@@ -16,7 +16,7 @@ use std::alloc::Global;
 use std::marker::Model;
 
 /// A number, or nothing, for each pair of events. Contracts see the list of its rows.
-#[derive(Debug, Drop)]
+#[derive(Drop)]
 pub struct Matrix {
     rows: Vec<MatrixRow>,
 }

@@ -6,7 +6,7 @@ ghost use Rattle.minplus.specs.Matrix.{cells};
 use std::marker::Model;
 
 /// The entries from one event to each event. Contracts see the list of entries.
-#[derive(Debug, Drop)]
+#[derive(Drop)]
 pub struct MatrixRow {
     pub entries: Vec<i64>,
 }

@@ -10,7 +10,7 @@ use thiserror::Error;
 
 /// The first fault of a tree. Faults of the whole come before faults of parts, these before faults of nets, and these before faults of wires.
 /// Within each the order is as below. A fault has the number of its part, net or wire, counted from 0. Comments count among the wires.
-#[derive(Clone, Copy, Debug, PartialEq, Eq, Error)]
+#[derive(Clone, Copy, Debug, Error)]
 pub enum NetlistFault {
     /// The tree is no object.
     #[error("the netlist is no object")]

@@ -12,7 +12,7 @@ use std::alloc::Global;
 use std::marker::Model;
 
 /// The version, the number of cycles, and the parts, nets and wires of a netlist, the texts of its wires, and its near keys.
-#[derive(Debug, Drop)]
+#[derive(Drop)]
 pub struct Netlist {
     pub(crate) version: u32,
     pub(crate) cycles: u32,

@@ -3,7 +3,7 @@
 use itv_base::{Listing, Text};
 
 /// A pin as a net names it: the name of a part, and the name of a lane of its sheet. The name of a lane is not empty.
-#[derive(Debug, Drop)]
+#[derive(Drop)]
 pub struct PinText {
     pub part: Text,
     pub lane: Text,

@@ -7,7 +7,7 @@ use itv_base::{Listing, Range};
 use std::marker::Model;
 
 /// A net: its first pin drives each of the others, with a delay in picoseconds.
-#[derive(Debug, Drop)]
+#[derive(Drop)]
 pub struct PinNet {
     pub(crate) pins: PinTexts,
     pub(crate) delay: Range,

@@ -55,7 +55,7 @@ pub fn read_netlist(alloc: Global, tree: &Value) -> Result<Netlist, NetlistFault
 }
 
 // Parts, and the distinct names of their sheets.
-#[derive(Debug, Drop)]
+#[derive(Drop)]
 struct NamedParts {
     parts: Parts,
     sheet_names: Texts,

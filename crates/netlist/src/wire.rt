@@ -5,7 +5,7 @@ use label_grammar::Kind;
 
 /// A wire, from a mark of a part to a mark of a part, with what its timing label says. Each mark is a visible character of ASCII. The shift is
 /// in cycles and the range in picoseconds. Only an ask has no range.
-#[derive(Debug, Drop)]
+#[derive(Drop)]
 pub struct Wire {
     pub from_part: Text,
     pub from_mark: u8,

@@ -17,7 +17,7 @@ pub trait Notes {
 }
 
 /// Keeps no notes.
-#[derive(Clone, Copy, Debug)]
+#[derive(Clone, Copy)]
 pub struct NoNotes;
 
 impl Notes for NoNotes {

@@ -6,7 +6,7 @@ ghost use Rattle.origin.specs.Order.{is_lane};
 /// What draws a cause of a constraint, or a row. All numbers count from 0.
 ///
 /// The part of a lane or of an edge is not kept. It is the part of the constraint's target, or of the row's events.
-#[derive(Clone, Copy, Debug, PartialEq, Eq)]
+#[derive(Clone, Copy)]
 pub enum Origin {
     /// The order of the marks on the lane with this number.
     Lane(u64),

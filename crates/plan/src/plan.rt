@@ -20,7 +20,7 @@ use std::alloc::Global;
 use std::marker::Model;
 
 /// What was read of a design: its netlist, and the sheets of its parts.
-#[derive(Debug, Drop)]
+#[derive(Drop)]
 pub struct Plan {
     netlist: Netlist,
     sheets: Sheets,

@@ -59,10 +59,10 @@ fn read_lone(alloc: Global, name: &str, tree: &Value) -> Result<Plan, Stop>
 fn lone_plan(alloc: Global, name: &str, sheet: Sheet) -> Result<Plan, NoMemory>
     ensures { IfOk result (λ plan. plan ≡ lone_plan name.now sheet) }
 {
-    let netlist = Netlist::lone(alloc, name)?;
-    let mut sheets = Sheets::new(alloc);
     let key = plain_key(alloc, name)?;
+    let mut sheets = Sheets::new(alloc);
     push_sheet(&mut sheets, key, sheet)?;
+    let netlist = Netlist::lone(alloc, name)?;
     Plan::of(alloc, netlist, sheets)
 }
 

@@ -8,7 +8,7 @@ use unroll::UnrollFault;
 use wavejson::DiagramFault;
 
 /// The first refusal of files. Want of memory is no refusal, so no fault in a refusal is `NoMemory`.
-#[derive(Clone, Copy, Debug, PartialEq, Eq)]
+#[derive(Clone, Copy)]
 pub enum Refusal {
     /// The file is longer than its limit.
     TooLong,

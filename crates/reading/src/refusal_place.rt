@@ -1,7 +1,7 @@
 //! Where something is refused, or could not be read.
 
 /// Where something is refused, or could not be read.
-#[derive(Clone, Copy, Debug, PartialEq, Eq)]
+#[derive(Clone, Copy)]
 pub enum RefusalPlace {
     /// A file: 0 is the design file, and the files of the sheets follow in the order in which the netlist first mentions them.
     File(u64),

@@ -23,7 +23,7 @@ use unroll::UnrollFault;
 use wavejson::DiagramFault;
 
 /// Why a reading gave nothing.
-#[derive(Clone, Copy, Debug, PartialEq, Eq)]
+#[derive(Clone, Copy)]
 pub enum Stop {
     /// The first refusal, and its place.
     Refused(RefusalPlace, Refusal),

@@ -6,7 +6,7 @@ use itv_base::EventId;
 pub const MOST_DRAWN: usize = 93;
 
 /// An event and its time in picoseconds.
-#[derive(Clone, Copy, Debug, PartialEq, Eq)]
+#[derive(Clone, Copy)]
 pub struct Timed {
     pub event: EventId,
     pub time: i64,
@@ -14,7 +14,7 @@ pub struct Timed {
 
 /// An event of a drawing: its number in the order of time, counted from 0, the place at which its lane rises, counted from 1, and
 /// its drawn time in picoseconds.
-#[derive(Clone, Copy, Debug, PartialEq, Eq)]
+#[derive(Clone, Copy)]
 pub struct DrawnEvent {
     pub event: EventId,
     pub number: u32,

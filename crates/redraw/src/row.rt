@@ -21,7 +21,7 @@ use std::alloc::Global;
 use std::marker::Model;
 
 /// Room for drawings, one after another.
-#[derive(Debug, Drop)]
+#[derive(Drop)]
 pub struct DrawSpace {
     timed: Vec<Timed>,
     stands: Vec<DrawnEvent>,

@@ -9,7 +9,7 @@ use requirements::Verdict;
 use slack_report::{Item, Items};
 
 /// A row, by its number, the side on which it fails, and times in picoseconds that break its requirement there.
-#[derive(Clone, Copy, Debug)]
+#[derive(Clone, Copy)]
 pub struct Fail<'a> {
     pub row: u32,
     pub side: Verdict,
@@ -18,7 +18,7 @@ pub struct Fail<'a> {
 
 /// What some lines of a report say: the row that they are at, the side on which it fails while its times are yet to come, and the
 /// first failed row.
-#[derive(Clone, Copy, Debug)]
+#[derive(Clone, Copy)]
 pub struct Seen<'a> {
     pub row: u32,
     pub side: Option<Verdict>,

@@ -15,14 +15,14 @@ use slack_report::{EndWord, Report, ReportFault, read_report};
 use std::alloc::Global;
 
 /// The lines of a report, and the word at its end.
-#[derive(Debug, Drop)]
+#[derive(Drop)]
 pub struct KeptReport {
     pub report: Report,
     pub end: EndWord,
 }
 
 /// The text of a report, and the word at its end.
-#[derive(Debug, Drop)]
+#[derive(Drop)]
 pub struct Written {
     pub tape: Tape,
     pub end: EndWord,

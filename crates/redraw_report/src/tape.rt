@@ -7,7 +7,7 @@ use std::alloc::Global;
 use std::marker::Model;
 
 /// A sink that keeps its bytes in memory. A put fails only for want of memory; it then takes nothing of the piece.
-#[derive(Debug, Drop)]
+#[derive(Drop)]
 pub struct Tape {
     bytes: Vec<u8>,
     faults: u64,

@@ -13,7 +13,7 @@ use slack_report::{Items, ReportFault, read_report};
 use std::alloc::Global;
 
 /// What becomes of a report that is checked.
-#[derive(Clone, Copy, Debug, PartialEq, Eq)]
+#[derive(Clone, Copy)]
 pub enum Checked {
     /// Each line meets the check: the report is right.
     Accepted,

@@ -24,7 +24,7 @@ use requirements::Bound;
 use slack_report::{FindingWord, Item, Items, Which};
 
 /// What some proof lines stand before.
-#[derive(Clone, Copy, Debug)]
+#[derive(Clone, Copy)]
 pub enum ProofGroup {
     /// The finding, behind so many events.
     Finding(u32),

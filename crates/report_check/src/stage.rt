@@ -14,7 +14,7 @@ use slack_report::{EndWord, FindingWord, Which};
 
 /// What decides the word at the end: the finding, whether some verdict was a fail, and whether some bound was left
 /// open.
-#[derive(Clone, Copy, Debug, PartialEq, Eq)]
+#[derive(Clone, Copy)]
 pub struct ReportTally {
     pub found: FindingWord,
     pub fails: bool,
@@ -22,14 +22,14 @@ pub struct ReportTally {
 }
 
 /// Which bound of a row comes next: the greatest, or the least behind the greatest.
-#[derive(Clone, Copy, Debug, PartialEq, Eq)]
+#[derive(Clone, Copy)]
 pub enum NextBound {
     Greatest,
     LeastBy(Bound),
 }
 
 /// The row at which a report stands, with its number from 0, and the tally of what came before.
-#[derive(Clone, Copy, Debug, PartialEq, Eq)]
+#[derive(Clone, Copy)]
 pub struct CurrentRow {
     pub tally: ReportTally,
     pub number: u64,
@@ -38,7 +38,7 @@ pub struct CurrentRow {
 
 /// Where a check stands: before the line that the stage is named for. Proof lines are taken together with the finding
 /// or the bound behind them, so that no stage stands among them.
-#[derive(Clone, Copy, Debug)]
+#[derive(Clone, Copy)]
 pub enum Stage<'a> {
     Heading,
     Budget,

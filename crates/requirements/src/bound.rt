@@ -5,7 +5,7 @@ ghost use Rattle.event_graph.specs.Times.{IsTime};
 
 /// What is known of the greatest or the least separation of a pair of events, among the times that satisfy a network. All numbers
 /// are in picoseconds.
-#[derive(Clone, Copy, Debug, PartialEq, Eq)]
+#[derive(Clone, Copy)]
 pub enum Bound {
     /// This separation is attained, and no satisfying separation is beyond it.
     Closed(i64),
@@ -21,7 +21,7 @@ pub enum Bound {
 }
 
 /// The two bounds of a pair.
-#[derive(Clone, Copy, Debug, PartialEq, Eq)]
+#[derive(Clone, Copy)]
 pub struct BothBounds {
     pub least: Bound,
     pub greatest: Bound,
@@ -29,7 +29,7 @@ pub struct BothBounds {
 
 /// How far the bounds of a pair are inside the ends of a range, in picoseconds. A number below 0 says by how much an end is missed.
 /// A slack is `None` if its end is open or its bound is not closed.
-#[derive(Clone, Copy, Debug, PartialEq, Eq)]
+#[derive(Clone, Copy, PartialEq, Eq)]
 pub struct Slack {
     pub low: Option<i64>,
     pub high: Option<i64>,

@@ -7,7 +7,7 @@ use crate::bound::{BothBounds, Bound};
 use itv_base::Range;
 
 /// The verdict on a requirement.
-#[derive(Clone, Copy, Debug, PartialEq, Eq)]
+#[derive(Clone, Copy, PartialEq, Eq)]
 pub enum Verdict {
     /// Every satisfying separation lies in the range.
     Pass,

@@ -6,7 +6,7 @@ use itv_base::{EventId, NoMemory};
 use std::alloc::Global;
 
 /// A change: an event fell, or a literal came to hold.
-#[derive(Clone, Copy, Debug, PartialEq, Eq)]
+#[derive(Clone, Copy, PartialEq, Eq)]
 pub enum TrailChange {
     Fell(ValueFall),
     Held(NumberedLiteral),
@@ -14,7 +14,7 @@ pub enum TrailChange {
 
 /// The fall of an event from its old value to a new one, in picoseconds. `before` is the entry of its fall to the old
 /// value, if there is one.
-#[derive(Clone, Copy, Debug, PartialEq, Eq)]
+#[derive(Clone, Copy, PartialEq, Eq)]
 pub struct ValueFall {
     pub event: EventId,
     pub old: i64,
@@ -23,7 +23,7 @@ pub struct ValueFall {
 }
 
 /// An entry of the trail: a change, the clause that made it, and its level. A choice has no clause.
-#[derive(Clone, Copy, Debug, PartialEq, Eq)]
+#[derive(Clone, Copy)]
 pub struct TrailEntry {
     pub change: TrailChange,
     pub clause: Option<usize>,
@@ -41,7 +41,7 @@ const NO_ENTRY: TrailEntry = TrailEntry {
 };
 
 /// The value of each event, in picoseconds, the literals that hold, and the trail of changes. A level begins with each choice.
-#[derive(Debug, Drop)]
+#[derive(Drop)]
 pub struct Assignment {
     values: Vec<i64>,
     last: Vec<Option<usize>>,

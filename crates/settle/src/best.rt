@@ -15,7 +15,7 @@ use std::alloc::Global;
 /// The best times found so far, and the claim. The times satisfy a network, in picoseconds and one per event. There are
 /// none until some are found. The claim is the separation of a pair in the times. Without times it is a number below
 /// minus the far line.
-#[derive(Debug, Drop)]
+#[derive(Drop)]
 pub struct Best {
     pub times: Option<Vec<i64>>,
     pub claim: Claim,

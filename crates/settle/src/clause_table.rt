@@ -12,7 +12,7 @@ use itv_base::{EdgeName, EventId, NoMemory, RuleKind, Side};
 use std::alloc::Global;
 
 /// A part of a list: the place of its first item, and how many items it has.
-#[derive(Clone, Copy, Debug, PartialEq, Eq)]
+#[derive(Clone, Copy)]
 pub struct Stretch {
     pub first: usize,
     pub count: usize,
@@ -20,7 +20,7 @@ pub struct Stretch {
 
 /// A clause: one of its literals holds, or its target comes within one of its ways. Both are parts of the table's
 /// lists.
-#[derive(Clone, Copy, Debug, PartialEq, Eq)]
+#[derive(Clone, Copy)]
 pub struct StoredClause {
     pub basis: Basis,
     pub target: EventId,
@@ -29,7 +29,7 @@ pub struct StoredClause {
 }
 
 /// A clause in a chain, and the place of the next link.
-#[derive(Clone, Copy, Debug, PartialEq, Eq)]
+#[derive(Clone, Copy)]
 pub struct ChainLink {
     pub clause: usize,
     pub next: Option<usize>,
@@ -70,7 +70,7 @@ const NO_LINK: ChainLink = ChainLink {
 ///
 /// A clause stands in the chain of each event from which one of its ways leads, and in the chain of the opposite of each
 /// of its literals. When such an event falls or such an opposite holds, the clause may say more.
-#[derive(Debug, Drop)]
+#[derive(Drop)]
 pub struct ClauseTable {
     clauses: Vec<StoredClause>,
     literals: Vec<NumberedLiteral>,

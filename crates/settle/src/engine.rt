@@ -14,7 +14,7 @@ use itv_base::{EventId, NoMemory};
 use std::alloc::Global;
 
 /// The outcome of a step.
-#[derive(Debug, Drop)]
+#[derive(Drop)]
 pub enum Proposal {
     /// The search goes on.
     Nothing,
@@ -29,7 +29,7 @@ pub enum Proposal {
 }
 
 /// An event that has fallen to a value, in picoseconds, and so ends a block or the search.
-#[derive(Clone, Copy, Debug, PartialEq, Eq)]
+#[derive(Clone, Copy)]
 pub struct Need {
     pub event: EventId,
     pub value: i64,
@@ -37,7 +37,7 @@ pub struct Need {
 
 /// A search for a proof in one view of a network. Nothing relies on what it proposes: a checker takes or refuses each
 /// line.
-#[derive(Debug, Drop)]
+#[derive(Drop)]
 pub struct Engine {
     pub alloc: Global,
     pub table: ClauseTable,

@@ -4,7 +4,7 @@ use clauses::{Basis, EventFall, Literal, WalkStep};
 use itv_base::EventId;
 
 /// A line of a proof by clauses.
-#[derive(Debug, Drop)]
+#[derive(Drop)]
 pub enum StoredLine {
     /// An event falls to a value.
     Fall(EventFall),

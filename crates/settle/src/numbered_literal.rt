@@ -1,7 +1,7 @@
 //! Literals by number.
 
 /// A literal of the search: the number of its side among the sides of the network, and whether it is met.
-#[derive(Clone, Copy, Debug, PartialEq, Eq)]
+#[derive(Clone, Copy, PartialEq, Eq)]
 pub struct NumberedLiteral {
     pub side: usize,
     pub is_met: bool,

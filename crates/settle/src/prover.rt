@@ -18,7 +18,7 @@ use std::alloc::Global;
 use std::marker::Model;
 
 /// The outcome of a step.
-#[derive(Clone, Copy, Debug, PartialEq, Eq)]
+#[derive(Clone, Copy)]
 pub enum SearchState {
     /// The search goes on.
     GoesOn,
@@ -31,7 +31,7 @@ pub enum SearchState {
 }
 
 /// A search in a network for a proof of a goal, the checker of its lines, and the lines that the checker has taken.
-#[derive(Debug, Drop)]
+#[derive(Drop)]
 pub struct Prover {
     checker: ClauseChecker,
     engine: Engine,

@@ -17,7 +17,7 @@ use itv_base::{EventId, NoMemory};
 use std::alloc::Global;
 
 /// How a race ends.
-#[derive(Debug, Drop)]
+#[derive(Drop)]
 pub enum RaceEnd {
     /// The lines of a view prove that nothing exceeds the best times.
     Closed(View),
@@ -29,7 +29,7 @@ pub enum RaceEnd {
 
 /// Two searches for the greatest separation of a pair. They share the best times that either finds. One search goes on
 /// until it rests. Then the other is allowed as many blocks. After both have rested, each is allowed more blocks.
-#[derive(Debug, Drop)]
+#[derive(Drop)]
 pub struct Race {
     pub from: EventId,
     pub to: EventId,

@@ -24,7 +24,7 @@ use std::alloc::Global;
 ///
 /// A settler is made for a network, and every later call needs the same network. Each call allocates memory, and gives
 /// it back with its answer.
-#[derive(Debug, Drop)]
+#[derive(Drop)]
 pub struct Settler {
     negation: Network,
     limits: Limits,

@@ -5,7 +5,7 @@ use clauses::Claim;
 use falling::View;
 
 /// What is known of the greatest separation of a pair of events.
-#[derive(Clone, Copy, Debug, PartialEq, Eq)]
+#[derive(Clone, Copy)]
 pub enum Settled {
     /// It is this number of picoseconds.
     Closed(i64),
@@ -18,7 +18,7 @@ pub enum Settled {
 }
 
 /// An answer and what shows it.
-#[derive(Debug, Drop)]
+#[derive(Drop)]
 pub struct ShownAnswer {
     pub answer: Settled,
     /// In picoseconds, one per event. After [`Settled::Closed`] the times satisfy and attain the separation. After

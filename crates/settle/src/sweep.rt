@@ -5,7 +5,7 @@ use itv_base::{EventId, NoMemory};
 use std::alloc::Global;
 
 /// Waiting events. They are given in sweeps: upward by number, then downward, and so on.
-#[derive(Debug, Drop)]
+#[derive(Drop)]
 pub struct Sweep {
     flags: Vec<bool>,
     events: Vec<EventId>,

@@ -7,7 +7,7 @@ use itv_base::{NoMemory, PutFailed};
 use std::alloc::AllocFailed;
 
 /// Why a check goes no further.
-#[derive(Clone, Copy, Debug, PartialEq, Eq)]
+#[derive(Clone, Copy)]
 pub enum CheckStop {
     /// A line is refused: the line in which the last `left` bytes of the text begin.
     Refused { left: usize },

@@ -10,7 +10,7 @@ use itv_base::EventId;
 use slack_report::Which;
 
 /// A pair of events. A proof bounds its separation.
-#[derive(Clone, Copy, Debug, PartialEq, Eq)]
+#[derive(Clone, Copy)]
 pub struct Pair {
     pub from: EventId,
     pub to: EventId,

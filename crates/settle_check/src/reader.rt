@@ -13,7 +13,7 @@ use std::alloc::Global;
 
 /// The rest of a text, from a line on. What the reader gives is a line as it could have been written. Writing it again
 /// shows whether it was written so.
-#[derive(Debug, Drop)]
+#[derive(Drop)]
 pub struct Reader<'a> {
     rest: &'a [u8],
 }

@@ -9,7 +9,7 @@ use itv_base::NoMemory;
 use std::alloc::Global;
 
 /// The negation of a network, and the limits of the network.
-#[derive(Debug, Drop)]
+#[derive(Drop)]
 pub struct Views {
     pub negation: Network,
     pub limits: Limits,

@@ -7,7 +7,7 @@ use crate::proof::Proof;
 use requirements::{BothBounds, Bound};
 
 /// What is found of a bound of a row. The times are in picoseconds, one per event; they satisfy the network, with the from-event at 0.
-#[derive(Debug, Drop)]
+#[derive(Drop)]
 pub enum SettledBound {
     /// The bound in picoseconds, times that attain it, and its proof.
     Closed(i64, Vec<i64>, Proof),

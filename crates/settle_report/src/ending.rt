@@ -29,7 +29,7 @@ pub fn ending_of(drawn: &DrawnNetwork, finding: &Finding, found: &[RowFound]) ->
 }
 
 // The tally of rows: whether some requirement is broken, and whether some bound was spent.
-#[derive(Clone, Copy, Debug)]
+#[derive(Clone, Copy)]
 struct Marks {
     fails: bool,
     within: bool,

@@ -13,7 +13,7 @@ use settle::{Settled, Settler, ShownAnswer};
 use std::alloc::Global;
 
 /// What is found of a network.
-#[derive(Debug, Drop)]
+#[derive(Drop)]
 pub enum Finding {
     /// These times satisfy the network, in picoseconds, one per event, with event 0 at 0.
     Consistent(Vec<i64>),

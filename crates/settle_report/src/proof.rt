@@ -16,7 +16,7 @@ use settle_lines::write_proof;
 use std::alloc::Global;
 
 /// What the lines prove: no satisfying separation of a pair exceeds the claim, in picoseconds.
-#[derive(Debug, Drop)]
+#[derive(Drop)]
 pub struct Proof {
     /// Whether the lines are a proof in the network, or in its negation with the pair turned round.
     pub view: View,

@@ -3,7 +3,7 @@
 use crate::bound::SettledBound;
 
 /// What is found of a row.
-#[derive(Debug, Drop)]
+#[derive(Drop)]
 pub struct RowFound {
     pub greatest: SettledBound,
     pub least: SettledBound,

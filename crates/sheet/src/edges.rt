@@ -18,7 +18,7 @@ use itv_base::Texts;
 use std::alloc::Global;
 
 /// What the edges of a drawing give.
-#[derive(Debug, Drop)]
+#[derive(Drop)]
 pub struct EdgeRules {
     pub rules: Rules,
     pub rows: SheetRows,

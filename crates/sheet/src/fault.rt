@@ -13,7 +13,7 @@ use thiserror::Error;
 /// The first fault of a drawing. First comes a grade that is not there, then the faults of the lanes, then the faults of the edges, each
 /// in the order below; the parameter of an edge is looked up after its label and before its marks. Lanes and edges are counted from 0,
 /// with the comments among the edges. A mark is given by its character.
-#[derive(Clone, Copy, Debug, PartialEq, Eq, Error)]
+#[derive(Clone, Copy, Debug, Error)]
 pub enum SheetFault {
     /// The first lane whose `node` has a character that is not a full stop, a space or a mark.
     #[error("lane {0} has a node with a character that is no mark")]

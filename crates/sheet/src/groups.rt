@@ -15,7 +15,7 @@ use std::alloc::{AllocFailed, Global};
 use std::collections::HashMap;
 
 /// What the causes of one rule have in common: how the rule reads them, its target by number, and a tag or none.
-#[derive(Clone, Copy, Debug, PartialEq, Eq, Hash)]
+#[derive(Clone, Copy, PartialEq, Eq, Hash)]
 pub struct Group<'a> {
     pub kind: RuleKind,
     pub target: u32,
@@ -23,7 +23,7 @@ pub struct Group<'a> {
 }
 
 /// Why a cause does not go into its group.
-#[derive(Clone, Copy, Debug, PartialEq, Eq)]
+#[derive(Clone, Copy)]
 pub enum GroupFault {
     /// The edge or wire of this number would be the 65th cause of its rule.
     TooManyCauses(u64),

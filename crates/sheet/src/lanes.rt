@@ -16,14 +16,14 @@ use wave_string::{MarkKind, kind_at};
 use wavejson::{LaneText, Lanes};
 
 /// Which marks of a sheet stand on a lane: `count` marks from number `first` on.
-#[derive(Clone, Copy, Debug, PartialEq, Eq)]
+#[derive(Clone, Copy)]
 pub struct LaneSpan {
     pub first: u32,
     pub count: u32,
 }
 
 /// The marks of a drawing, and which of them stand on each lane.
-#[derive(Debug, Drop)]
+#[derive(Drop)]
 pub struct LaneMarks {
     pub marks: Marks,
     pub spans: Vec<LaneSpan>,

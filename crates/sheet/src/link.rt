@@ -15,7 +15,7 @@ use label_grammar::{EdgeText, Label, read_edge};
 use origin::Origin;
 
 /// A timing edge: it goes from a mark to a mark, both by number, and has a label. Its origin says which edge it is.
-#[derive(Clone, Copy, Debug)]
+#[derive(Clone, Copy)]
 pub struct Link<'a> {
     pub from: u32,
     pub to: u32,

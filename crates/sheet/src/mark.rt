@@ -8,7 +8,7 @@ pub const MAX_MARKS: u32 = 93;
 
 /// A mark on a lane: the lane's number from 0, the place of its character in the lane's `node` from 0, the character itself,
 /// and what the lane's wave draws there.
-#[derive(Clone, Copy, Debug, PartialEq, Eq)]
+#[derive(Clone, Copy)]
 pub struct Mark {
     pub lane: u64,
     pub place: u64,

@@ -4,7 +4,7 @@ use itv_base::{Listing, Text};
 
 /// A pin: a lane with a name and at least one mark. Its marks are the `count` marks from number `first` on, in drawn order. Lanes and
 /// marks are counted from 0.
-#[derive(Debug, Drop)]
+#[derive(Drop)]
 pub struct Pin {
     pub lane: u64,
     pub name: Text,

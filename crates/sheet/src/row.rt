@@ -5,7 +5,7 @@ use origin::Origin;
 
 /// A separation that is asked for: from a mark to a mark, both by number; how many cycles the first stands before the second; and what
 /// draws it.
-#[derive(Clone, Copy, Debug, PartialEq, Eq)]
+#[derive(Clone, Copy)]
 pub struct SheetRow {
     pub kind: RowKind,
     pub from: u32,

@@ -7,7 +7,7 @@ use origin::Origin;
 use std::marker::Model;
 
 /// A cause of a rule: a mark by number, how many cycles it stands before the target, the range of its delay, and what draws it.
-#[derive(Clone, Copy, Debug, PartialEq, Eq)]
+#[derive(Clone, Copy)]
 pub struct Source {
     pub mark: u32,
     pub shift: u32,
@@ -19,7 +19,7 @@ pub struct Source {
 pub type Sources = Listing<Source>;
 
 /// A rule on a target mark by its causes. A linear rule has one cause, its from-mark.
-#[derive(Debug, Drop)]
+#[derive(Drop)]
 pub struct Rule {
     kind: RuleKind,
     target: u32,

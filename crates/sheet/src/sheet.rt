@@ -11,7 +11,7 @@ use itv_base::Texts;
 use std::marker::Model;
 
 /// The marks, pins, rules and rows of a sheet, the texts of its edges, and its near keys.
-#[derive(Debug, Drop)]
+#[derive(Drop)]
 pub struct Sheet {
     pub(crate) marks: Marks,
     pub(crate) pins: Pins,

@@ -7,7 +7,7 @@ use itv_base::NoMemory as OutOfMemory;
 use std::alloc::AllocFailed;
 
 /// Why a text was not read as a report.
-#[derive(Clone, Copy, Debug, PartialEq, Eq)]
+#[derive(Clone, Copy)]
 pub enum ReportFault {
     /// The first line, counted from 1, at which no report can go on.
     Line(u64),

@@ -6,7 +6,7 @@ use itv_base::{EventName, RowKind};
 use requirements::{Bound, Slack, Verdict};
 
 /// A line of a report. Times, bounds and slacks are in picoseconds. Events and rows are counted from 0.
-#[derive(Clone, Copy, Debug)]
+#[derive(Clone, Copy)]
 pub enum Item<'a> {
     /// The line that begins a report.
     Heading,

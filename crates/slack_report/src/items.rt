@@ -10,7 +10,7 @@ use itv_base::EventName;
 use std::marker::Model;
 
 /// The lines of a report in their order. Contracts see the list of the lines.
-#[derive(Debug, Drop)]
+#[derive(Drop)]
 pub struct Items {
     list: Vec<OwnedItem>,
 }

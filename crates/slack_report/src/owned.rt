@@ -6,7 +6,7 @@ use itv_base::{RowKind, Text};
 use requirements::{Bound, Slack, Verdict};
 
 /// The name of an event.
-#[derive(Debug, Drop)]
+#[derive(Drop)]
 pub struct OwnedName {
     pub part: Text,
     pub mark: u8,
@@ -14,7 +14,7 @@ pub struct OwnedName {
 }
 
 /// A line of a report that owns its parts.
-#[derive(Debug, Drop)]
+#[derive(Drop)]
 pub enum OwnedItem {
     Heading,
     Budget(u64),

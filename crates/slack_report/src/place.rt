@@ -4,7 +4,7 @@ use crate::words::Which;
 
 /// A row of a report: the number of events, the number of the next row, how many rows are left behind this one, and
 /// whether this row is a requirement.
-#[derive(Clone, Copy, Debug, PartialEq, Eq)]
+#[derive(Clone, Copy)]
 pub struct Spot {
     pub events: u32,
     pub next: u32,
@@ -14,7 +14,7 @@ pub struct Spot {
 
 /// Where a report stands: before the line that gives the place its name. A place keeps how many events or rows are
 /// left, so that lines lead from each place to the end.
-#[derive(Clone, Copy, Debug, PartialEq, Eq)]
+#[derive(Clone, Copy)]
 pub enum Place {
     Heading,
     Budget,

@@ -16,7 +16,7 @@ use std::alloc::Global;
 use std::marker::Model;
 
 /// A report that was read. Contracts see the list of its lines.
-#[derive(Debug, Drop)]
+#[derive(Drop)]
 pub struct Report {
     items: Items,
 }

@@ -1,7 +1,7 @@
 //! Words of a report's lines: findings, kinds of bounds, and ends.
 
 /// Whether some times satisfy the network.
-#[derive(Clone, Copy, Debug, PartialEq, Eq)]
+#[derive(Clone, Copy, PartialEq, Eq)]
 pub enum FindingWord {
     Consistent,
     Inconsistent,
@@ -10,14 +10,14 @@ pub enum FindingWord {
 }
 
 /// Which separation of a pair is bounded: the greatest or the least.
-#[derive(Clone, Copy, Debug, PartialEq, Eq)]
+#[derive(Clone, Copy, PartialEq, Eq)]
 pub enum Which {
     Max,
     Min,
 }
 
 /// How a report ends.
-#[derive(Clone, Copy, Debug, PartialEq, Eq)]
+#[derive(Clone, Copy)]
 pub enum EndWord {
     Pass,
     Fail,

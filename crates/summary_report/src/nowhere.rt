@@ -5,7 +5,7 @@ ghost use Rattle.std.specs.Prelude.{None};
 use itv_base::{PutFailed, Sink};
 
 /// Takes every piece and keeps nothing of it. No put of it fails.
-#[derive(Clone, Copy, Debug)]
+#[derive(Clone, Copy)]
 pub struct Nowhere;
 
 impl Sink for Nowhere {

@@ -130,7 +130,7 @@ fn end_word(word: EndWord) -> &'static [u8]
 // ---- lines
 
 // A number, and what it counts.
-#[derive(Clone, Copy, Debug)]
+#[derive(Clone, Copy)]
 struct Count<'a> {
     word: &'a [u8],
     count: u64,

@@ -3,7 +3,7 @@
 use itv_base::EdgeName;
 
 /// The label of a slot, and the edge that it came over.
-#[derive(Clone, Copy, Debug, PartialEq, Eq, Hash)]
+#[derive(Clone, Copy)]
 pub struct Stamp {
     /// The label in picoseconds, or `None` where there is no label yet.
     pub label: Option<i64>,

@@ -14,7 +14,7 @@ use std::marker::Model;
 ///
 /// There is one graph in memory, and an undo log as constraint solvers keep it. A level saves a slot before it first sets the slot, and never
 /// again. So a push takes the same time whatever the graph is, and a pop takes time for each slot that its level set.
-#[derive(Debug, Drop)]
+#[derive(Drop)]
 pub struct Trail {
     levels: u32,
     edges: Vec<EdgeName>,

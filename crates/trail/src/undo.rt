@@ -6,7 +6,7 @@ ghost use Rattle.trail.specs.Step.Undo.{slots_before};
 use crate::stamp::Stamp;
 
 /// A stamp, and the level that set it: the first graph is level 0.
-#[derive(Clone, Copy, Debug)]
+#[derive(Clone, Copy)]
 pub struct Slot {
     pub stamp: Stamp,
     pub level: u32,
@@ -24,14 +24,14 @@ impl Slot {
 }
 
 /// A slot as it was before a level first set it.
-#[derive(Clone, Copy, Debug)]
+#[derive(Clone, Copy)]
 pub struct Saved {
     pub slot: u32,
     pub was: Slot,
 }
 
 /// Where a level began: how many edges and how many saved slots there were.
-#[derive(Clone, Copy, Debug)]
+#[derive(Clone, Copy)]
 pub struct LevelStart {
     pub edges: usize,
     pub saved: usize,

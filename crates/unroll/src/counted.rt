@@ -9,7 +9,7 @@ use crate::limit::Limit;
 use itv_base::MAX_CYCLES;
 
 /// A limit, and the count that it speaks of.
-#[derive(Clone, Copy, Debug, PartialEq, Eq)]
+#[derive(Clone, Copy)]
 pub struct Counted {
     pub limit: Limit,
     pub count: u128,

@@ -15,7 +15,7 @@ use sheet::{Rule, Sheet, SheetRow, Source};
 
 /// How much a design draws: the marks of one cycle, and then for all cycles the constraints, the constraints with two or more
 /// causes, and the rows.
-#[derive(Clone, Copy, Debug, PartialEq, Eq)]
+#[derive(Clone, Copy)]
 pub struct Counts {
     pub marks: u128,
     pub constraints: u128,
@@ -100,7 +100,7 @@ fn count_joined(design: &Design<'_>) -> Counts
 }
 
 // How many constraints some rules give in all cycles, and how many of them have two or more causes.
-#[derive(Clone, Copy, Debug)]
+#[derive(Clone, Copy)]
 struct RuleCounts {
     all: u128,
     splittable: u128,

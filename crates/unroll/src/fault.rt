@@ -9,7 +9,7 @@ use std::alloc::AllocFailed;
 use thiserror::Error;
 
 /// Why a design is not drawn.
-#[derive(Clone, Copy, Debug, PartialEq, Eq, Error)]
+#[derive(Clone, Copy, Debug, Error)]
 pub enum UnrollFault {
     /// The first limit that the drawn network passes, with the count.
     #[error("the drawn network passes a limit: there are {count}")]

@@ -12,7 +12,7 @@ pub const MAX_SESSION_ROWS: u32 = 64;
 
 /// What a drawn network may have only so much of. `unroll` answers neither `MatrixEvents`, which is for the report on all pairs,
 /// nor `SessionRows`.
-#[derive(Clone, Copy, Debug, PartialEq, Eq)]
+#[derive(Clone, Copy, Debug)]
 pub enum Limit {
     Events,
     Constraints,

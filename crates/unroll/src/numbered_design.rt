@@ -11,7 +11,7 @@ use std::alloc::Global;
 use std::marker::Model;
 
 /// A design with few marks, and the number of the first mark of each part.
-#[derive(Debug, Drop)]
+#[derive(Drop)]
 pub struct NumberedDesign<'a> {
     design: &'a Design<'a>,
     firsts: Vec<u32>,

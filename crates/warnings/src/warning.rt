@@ -9,7 +9,7 @@ use origin::Origin;
 
 /// What draws something. It is an edge or a lane of the sheet of a part, and `part` is the number of the part, from 0. Or it is a pin of a net
 /// or an edge of the netlist, and then `part` has no meaning.
-#[derive(Clone, Copy, Debug, PartialEq, Eq)]
+#[derive(Clone, Copy)]
 pub struct DrawnPlace {
     pub part: u32,
     pub origin: Origin,
@@ -28,7 +28,7 @@ impl DrawnPlace {
 }
 
 /// What may say something else than was meant.
-#[derive(Clone, Copy, Debug, PartialEq, Eq)]
+#[derive(Clone, Copy)]
 pub enum Warning {
     /// The design asks nothing: it has no question and no requirement.
     Rows,

@@ -2,7 +2,7 @@ ghost use Rattle.std.specs.Prelude.{◌≡◌, ◌↔◌, ◌⊎◌, IsFalse};
 ghost use Rattle.wave_string.specs.Kinds.{may_join};
 
 /// What a wave draws at the place of a mark.
-#[derive(Clone, Copy, Debug, PartialEq, Eq)]
+#[derive(Clone, Copy)]
 pub enum MarkKind {
     /// An edge from low to high, or a brick of a positive clock.
     Rise,

@@ -18,7 +18,7 @@ use std::alloc::Global;
 use std::marker::Model;
 
 /// The lanes, the edge texts and the near keys of a tree. Contracts see a drawing.
-#[derive(Debug, Drop)]
+#[derive(Drop)]
 pub struct Diagram {
     lanes: Lanes,
     edges: Texts,

@@ -7,7 +7,7 @@ use itv_base::NoMemory as OutOfMemory;
 use thiserror::Error;
 
 /// What is wrong with a tree, or want of memory. The faults stand in the order in which they are reported.
-#[derive(Clone, Copy, Debug, PartialEq, Eq, Error)]
+#[derive(Clone, Copy, Debug, Error)]
 pub enum DiagramFault {
     /// The tree is no object.
     #[error("the diagram is no object")]

@@ -11,7 +11,7 @@ use serde_json::Value;
 use std::alloc::Global;
 
 /// What a lane says of itself. A key that is missing or holds no string gives `None`.
-#[derive(Debug, Drop)]
+#[derive(Drop)]
 pub struct LaneText {
     /// The name of the lane. An empty name counts as absent.
     pub name: Option<Text>,

@@ -11,7 +11,7 @@ use std::alloc::Global;
 use std::marker::Model;
 
 /// The lanes of a diagram in order. Contracts see a list of lanes.
-#[derive(Debug, Drop)]
+#[derive(Drop)]
 pub struct Lanes {
     items: Vec<LaneText>,
 }

@@ -42,7 +42,7 @@ pub struct Kept<'a> {
 }
 
 /// The greatest separation of a pair, with what shows that it is right.
-#[derive(Debug, Drop)]
+#[derive(Drop)]
 pub struct KeptBound {
     pair: Pair,
     answer: GreatestAnswer,

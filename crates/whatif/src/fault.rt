@@ -8,7 +8,7 @@ use std::alloc::AllocError;
 use thiserror::Error;
 
 /// Why a session was not made.
-#[derive(Clone, Copy, Debug, PartialEq, Eq, Error)]
+#[derive(Clone, Copy, Debug, Error)]
 pub enum SessionFault {
     /// There are this many pairs, more than [`MAX_PAIRS`](crate::MAX_PAIRS).
     #[error("{0} pairs are too many")]
@@ -19,7 +19,7 @@ pub enum SessionFault {
 }
 
 /// Why a session was not edited.
-#[derive(Clone, Copy, Debug, PartialEq, Eq, Error)]
+#[derive(Clone, Copy, Debug, Error)]
 pub enum EditFault {
     /// The constraint or the cause is not there.
     #[error("there is no such cause")]

@@ -13,7 +13,7 @@ use std::alloc::Global;
 use std::marker::Model;
 
 /// Keeps the lines of a proof, or lets all of them go if they do not fit. It takes every line, so it never fails.
-#[derive(Debug, Drop)]
+#[derive(Drop)]
 pub struct Keeper {
     tree: TreeScribe,
     is_full: bool,

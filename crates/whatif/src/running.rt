@@ -15,7 +15,7 @@ use std::marker::Model;
 
 /// What a session comes to behind an edit: what the edit did, the finding, and the answers of all bounds, two for each
 /// pair. There are no answers if the finding is not consistent.
-#[derive(Debug, Drop)]
+#[derive(Drop)]
 pub struct Note {
     pub change: Change,
     pub found: SearchFinding,

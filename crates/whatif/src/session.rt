@@ -28,7 +28,7 @@ pub const MAX_PAIRS: usize = 64;
 
 /// A network whose ranges are edited, and the bounds of pairs of its events. The bounds are kept from one edit to the
 /// next. The session has its own copy of the network.
-#[derive(Debug, Drop)]
+#[derive(Drop)]
 pub struct Session {
     alloc: Global,
     net: Network,

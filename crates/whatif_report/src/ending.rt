@@ -52,7 +52,7 @@ pub fn add_ending(text: &mut Vec<u8>, word: EndWord) -> Result<(), NoMemory>
 }
 
 // The tally of rows: whether some requirement is known to be broken, and whether some bound was left open.
-#[derive(Clone, Copy, Debug)]
+#[derive(Clone, Copy)]
 struct Marks {
     fails: bool,
     within: bool,

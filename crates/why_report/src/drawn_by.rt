@@ -13,7 +13,7 @@ use notes::Notes;
 use origin::{Origin, put_origin};
 
 /// What draws a cause or a row, and its note. The note is empty if there is none.
-#[derive(Clone, Copy, Debug)]
+#[derive(Clone, Copy)]
 pub struct DrawnBy<'a> {
     pub origin: Origin,
     pub note: &'a str,

@@ -13,7 +13,7 @@ use notes::Notes;
 use origin::Origin;
 
 /// A cause of a constraint: the kind and the target of the constraint, the cause itself, and what draws it.
-#[derive(Clone, Copy, Debug)]
+#[derive(Clone, Copy)]
 pub struct DrawnCause {
     pub kind: RuleKind,
     pub target: EventId,

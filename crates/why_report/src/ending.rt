@@ -39,7 +39,7 @@ pub fn ending_of(drawn: &DrawnNetwork, finding: &Finding, found: &[RowFound]) ->
 }
 
 // The marks that rows leave: whether some requirement is broken, and whether some bound was left open.
-#[derive(Clone, Copy, Debug)]
+#[derive(Clone, Copy)]
 struct Marks {
     fails: bool,
     within: bool,

@@ -5,7 +5,7 @@ use itv_base::{EventName, Range, RowKind, RuleKind};
 use requirements::{BothBounds, Verdict};
 
 /// A line of the text. Weights, bounds and ranges are in picoseconds. Rows are counted from 0.
-#[derive(Clone, Copy, Debug)]
+#[derive(Clone, Copy)]
 pub enum Line<'a> {
     /// A step from an event to an event, with its weight and what draws its edge.
     Step {

@@ -1,7 +1,7 @@
 //! What the words ask for.
 
 /// A job with what it needs. What else the words give is passed over.
-#[derive(Clone, Copy, Debug, PartialEq, Eq)]
+#[derive(Clone, Copy)]
 pub enum Task<'a> {
     /// To bound the rows of a design: the name of its file, the cases that each search may close, and whether
     /// proofs are written.
@@ -76,7 +76,7 @@ pub enum Task<'a> {
 }
 
 /// What words are taken for.
-#[derive(Debug, Drop)]
+#[derive(Drop)]
 pub enum Invocation<'a> {
     Task(Task<'a>),
     /// The text that is shown to someone who asks for help.
