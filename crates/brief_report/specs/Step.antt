@@ -17,7 +17,7 @@ use Rattle.brief_report.specs.declared.line.Line.{Line}
 use Rattle.brief_report.specs.declared.line.Line.TheVariants as lines
 use Rattle.brief_report.specs.declared.line.RowLine.{RowLine}
 use Rattle.brief_report.specs.declared.row_rank.RowRank.{RowRank}
-use Rattle.brief_report.specs.Text.{NumberedRow, is_worse, lesser, rank_of, numbered_from, verdict_rank, worst_of}
+use Rattle.brief_report.specs.Text.{NumberedRow, is_worse, lesser, misses_of, misses_without_number, rank_of, numbered_from, verdict_rank, worst_of}
 
 -- ---- the judgement of rows
 
@@ -31,18 +31,23 @@ judged_in (kinds.Req range) found =
 
 -- the place of a row
 abbrev pub place_of : NumberedRow → RowRank
-place_of numbered = record { number = numbered.number; rank = rank_of numbered; worst = worst_of numbered }
+place_of numbered = record { number = numbered.number; rank = rank_of numbered; misses = misses_of numbered; worst = worst_of numbered }
 
 -- the place of a row with a number, by its judgement
 abbrev pub place_by : ℕ → Option Judged → RowRank
-place_by number None = record { number = number; rank = 3; worst = None }
-place_by number (Some judged) = record { number = number; rank = verdict_rank judged.word; worst = lesser judged.slack.low judged.slack.high }
+place_by number None = record { number = number; rank = 3; misses = false; worst = None }
+place_by number (Some judged) = record {
+  number = number;
+  rank = verdict_rank judged.word;
+  misses = misses_without_number judged.word judged.slack;
+  worst = lesser judged.slack.low judged.slack.high;
+}
 
 -- a row of one place stands before a row of another place
 abbrev pub stands_before : RowRank → RowRank → Bool
-stands_before a b = nat_lt a.rank b.rank || ((a.rank == b.rank) && is_worse a.worst b.worst)
+stands_before a b = nat_lt a.rank b.rank || ((a.rank == b.rank) && is_worse a.misses b.misses a.worst b.worst)
 
--- places with one more, behind all places that it is not before
+-- places with one more, after all places that it is not before
 abbrev pub put_in : RowRank → List RowRank → List RowRank
 put_in place [] = place ∷ []
 put_in place (other ∷ others) = if stands_before place other then place ∷ other ∷ others else other ∷ put_in place others
