@@ -34,7 +34,7 @@ use Rattle.itv_cli.specs.Bounds.{AnswersBounds}
 use Rattle.settle_check.specs.Confirm.{AnswersConfirm}
 use Rattle.settle_report.specs.Settle.{AnswersSettle}
 use Rattle.itv_cli.specs.Task.{bounds, check, confirm, generated, matrix, settle, taken, task}
-use Rattle.itv_cli.specs.Job.{Answers, made_for, matrix_at, opening}
+use Rattle.itv_cli.specs.Job.{Answers, made_for, matrix_at, opening, turns_for}
 use Rattle.itv_cli.specs.Run.{Call, HasRead, ReadsOver, HasAnswered, OutcomeMeans, outcome_of}
 use Rattle.itv_cli.specs.declared.outcome.Outcome.{Outcome}
 use Rattle.itv_cli.specs.declared.outcome.Outcome.TheVariants as ends
@@ -210,14 +210,14 @@ module _ (call : Call) (files : Files) (report : List ℕ) (drawn : Drawn) (know
       record { bytes = bytes; is_file = file_had files Report report REPORT_LIMIT bytes had; is_settled = said.0 }
 
 module _ (call : Call) (files : Files) (budget : ℕ) (cert : Bool) (drawn : Drawn) (known : call.shelf_before.files ≡ Some files) (asks : AsksSettle call.words files budget cert drawn) where
-  settle_said : (answer : Answer) (m : HasAnswered call answer) → AnswersSettle drawn cert answer m.text
+  settle_said : (answer : Answer) (m : HasAnswered call answer) → AnswersSettle drawn (turns_for budget) cert answer m.text
   settle_said answer m =
       let a = answer_over call files (settle asks.design budget cert) answer m.text known m refl (record { words = asks.words; own = refl }) in
       let (other, draws, is) = told_then files (design_at asks.design) (λ d. given.Settle d budget cert) a.given a.reads in
       let same : other ≡ drawn = same_ready other drawn (sym draws ∙ asks.draws) in
-      subst (λ (d : Drawn). AnswersSettle d cert answer m.text) same (subst (λ g. Answers g answer m.text) (sym is) a.answers)
+      subst (λ (d : Drawn). AnswersSettle d (turns_for budget) cert answer m.text) same (subst (λ g. Answers g answer m.text) (sym is) a.answers)
 
-  pub settle_wrote : (result : Outcome) → OutcomeMeans call result → (end : IsReportEnd result) → (text : List ℕ) × AnswersSettle drawn cert (answer_of end.0) text × (call.sink_after ≡ grown call.sink_before text)
+  pub settle_wrote : (result : Outcome) → OutcomeMeans call result → (end : IsReportEnd result) → (text : List ℕ) × AnswersSettle drawn (turns_for budget) cert (answer_of end.0) text × (call.sink_after ≡ grown call.sink_before text)
   settle_wrote result means end =
       let m = answered_by call result (answer_of end.0) (λ same. never_refused end.0 (sym same)) means end.1 in (m.text, settle_said (answer_of end.0) m, m.wrote)
 

@@ -19,6 +19,7 @@ ghost use Rattle.why_report.specs.Why.{AnswersWhy};
 ghost use Rattle.brief_report.specs.Brief.{AnswersBrief};
 ghost use Rattle.lint_report.specs.Lint.{AnswersLint};
 ghost use Rattle.settle_report.specs.Settle.{AnswersSettle};
+ghost use Rattle.itv_cli.specs.Job.{turns_for};
 ghost use Rattle.jobs.specs.Ending.{answer_of};
 ghost use Rattle.conformance.specs.Clients.{AsksBounds, AsksBrief, AsksCheck, AsksConfirm, AsksLint, AsksMatrix, AsksSettle, AsksWhy, HasNoWarning, HasNoWrong, IsReportEnd, IsRightFile, IsSettledFile, IsSummaryOf, IsWrongFile, WroteOne};
 
@@ -65,7 +66,7 @@ pub fn checked_of(alloc: Global, words: &Texts, shelf: &mut ShelfMem, sink: &mut
 /// A run of job settle. With any end of a report it writes what was found of the network and of each row.
 pub fn settled_of(alloc: Global, words: &Texts, shelf: &mut ShelfMem, sink: &mut SinkMem) -> Outcome
     ensures wrote { (budget : ℕ) (cert : Bool) (drawn : Drawn) → AsksSettle words.now shelf.old.files budget cert drawn
-        → (end : IsReportEnd result) → WroteOne sink.old sink.new (AnswersSettle drawn cert (answer_of end.0)) }
+        → (end : IsReportEnd result) → WroteOne sink.old sink.new (AnswersSettle drawn (turns_for budget) cert (answer_of end.0)) }
 {
     run(alloc, words, shelf, sink)
 }

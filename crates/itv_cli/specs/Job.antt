@@ -25,7 +25,7 @@ use Rattle.lint_report.specs.Lint.{AnswersLint, BeginsLint}
 use Rattle.matrix_report.specs.Matrix.{AnswersMatrix, BeginsMatrix}
 use Rattle.redraw_report.specs.Redraw.{AnswersRedraw, BeginsRedraw}
 use Rattle.settle_check.specs.Confirm.{AnswersConfirm, BeginsConfirm}
-use Rattle.settle_report.specs.Settle.{AnswersSettle, IsSettleText}
+use Rattle.settle_report.specs.Settle.{AnswersSettle, BeginsSettle}
 use Rattle.report_check.specs.Check.{AnswersCheck, BeginsCheck}
 use Rattle.summary_report.specs.Summary.{AnswersSummary, BeginsSummary}
 use Rattle.edits.specs.EditsFile.{edits_of}
@@ -121,10 +121,14 @@ made_for _ = None
 
 -- ---- what each job answers and writes
 
+-- how many turns a search of job settle may take: a thousand for each unit of the budget
+abbrev pub turns_for : ℕ → ℕ
+turns_for budget = 1000 * budget
+
 abbrev pub Answers : Ready → Answer → List ℕ → Type 0
 Answers (ready.Bounds drawn budget cert) answer text = AnswersBounds drawn budget cert answer text
 Answers (ready.Fall drawn view budget cert) answer text = AnswersFall drawn budget cert answer text
-Answers (ready.Settle drawn budget cert) answer text = AnswersSettle drawn cert answer text
+Answers (ready.Settle drawn budget cert) answer text = AnswersSettle drawn (turns_for budget) cert answer text
 Answers (ready.Redraw drawn budget) answer text = AnswersRedraw drawn budget answer text × DecidesWithin drawn budget answer
 Answers (ready.Why plan drawn budget) answer text = AnswersWhy (plan_note plan) drawn budget answer text
 Answers (ready.Brief plan drawn budget) answer text = AnswersBrief (plan_note plan) drawn budget answer text
@@ -139,7 +143,7 @@ Answers (ready.Whatif drawn edits budget) answer text = AnswersWhatif drawn budg
 abbrev pub MayHaveWritten : Ready → List ℕ → Type 0
 MayHaveWritten (ready.Bounds drawn budget cert) text = MayHaveBegun drawn budget cert text
 MayHaveWritten (ready.Fall drawn view budget cert) text = BeginsFall drawn budget cert text
-MayHaveWritten (ready.Settle drawn budget cert) text = IsSettleText drawn cert text
+MayHaveWritten (ready.Settle drawn budget cert) text = BeginsSettle drawn (turns_for budget) cert text
 MayHaveWritten (ready.Redraw drawn budget) text = BeginsRedraw drawn budget text
 MayHaveWritten (ready.Why plan drawn budget) text = BeginsWhy (plan_note plan) drawn budget text
 MayHaveWritten (ready.Brief plan drawn budget) text = BeginsBrief (plan_note plan) drawn budget text

@@ -34,7 +34,7 @@ pub record HasForm (drawn : Drawn) : Type 0 where
 abbrev pub IsAllowed : Ready → Type 0
 IsAllowed (given.Bounds drawn budget cert) = IsBudget budget
 IsAllowed (given.Fall drawn view budget cert) = IsViewOf drawn.net view
-IsAllowed (given.Settle drawn budget cert) = Unit {0}
+IsAllowed (given.Settle drawn budget cert) = IsBudget budget
 IsAllowed (given.Redraw drawn budget) = IsBudget budget × HasForm drawn
 IsAllowed (given.Why plan drawn budget) = IsBudget budget
 IsAllowed (given.Brief plan drawn budget) = IsBudget budget

@@ -2,7 +2,7 @@
 
 ghost use Rattle.std.specs.Prelude.{◌≡◌};
 ghost use Rattle.jobs.specs.JobWrote.{JobWrote};
-ghost use Rattle.itv_cli.specs.Job.{Answers, MayHaveWritten};
+ghost use Rattle.itv_cli.specs.Job.{Answers, MayHaveWritten, turns_for};
 ghost use Rattle.itv_cli.specs.Job as job;
 ghost use Rattle.itv_cli.specs.declared.ready.Ready.TheVariants as ready;
 ghost use Rattle.words.specs.Task.{IsBudget};
@@ -99,8 +99,11 @@ fn answer_bounds<K: Sink>(
 }
 
 // How many turns a search of job settle may take: a thousand for each unit of the budget.
-fn turns_of(budget: u64) -> u64 {
-    budget.saturating_mul(1000)
+fn turns_of(budget: u64) -> u64
+    requires budget { IsBudget budget }
+    ensures turns { result ≡ turns_for budget }
+{
+    1000 * budget
 }
 
 // Job redraw: the drawing of a counterexample.

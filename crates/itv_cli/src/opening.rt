@@ -124,6 +124,7 @@ fn open_settle<H: Shelf>(
     cert: bool,
     shelf: &mut H,
 ) -> Result<Ready, Stop>
+    requires budget { IsBudget budget }
     ensures opens { Opens (λ given. given) (H.state shelf.old) (H.state shelf.new)
         (opening (said.settle design.now budget cert)) result }
     ensures allowed { IfOk result IsAllowed }

@@ -2,3 +2,4 @@ mod Proved
 mod Passing
 mod Reading
 mod Settled
+mod Turns

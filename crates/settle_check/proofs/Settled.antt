@@ -16,6 +16,7 @@ use Rattle.settle_report.specs.Settle.{IsSettleText}
 use Rattle.settle_report.specs.Text.{behind_text, bound_text, ending_of, finding_text, front_text, judged_text, row_text}
 use Rattle.settle_check.specs.Step.{IsPieceAt}
 use Rattle.settle_check.proofs.Passing.{behind_then}
+use Rattle.settle_check.proofs.Turns.{some_turns}
 
 -- two rows with one number are the same row
 row_same : (rows : List Row) (number : ℕ) (at row : Row) → slice_get rows number ≡ Some at → slice_get rows number ≡ Some row → at ≡ row
@@ -43,14 +44,19 @@ module _ (drawn : Drawn) (text : List ℕ) where
       → IsPieceAt text finding_end (behind_text drawn true finding found) rows_end
       → IsPieceAt text rows_end (entry_text (line.ending (ending_of drawn.rows finding found))) behind → length text ≤ behind → IsSettleText drawn true text
   settled_text finding found front_end finding_end rows_end behind is_finding are_found a b c d whole =
-      let all = behind_then text 0 front_end behind _ _ a (behind_then text front_end finding_end behind _ _ b (behind_then text finding_end rows_end behind _ _ c d)) in (
-        answer_of (ending_of drawn.rows finding found),
-        record {
-          finding = finding;
-          found = found;
-          is_finding = is_finding;
-          are_found = are_found;
-          is_text = sym (take_all behind text whole) ∙ all.same;
-          is_answer = refl;
-        },
+      let all = behind_then text 0 front_end behind _ _ a (behind_then text front_end finding_end behind _ _ b (behind_then text finding_end rows_end behind _ _ c d)) in
+      let turns = some_turns finding found in (
+        turns.0,
+        (
+          answer_of (ending_of drawn.rows finding found),
+          record {
+            finding = finding;
+            found = found;
+            is_finding = is_finding;
+            are_found = are_found;
+            within = turns.1;
+            is_text = sym (take_all behind text whole) ∙ all.same;
+            is_answer = refl;
+          },
+        ),
       )

@@ -1,5 +1,5 @@
 -- What is found of a network and of its rows.
-use Rattle.std.specs.Prelude.{◌≡◌, ℤ, pos, neg_ℤ, ◌<ℤ◌, Bool, List, [], ◌∷◌, All, None, IsTrue}
+use Rattle.std.specs.Prelude.{◌≡◌, ◌≤◌, ℕ, ℤ, pos, neg_ℤ, ◌<ℤ◌, Bool, List, [], ◌∷◌, length, All, None, IsTrue}
 use Rattle.itv_base.specs.Range.{Ends}
 use Rattle.itv_base.specs.declared.names.EventId.{EventId}
 use Rattle.itv_base.specs.declared.row_kind.RowKind.{RowKind}
@@ -127,3 +127,26 @@ abbrev pub AreFound : Bool → Net → List Row → Finding → List RowFound �
 AreFound cert net rows (Consistent times) found = AreRowsFound cert net rows found
 AreFound cert net rows (Inconsistent proof) found = found ≡ []
 AreFound cert net rows Spent found = found ≡ []
+
+-- ---- what the turns of a search bound
+
+-- the proof of an inconsistent finding has at most so many lines
+abbrev pub IsFindingWithin : ℕ → Finding → Type 0
+IsFindingWithin turns (Consistent times) = Unit {0}
+IsFindingWithin turns (Inconsistent proof) = length proof.lines.items ≤ turns
+IsFindingWithin turns Spent = Unit {0}
+
+-- the proof of a number has at most so many lines
+abbrev pub IsBoundWithin : ℕ → SettledBound → Type 0
+IsBoundWithin turns (settled.Closed value times proof) = length proof.lines.items ≤ turns
+IsBoundWithin turns (settled.Unbounded times ray) = Unit {0}
+IsBoundWithin turns settled.Spent = Unit {0}
+
+-- the proofs of both bounds of a row have at most so many lines each
+abbrev pub IsRowWithin : ℕ → RowFound → Type 0
+IsRowWithin turns found = IsBoundWithin turns found.greatest × IsBoundWithin turns found.least
+
+-- each proof has at most as many lines as its search had turns
+pub record AreWithin (turns : ℕ) (finding : Finding) (found : List RowFound) : Type 0 where
+  pub finding : IsFindingWithin turns finding
+  pub rows : All (IsRowWithin turns) found

@@ -5,19 +5,24 @@ use Rattle.jobs.specs.Ending.{answer_of}
 use Rattle.jobs.specs.declared.answer.Answer.{Answer}
 use Rattle.settle_report.specs.declared.finding.Finding.{Finding}
 use Rattle.settle_report.specs.declared.row.RowFound.{RowFound}
-use Rattle.settle_report.specs.Answers.{AreFound, IsFinding}
+use Rattle.settle_report.specs.Answers.{AreFound, AreWithin, IsFinding}
 use Rattle.settle_report.specs.Text.{ending_of, settle_text}
 
--- The text reports what is found of the network and of each row. All of it is right, and it has proofs if they are wanted. The answer is the answer
--- for the word at the end.
-pub record AnswersSettle (drawn : Drawn) (cert : Bool) (answer : Answer) (text : List ℕ) : Type 0 where
+-- The text reports what is found of the network and of each row, where each search may take so many turns. All of it is right, and it has proofs if
+-- they are wanted. The answer is the answer for the word at the end.
+pub record AnswersSettle (drawn : Drawn) (turns : ℕ) (cert : Bool) (answer : Answer) (text : List ℕ) : Type 0 where
   pub finding : Finding
   pub found : List RowFound
   pub is_finding : IsFinding cert drawn.net finding
   pub are_found : AreFound cert drawn.net drawn.rows finding found
+  pub within : AreWithin turns finding found
   pub is_text : text ≡ settle_text drawn cert finding found
   pub is_answer : answer ≡ answer_of (ending_of drawn.rows finding found)
 
 -- The text is a whole text of the job, of which a front may have been written: all is found before the first put.
+abbrev pub BeginsSettle : Drawn → ℕ → Bool → List ℕ → Type 0
+BeginsSettle drawn turns cert text = (answer : Answer) × AnswersSettle drawn turns cert answer text
+
+-- the text is a whole text of the job, for some number of turns
 abbrev pub IsSettleText : Drawn → Bool → List ℕ → Type 0
-IsSettleText drawn cert text = (answer : Answer) × AnswersSettle drawn cert answer text
+IsSettleText drawn cert text = (turns : ℕ) × BeginsSettle drawn turns cert text

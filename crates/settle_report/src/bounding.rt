@@ -5,7 +5,7 @@ ghost use Rattle.event_graph.specs.Satisfying.{Satisfies};
 ghost use Rattle.event_graph.specs.Times.{IsTime};
 ghost use Rattle.drawn.specs.Drawn.{IsRowOf};
 ghost use Rattle.settle.specs.ShownAnswer.{IsFound, IsMadeFor};
-ghost use Rattle.settle_report.specs.Answers.{IsBound};
+ghost use Rattle.settle_report.specs.Answers.{IsBound, IsBoundWithin};
 ghost use Rattle.settle_report.specs.Step.{HasNearby, shown_by, source, target};
 
 use crate::bound::SettledBound;
@@ -34,6 +34,7 @@ pub fn find_bound(
     requires row { IsRowOf net.now row.now }
     ensures bound { IfOk result (IsBound wanted.cert net.now which row.now) }
     ensures nearby { IfOk result HasNearby }
+    ensures within { IfOk result (IsBoundWithin wanted.turns) }
 {
     let from = source(which, row);
     let to = target(which, row);
@@ -55,6 +56,8 @@ fn bound_by(
     requires found { (turns : ℕ) × IsFound net.now (source which row.now) (target which row.now) turns found }
     ensures bound { IsBound cert net.now which row.now result }
     ensures nearby { HasNearby result }
+    ensures within { (turns : ℕ) → IsFound net.now (source which row.now) (target which row.now) turns found
+        → IsBoundWithin turns result }
 {
     // The call also gives the invariant: the network is within its limits.
     let _events = net.events();

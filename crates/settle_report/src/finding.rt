@@ -2,7 +2,7 @@
 
 ghost use Rattle.std.specs.Prelude.{◌<◌, ℕ, IfOk};
 ghost use Rattle.settle.specs.ShownAnswer.{IsFound, IsMadeFor};
-ghost use Rattle.settle_report.specs.Answers.{IsFinding, first_event};
+ghost use Rattle.settle_report.specs.Answers.{IsFinding, IsFindingWithin, first_event};
 
 use crate::proof::{Proof, proof_of};
 use crate::times::moved;
@@ -32,6 +32,7 @@ pub fn find(
 ) -> Result<Finding, NoMemory>
     requires made { IsMadeFor net.now settler.now }
     ensures finding { IfOk result (IsFinding wanted.cert net.now) }
+    ensures within { IfOk result (IsFindingWithin wanted.turns) }
 {
     if net.events() == 0 {
         return Ok(Finding::Consistent(Vec::new(alloc)));
@@ -46,6 +47,7 @@ fn finding_of(alloc: Global, net: &Network, found: ShownAnswer, cert: bool) -> F
     requires events { 0 < net.now.events }
     requires found { (turns : ℕ) × IsFound net.now first_event first_event turns found }
     ensures finding { IsFinding cert net.now result }
+    ensures within { (turns : ℕ) → IsFound net.now first_event first_event turns found → IsFindingWithin turns result }
 {
     // The call also gives the invariant: the network is within its limits.
     let _events = net.events();

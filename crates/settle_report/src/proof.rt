@@ -1,6 +1,6 @@
 //! Proofs that are printed.
 
-ghost use Rattle.std.specs.Prelude.{ℤ};
+ghost use Rattle.std.specs.Prelude.{◌≤◌, ℤ, length};
 ghost use Rattle.itv_base.specs.Outside.{Puts};
 ghost use Rattle.itv_base.specs.declared.names.EventId.{EventId};
 ghost use Rattle.event_graph.specs.Network.{Net};
@@ -34,6 +34,7 @@ pub fn proof_of(
     is_wanted: bool,
 ) -> Proof
     ensures proves { (net : Net) (from to : EventId) → IsProofAs view net from to claim.value lines.items → ProvesClaim is_wanted net from to claim.value result }
+    ensures lines { length result.lines.items ≤ length lines.items }
 {
     if is_wanted {
         Proof {

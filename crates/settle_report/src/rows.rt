@@ -1,10 +1,10 @@
 //! Finding what the rows ask for.
 
-ghost use Rattle.std.specs.Prelude.{ℤ, List, IfOk};
+ghost use Rattle.std.specs.Prelude.{ℤ, List, All, IfOk};
 ghost use Rattle.event_graph.specs.Satisfying.{Satisfies};
 ghost use Rattle.drawn.specs.Drawn.{IsRowOf};
 ghost use Rattle.settle.specs.ShownAnswer.{IsMadeFor};
-ghost use Rattle.settle_report.specs.Answers.{AreFound, AreRowsFound, IsFinding, IsRowFound};
+ghost use Rattle.settle_report.specs.Answers.{AreFound, AreRowsFound, IsFinding, IsRowFound, IsRowWithin};
 
 use crate::bounding::find_bound;
 use crate::finding::Finding;
@@ -30,6 +30,7 @@ pub fn find_rows(
     requires made { IsMadeFor drawn.now.net settler.now }
     requires finding { IsFinding wanted.cert drawn.now.net finding.now }
     ensures found { IfOk result (λ found. AreFound wanted.cert drawn.now.net drawn.now.rows finding.now found.items) }
+    ensures within { IfOk result (λ found. All (IsRowWithin wanted.turns) found.items) }
 {
     match finding {
         Finding::Consistent(_) => find_all(alloc, drawn, settler, wanted),
@@ -47,6 +48,7 @@ fn find_all(
     requires made { IsMadeFor drawn.now.net settler.now }
     requires consistent { (times : List ℤ) × Satisfies times drawn.now.net }
     ensures found { IfOk result (λ found. AreRowsFound wanted.cert drawn.now.net drawn.now.rows found.items) }
+    ensures within { IfOk result (λ found. All (IsRowWithin wanted.turns) found.items) }
 {
     let mut found = Vec::new(alloc);
     for number in 0..drawn.rows().len() as u32 {
@@ -69,6 +71,7 @@ fn find_row(
     requires consistent { (times : List ℤ) × Satisfies times net.now }
     requires row { IsRowOf net.now row.now }
     ensures found { IfOk result (IsRowFound wanted.cert net.now row.now) }
+    ensures within { IfOk result (IsRowWithin wanted.turns) }
 {
     let greatest = find_bound(alloc, Which::Max, row, net, settler, wanted)?;
     let least = find_bound(alloc, Which::Min, row, net, settler, wanted)?;

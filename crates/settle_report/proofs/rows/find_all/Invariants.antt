@@ -1,7 +1,10 @@
-use Rattle.std.proofs.Common.{take}
-use Rattle.settle_report.specs.Answers.{AreRowsFound}
+use Rattle.std.proofs.Common.{All, take}
+use Rattle.settle_report.specs.Answers.{AreRowsFound, IsRowWithin}
 use Rattle.settle_report.proofs.rows.find_all.Given as goal
 
--- what is found of the first rows
+-- what is found of the first rows, by proofs of at most as many lines as there are turns
 abbrev pub invariant-loop-number : goal.invariant-loop-number
-invariant-loop-number l = AreRowsFound l.wanted.cert l.drawn.net (take l.number l.drawn.rows) l.found.items
+invariant-loop-number l = record {
+  found : AreRowsFound l.wanted.cert l.drawn.net (take l.number l.drawn.rows) l.found.items;
+  within : All (IsRowWithin l.wanted.turns) l.found.items;
+}
