@@ -2,7 +2,7 @@
 use Rattle.std.specs.Prelude.{◌≡◌, ◌<◌, ◌⊎◌, false, ℕ, ℤ, Bool, IsTrue, List, [], ◌∷◌, length, Any, Some, slice_get, slice_index_or}
 use Rattle.itv_base.specs.declared.names.EdgeName.{EdgeName}
 use Rattle.event_graph.specs.Network.{Constraint, Net}
-use Rattle.event_graph.specs.Proof.{Loop, Path, ProofLine, Split}
+use Rattle.event_graph.specs.Proof.{IsProof, Loop, Nothing, Path, ProofLine, Split}
 use Rattle.event_graph.specs.Satisfying.{Holds}
 
 -- one of the edges is an edge of the constraint of a number
@@ -37,7 +37,18 @@ pub record SatisfiesOf (set : List Bool) (times : List ℤ) (net : Net) : Type 0
 abbrev pub IsContradiction : Net → List Bool → Type 0
 IsContradiction net set = (times : List ℤ) → SatisfiesOf set times net → ⊥
 
--- The flags of the constraints, behind lines of a proof. Their number is unchanged; each flag that was set still is; each flag of a constraint
+-- the constraints of the set are just the constraints that the lines name, of those that have a flag
+pub record AreNamed (set : List Bool) (lines : List ProofLine) : Type 0 where
+  pub named : HasNames set lines
+  pub only : (number : ℕ) → IsIn set number → SomeNames lines number
+
+-- the constraints of the set are the constraints that one proof names, and the proof shows that no times satisfy
+pub record IsRefuting (net : Net) (set : List Bool) : Type 0 where
+  pub lines : List ProofLine
+  pub proof : IsProof net Nothing lines
+  pub named : AreNamed set lines
+
+-- The flags of the constraints, after lines of a proof. Their number is unchanged; each flag that was set still is; each flag of a constraint
 -- that the lines name is set; and no other flag was set.
 pub record HasMarked (old : List Bool) (lines : List ProofLine) (new : List Bool) : Type 0 where
   pub count : length new ≡ length old

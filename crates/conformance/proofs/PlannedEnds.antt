@@ -9,7 +9,7 @@ use Rattle.itv_base.specs.declared.row_kind.RowKind.TheVariants as kinds
 use Rattle.event_graph.specs.Bounds.{IsInconsistent}
 use Rattle.event_graph.specs.Edges.{cause_choices}
 use Rattle.event_graph.specs.Network.{Net}
-use Rattle.chains.proofs.Naming.{only_is_of, only_is_wider}
+use Rattle.event_graph.proofs.SoundProofs.{proof_of_nothing}
 use Rattle.itv_base.specs.Outside.{Files, grown}
 use Rattle.compose.specs.Compose.{composed_on}
 use Rattle.compose.specs.Design.{Composed}
@@ -100,7 +100,7 @@ no_end word rows found other e =
 none_found : (net : Net) (rows : List Row) (finding : Finding) (found : List RowFound) → IsFindingFound net finding → answers.Inconsistent ≡ answer_of (ending_of rows finding found)
     → IsInconsistent net
 none_found net rows Consistent found is e = absurd (no_end findings.Consistent rows found (λ same. cc same) e)
-none_found net rows (Inconsistent set) found is e = λ times satisfies. is.1 times ((only_is_of net set.items times).0 (only_is_wider net set.items times satisfies))
+none_found net rows (Inconsistent set) found is e = proof_of_nothing net is.1.lines is.1.proof
 none_found net rows Unsettled found is e = absurd (no_end findings.Unsettled rows found (λ same. cc same) e)
 
 -- where the bounds of rows are settled, none is within

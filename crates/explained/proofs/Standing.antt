@@ -1,5 +1,8 @@
 -- Findings, of a drawn network and of its network apart from the order of lanes.
-use Rattle.std.proofs.Common.{◌≡◌, ℕ, ℤ, Bool, List, length, Option, Some, None, refl, sym, subst, ◌∙◌}
+use Rattle.std.proofs.Common.{◌≡◌, ℕ, ℤ, Bool, false, List, length, get_or, replicate, Option, Some, None, refl, sym, subst, ◌∙◌, arith}
+use Rattle.std.proofs.Common.{inl, inr}
+use Rattle.std.proofs.lemmas.Bool.{cases_lt, false≢true}
+use Rattle.std.proofs.lemmas.List.{get_or-replicate, get_or_past, length-replicate}
 use Rattle.std.specs.Prelude.{IfSome, IsSomeAnd}
 use Rattle.event_graph.specs.Network.{Net}
 use Rattle.event_graph.specs.Satisfying.{Satisfies}
@@ -10,8 +13,7 @@ use Rattle.branch.specs.Answers.{Finds}
 use Rattle.branch.specs.declared.answer.SearchFinding.{SearchFinding}
 use Rattle.branch.specs.declared.answer.SearchFinding.TheVariants as founds
 use Rattle.event_graph.specs.Proof.{ProofLine}
-use Rattle.chains.specs.Named.{HasMarked, IsContradiction}
-use Rattle.chains.proofs.Naming.{named_contradict}
+use Rattle.chains.specs.Named.{HasMarked, IsIn, IsRefuting}
 use Rattle.drawn.specs.Drawn.{Drawn}
 use Rattle.explained.specs.Apart.{net_apart}
 use Rattle.explained.specs.declared.desk.Apart.{Apart}
@@ -67,11 +69,23 @@ not_word founds.Consistent is = absurd (cc is)
 not_word founds.Inconsistent is = refl
 not_word founds.Unsettled is = absurd (cc is)
 
--- the constraints that the lines of a search name contradict each other, where it found no times
-pub marks_contradict : (net : Net) (budget leaves : ℕ) (lines : List ProofLine) (known : Option (List ℤ)) (found : SearchFinding) (word : FindingWord) (old new : List Bool)
-    → word ≡ word_of_found found → Finds net budget lines leaves known found → length old ≡ length net.constraints → HasMarked old lines new → word ≡ findings.Inconsistent
-    → IsContradiction net new
-marks_contradict net budget leaves lines known found word old new is finds count marked none =
+-- no flag of a marking that begins is set
+none_in : (count number : ℕ) → IsIn (replicate count false) number → ⊥
+none_in count number is_in = elim (cases_lt number count) [
+  | inl below ↦ false≢true (sym (get_or-replicate count number false false below) ∙ is_in)
+  | inr past ↦ false≢true (sym (get_or_past (replicate count false) number false (omega (arith, length-replicate {A = Bool}))) ∙ is_in)
+]
+
+-- where a search found no times, the constraints that its lines name refute the network
+pub marks_refute : (net : Net) (budget leaves : ℕ) (lines : List ProofLine) (known : Option (List ℤ)) (found : SearchFinding) (word : FindingWord) (old new : List Bool)
+    → word ≡ word_of_found found → Finds net budget lines leaves known found → old ≡ replicate (length net.constraints) false → HasMarked old lines new
+    → word ≡ findings.Inconsistent → IsRefuting net new
+marks_refute net budget leaves lines known found word old new is finds fresh marked none =
     let found_none : found ≡ founds.Inconsistent = not_word found (sym is ∙ none) in
     let f : Finds net budget lines leaves known founds.Inconsistent = subst (λ (x : SearchFinding). Finds net budget lines leaves known x) found_none finds in
-    named_contradict net new lines (marked.count ∙ count) f.proof marked.named
+    let before : (number : ℕ) → IsIn old number → ⊥ = λ number is_in. none_in (length net.constraints) number (subst (λ set. IsIn set number) fresh is_in) in
+    record {
+      lines = lines;
+      proof = f.proof;
+      named = record { named = marked.named; only = λ number is_in. elim (marked.fresh number is_in) [ inl old ↦ absurd (before number old) | inr named ↦ named ] };
+    }

@@ -12,7 +12,7 @@ use Rattle.event_graph.specs.RootBound.{MeetsAlways}
 use Rattle.event_graph.specs.Satisfying.{Satisfies}
 use Rattle.event_graph.specs.Times.{separation}
 use Rattle.chains.specs.Chain.{IsChain}
-use Rattle.chains.specs.Named.{IsContradiction}
+use Rattle.chains.specs.Named.{IsRefuting}
 use Rattle.requirements.specs.Bounds.{HasTimes, IsGreatestBound, IsLeastBound}
 use Rattle.requirements.specs.Verdicts.{verdict_of}
 use Rattle.requirements.specs.declared.bound.BothBounds.{BothBounds}
@@ -35,10 +35,11 @@ use Rattle.explained.specs.declared.row.RowFound.{RowFound}
 
 -- ---- the finding
 
--- some times satisfy; or the constraints of a set contradict each other by themselves; or, unsettled, some times meet all always-edges
+-- some times satisfy; or a proof shows that none do, and the set has just the constraints that it names, so they contradict each other by themselves;
+-- or, unsettled, some times meet all always-edges
 abbrev pub IsFindingFound : Net → Finding → Type 0
 IsFindingFound net Consistent = (times : List ℤ) × Satisfies times net
-IsFindingFound net (Inconsistent set) = (length set.items ≡ length net.constraints) × IsContradiction net set.items
+IsFindingFound net (Inconsistent set) = (length set.items ≡ length net.constraints) × IsRefuting net set.items
 IsFindingFound net Unsettled = (times : List ℤ) × MeetsAlways times net
 
 abbrev pub word_of : Finding → FindingWord

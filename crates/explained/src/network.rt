@@ -2,7 +2,7 @@
 
 ghost use Rattle.std.specs.Prelude.{◌≡◌, ◌≤◌, All, IfOk, length};
 ghost use Rattle.itv_base.specs.declared.limits.TheConstants.{MAX_BUDGET};
-ghost use Rattle.chains.specs.Named.{IsContradiction};
+ghost use Rattle.chains.specs.Named.{IsRefuting};
 ghost use Rattle.explained.specs.Answers.{AreFound, HasRowTimes, IsFindingFound, IsRowSettled, SettlesWithin};
 ghost use Rattle.explained.specs.Step.Settling.{IsEnough, SufficesApart};
 ghost use Rattle.explained.specs.Step.Standing.{HasFound, IsDeskFor, IsFor};
@@ -56,7 +56,7 @@ fn found_behind(
     requires found { HasFound drawn.now.net desk.old.searches.word desk.old.searches.work.known }
     requires desk { IsDeskFor drawn.now desk.old }
     requires count { length marking.now ≡ length drawn.now.net.constraints }
-    requires marks { desk.old.searches.word ≡ FindingWord.Inconsistent → IsContradiction drawn.now.net marking.now }
+    requires marks { desk.old.searches.word ≡ FindingWord.Inconsistent → IsRefuting drawn.now.net marking.now }
     ensures finding { IfOk result (λ found. IsFindingFound drawn.now.net found.finding) }
     ensures rows { IfOk result (λ found. AreFound drawn.now found.finding found.rows.items) }
     ensures settles { IfOk result (λ found. IsEnough drawn.now.net desk.old.searches → SufficesApart desk.old.apart

@@ -1,11 +1,11 @@
 //! The searches of a network.
 
-ghost use Rattle.std.specs.Prelude.{◌≡◌, ◌<◌, ◌≤◌, ℕ, All, IfOk, IfSome, IsSomeAnd, List, length};
+ghost use Rattle.std.specs.Prelude.{◌≡◌, ◌<◌, ◌≤◌, ℕ, false, All, IfOk, IfSome, IsSomeAnd, List, length, replicate};
 ghost use Rattle.event_graph.specs.Proof.{ProofLine};
 ghost use Rattle.event_graph.specs.Satisfying.{Satisfies};
 ghost use Rattle.branch.specs.Answers.{IsGreatestAnswer, evidence};
 ghost use Rattle.branch.specs.Work.{IsClose, IsMadeFor};
-ghost use Rattle.chains.specs.Named.{IsContradiction};
+ghost use Rattle.chains.specs.Named.{IsRefuting};
 ghost use Rattle.explained.specs.Step.Settling.{IsEnough, Suffices};
 ghost use Rattle.explained.specs.Step.Standing.{HasFound, IsFor, IsFresh, word_of_found};
 
@@ -40,15 +40,16 @@ impl Searches {
     }
 }
 
-/// Looks for times that satisfy a network. If there are none, the constraints that `marking` has contradict each other.
+/// Looks for times that satisfy a network. If there are none, `marking` has just the constraints that a proof of this names, and they contradict
+/// each other. No flag of `marking` is set before.
 pub fn find_marking(net: &Network, searches: &mut Searches, marking: &mut Marking)
     requires made { IsFor net.now searches.old }
-    requires count { length marking.old ≡ length net.now.constraints }
+    requires none { marking.old ≡ replicate (length net.now.constraints) false }
     ensures made { IsFor net.now searches.new }
     ensures found { HasFound net.now searches.new.word searches.new.work.known }
     ensures enough { Suffices net.now searches.old → IsEnough net.now searches.new }
     ensures count { length marking.new ≡ length net.now.constraints }
-    ensures marks { searches.new.word ≡ FindingWord.Inconsistent → IsContradiction net.now marking.new }
+    ensures marks { searches.new.word ≡ FindingWord.Inconsistent → IsRefuting net.now marking.new }
 {
     match find(&mut searches.work, net, searches.budget, marking) {
         Ok(found) => searches.word = word_of(found),

@@ -2,7 +2,7 @@ use Rattle.std.proofs.Common.{◌≡◌, ◌≤◌, sym, subst, ℕ}
 use Rattle.std.proofs.lemmas.Result.{IfOk-weaker}
 use Rattle.event_graph.specs.Edges.{cause_choices}
 use Rattle.event_graph.specs.Network.{Net}
-use Rattle.chains.specs.Named.{IsContradiction}
+use Rattle.chains.specs.Named.{IsRefuting}
 use Rattle.slack_report.specs.declared.words.FindingWord.TheVariants.{Inconsistent}
 use Rattle.explained.specs.Step.Settling.{IsEnough, Suffices, SufficesApart}
 use Rattle.explained.proofs.Settling.{suffices_apart}
@@ -10,7 +10,7 @@ use Rattle.explained.proofs.network.explain.Goals as goal
 
 pub found_behind-requires-clause-marks : goal.found_behind-requires-clause-marks
 found_behind-requires-clause-marks c =
-    subst (λ net. c.find_marking.new.searches.word ≡ Inconsistent → IsContradiction net c.find_marking.new.marking) c.network-net.ensures.network c.find_marking.ensures.marks
+    subst (λ net. c.find_marking.new.searches.word ≡ Inconsistent → IsRefuting net c.find_marking.new.marking) c.network-net.ensures.network c.find_marking.ensures.marks
 
 pub returns-clause-settles : goal.returns-clause-settles
 returns-clause-settles c =

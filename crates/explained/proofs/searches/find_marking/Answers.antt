@@ -1,12 +1,12 @@
 use Rattle.explained.proofs.Settling.{found_settles}
-use Rattle.explained.proofs.Standing.{marks_contradict}
+use Rattle.explained.proofs.Standing.{marks_refute}
 use Rattle.explained.proofs.searches.find_marking.Goals as goal
 
 pub returns-clause-marks : goal.returns-clause-marks
 returns-clause-marks c =
     let found = c.in-Ok.ensures.lines in
-    marks_contradict c.args.net.now c.args.searches.now.budget c.find.new.work.leaves found.0 c.find.new.work.known c.in-Ok.found c.word_of-searches.result c.args.marking.now c.find.new.scribe
-    c.word_of-searches.ensures found.2 c.requires.count found.1
+    marks_refute c.args.net.now c.args.searches.now.budget c.find.new.work.leaves found.0 c.find.new.work.known c.in-Ok.found c.word_of-searches.result c.args.marking.now c.find.new.scribe
+    c.word_of-searches.ensures found.2 c.requires.none found.1
 
 pub returns-clause-enough : goal.returns-clause-enough
 returns-clause-enough c = λ suffices.
