@@ -24,10 +24,10 @@ Jobs:
   settle  Bounds the separation of each row of DESIGN exactly, whatever its choices
   confirm Checks each claim of the text FILE of job settle against DESIGN
   redraw  Draws the first requirement of DESIGN that fails, with times that break it, as a timing diagram
-  whatif  Bounds the separation of each row of DESIGN, and again behind each edit of FILE
-  why     Tells which edges of DESIGN make each bound of each row, or which of its rules contradict each other
-  brief   Tells each row of DESIGN on one line, the worst first
-  lint    Tells what of DESIGN may say something else than was meant
+  whatif  Bounds the separation of each row of DESIGN, and again after each edit of FILE
+  why     Prints which edges of DESIGN hold each bound of each row, or which of its rules contradict each other
+  brief   Prints each row of DESIGN on one line, the worst first
+  lint    Prints what of DESIGN may say something else than was meant
 
 Exit statuses:
   0  All is well: every requirement passes, the matrix is printed, the report is accepted
@@ -37,10 +37,10 @@ Exit statuses:
   4  The design, the report or the edits are refused, for the reason that is printed
   5  A file cannot be read
   6  The output cannot be written
-  7  Memory is wanted
+  7  There is not enough memory
   8  The words are not understood
   9  A claim of the report does not hold
-  10 The system gave no words
+  10 The words are no text, or the system gave none
 
 Example:
   itv --cert bus.json > bus.report
