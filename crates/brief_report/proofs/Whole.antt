@@ -16,9 +16,10 @@ use Rattle.explained.specs.declared.finding.Finding.TheVariants.{Consistent, Inc
 use Rattle.explained.specs.declared.row.RowFound.{RowFound}
 use Rattle.explained.specs.Answers.{AreFound, AreRowsFound, IsFindingFound, SettlesWithin, word_of}
 use Rattle.why_report.specs.Text.{Noted, ending_of}
-use Rattle.brief_report.specs.Brief.{AnswersBrief, BeginsBrief}
+use Rattle.brief_report.specs.Brief.{AnswersBrief}
 use Rattle.brief_report.specs.Step.{numbered_rows}
 use Rattle.brief_report.specs.Text.{brief_text, rows_text}
+use Rattle.jobs.specs.JobWrote.{Answered}
 
 -- there are no more findings of rows than rows
 few_rows : (drawn : Drawn) (word : FindingWord) (rows : List Row) (found : List RowFound) → AreRowsFound drawn word rows found → length found ≤ length rows
@@ -44,6 +45,6 @@ module _ (noted : Noted) (drawn : Drawn) (budget : ℕ) (finding : Finding) (fou
 
   -- and a front of this text is what the job may have begun
   pub begins_brief : {B E : Type 0} (result : Result B E) (old new : SinkState) → CutShort old new (brief_text noted drawn finding found)
-      → OnErr result ((text : List ℕ) × BeginsBrief noted drawn budget text × CutShort old new text)
+      → OnErr result ((text : List ℕ) × Answered (AnswersBrief noted drawn budget) text × CutShort old new text)
   begins_brief (Ok x) old new cut = tt
   begins_brief (Err e) old new cut = (brief_text noted drawn finding found, (answer_of (ending_of drawn.rows finding found), answers_brief _ refl), cut)

@@ -18,7 +18,3 @@ pub record AnswersBrief (noted : Noted) (drawn : Drawn) (budget : ℕ) (answer :
   pub settles : SettlesWithin drawn.net budget finding found
   pub is_text : text ≡ brief_text noted drawn finding found
   pub is_answer : answer ≡ answer_of (ending_of drawn.rows finding found)
-
--- The text that a failed put may have begun. All is found before anything is put, so what was written is a front of a whole text.
-abbrev pub BeginsBrief : Noted → Drawn → ℕ → List ℕ → Type 0
-BeginsBrief noted drawn budget text = (answer : Answer) × AnswersBrief noted drawn budget answer text

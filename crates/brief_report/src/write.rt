@@ -3,10 +3,10 @@
 ghost use Rattle.std.specs.Prelude.{◌≡◌, ◌≤◌, ℕ, List, All, IfOk, OnErr, length, map};
 ghost use Rattle.itv_base.specs.Outside.{CutShort, Puts, grown};
 ghost use Rattle.itv_base.specs.declared.limits.TheConstants.{MAX_BUDGET};
-ghost use Rattle.jobs.specs.JobWrote.{JobWrote};
+ghost use Rattle.jobs.specs.JobWrote.{Answered, JobWrote};
 ghost use Rattle.explained.specs.Answers.{AreFound, HasRowTimes, IsFindingFound, SettlesWithin};
 ghost use Rattle.why_report.specs.Text.{ending_of};
-ghost use Rattle.brief_report.specs.Brief.{AnswersBrief, BeginsBrief};
+ghost use Rattle.brief_report.specs.Brief.{AnswersBrief};
 ghost use Rattle.brief_report.specs.Step.{place_of, numbered_rows};
 ghost use Rattle.brief_report.specs.Text.{brief_text, ordered};
 
@@ -35,7 +35,7 @@ pub fn write_brief<N: Notes, K: Sink>(
 ) -> Result<Answer, Unanswered>
     requires least { 1 ≤ budget }
     requires most { budget ≤ MAX_BUDGET }
-    ensures works { JobWrote (AnswersBrief (N.noted notes.now) drawn.now budget) (BeginsBrief (N.noted notes.now) drawn.now budget)
+    ensures works { JobWrote (AnswersBrief (N.noted notes.now) drawn.now budget) (Answered (AnswersBrief (N.noted notes.now) drawn.now budget))
         (K.state sink.old) (K.state sink.new) result }
 {
     let found = explain(alloc, drawn, budget)?;
@@ -61,7 +61,7 @@ fn put_found<N: Notes, K: Sink>(
         → IfOk result (λ answer. (text : List ℕ) × AnswersBrief (N.noted notes.now) drawn.now budget answer text
         × (K.state sink.new ≡ grown (K.state sink.old) text)) }
     ensures begins { (budget : ℕ) → SettlesWithin drawn.now.net budget found.now.finding found.now.rows.items
-        → OnErr result ((text : List ℕ) × BeginsBrief (N.noted notes.now) drawn.now budget text
+        → OnErr result ((text : List ℕ) × Answered (AnswersBrief (N.noted notes.now) drawn.now budget) text
         × CutShort (K.state sink.old) (K.state sink.new) text) }
 {
     let word = ending_of(drawn, &found.finding, &found.rows);

@@ -16,25 +16,26 @@ use Rattle.reading.specs.Design.{design_at, drawn_at, plan_at}
 use Rattle.reading.specs.FileReading.{FileReading, gives, refuses, ◌>>=◌, at, file_at}
 use Rattle.words.specs.Task.{Task, bounds, fall, settle, redraw, why, brief, lint, matrix, check, confirm, generated, whatif}
 use Rattle.bounds_report.specs.Reports.{MayHaveBegun}
-use Rattle.brief_report.specs.Brief.{AnswersBrief, BeginsBrief}
+use Rattle.brief_report.specs.Brief.{AnswersBrief}
 use Rattle.fall_report.specs.Fall.{AnswersFall, BeginsFall}
 use Rattle.falling.specs.View.{view_of}
 use Rattle.falling.specs.declared.fault.Mixed.{Mixed}
 use Rattle.falling.specs.declared.view.View.{View}
-use Rattle.lint_report.specs.Lint.{AnswersLint, BeginsLint}
-use Rattle.matrix_report.specs.Matrix.{AnswersMatrix, BeginsMatrix}
-use Rattle.redraw_report.specs.Redraw.{AnswersRedraw, BeginsRedraw}
-use Rattle.settle_check.specs.Confirm.{AnswersConfirm, BeginsConfirm}
-use Rattle.settle_report.specs.Settle.{AnswersSettle, BeginsSettle}
-use Rattle.report_check.specs.Check.{AnswersCheck, BeginsCheck}
-use Rattle.summary_report.specs.Summary.{AnswersSummary, BeginsSummary}
+use Rattle.lint_report.specs.Lint.{AnswersLint}
+use Rattle.matrix_report.specs.Matrix.{AnswersMatrix}
+use Rattle.redraw_report.specs.Redraw.{AnswersRedraw}
+use Rattle.settle_check.specs.Confirm.{AnswersConfirm}
+use Rattle.settle_report.specs.Settle.{AnswersSettle}
+use Rattle.report_check.specs.Check.{AnswersCheck}
+use Rattle.summary_report.specs.Summary.{AnswersSummary}
 use Rattle.edits.specs.EditsFile.{edits_of}
 use Rattle.edits.specs.declared.file.TheConstants.{MAX_EDITS_BYTES}
-use Rattle.whatif_report.specs.Whatif.{AnswersWhatif, BeginsWhatif}
-use Rattle.why_report.specs.Why.{AnswersWhy, BeginsWhy}
+use Rattle.whatif_report.specs.Whatif.{AnswersWhatif}
+use Rattle.why_report.specs.Why.{AnswersWhy}
 use Rattle.itv_cli.specs.Bounds.{AnswersBounds, DecidesWithin}
 use Rattle.itv_cli.specs.declared.ready.Ready.{Ready}
 use Rattle.itv_cli.specs.declared.ready.Ready.TheVariants as ready
+use Rattle.jobs.specs.JobWrote.{Answered}
 
 -- ---- what each job reads
 
@@ -139,17 +140,10 @@ Answers (ready.Confirm drawn report) answer text = AnswersConfirm drawn report a
 Answers (ready.Generated drawn size budget) answer text = AnswersSummary drawn size budget answer text × DecidesWithin drawn budget answer
 Answers (ready.Whatif drawn edits budget) answer text = AnswersWhatif drawn budget edits answer text
 
--- what a job may have begun to write
+-- what a job may have begun to write: for jobs bounds and fall a text that begins so, and for the others a whole text
 abbrev pub MayHaveWritten : Ready → List ℕ → Type 0
 MayHaveWritten (ready.Bounds drawn budget cert) text = MayHaveBegun drawn budget cert text
 MayHaveWritten (ready.Fall drawn view budget cert) text = BeginsFall drawn budget cert text
-MayHaveWritten (ready.Settle drawn budget cert) text = BeginsSettle drawn (turns_for budget) cert text
-MayHaveWritten (ready.Redraw drawn budget) text = BeginsRedraw drawn budget text
-MayHaveWritten (ready.Why plan drawn budget) text = BeginsWhy (plan_note plan) drawn budget text
-MayHaveWritten (ready.Brief plan drawn budget) text = BeginsBrief (plan_note plan) drawn budget text
-MayHaveWritten (ready.Lint plan drawn budget) text = BeginsLint plan drawn budget text
-MayHaveWritten (ready.Matrix drawn) text = BeginsMatrix drawn text
-MayHaveWritten (ready.Check drawn report) text = BeginsCheck drawn report text
-MayHaveWritten (ready.Confirm drawn report) text = BeginsConfirm drawn report text
-MayHaveWritten (ready.Generated drawn size budget) text = BeginsSummary drawn size budget text
-MayHaveWritten (ready.Whatif drawn edits budget) text = BeginsWhatif drawn budget edits text
+MayHaveWritten (ready.Redraw drawn budget) text = Answered (AnswersRedraw drawn budget) text
+MayHaveWritten (ready.Generated drawn size budget) text = Answered (AnswersSummary drawn size budget) text
+MayHaveWritten given text = Answered (Answers given) text

@@ -4,6 +4,10 @@ use Rattle.itv_base.specs.Outside.{CutShort, SinkState, grown}
 use Rattle.jobs.specs.declared.unanswered.Unanswered.{Unanswered}
 use Rattle.jobs.specs.declared.unanswered.Unanswered.TheVariants.{PutFailed, NoMemory}
 
+-- some answer goes with a text
+abbrev pub Answered : {A : Type 0} → (A → List ℕ → Type 0) → List ℕ → Type 0
+Answered {A = A} Answers text = (answer : A) × Answers answer text
+
 -- a job that has an answer wrote a text that goes with it; where a put failed, the job wrote a front of a text that it may begin; where memory was
 -- not found, it wrote nothing
 abbrev pub JobWrote : {A : Type 0} → (A → List ℕ → Type 0) → (List ℕ → Type 0) → SinkState → SinkState → Result A Unanswered → Type 0

@@ -8,9 +8,10 @@ use Rattle.jobs.specs.declared.answer.Answer.{Answer}
 use Rattle.plan.specs.Plan.{Planned}
 use Rattle.warnings.specs.declared.warning.Warning.{Warning}
 use Rattle.lint_report.specs.declared.put_found.LintFindings.{LintFindings}
-use Rattle.lint_report.specs.Lint.{AnswersLint, BeginsLint, answer_by}
+use Rattle.lint_report.specs.Lint.{AnswersLint, answer_by}
 use Rattle.lint_report.specs.Step.{AreLintFindings}
 use Rattle.lint_report.specs.Text.{is_clean, lint_text}
+use Rattle.jobs.specs.JobWrote.{Answered}
 
 module _ (plan : Planned) (design : Composed) (network : Drawn) (budget : ℕ) (findings : LintFindings) (is : AreLintFindings plan design network budget findings) where
   abbrev text : List ℕ
@@ -31,6 +32,6 @@ module _ (plan : Planned) (design : Composed) (network : Drawn) (budget : ℕ) (
   }
 
   -- a front of the text begins it
-  pub begins_lint : {B E : Type 0} (result : Result B E) (old new : SinkState) → CutShort old new text → OnErr result ((whole : List ℕ) × BeginsLint plan network budget whole × CutShort old new whole)
+  pub begins_lint : {B E : Type 0} (result : Result B E) (old new : SinkState) → CutShort old new text → OnErr result ((whole : List ℕ) × Answered (AnswersLint plan network budget) whole × CutShort old new whole)
   begins_lint (Ok x) old new cut = tt
   begins_lint (Err e) old new cut = (text, (answer_by findings.clean, answers_lint _ refl), cut)

@@ -29,7 +29,3 @@ pub record AnswersLint (plan : Planned) (network : Drawn) (budget : ℕ) (answer
   pub settles : SettlesWithin network.net budget finding found
   pub is_text : text ≡ lint_text plan design network (warnings_of plan design) found
   pub is_answer : answer ≡ answer_by (is_clean network (warnings_of plan design) found)
-
--- The text may have been begun. All is found before anything is put, so what was put is a front of a whole text.
-abbrev pub BeginsLint : Planned → Drawn → ℕ → List ℕ → Type 0
-BeginsLint plan network budget text = (answer : Answer) × AnswersLint plan network budget answer text

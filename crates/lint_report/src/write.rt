@@ -4,9 +4,9 @@ ghost use Rattle.std.specs.Prelude.{◌≡◌, ◌≤◌, ℕ, List, IfOk, IsOk,
 ghost use Rattle.itv_base.specs.Outside.{CutShort, grown};
 ghost use Rattle.itv_base.specs.declared.limits.TheConstants.{MAX_BUDGET};
 ghost use Rattle.compose.specs.Compose.{composed_on};
-ghost use Rattle.jobs.specs.JobWrote.{JobWrote};
+ghost use Rattle.jobs.specs.JobWrote.{Answered, JobWrote};
 ghost use Rattle.plan.specs.Plan.{sheets_on};
-ghost use Rattle.lint_report.specs.Lint.{AnswersLint, BeginsLint, answer_by};
+ghost use Rattle.lint_report.specs.Lint.{AnswersLint, answer_by};
 ghost use Rattle.lint_report.specs.Text.{is_clean};
 ghost use Rattle.lint_report.specs.Step.{AreLintFindings};
 
@@ -38,7 +38,7 @@ pub fn write_lint<K: Sink>(
     requires design { IsOk (composed_on plan.now.netlist (sheets_on plan.now.sheets plan.now.netlist.parts)) }
     requires least { 1 ≤ budget }
     requires most { budget ≤ MAX_BUDGET }
-    ensures works { JobWrote (AnswersLint plan.now drawn.now budget) (BeginsLint plan.now drawn.now budget) (K.state sink.old) (K.state sink.new) result }
+    ensures works { JobWrote (AnswersLint plan.now drawn.now budget) (Answered (AnswersLint plan.now drawn.now budget)) (K.state sink.old) (K.state sink.new) result }
 {
     let design = design_of(alloc, plan)?;
     let findings = find_all(alloc, plan, &design, drawn, budget)?;
@@ -83,7 +83,7 @@ fn put_findings<K: Sink>(
         → IfOk result (λ answer. (text : List ℕ) × AnswersLint plan.now drawn.now budget answer text
         × (K.state sink.new ≡ grown (K.state sink.old) text)) }
     ensures begins { (budget : ℕ) → AreLintFindings plan.now design.now drawn.now budget findings.now
-        → OnErr result ((text : List ℕ) × BeginsLint plan.now drawn.now budget text
+        → OnErr result ((text : List ℕ) × Answered (AnswersLint plan.now drawn.now budget) text
         × CutShort (K.state sink.old) (K.state sink.new) text) }
 {
     put_text(plan, design, drawn, findings, buffer, sink)?;

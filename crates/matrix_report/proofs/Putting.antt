@@ -5,7 +5,7 @@ use Rattle.std.proofs.lemmas.List.{length-map}
 use Rattle.itv_base.specs.Numerals.{end_text}
 use Rattle.itv_base.specs.declared.names.EventId.{EventId}
 use Rattle.itv_base.specs.Outside.{CutShort, SinkState, grown}
-use Rattle.jobs.specs.JobWrote.{JobWrote}
+use Rattle.jobs.specs.JobWrote.{Answered, JobWrote}
 use Rattle.jobs.specs.declared.answer.Answer.TheVariants.{AllPass, Inconsistent}
 use Rattle.jobs.specs.declared.unanswered.Unanswered.TheVariants.{PutFailed}
 use Rattle.event_graph.specs.Network.{Net}
@@ -17,7 +17,7 @@ use Rattle.slack_report.specs.declared.words.FindingWord.TheVariants as findings
 use Rattle.slack_report.specs.Entry.{finding}
 use Rattle.slack_report.specs.Text.{entry_text}
 use Rattle.drawn.specs.Drawn.{Drawn}
-use Rattle.matrix_report.specs.Matrix.{AnswersMatrix, AreRootEntries, BeginsMatrix, IsMatrixText, entry_in, matrix_text, row_text}
+use Rattle.matrix_report.specs.Matrix.{AnswersMatrix, AreRootEntries, IsMatrixText, entry_in, matrix_text, row_text}
 use Rattle.jobs.specs.Events.{event_of}
 use Rattle.matrix_report.specs.Step.{entries_of, numbers_of}
 
@@ -67,15 +67,15 @@ is_text drawn net rows same are times = record {
 }
 
 pub matrix_put : (drawn : Drawn) (net : Net) (rows : List (List ℤ)) (old new : SinkState) → net ≡ drawn.net → AreRootBounds net rows → (times : List ℤ) × MeetsAlways times net
-    → new ≡ grown old (matrix_text drawn.names (entries_of rows)) → JobWrote (AnswersMatrix drawn) (BeginsMatrix drawn) old new (Ok AllPass)
+    → new ≡ grown old (matrix_text drawn.names (entries_of rows)) → JobWrote (AnswersMatrix drawn) (Answered (AnswersMatrix drawn)) old new (Ok AllPass)
 matrix_put drawn net rows old new same are times put = (matrix_text drawn.names (entries_of rows), is_text drawn net rows same are times, put)
 
 pub matrix_cut : (drawn : Drawn) (net : Net) (rows : List (List ℤ)) (old new : SinkState) → net ≡ drawn.net → AreRootBounds net rows → (times : List ℤ) × MeetsAlways times net
-    → CutShort old new (matrix_text drawn.names (entries_of rows)) → JobWrote (AnswersMatrix drawn) (BeginsMatrix drawn) old new (Err PutFailed)
+    → CutShort old new (matrix_text drawn.names (entries_of rows)) → JobWrote (AnswersMatrix drawn) (Answered (AnswersMatrix drawn)) old new (Err PutFailed)
 matrix_cut drawn net rows old new same are times cut =
     (matrix_text drawn.names (entries_of rows), (AllPass, is_text drawn net rows same are times), cut)
 
 pub inconsistent_cut : (drawn : Drawn) (net : Net) (old new : SinkState) → net ≡ drawn.net → HasNoRoot net
-    → CutShort old new (entry_text (finding findings.Inconsistent)) → JobWrote (AnswersMatrix drawn) (BeginsMatrix drawn) old new (Err PutFailed)
+    → CutShort old new (entry_text (finding findings.Inconsistent)) → JobWrote (AnswersMatrix drawn) (Answered (AnswersMatrix drawn)) old new (Err PutFailed)
 inconsistent_cut drawn net old new same none cut =
     (entry_text (finding findings.Inconsistent), (Inconsistent, (subst HasNoRoot same none, refl)), cut)

@@ -60,7 +60,3 @@ AnswersMatrix drawn SomeFail text = ⊥
 AnswersMatrix drawn Undecided text = ⊥
 AnswersMatrix drawn CheckRefused text = ⊥
 AnswersMatrix drawn DesignRefused text = ⊥
-
--- what the job may have begun to write
-abbrev pub BeginsMatrix : Drawn → List ℕ → Type 0
-BeginsMatrix drawn text = (answer : Answer) × AnswersMatrix drawn answer text

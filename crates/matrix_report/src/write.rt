@@ -3,12 +3,12 @@
 ghost use Rattle.std.specs.Prelude.{◌≤◌};
 ghost use Rattle.itv_base.specs.Outside.{Puts};
 ghost use Rattle.itv_base.specs.declared.limits.TheConstants.{MAX_MATRIX_EVENTS};
-ghost use Rattle.jobs.specs.JobWrote.{JobWrote};
+ghost use Rattle.jobs.specs.JobWrote.{Answered, JobWrote};
 ghost use Rattle.minplus.specs.Matrix.{IsSquare};
 ghost use Rattle.slack_report.specs.Entry.{finding};
 ghost use Rattle.slack_report.specs.Text.{entry_text};
 ghost use Rattle.slack_report.specs.declared.words.FindingWord.TheVariants.{Inconsistent};
-ghost use Rattle.matrix_report.specs.Matrix.{AnswersMatrix, BeginsMatrix, matrix_text};
+ghost use Rattle.matrix_report.specs.Matrix.{AnswersMatrix, matrix_text};
 ghost use Rattle.matrix_report.specs.Step.{entries_of};
 
 use crate::lines::put_rows;
@@ -28,7 +28,7 @@ pub fn write_matrix<K: Sink>(
     sink: &mut K,
 ) -> Result<Answer, Unanswered>
     requires events { drawn.now.net.events ≤ MAX_MATRIX_EVENTS }
-    ensures works { JobWrote (AnswersMatrix drawn.now) (BeginsMatrix drawn.now)
+    ensures works { JobWrote (AnswersMatrix drawn.now) (Answered (AnswersMatrix drawn.now))
         (K.state sink.old) (K.state sink.new) result }
 {
     let mut buffer = LineBuffer::new(alloc, LINE_ROOM)?;

@@ -2,7 +2,7 @@
 use Rattle.std.proofs.Common.{◌≡◌, ℕ, ℤ, Bool, true, false, if◌then◌else◌, List, [], length, Option, Some, None, slice_get, unwrap_or, option_map, Result, Ok, Err, IfOk, OnErr, ◌∙◌, refl, sym, ap, subst}
 use Rattle.itv_base.specs.Outside.{CutShort, SinkState, grown}
 use Rattle.itv_base.specs.declared.row_kind.RowKind.{RowKind}
-use Rattle.jobs.specs.JobWrote.{JobWrote}
+use Rattle.jobs.specs.JobWrote.{Answered, JobWrote}
 use Rattle.jobs.specs.declared.answer.Answer.{Answer}
 use Rattle.jobs.specs.declared.answer.Answer.TheVariants.{DesignRefused, SomeFail}
 use Rattle.jobs.specs.declared.unanswered.Unanswered.TheVariants as unanswered
@@ -18,7 +18,7 @@ use Rattle.reading.specs.Refusal.{refusal_text}
 use Rattle.redraw.specs.Drawing.{demand_of, nowhere, row_at}
 use Rattle.redraw.specs.Text.{redrawn}
 use Rattle.redraw_report.specs.Failed.{Failed, IsBroken, first_failed, is_wide_on}
-use Rattle.redraw_report.specs.Redraw.{AnswersRedraw, BeginsRedraw, Draws, AnswersEndWord, failed_answer, failed_text, is_wide}
+use Rattle.redraw_report.specs.Redraw.{AnswersRedraw, Draws, AnswersEndWord, failed_answer, failed_text, is_wide}
 use Rattle.redraw_report.specs.Step.{IsReportKept, IsTextOf, ShowsFail, fail_view}
 use Rattle.redraw_report.specs.declared.scan.Fail.{Fail as Seen_fail}
 use Rattle.redraw_report.specs.declared.search.KeptReport.{KeptReport}
@@ -44,12 +44,12 @@ answers_by : (drawn : Drawn) (most : ℕ) (search : KeptReport) (answer : Answer
 answers_by drawn most search answer text is says = record { lines = search.report; word = search.end; is_written = is.is_written; ends = is.ends; says = says }
 
 pub works_ok : (drawn : Drawn) (most : ℕ) (search : KeptReport) (answer : Answer) (old new : SinkState) → IsReportKept drawn most search
-    → (text : List ℕ) × AnswersEndWord drawn search.report search.end answer text × (new ≡ grown old text) → JobWrote (AnswersRedraw drawn most) (BeginsRedraw drawn most) old new (Ok answer)
+    → (text : List ℕ) × AnswersEndWord drawn search.report search.end answer text × (new ≡ grown old text) → JobWrote (AnswersRedraw drawn most) (Answered (AnswersRedraw drawn most)) old new (Ok answer)
 works_ok drawn most search answer old new is h = (h.0, answers_by drawn most search answer h.0 is h.1, h.2)
 
 pub works_cut : (drawn : Drawn) (most : ℕ) (search : KeptReport) (old new : SinkState) → IsReportKept drawn most search
     → (answer : Answer) × (text : List ℕ) × AnswersEndWord drawn search.report search.end answer text × CutShort old new text
-    → JobWrote (AnswersRedraw drawn most) (BeginsRedraw drawn most) old new (Err unanswered.PutFailed)
+    → JobWrote (AnswersRedraw drawn most) (Answered (AnswersRedraw drawn most)) old new (Err unanswered.PutFailed)
 works_cut drawn most search old new is h = (h.1, (h.0, answers_by drawn most search h.0 h.1 is h.2), h.3)
 
 -- ---- results

@@ -51,7 +51,3 @@ pub record AnswersRedraw (drawn : Drawn) (most : ℕ) (answer : Answer) (text : 
   pub is_written : IsWrittenReport drawn most false lines
   pub ends : end_in lines ≡ Some word
   pub says : AnswersEndWord drawn lines word answer text
-
--- the job may have begun to write this text: with some answer, it is a whole text of the job
-abbrev pub BeginsRedraw : Drawn → ℕ → List ℕ → Type 0
-BeginsRedraw drawn most text = (answer : Answer) × AnswersRedraw drawn most answer text

@@ -5,11 +5,11 @@ ghost use Rattle.itv_base.specs.declared.limits.TheConstants.{MAX_BUDGET};
 ghost use Rattle.itv_base.specs.Outside.{CutShort, grown};
 ghost use Rattle.slack_report.specs.Entry.{IsName};
 ghost use Rattle.bounds_report.specs.Reports.{HasRowRanges};
-ghost use Rattle.jobs.specs.JobWrote.{JobWrote};
+ghost use Rattle.jobs.specs.JobWrote.{Answered, JobWrote};
 ghost use Rattle.reading.specs.Refusal.{refusal_text};
 ghost use Rattle.redraw.specs.Drawing.{demand_of};
 ghost use Rattle.redraw.specs.Text.{redrawn};
-ghost use Rattle.redraw_report.specs.Redraw.{AnswersRedraw, BeginsRedraw, Draws, AnswersEndWord};
+ghost use Rattle.redraw_report.specs.Redraw.{AnswersRedraw, Draws, AnswersEndWord};
 ghost use Rattle.redraw_report.specs.Failed.{IsBroken, is_end_at, is_wide_on};
 ghost use Rattle.redraw_report.specs.Step.{IsReportKept, ShowsFail, fail_view};
 
@@ -38,7 +38,7 @@ pub fn write_redraw<K: Sink>(
     requires most { budget ≤ MAX_BUDGET }
     requires names { All IsName drawn.now.names }
     requires ranges { HasRowRanges drawn.now }
-    ensures works { JobWrote (AnswersRedraw drawn.now budget) (BeginsRedraw drawn.now budget)
+    ensures works { JobWrote (AnswersRedraw drawn.now budget) (Answered (AnswersRedraw drawn.now budget))
         (K.state sink.old) (K.state sink.new) result }
 {
     let mut work = DrawSpace::new(alloc)?;

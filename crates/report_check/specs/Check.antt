@@ -32,7 +32,3 @@ AnswersBy Accepts Refuses DesignRefused text = ⊥
 -- what the job answers and writes
 abbrev pub AnswersCheck : Drawn → List ℕ → Answer → List ℕ → Type 0
 AnswersCheck drawn bytes answer text = AnswersBy (IsAcceptedText drawn bytes) (IsRefusedText drawn bytes) answer text
-
--- what the job may have begun to write
-abbrev pub BeginsCheck : Drawn → List ℕ → List ℕ → Type 0
-BeginsCheck drawn bytes text = (answer : Answer) × AnswersCheck drawn bytes answer text

@@ -2,9 +2,9 @@
 
 ghost use Rattle.std.specs.Prelude.{ℕ, List};
 ghost use Rattle.itv_base.specs.Outside.{Puts};
-ghost use Rattle.jobs.specs.JobWrote.{JobWrote};
+ghost use Rattle.jobs.specs.JobWrote.{Answered, JobWrote};
 ghost use Rattle.drawn.specs.Drawn.{Drawn};
-ghost use Rattle.report_check.specs.Check.{AnswersCheck, BeginsCheck, IsCheckOf, refused_text};
+ghost use Rattle.report_check.specs.Check.{AnswersCheck, IsCheckOf, refused_text};
 ghost use Rattle.report_check.specs.Step.Texts.{checked_text};
 
 use crate::check::{Checked, check_report};
@@ -22,7 +22,7 @@ pub fn answer_check<K: Sink>(
     bytes: &[u8],
     sink: &mut K,
 ) -> Result<Answer, Unanswered>
-    ensures works { JobWrote (AnswersCheck drawn.now bytes.now) (BeginsCheck drawn.now bytes.now)
+    ensures works { JobWrote (AnswersCheck drawn.now bytes.now) (Answered (AnswersCheck drawn.now bytes.now))
         (K.state sink.old) (K.state sink.new) result }
 {
     match check_report(alloc, drawn, bytes) {
@@ -33,7 +33,7 @@ pub fn answer_check<K: Sink>(
 
 fn put_answer<K: Sink>(checked: Checked, sink: &mut K) -> Result<Answer, Unanswered>
     ensures works { (drawn : Drawn) (bytes : List ℕ) → IsCheckOf drawn bytes checked
-        → JobWrote (AnswersCheck drawn bytes) (BeginsCheck drawn bytes) (K.state sink.old) (K.state sink.new) result }
+        → JobWrote (AnswersCheck drawn bytes) (Answered (AnswersCheck drawn bytes)) (K.state sink.old) (K.state sink.new) result }
 {
     match put_checked(checked, sink) {
         Ok(()) => Ok(answer_of(checked)),

@@ -6,7 +6,7 @@ use Rattle.settle_report.specs.declared.finding.Finding.TheVariants.{Consistent,
 use Rattle.settle_report.specs.declared.bound.SettledBound.{SettledBound}
 use Rattle.settle_report.specs.declared.bound.SettledBound.TheVariants as settled
 use Rattle.settle_report.specs.declared.row.RowFound.{RowFound}
-use Rattle.settle_report.specs.Answers.{AreWithin, IsBoundWithin, IsFindingWithin, IsRowWithin}
+use Rattle.settle_report.specs.Answers.{HaveLinesWithin, IsBoundWithin, IsFindingWithin, IsRowWithin}
 
 finding_some : (finding : Finding) → (turns : ℕ) × IsFindingWithin turns finding
 finding_some (Consistent times) = (0, tt)
@@ -48,7 +48,7 @@ rows_some (row ∷ rows) =
     )
 
 -- each finding and each list of rows has some number of turns
-pub some_turns : (finding : Finding) (found : List RowFound) → (turns : ℕ) × AreWithin turns finding found
+pub some_turns : (finding : Finding) (found : List RowFound) → (turns : ℕ) × HaveLinesWithin turns finding found
 some_turns finding found =
     let (one, here) = finding_some finding in
     let (others, later) = rows_some found in (

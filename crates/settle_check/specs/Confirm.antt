@@ -9,7 +9,3 @@ use Rattle.settle_report.specs.Settle.{IsSettleText}
 -- each row is right, and each of its proofs is a proof. Lines are counted from 1.
 abbrev pub AnswersConfirm : Drawn → List ℕ → Answer → List ℕ → Type 0
 AnswersConfirm drawn bytes answer text = AnswersBy (IsSettleText drawn true bytes) (λ line. 1 ≤ line) answer text
-
--- what the job may have begun to write
-abbrev pub BeginsConfirm : Drawn → List ℕ → List ℕ → Type 0
-BeginsConfirm drawn bytes text = (answer : Answer) × AnswersConfirm drawn bytes answer text

@@ -1,11 +1,11 @@
 //! The line that says whether a text is accepted.
 
 ghost use Rattle.std.specs.Prelude.{◌≡◌, ◌≤◌, ℕ, List, true};
-ghost use Rattle.jobs.specs.JobWrote.{JobWrote};
+ghost use Rattle.jobs.specs.JobWrote.{Answered, JobWrote};
 ghost use Rattle.drawn.specs.Drawn.{Drawn};
 ghost use Rattle.report_check.specs.Check.{accepted_text, refused_text};
 ghost use Rattle.settle_report.specs.Settle.{IsSettleText};
-ghost use Rattle.settle_check.specs.Confirm.{AnswersConfirm, BeginsConfirm};
+ghost use Rattle.settle_check.specs.Confirm.{AnswersConfirm};
 
 use crate::check_stop::CheckStop;
 use crate::confirm::confirm_text;
@@ -23,7 +23,7 @@ pub fn answer_confirm<K: Sink>(
     text: &[u8],
     sink: &mut K,
 ) -> Result<Answer, Unanswered>
-    ensures works { JobWrote (AnswersConfirm drawn.now text.now) (BeginsConfirm drawn.now text.now)
+    ensures works { JobWrote (AnswersConfirm drawn.now text.now) (Answered (AnswersConfirm drawn.now text.now))
         (K.state sink.old) (K.state sink.new) result }
 {
     match confirm_text(alloc, drawn, text) {
@@ -36,7 +36,7 @@ pub fn answer_confirm<K: Sink>(
 // Writes that a text is accepted.
 fn accept<K: Sink>(sink: &mut K) -> Result<Answer, Unanswered>
     ensures works { (drawn : Drawn) (text : List ℕ) → IsSettleText drawn true text
-        → JobWrote (AnswersConfirm drawn text) (BeginsConfirm drawn text) (K.state sink.old) (K.state sink.new) result }
+        → JobWrote (AnswersConfirm drawn text) (Answered (AnswersConfirm drawn text)) (K.state sink.old) (K.state sink.new) result }
 {
     match sink.put(b"report accepted\n") {
         Ok(()) => Ok(Answer::AllPass),
@@ -48,7 +48,7 @@ fn accept<K: Sink>(sink: &mut K) -> Result<Answer, Unanswered>
 fn refuse<K: Sink>(line: u64, sink: &mut K) -> Result<Answer, Unanswered>
     requires line { 1 ≤ line }
     ensures works { (drawn : Drawn) (text : List ℕ)
-        → JobWrote (AnswersConfirm drawn text) (BeginsConfirm drawn text) (K.state sink.old) (K.state sink.new) result }
+        → JobWrote (AnswersConfirm drawn text) (Answered (AnswersConfirm drawn text)) (K.state sink.old) (K.state sink.new) result }
 {
     match put_refused(line, sink) {
         Ok(()) => Ok(Answer::CheckRefused),

@@ -147,6 +147,6 @@ abbrev pub IsRowWithin : ℕ → RowFound → Type 0
 IsRowWithin turns found = IsBoundWithin turns found.greatest × IsBoundWithin turns found.least
 
 -- each proof has at most as many lines as its search had turns
-pub record AreWithin (turns : ℕ) (finding : Finding) (found : List RowFound) : Type 0 where
+pub record HaveLinesWithin (turns : ℕ) (finding : Finding) (found : List RowFound) : Type 0 where
   pub finding : IsFindingWithin turns finding
   pub rows : All (IsRowWithin turns) found

@@ -5,8 +5,9 @@ use Rattle.jobs.specs.Ending.{answer_of}
 use Rattle.jobs.specs.declared.answer.Answer.{Answer}
 use Rattle.settle_report.specs.declared.finding.Finding.{Finding}
 use Rattle.settle_report.specs.declared.row.RowFound.{RowFound}
-use Rattle.settle_report.specs.Answers.{AreFound, AreWithin, IsFinding}
+use Rattle.settle_report.specs.Answers.{AreFound, HaveLinesWithin, IsFinding}
 use Rattle.settle_report.specs.Text.{ending_of, settle_text}
+use Rattle.jobs.specs.JobWrote.{Answered}
 
 -- The text reports what is found of the network and of each row, where each search may take so many turns. All of it is right, and it has proofs if
 -- they are wanted. The answer is the answer for the word at the end.
@@ -15,14 +16,10 @@ pub record AnswersSettle (drawn : Drawn) (turns : ℕ) (cert : Bool) (answer : A
   pub found : List RowFound
   pub is_finding : IsFinding cert drawn.net finding
   pub are_found : AreFound cert drawn.net drawn.rows finding found
-  pub within : AreWithin turns finding found
+  pub within : HaveLinesWithin turns finding found
   pub is_text : text ≡ settle_text drawn cert finding found
   pub is_answer : answer ≡ answer_of (ending_of drawn.rows finding found)
 
--- The text is a whole text of the job, of which a front may have been written: all is found before the first put.
-abbrev pub BeginsSettle : Drawn → ℕ → Bool → List ℕ → Type 0
-BeginsSettle drawn turns cert text = (answer : Answer) × AnswersSettle drawn turns cert answer text
-
 -- the text is a whole text of the job, for some number of turns
 abbrev pub IsSettleText : Drawn → Bool → List ℕ → Type 0
-IsSettleText drawn cert text = (turns : ℕ) × BeginsSettle drawn turns cert text
+IsSettleText drawn cert text = (turns : ℕ) × Answered (AnswersSettle drawn turns cert) text

@@ -2,9 +2,9 @@
 
 ghost use Rattle.std.specs.Prelude.{◌≡◌, ℕ, List, IfOk, OnErr};
 ghost use Rattle.itv_base.specs.Outside.{CutShort, Puts, grown};
-ghost use Rattle.jobs.specs.JobWrote.{JobWrote};
-ghost use Rattle.settle_report.specs.Answers.{AreFound, AreWithin, IsFinding};
-ghost use Rattle.settle_report.specs.Settle.{AnswersSettle, BeginsSettle};
+ghost use Rattle.jobs.specs.JobWrote.{Answered, JobWrote};
+ghost use Rattle.settle_report.specs.Answers.{AreFound, HaveLinesWithin, IsFinding};
+ghost use Rattle.settle_report.specs.Settle.{AnswersSettle};
 ghost use Rattle.settle_report.specs.Text.{ending_of, front_text, settle_text};
 
 use crate::ending::ending_of;
@@ -32,7 +32,7 @@ pub fn write_settle<K: Sink>(
     cert: bool,
     sink: &mut K,
 ) -> Result<Answer, Unanswered>
-    ensures works { JobWrote (AnswersSettle drawn.now turns cert) (BeginsSettle drawn.now turns cert) (K.state sink.old) (K.state sink.new) result }
+    ensures works { JobWrote (AnswersSettle drawn.now turns cert) (Answered (AnswersSettle drawn.now turns cert)) (K.state sink.old) (K.state sink.new) result }
 {
     let found = find_network(alloc, drawn, Wanted { turns, cert })?;
     let mut buffer = LineBuffer::new(alloc, LINE_ROOM)?;
@@ -54,7 +54,7 @@ fn find_network(
 ) -> Result<NetworkFound, NoMemory>
     ensures finding { IfOk result (λ found. IsFinding wanted.cert drawn.now.net found.finding) }
     ensures rows { IfOk result (λ found. AreFound wanted.cert drawn.now.net drawn.now.rows found.finding found.rows.items) }
-    ensures within { IfOk result (λ found. AreWithin wanted.turns found.finding found.rows.items) }
+    ensures within { IfOk result (λ found. HaveLinesWithin wanted.turns found.finding found.rows.items) }
 {
     let settler = Settler::new(alloc, drawn.network())?;
     let finding = find(alloc, drawn.network(), &settler, wanted)?;
@@ -72,10 +72,10 @@ fn put_found<K: Sink>(
 ) -> Result<Answer, PutFailed>
     requires finding { IsFinding cert drawn.now.net found.now.finding }
     requires rows { AreFound cert drawn.now.net drawn.now.rows found.now.finding found.now.rows.items }
-    ensures answers { (turns : ℕ) → AreWithin turns found.now.finding found.now.rows.items → IfOk result (λ answer. (text : List ℕ)
+    ensures answers { (turns : ℕ) → HaveLinesWithin turns found.now.finding found.now.rows.items → IfOk result (λ answer. (text : List ℕ)
         × AnswersSettle drawn.now turns cert answer text × (K.state sink.new ≡ grown (K.state sink.old) text)) }
-    ensures begins { (turns : ℕ) → AreWithin turns found.now.finding found.now.rows.items → OnErr result ((text : List ℕ)
-        × BeginsSettle drawn.now turns cert text × CutShort (K.state sink.old) (K.state sink.new) text) }
+    ensures begins { (turns : ℕ) → HaveLinesWithin turns found.now.finding found.now.rows.items → OnErr result ((text : List ℕ)
+        × Answered (AnswersSettle drawn.now turns cert) text × CutShort (K.state sink.old) (K.state sink.new) text) }
 {
     let word = ending_of(drawn, &found.finding, &found.rows);
     put_text(drawn, cert, found, word, buffer, sink)?;

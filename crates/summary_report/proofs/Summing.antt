@@ -2,12 +2,12 @@
 use Rattle.std.proofs.Common.{◌≡◌, ◌+◌, ◌<◌, ℕ, List, ◌++◌, length, get_or, drop, Err, refl, add-one, drop-cons}
 use Rattle.std.specs.List.{flat_map}
 use Rattle.itv_base.specs.Outside.{CutShort, SinkState}
-use Rattle.jobs.specs.JobWrote.{JobWrote}
+use Rattle.jobs.specs.JobWrote.{Answered, JobWrote}
 use Rattle.jobs.specs.declared.unanswered.Unanswered.TheVariants.{PutFailed}
 use Rattle.drawn.specs.Drawn.{Drawn}
 use Rattle.jobs.specs.Ending.{answer_of}
 use Rattle.bounds_report.specs.declared.summary.Summary.{Summary}
-use Rattle.summary_report.specs.Summary.{AnswersSummary, BeginsSummary, ComesTo, summary_text}
+use Rattle.summary_report.specs.Summary.{AnswersSummary, ComesTo, summary_text}
 use Rattle.summary_report.specs.Step.{count_text}
 use Rattle.summary_report.specs.declared.write.Count.{Count}
 
@@ -18,7 +18,7 @@ counts_more counts i d h = rw (add-one, drop-cons counts i d h) refl
 
 -- a front of the text of a summary is a text that the job may have begun to write
 pub summary_cut : (drawn : Drawn) (size most : ℕ) (summary : Summary) (old new : SinkState) → ComesTo drawn most summary
-    → CutShort old new (summary_text drawn size summary) → JobWrote (AnswersSummary drawn size most) (BeginsSummary drawn size most) old new (Err PutFailed)
+    → CutShort old new (summary_text drawn size summary) → JobWrote (AnswersSummary drawn size most) (Answered (AnswersSummary drawn size most)) old new (Err PutFailed)
 summary_cut drawn size most summary old new comes cut = (
   summary_text drawn size summary,
   (answer_of summary.end, record { summary = summary; comes = comes; is_answer = refl; is_text = refl }),

@@ -44,7 +44,3 @@ pub record AnswersSummary (drawn : Drawn) (size most : ℕ) (answer : Answer) (t
   pub comes : ComesTo drawn most summary
   pub is_answer : answer ≡ answer_of summary.end
   pub is_text : text ≡ summary_text drawn size summary
-
--- what the job may have begun to write
-abbrev pub BeginsSummary : Drawn → ℕ → ℕ → List ℕ → Type 0
-BeginsSummary drawn size most text = (answer : Answer) × AnswersSummary drawn size most answer text

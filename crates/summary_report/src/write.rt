@@ -4,9 +4,9 @@ ghost use Rattle.std.specs.Prelude.{◌≡◌, ◌≤◌, ◌∷◌, [], IfOk};
 ghost use Rattle.std.specs.List.{flat_map};
 ghost use Rattle.itv_base.specs.Outside.{Puts};
 ghost use Rattle.itv_base.specs.declared.limits.TheConstants.{MAX_BUDGET};
-ghost use Rattle.jobs.specs.JobWrote.{JobWrote};
+ghost use Rattle.jobs.specs.JobWrote.{Answered, JobWrote};
 ghost use Rattle.slack_report.specs.Text.{ending_word};
-ghost use Rattle.summary_report.specs.Summary.{AnswersSummary, BeginsSummary, ComesTo, number_lines, summary_text, words_text};
+ghost use Rattle.summary_report.specs.Summary.{AnswersSummary, ComesTo, number_lines, summary_text, words_text};
 ghost use Rattle.summary_report.specs.Step.{count_text};
 
 use crate::nowhere::Nowhere;
@@ -33,7 +33,7 @@ pub fn write_summary<K: Sink>(
 ) -> Result<Answer, Unanswered>
     requires least { 1 ≤ budget }
     requires most { budget ≤ MAX_BUDGET }
-    ensures works { JobWrote (AnswersSummary drawn.now size budget) (BeginsSummary drawn.now size budget)
+    ensures works { JobWrote (AnswersSummary drawn.now size budget) (Answered (AnswersSummary drawn.now size budget))
         (K.state sink.old) (K.state sink.new) result }
 {
     let mut buffer = LineBuffer::new(alloc, ROOM)?;

@@ -50,13 +50,6 @@ pub record AnswersFrom (first : SessionView) (kinds : List RowKind) (edits : Lis
 abbrev pub AnswersFor : Net → List Pair → List RowKind → ℕ → List RangeEdit → Answer → List ℕ → Type 0
 AnswersFor net pairs kinds budget edits answer text = (first : SessionView) × IsFirst net pairs budget first × AnswersFrom first kinds edits answer text
 
--- What may have been begun. All states are known before anything is put, so it is a front of a whole text.
-abbrev pub BeginsFor : Net → List Pair → List RowKind → ℕ → List RangeEdit → List ℕ → Type 0
-BeginsFor net pairs kinds budget edits text = (answer : Answer) × AnswersFor net pairs kinds budget edits answer text
-
 -- what the job answers and writes for a drawn network
 abbrev pub AnswersWhatif : Drawn → ℕ → List RangeEdit → Answer → List ℕ → Type 0
 AnswersWhatif drawn budget edits answer text = AnswersFor drawn.net (pairs_of drawn.rows) (kinds_of drawn.rows) budget edits answer text
-
-abbrev pub BeginsWhatif : Drawn → ℕ → List RangeEdit → List ℕ → Type 0
-BeginsWhatif drawn budget edits text = BeginsFor drawn.net (pairs_of drawn.rows) (kinds_of drawn.rows) budget edits text

@@ -2,12 +2,12 @@
 
 ghost use Rattle.std.specs.Prelude.{◌≡◌, ◌<◌, ◌≤◌, All, IfOk, length};
 ghost use Rattle.edits.specs.EditLine.{IsThere};
-ghost use Rattle.jobs.specs.JobWrote.{JobWrote};
+ghost use Rattle.jobs.specs.JobWrote.{Answered, JobWrote};
 ghost use Rattle.whatif.specs.Session.{IsPairOf};
 ghost use Rattle.whatif.specs.declared.session.TheConstants.{MAX_PAIRS};
 ghost use Rattle.whatif_report.specs.Step.{IsNoteOf};
 ghost use Rattle.whatif_report.specs.Text.{last_note, whatif_text};
-ghost use Rattle.whatif_report.specs.Whatif.{AnswersFor, AnswersFrom, AnswersWhatif, BeginsFor, BeginsWhatif};
+ghost use Rattle.whatif_report.specs.Whatif.{AnswersFor, AnswersFrom, AnswersWhatif};
 
 use crate::asked::{kinds_of, pairs_of};
 use crate::ending::{add_ending, end_word, last_of};
@@ -34,7 +34,7 @@ pub fn write_whatif<K: Sink>(
     requires rows { length drawn.now.rows ≤ MAX_PAIRS }
     requires budget { 0 < budget }
     requires there { All (IsThere drawn.now.net) edits.now }
-    ensures works { JobWrote (AnswersWhatif drawn.now budget edits.now) (BeginsWhatif drawn.now budget edits.now)
+    ensures works { JobWrote (AnswersWhatif drawn.now budget edits.now) (Answered (AnswersWhatif drawn.now budget edits.now))
         (K.state sink.old) (K.state sink.new) result }
 {
     let rows = drawn.rows().as_slice();
@@ -73,7 +73,7 @@ fn write_states<K: Sink>(
     requires few { length kinds.now ≤ MAX_PAIRS }
     requires budget { 0 < budget }
     requires there { All (IsThere net.now) edits.now }
-    ensures works { JobWrote (AnswersFor net.now pairs.now kinds.now budget edits.now) (BeginsFor net.now pairs.now kinds.now budget edits.now)
+    ensures works { JobWrote (AnswersFor net.now pairs.now kinds.now budget edits.now) (Answered (AnswersFor net.now pairs.now kinds.now budget edits.now))
         (K.state sink.old) (K.state sink.new) result }
 {
     let decided = text_and_answer(alloc, net, pairs, kinds, edits, budget)?;

@@ -21,7 +21,8 @@ use Rattle.explained.specs.declared.finding.Finding.{Finding}
 use Rattle.explained.specs.declared.row.RowFound.{RowFound}
 use Rattle.explained.specs.Answers.{AreFound, IsFindingFound, SettlesWithin, bound_of, word_of}
 use Rattle.why_report.specs.Text.{Noted, apart_text, ending_of, found_text, judged_text, why_text}
-use Rattle.why_report.specs.Why.{AnswersWhy, BeginsWhy}
+use Rattle.why_report.specs.Why.{AnswersWhy}
+use Rattle.jobs.specs.JobWrote.{Answered}
 
 pub verdict_is : (range : Ends) (found : RowFound) (least most : Bound) (word : Verdict) (value : Slack) → least ≡ bound_of found.least → most ≡ bound_of found.greatest
     → word ≡ verdict_of range least most → value ≡ slack_of range least most
@@ -40,6 +41,6 @@ module _ (noted : Noted) (drawn : Drawn) (budget : ℕ) (finding : Finding) (fou
 
   -- a front of the text begins it
   pub begins_why : {B E : Type 0} (result : Result B E) (old new : SinkState) → CutShort old new (why_text noted drawn finding found)
-      → OnErr result ((text : List ℕ) × BeginsWhy noted drawn budget text × CutShort old new text)
+      → OnErr result ((text : List ℕ) × Answered (AnswersWhy noted drawn budget) text × CutShort old new text)
   begins_why (Ok x) old new cut = tt
   begins_why (Err e) old new cut = (why_text noted drawn finding found, (answer_of (ending_of drawn.rows finding found), answers_why _ refl), cut)

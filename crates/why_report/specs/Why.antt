@@ -17,7 +17,3 @@ pub record AnswersWhy (noted : Noted) (drawn : Drawn) (budget : ℕ) (answer : A
   pub settles : SettlesWithin drawn.net budget finding found
   pub is_text : text ≡ why_text noted drawn finding found
   pub is_answer : answer ≡ answer_of (ending_of drawn.rows finding found)
-
--- The text may have been begun. All is found before anything is put, so what was put is a front of a whole text.
-abbrev pub BeginsWhy : Noted → Drawn → ℕ → List ℕ → Type 0
-BeginsWhy noted drawn budget text = (answer : Answer) × AnswersWhy noted drawn budget answer text

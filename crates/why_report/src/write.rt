@@ -3,10 +3,10 @@
 ghost use Rattle.std.specs.Prelude.{◌≡◌, ◌≤◌, ℕ, List, All, IfOk, OnErr};
 ghost use Rattle.itv_base.specs.Outside.{CutShort, Puts, grown};
 ghost use Rattle.itv_base.specs.declared.limits.TheConstants.{MAX_BUDGET};
-ghost use Rattle.jobs.specs.JobWrote.{JobWrote};
+ghost use Rattle.jobs.specs.JobWrote.{Answered, JobWrote};
 ghost use Rattle.explained.specs.Answers.{AreFound, HasRowTimes, IsFindingFound, SettlesWithin};
 ghost use Rattle.why_report.specs.Text.{ending_of, found_text, why_text};
-ghost use Rattle.why_report.specs.Why.{AnswersWhy, BeginsWhy};
+ghost use Rattle.why_report.specs.Why.{AnswersWhy};
 
 use crate::ending::{ending_of, finding_word};
 use crate::put_rows::put_rows;
@@ -33,7 +33,7 @@ pub fn write_why<N: Notes, K: Sink>(
 ) -> Result<Answer, Unanswered>
     requires least { 1 ≤ budget }
     requires most { budget ≤ MAX_BUDGET }
-    ensures works { JobWrote (AnswersWhy (N.noted notes.now) drawn.now budget) (BeginsWhy (N.noted notes.now) drawn.now budget)
+    ensures works { JobWrote (AnswersWhy (N.noted notes.now) drawn.now budget) (Answered (AnswersWhy (N.noted notes.now) drawn.now budget))
         (K.state sink.old) (K.state sink.new) result }
 {
     let found = explain(alloc, drawn, budget)?;
@@ -56,7 +56,7 @@ fn put_found<N: Notes, K: Sink>(
         → IfOk result (λ answer. (text : List ℕ) × AnswersWhy (N.noted notes.now) drawn.now budget answer text
         × (K.state sink.new ≡ grown (K.state sink.old) text)) }
     ensures begins { (budget : ℕ) → SettlesWithin drawn.now.net budget found.now.finding found.now.rows.items
-        → OnErr result ((text : List ℕ) × BeginsWhy (N.noted notes.now) drawn.now budget text
+        → OnErr result ((text : List ℕ) × Answered (AnswersWhy (N.noted notes.now) drawn.now budget) text
         × CutShort (K.state sink.old) (K.state sink.new) text) }
 {
     let word = ending_of(drawn, &found.finding, &found.rows);
