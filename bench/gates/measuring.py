@@ -200,8 +200,12 @@ def watch(command):
 
 
 def measured(names, is_kept):
-    """One run of `rt ci` as a table, and its status. Without `is_kept` all is done from nothing, also by a toolchain that keeps work."""
-    anew = ["--anew"] if not is_kept and "--anew" in output_of("rt", "help") else []
+    """One run of `rt ci` as a table, and its status. Without `is_kept` all is done from nothing, also by a toolchain that keeps work. A
+    toolchain that keeps none knows neither `--anew` nor names."""
+    keeps = "--anew" in output_of("rt", "help")
+    if names and not keeps:
+        sys.exit("gate: `rt ci` of this toolchain takes no names")
+    anew = ["--anew"] if keeps and not is_kept else []
     began, busy = time.time(), busy_seconds()
     gate, lines, status = watch(["rt", "ci", *anew, *names])
     used = resource.getrusage(resource.RUSAGE_CHILDREN)
