@@ -69,7 +69,7 @@ def kind_in(words, folder):
     """The kind that words and a folder name."""
     if "--crate-name" in words[:-1]:
         name = words[words.index("--crate-name") + 1]
-        if f"/crates/{name}/" not in folder + "/":
+        if "/rt-edit" in folder or f"/crates/{name}/" not in folder + "/":
             return "edits"
         return "tests" if "--test" in words else "proof"
     return "tests" if any(os.path.basename(word) == "rattle-test" for word in words) else None
