@@ -3,8 +3,9 @@
 
     bench/settle/port.py [FOLDER]
 
-Writes the modules `clauses`, `settle` and `falling::gap` into FOLDER/src (this folder without it): the same statements, over the
-vectors of Rust's own library (`src/shim.rs`). What they stand on, networks and their limits, is written by hand beside them."""
+Writes the modules `clauses`, `settle`, `falling::gap` and `event_graph::times` into FOLDER/src (this folder without it): the same
+statements, over the vectors of Rust's own library (`src/shim.rs`). What they stand on, networks and their limits, is written by hand beside
+them. `tools/test-bench` tries that all of it compiles."""
 import os
 import re
 import sys
@@ -45,7 +46,7 @@ def as_rust(crate, text):
 def main():
     to = os.path.join(sys.argv[1] if len(sys.argv) > 1 else HERE, "src")
     files = [(crate, name) for crate in ("clauses", "settle") for name in os.listdir(f"{CRATES}/{crate}/src") if name != "laws.rt"]
-    for crate, name in files + [("falling", "gap.rt")]:
+    for crate, name in files + [("falling", "gap.rt"), ("event_graph", "times.rt")]:
         os.makedirs(f"{to}/{crate}", exist_ok=True)
         with open(f"{CRATES}/{crate}/src/{name}", encoding="utf-8") as file:
             text = as_rust(crate, file.read())

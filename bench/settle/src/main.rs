@@ -2,7 +2,8 @@
 //! the least separation of each row.
 //!
 //! `settle [TURNS]`: each search takes at most so many turns, 100,000,000 without it.
-#![allow(dead_code)]
+// The modules that are made of the proved crates have more than is used here.
+#![allow(dead_code, unused_imports, unused_labels, unused_variables)]
 
 #[macro_use]
 mod shim;

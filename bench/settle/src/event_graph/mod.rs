@@ -1,5 +1,9 @@
 //! Networks.
 
+mod times;
+
+pub use times::separation;
+
 use crate::itv_base::*;
 
 #[derive(Debug, Clone, Copy, PartialEq, Eq)]
