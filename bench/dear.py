@@ -27,7 +27,7 @@ FOLDERS = ("kept", "incremental")
 KINDS = ("Code.Mir", "Code", "Lts", "Proof", "Tie", "Reads", "Layout", "Kinds", "Answers", "Invariants", "Met", "Statement", "Named", "TheLink", "Symbol",
          "Key", "Walk")
 # The derived or written impl of a type is named by the type and the trait, as in `FaultDebug.fmt`.
-IMPLS = ("Debug", "PartialEq", "Eq", "Hash", "Clone", "Copy", "Display", "Error", "From", "Model", "Default", "Ord", "PartialOrd", "Iterator")
+IMPLS = ("Debug", "PartialEq", "Eq", "Hash", "Clone", "Copy", "Display", "Error", "Model", "Default", "Ord", "PartialOrd", "Iterator")
 
 
 def modules_of(crate):
@@ -45,9 +45,11 @@ def modules_of(crate):
 
 def split(module, crate):
     """The kind of a module, and the function that it belongs to, or ''."""
-    found = re.fullmatch(rf"Rattle-{crate}-proofs\.(.+)", module)
+    found = re.fullmatch(rf"Rattle-{crate.name}-proofs\.(.+)", module)
     if not found:
         return "stated", ""
+    if (crate / "proofs" / (found[1].replace(".", "/") + ".antt")).exists() and not found[1].endswith((".Answers", ".Invariants", ".Proof")):
+        return "lemmas", ""
     for kind in KINDS:
         if found[1].endswith("." + kind):
             return kind, found[1][:-len(kind) - 1]
@@ -60,6 +62,8 @@ def class_of(function):
     owner = owners[-1] if owners else ""
     if name == "drop" or "Destruct" in function:
         return "drops of types"
+    if re.search(r"[a-z0-9]From[A-Z]", owner):
+        return "impl of From"
     for word in IMPLS:
         if owner.endswith(word) and owner != word:
             return f"impl of {word}"
@@ -70,9 +74,8 @@ def add_up(crates):
     """The seconds of each kind, of each class, and of each function, with the function's own by kind."""
     kinds, classes, functions = collections.Counter(), collections.Counter(), collections.defaultdict(collections.Counter)
     for crate in crates:
-        rows = [(*split(module, crate.name), seconds) for module, seconds in modules_of(crate)]
-        known = {function for _, function, _ in rows}
-        for kind, function, seconds in rows:
+        for module, seconds in modules_of(crate):
+            kind, function = split(module, crate)
             kinds[kind] += seconds
             if function:
                 classes[class_of(function)] += seconds
