@@ -54,7 +54,7 @@ some_turns finding found =
     let (others, later) = rows_some found in (
       one + others,
       record {
-        finding = finding_more one (one + others) finding (omega arith) here;
-        rows = All-weaker (IsRowWithin others) (IsRowWithin (one + others)) (λ r within. row_more others (one + others) r (omega arith) within) found later;
+        of_finding = finding_more one (one + others) finding (omega arith) here;
+        of_rows = All-weaker (IsRowWithin others) (IsRowWithin (one + others)) (λ r within. row_more others (one + others) r (omega arith) within) found later;
       },
     )

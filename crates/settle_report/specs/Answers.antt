@@ -148,5 +148,5 @@ IsRowWithin turns found = IsBoundWithin turns found.greatest × IsBoundWithin tu
 
 -- each proof has at most as many lines as its search had turns
 pub record HaveLinesWithin (turns : ℕ) (finding : Finding) (found : List RowFound) : Type 0 where
-  pub finding : IsFindingWithin turns finding
-  pub rows : All (IsRowWithin turns) found
+  pub of_finding : IsFindingWithin turns finding
+  pub of_rows : All (IsRowWithin turns) found

@@ -1,4 +1,4 @@
-use Rattle.std.proofs.Common.{◌∙◌, ap}
+use Rattle.std.proofs.Common.{◌∙◌, ap, arith}
 use Rattle.settle_report.specs.Step.{shown_by}
 use Rattle.settle_report.proofs.Answering.{closed_near, endless_shown, number_shown, unbounded_near, value_time}
 use Rattle.settle_report.proofs.Moving.{near_times}
@@ -17,7 +17,11 @@ returns-in-Closed c =
     let time = value_time c.args.net.now c.args.which c.args.row.now f.0 c.args.found c.events-events.ensures.net c.requires.row f.1 value c.in-Closed.is in
     let n = number_shown c.args.net.now c.args.which c.args.row.now f.0 c.args.found c.events-events.ensures.net c.requires.row f.1 c.args.cert value _ _ c.proof_of.result c.in-Closed.is
     c.proof_of.ensures.proves (read_time c.shown_by.result c.shown_by.ensures.within ∙ c.shown_by.ensures.shown ∙ ap (shown_by c.args.which) (read_time value time)) c.moved.ensures.moved in
-    record { bound = n.0; nearby = n.1 }
+    record {
+      bound = n.0;
+      nearby = n.1;
+      within = λ turns found. omega (arith, found.lines, found.most, c.proof_of.ensures.lines);
+    }
 
 pub moved-requires-in-Unbounded-clause-times : goal.moved-requires-in-Unbounded-clause-times
 moved-requires-in-Unbounded-clause-times c =
@@ -28,4 +32,4 @@ pub returns-in-Unbounded : goal.returns-in-Unbounded
 returns-in-Unbounded c =
     let f = c.requires.found in
     let n = endless_shown c.args.net.now c.args.which c.args.row.now f.0 c.args.found c.events-events.ensures.net c.requires.row f.1 _ c.in-Unbounded.is c.moved-in-Unbounded.ensures.moved in
-    record { bound = n.0; nearby = n.1 }
+    record { bound = n.0; nearby = n.1; within = λ turns found. tt }

@@ -6,4 +6,8 @@ use Rattle.settle_report.proofs.finding.finding_of.Goals as goal
 pub returns-in-Closed : goal.returns-in-Closed
 returns-in-Closed c =
     let f = c.requires.found in
-    record { finding = subst (ArePrintedTimes c.args.net.now first_event) (sym c.moved.ensures.moved) (first_times c.args.net.now f.0 c.args.found c.events-events.ensures.net c.requires.events f.1 _ c.in-Closed.is) }
+    record {
+      finding = subst (ArePrintedTimes c.args.net.now first_event) (sym c.moved.ensures.moved)
+          (first_times c.args.net.now f.0 c.args.found c.events-events.ensures.net c.requires.events f.1 _ c.in-Closed.is);
+      within = λ turns found. tt;
+    }
