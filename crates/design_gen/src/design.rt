@@ -1,6 +1,7 @@
 //! The files of the generated design.
 
-ghost use Rattle.std.specs.Prelude.{◌≡◌, ◌≤◌, false, IfErr, IfOk, OnOk};
+ghost use Rattle.std.specs.Prelude.{◌≡◌, ◌≤◌, [], false, IfErr, IfOk, OnOk};
+ghost use Rattle.std.specs.FinMap as map;
 ghost use Rattle.serde_json.specs.Data.{depth};
 ghost use Rattle.serde_json.specs.View.{view};
 ghost use Rattle.serde_json.specs.Read.{max_depth};
@@ -35,11 +36,21 @@ fn files(alloc: Global, n: u32) -> Result<ShelfMem, NoMemory>
     ensures reads_back { OnOk result (ReadBack n) }
 {
     let mut shelf = ShelfMem::new(alloc)?;
-    add_tree(alloc, &mut shelf, "bus.json", &bus(alloc, n)?)?;
-    add_tree(alloc, &mut shelf, "master.json", &master(alloc)?)?;
-    add_tree(alloc, &mut shelf, "slave.json", &slave(alloc)?)?;
-    add_tree(alloc, &mut shelf, "merge.json", &merge(alloc)?)?;
+    add_files(alloc, n, &mut shelf)?;
     Ok(shelf)
+}
+
+// Adds the files of a size to a new shelf.
+fn add_files(alloc: Global, n: u32, shelf: &mut ShelfMem) -> Result<(), NoMemory>
+    requires new { shelf.old ≡ record { files = map.empty; failing = []; calls = 0; faults = 0; last = [] } }
+    ensures design { OnOk result (IsDesignShelf n shelf.new) }
+    ensures reads_back { OnOk result (ReadBack n) }
+{
+    add_tree(alloc, shelf, "bus.json", &bus(alloc, n)?)?;
+    add_tree(alloc, shelf, "master.json", &master(alloc)?)?;
+    add_tree(alloc, shelf, "slave.json", &slave(alloc)?)?;
+    add_tree(alloc, shelf, "merge.json", &merge(alloc)?)?;
+    Ok(())
 }
 
 // Adds a file with the text of a tree.
