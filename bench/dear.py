@@ -2,10 +2,10 @@
 """Where the time of proving goes: `bench/dear.py ROOT [NUMBER]`.
 
 ROOT is the folder of a repository or of one crate. Each function becomes 20 to 30 modules, and a check over `--incremental` keeps a file for each
-module that it has checked. With one job, the time between a file and the file before it is what the module took. So prove with
-`tools/dev/prove --keep`, which keeps them in `crates/NAME/out/kept`, or from nothing by `rt check`, which keeps them in
-`crates/NAME/out/incremental`. Of a crate that has both, the folder with the newest file is read. A crate that was checked more than once over
-the same folder gives times that mean nothing: remove its `out` first.
+module that it has checked. With one job, the time between a file and the file before it is what the module took. `rt check`, and `rt all check` for
+all crates, keep them in `crates/NAME/out/incremental`; `rattle check --incremental out/kept` over the statements of the crates below keeps them
+in `crates/NAME/out/kept`. Of a crate that has both, the folder with the newest file is read. A crate that was checked more than once over the same
+folder gives times that mean nothing: remove its `out` first.
 
 It prints the share of each kind of module, the share of each class of functions, and the functions that took the longest (40, or NUMBER), each
 with its crate, its seconds, and the seconds of its two dearest kinds. All are seconds by the clock, so a busy machine makes them longer. What

@@ -49,7 +49,8 @@ fn add_files(alloc: Global, n: u32, shelf: &mut ShelfMem) -> Result<(), NoMemory
     add_tree(alloc, shelf, "bus.json", &bus(alloc, n)?)?;
     add_tree(alloc, shelf, "master.json", &master(alloc)?)?;
     add_tree(alloc, shelf, "slave.json", &slave(alloc)?)?;
-    add_tree(alloc, shelf, "merge.json", &merge(alloc)?)
+    add_tree(alloc, shelf, "merge.json", &merge(alloc)?)?;
+    Ok(())
 }
 
 // Adds a file with the text of a tree.

@@ -1,8 +1,8 @@
 //! The sheets of the generated design.
 
-ghost use Rattle.std.specs.Prelude.{◌≡◌, IfOk};
+ghost use Rattle.std.specs.Prelude.{◌≡◌, ◌∷◌, [], IfOk, codes};
 ghost use Rattle.serde_json.specs.View.{view};
-ghost use Rattle.design_gen.specs.Trees.{clock_lane, lane, master, merge, slave};
+ghost use Rattle.design_gen.specs.Trees.{clock_lane, lane, list, master, merge, slave};
 
 use serde_json::{Value, json};
 use std::alloc::{AllocError, Global};
@@ -23,13 +23,22 @@ pub fn master(alloc: Global) -> Result<Value, AllocError>
 pub fn slave(alloc: Global) -> Result<Value, AllocError>
     ensures tree { IfOk result (λ tree. view tree ≡ slave) }
 {
+    let lanes = slave_lanes(alloc)?;
+    json!(in alloc; {
+        "signal": lanes,
+        "edge": ["q->a @late [2000,9000]", "c->a @late [3000,7000]", "c->a @ask"]
+    })
+}
+
+// The lanes of a slave, as a tree.
+fn slave_lanes(alloc: Global) -> Result<Value, AllocError>
+    ensures { IfOk result (λ tree. view tree
+        ≡ list (clock_lane ∷ lane (codes "req") (codes "01") (codes ".q") ∷ lane (codes "ack") (codes "01") (codes ".a") ∷ [])) }
+{
     let clock = clock_lane(alloc)?;
     let request = lane(alloc, "req", "01", ".q")?;
     let answer = lane(alloc, "ack", "01", ".a")?;
-    json!(in alloc; {
-        "signal": [clock, request, answer],
-        "edge": ["q->a @late [2000,9000]", "c->a @late [3000,7000]", "c->a @ask"]
-    })
+    json!(in alloc; [clock, request, answer])
 }
 
 /// The sheet of the part that waits for all answers.
