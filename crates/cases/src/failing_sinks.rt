@@ -1,7 +1,7 @@
 //! Runs into sinks that are full, or that fail.
 
-use crate::case::Case;
 use crate::runs::put_end;
+use crate::test_case::TestCase;
 use itv_base::{NoMemory, SinkMem};
 use itv_cli::{Outcome, run};
 use std::alloc::Global;
@@ -11,7 +11,11 @@ const ROOM: u32 = 4_000;
 
 /// Runs a case with each room from no bytes to all that it writes, and shows how it ends with all its room. Then it shows the first room in which
 /// the run does not write all that fits, or does not end with a write fault.
-pub fn fill_each_room(alloc: Global, case: &mut Case, out: &mut String) -> Result<(), NoMemory> {
+pub fn fill_each_room(
+    alloc: Global,
+    case: &mut TestCase,
+    out: &mut String,
+) -> Result<(), NoMemory> {
     let mut whole = SinkMem::new(alloc, ROOM)?;
     let end = run(alloc, &case.words, &mut case.shelf, &mut whole);
     put_end(end, case, out)?;
@@ -32,7 +36,7 @@ pub fn fill_each_room(alloc: Global, case: &mut Case, out: &mut String) -> Resul
 
 /// Runs a case with each put that fails in turn, until none does, and shows how it ends then. Before this it shows the first failing put at which
 /// the run does not write a front of the text, or does not end with a write fault.
-pub fn fail_each_put(alloc: Global, case: &mut Case, out: &mut String) -> Result<(), NoMemory> {
+pub fn fail_each_put(alloc: Global, case: &mut TestCase, out: &mut String) -> Result<(), NoMemory> {
     let mut whole = SinkMem::new(alloc, ROOM)?;
     let end = run(alloc, &case.words, &mut case.shelf, &mut whole);
     put_end(end, case, out)?;

@@ -1,7 +1,7 @@
 //! The lines of the input.
 
-use crate::case::Case;
 use crate::runs::take_run;
+use crate::test_case::TestCase;
 use design_gen::make;
 use itv_base::{NoMemory, Texts};
 use std::alloc::Global;
@@ -10,7 +10,7 @@ use std::alloc::Global;
 pub fn take_line(
     alloc: Global,
     line: &str,
-    case: &mut Case,
+    case: &mut TestCase,
     out: &mut String,
 ) -> Result<(), NoMemory> {
     if let Some(text) = line.strip_prefix("|") {
@@ -34,7 +34,7 @@ fn take_verb(
     alloc: Global,
     verb: &str,
     text: &str,
-    case: &mut Case,
+    case: &mut TestCase,
     out: &mut String,
 ) -> Result<(), NoMemory> {
     match verb {
@@ -45,12 +45,12 @@ fn take_verb(
         "forge" => forge(alloc, text, case),
         "generate" => generate(alloc, text, case),
         "fail-fetch" => case.shelf.fail_call(number_of(text)),
-        "show" => case.view.keep_front(alloc, text),
-        "count" => case.view.count(alloc, text),
+        "show" => case.shown.keep_front(alloc, text),
+        "count" => case.shown.count(alloc, text),
         "open" => open_lines(text, case),
         "lines" => {
             let (first, last) = numbers_of(text);
-            case.view.keep_lines(first, last);
+            case.shown.keep_lines(first, last);
             Ok(())
         }
         _ => take_run(alloc, verb, text, case, out),
@@ -58,14 +58,14 @@ fn take_verb(
 }
 
 // Begins the next case.
-fn begin(alloc: Global, name: &str, case: &mut Case, out: &mut String) -> Result<(), NoMemory> {
-    *case = Case::new(alloc)?;
+fn begin(alloc: Global, name: &str, case: &mut TestCase, out: &mut String) -> Result<(), NoMemory> {
+    *case = TestCase::new(alloc)?;
     writeln!(out, "= {name}")?;
     Ok(())
 }
 
 // The words are those of a text, parted by blanks.
-fn set_words(alloc: Global, text: &str, case: &mut Case) -> Result<(), NoMemory> {
+fn set_words(alloc: Global, text: &str, case: &mut TestCase) -> Result<(), NoMemory> {
     case.words = Texts::new(alloc)?;
     for word in text.split_whitespace() {
         case.words.push(alloc, word)?;
@@ -74,13 +74,13 @@ fn set_words(alloc: Global, text: &str, case: &mut Case) -> Result<(), NoMemory>
 }
 
 // A number and a line that stands as often in the file.
-fn repeat(text: &str, case: &mut Case) -> Result<(), NoMemory> {
+fn repeat(text: &str, case: &mut TestCase) -> Result<(), NoMemory> {
     let (count, line) = text.split_once(" ").unwrap_or((text, ""));
     case.file.repeat_line(number_of(count), line)
 }
 
 // Opens the file `edited`: the file `whole` without the lines of these numbers.
-fn forge(alloc: Global, text: &str, case: &mut Case) -> Result<(), NoMemory> {
+fn forge(alloc: Global, text: &str, case: &mut TestCase) -> Result<(), NoMemory> {
     let (first, last) = numbers_of(text);
     let whole = case.fetched(alloc, "whole");
     let front = length_of(&whole, first.saturating_sub(1)).min(whole.len());
@@ -103,7 +103,7 @@ fn length_of(bytes: &[u8], lines: u32) -> usize {
 }
 
 // The files are those of the generated design of a size.
-fn generate(alloc: Global, text: &str, case: &mut Case) -> Result<(), NoMemory> {
+fn generate(alloc: Global, text: &str, case: &mut TestCase) -> Result<(), NoMemory> {
     if let Ok(shelf) = make(alloc, number_of(text)) {
         case.shelf = shelf;
     }
@@ -111,10 +111,10 @@ fn generate(alloc: Global, text: &str, case: &mut Case) -> Result<(), NoMemory> 
 }
 
 // The lines of these numbers are open from their second word on, or from the word after as many as stand after a colon.
-fn open_lines(text: &str, case: &mut Case) -> Result<(), NoMemory> {
+fn open_lines(text: &str, case: &mut TestCase) -> Result<(), NoMemory> {
     for word in text.split_whitespace() {
         let (number, words) = word.split_once(":").unwrap_or((word, "1"));
-        case.view.open_line(number_of(number), number_of(words))?;
+        case.shown.open_line(number_of(number), number_of(words))?;
     }
     Ok(())
 }

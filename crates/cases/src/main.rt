@@ -3,27 +3,27 @@
 //! Nothing is compared: the file `stdin` has the cases, and the file `stdout` has what they must print.
 #![tactic(auto)]
 
-mod case;
 mod failing_sinks;
 mod lines;
 mod open_file;
 mod runs;
-mod view;
+mod shown;
+mod test_case;
 
-use crate::case::Case;
 use crate::lines::take_line;
+use crate::test_case::TestCase;
 use itv_base::NoMemory;
 use std::io::{self, BufRead, BufReader, ErrorKind};
 
 fn main(rt: HostRuntime) -> io::Result<()> {
-    match Case::new(rt.alloc()) {
+    match TestCase::new(rt.alloc()) {
         Ok(mut case) => take_lines(&rt, &mut case),
         Err(NoMemory) => Err(io::Error::from(ErrorKind::OutOfMemory)),
     }
 }
 
 // Takes the lines of standard input, and prints what comes of each.
-fn take_lines(rt: &(impl Input + Print + AllocGlobal), case: &mut Case) -> io::Result<()> {
+fn take_lines(rt: &(impl Input + Print + AllocGlobal), case: &mut TestCase) -> io::Result<()> {
     let alloc = rt.alloc();
     let mut out = String::new(alloc);
     for line in BufReader::new(alloc, rt.reader())?.lines(alloc) {

@@ -1,8 +1,8 @@
 //! Runs of a case, and what they show.
 
-use crate::case::Case;
 use crate::failing_sinks::{fail_each_put, fill_each_room};
-use crate::view::View;
+use crate::shown::Shown;
+use crate::test_case::TestCase;
 use itv_base::{NoMemory, SinkMem, Texts};
 use itv_cli::{Outcome, run};
 use std::alloc::Global;
@@ -16,7 +16,7 @@ pub fn take_run(
     alloc: Global,
     verb: &str,
     text: &str,
-    case: &mut Case,
+    case: &mut TestCase,
     out: &mut String,
 ) -> Result<(), NoMemory> {
     match verb {
@@ -38,7 +38,7 @@ pub fn take_run(
 fn show_run(
     alloc: Global,
     words: &[&str],
-    case: &mut Case,
+    case: &mut TestCase,
     out: &mut String,
 ) -> Result<(), NoMemory> {
     let words = words_after(alloc, words, &case.words)?;
@@ -46,33 +46,43 @@ fn show_run(
     let outcome = run(alloc, &words, &mut case.shelf, &mut sink);
     put_end(outcome, case, out)?;
     let text = str::from_utf8(sink.bytes()).unwrap_or("no text");
-    case.view.put_lines(text, "|", out)?;
-    case.view.put_counts(text, out)?;
-    case.view = View::new(alloc);
+    case.shown.put_lines(text, "|", out)?;
+    case.shown.put_counts(text, out)?;
+    case.shown = Shown::new(alloc);
     Ok(())
 }
 
 // A run on these words and the words of the case. What it shows becomes a file.
-fn write_file(alloc: Global, words: &[&str], name: &str, case: &mut Case) -> Result<(), NoMemory> {
+fn write_file(
+    alloc: Global,
+    words: &[&str],
+    name: &str,
+    case: &mut TestCase,
+) -> Result<(), NoMemory> {
     let words = words_after(alloc, words, &case.words)?;
     let mut sink = SinkMem::new(alloc, ROOM)?;
     run(alloc, &words, &mut case.shelf, &mut sink);
     let mut file = String::new(alloc);
     let text = str::from_utf8(sink.bytes()).unwrap_or("no text");
-    case.view.put_lines(text, "", &mut file)?;
-    case.view = View::new(alloc);
+    case.shown.put_lines(text, "", &mut file)?;
+    case.shown = Shown::new(alloc);
     case.shelf.add(alloc, name, file.as_bytes())
 }
 
 // Job check of the report with proofs that the case writes.
-fn check(alloc: Global, case: &mut Case, out: &mut String) -> Result<(), NoMemory> {
+fn check(alloc: Global, case: &mut TestCase, out: &mut String) -> Result<(), NoMemory> {
     write_file(alloc, &["--cert"], "report", case)?;
     let words = ["--job", "check", "--report", "report"];
     show_run(alloc, &words, case, out)
 }
 
 // Shows whether two files are the same.
-fn compare(alloc: Global, names: &str, case: &mut Case, out: &mut String) -> Result<(), NoMemory> {
+fn compare(
+    alloc: Global,
+    names: &str,
+    case: &mut TestCase,
+    out: &mut String,
+) -> Result<(), NoMemory> {
     let (first, second) = names.split_once(" ").unwrap_or((names, ""));
     let first = case.fetched(alloc, first);
     let second = case.fetched(alloc, second);
@@ -85,7 +95,7 @@ fn compare(alloc: Global, names: &str, case: &mut Case, out: &mut String) -> Res
 }
 
 // A run for each front of the file `whole` that is not all of it. The front is the file `edited`.
-fn show_each_front(alloc: Global, case: &mut Case, out: &mut String) -> Result<(), NoMemory> {
+fn show_each_front(alloc: Global, case: &mut TestCase, out: &mut String) -> Result<(), NoMemory> {
     let whole = case.fetched(alloc, "whole");
     for length in 0..whole.len() {
         case.shelf.add(alloc, "edited", &whole[..length])?;
@@ -107,7 +117,7 @@ fn words_after(alloc: Global, first: &[&str], words: &Texts) -> Result<Texts, No
 }
 
 /// Puts the number of a run in its case, how it ended, and the exit status.
-pub fn put_end(outcome: Outcome, case: &mut Case, out: &mut String) -> Result<(), NoMemory> {
+pub fn put_end(outcome: Outcome, case: &mut TestCase, out: &mut String) -> Result<(), NoMemory> {
     case.runs = case.runs.saturating_add(1);
     let number = case.runs;
     let end = name_of(outcome);

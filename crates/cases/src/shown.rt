@@ -12,7 +12,7 @@ struct OpenLine {
 
 /// Which lines of a text are shown, and which of them up to a word. If fronts are given, only lines that begin with one of them are counted, from 1.
 #[derive(Drop)]
-pub struct View {
+pub struct Shown {
     first: u32,
     last: u32,
     fronts: Vec<String>,
@@ -20,10 +20,10 @@ pub struct View {
     counted: Vec<String>,
 }
 
-impl View {
+impl Shown {
     /// All lines, whole.
-    pub fn new(alloc: Global) -> View {
-        View {
+    pub fn new(alloc: Global) -> Shown {
+        Shown {
             first: 0,
             last: u32::MAX,
             fronts: Vec::new(alloc),

@@ -1,34 +1,34 @@
 //! A case: its words, its files, and what its next run shows.
 
 use crate::open_file::OpenFile;
-use crate::view::View;
+use crate::shown::Shown;
 use itv_base::{NoMemory, Shelf, ShelfMem, Texts};
 use std::alloc::Global;
 
 /// A case, as far as its lines were read.
 #[derive(Drop)]
-pub struct Case {
+pub struct TestCase {
     /// The words of the next run.
     pub words: Texts,
+    /// The files.
+    pub shelf: ShelfMem,
     /// The file whose lines are read.
     pub file: OpenFile,
     /// What the next run shows.
-    pub view: View,
+    pub shown: Shown,
     /// How many runs there were.
     pub runs: u32,
-    /// The files.
-    pub shelf: ShelfMem,
 }
 
-impl Case {
+impl TestCase {
     /// A case without words and files.
-    pub fn new(alloc: Global) -> Result<Case, NoMemory> {
-        Ok(Case {
+    pub fn new(alloc: Global) -> Result<TestCase, NoMemory> {
+        Ok(TestCase {
             words: Texts::new(alloc)?,
-            file: OpenFile::new(alloc),
-            view: View::new(alloc),
-            runs: 0,
             shelf: ShelfMem::new(alloc)?,
+            file: OpenFile::new(alloc),
+            shown: Shown::new(alloc),
+            runs: 0,
         })
     }
 
