@@ -1,6 +1,6 @@
 //! Runs cases: standard input has the words and the files of each, and what its runs write is printed.
 //! A line of the input is a line of a file after a bar, or a verb with its text; docs/cases.md has the verbs.
-//! Nothing is compared: the file `stdin` has the cases, and the file `stdout` has what they must print.
+//! The program judges nothing: the file `stdin` has the cases, and the file `stdout` has what they must print.
 #![tactic(auto)]
 
 mod failing_sinks;
