@@ -1,7 +1,6 @@
 //! What callers may rest on. Clients are callers that are proved from the clauses of `itv_cli::run` alone, or from the
 //! clauses of a crate below it. Each says what these clauses give. Laws say how the jobs stand to one another. What the
-//! program writes is shown by the tests of the crates `conformance_answers`, `conformance_designs` and
-//! `conformance_faults`.
+//! program writes is shown by the cases of the program `cases`.
 #![tactic(auto)]
 
 mod clients;

@@ -1,26 +1,39 @@
 //! Real files and standard output.
 
-use conformance_kit::{FIRST, FIRST_REPORT, lines_are, words_of};
-use itv_base::{FetchFault, Shelf, ShelfDir, SinkMem, SinkOut};
+use itv_base::{FetchFault, NoMemory, Shelf, ShelfDir, SinkMem, SinkOut, Texts};
 use itv_cli::{Outcome, run};
+use std::alloc::Global;
 use std::test::Fail;
 use std::{fs, str};
 
-// The first file has 101 bytes.
+// A sheet without events, of 13 bytes.
+const SHEET: &str = r#"{"signal":[]}"#;
+
+// The report of this sheet.
+const REPORT: &str =
+    "itv report 1\nbudget 100000\nevents 0\nfinding consistent\ntimes\nrows 0\nend pass\n";
+
+// A list of one word.
+fn list_of(alloc: Global, word: &str) -> Result<Texts, NoMemory> {
+    let mut words = Texts::new(alloc)?;
+    words.push(alloc, word)?;
+    Ok(words)
+}
+
 #[test]
 fn real_files_are_fetched_by_their_names(rt: HostRuntime) -> Result<(), Fail> {
     let alloc = rt.alloc();
-    let length = u32::try_from(FIRST.len())?;
-    assert_eq!(rt; length, 101);
-    fs::write(&rt, "conformance_first.json", FIRST)?;
+    let length = u32::try_from(SHEET.len())?;
+    assert_eq!(rt; length, 13);
+    fs::write(&rt, "conformance_sheet.json", SHEET)?;
     fs::write(&rt, "conformance_empty.json", "")?;
     fs::create_dir_all(&rt, "conformance_folder")?;
     let mut shelf = ShelfDir::new(alloc, rt.clone()?)?;
     for (name, cap, wanted) in [
-        ("conformance_first.json", length, FIRST),
-        ("conformance_first.json", length + 1, FIRST),
-        ("conformance_first.json", 1, "{"),
-        ("conformance_first.json", 0, ""),
+        ("conformance_sheet.json", length, SHEET),
+        ("conformance_sheet.json", length + 1, SHEET),
+        ("conformance_sheet.json", 1, "{"),
+        ("conformance_sheet.json", 0, ""),
         ("conformance_empty.json", 100, ""),
     ] {
         let bytes = shelf.fetch(alloc, name, cap)?;
@@ -41,7 +54,7 @@ fn real_files_are_fetched_by_their_names(rt: HostRuntime) -> Result<(), Fail> {
             "of {name}"
         );
     }
-    fs::remove_file(&rt, "conformance_first.json")?;
+    fs::remove_file(&rt, "conformance_sheet.json")?;
     fs::remove_file(&rt, "conformance_empty.json")?;
     fs::remove_dir(&rt, "conformance_folder")?;
     Ok(())
@@ -51,14 +64,14 @@ fn real_files_are_fetched_by_their_names(rt: HostRuntime) -> Result<(), Fail> {
 fn a_run_reads_real_files(rt: HostRuntime) -> Result<(), Fail> {
     let alloc = rt.alloc();
     let mut longest = Vec::with_capacity(alloc, 4_194_305)?;
-    longest.extend_from_slice(FIRST.as_bytes())?;
+    longest.extend_from_slice(SHEET.as_bytes())?;
     longest.resize(4_194_304, b' ')?;
     fs::write(&rt, "conformance_longest.json", longest.as_slice())?;
     longest.push(b' ')?;
     fs::write(&rt, "conformance_longer.json", longest.as_slice())?;
     let mut shelf = ShelfDir::new(alloc, rt.clone()?)?;
     for (name, end, text) in [
-        ("conformance_longest.json", Outcome::AllPass, FIRST_REPORT),
+        ("conformance_longest.json", Outcome::AllPass, REPORT),
         (
             "conformance_longer.json",
             Outcome::Refused,
@@ -71,8 +84,8 @@ fn a_run_reads_real_files(rt: HostRuntime) -> Result<(), Fail> {
         ),
     ] {
         let mut sink = SinkMem::new(alloc, 1_000)?;
-        let outcome = run(alloc, &words_of(alloc, &[name])?, &mut shelf, &mut sink);
-        lines_are(str::from_utf8(sink.bytes())?, text)?;
+        let outcome = run(alloc, &list_of(alloc, name)?, &mut shelf, &mut sink);
+        assert_eq!(rt; str::from_utf8(sink.bytes())?, text, "of {name}");
         assert_eq!(rt; outcome, end, "of {name}");
     }
     fs::remove_file(&rt, "conformance_longest.json")?;
@@ -85,7 +98,7 @@ fn standard_output_takes_a_line(rt: HostRuntime) -> Result<(), Fail> {
     let alloc = rt.alloc();
     let mut shelf = ShelfDir::new(alloc, rt.clone()?)?;
     let mut sink = SinkOut::new(rt.clone()?);
-    let outcome = run(alloc, &words_of(alloc, &["--help"])?, &mut shelf, &mut sink);
+    let outcome = run(alloc, &list_of(alloc, "--help")?, &mut shelf, &mut sink);
     assert_eq!(rt; outcome, Outcome::Help);
     Ok(())
 }

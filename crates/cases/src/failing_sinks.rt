@@ -1,0 +1,71 @@
+//! Runs into sinks that are full, or that fail.
+
+use crate::runs::put_end;
+use crate::test_case::TestCase;
+use itv_base::{NoMemory, SinkMem};
+use itv_cli::{Outcome, run};
+use std::alloc::Global;
+
+// Room in bytes for what these runs write.
+const ROOM: u32 = 4_000;
+
+/// Runs a case with each room from no bytes to all that it writes, and shows how it ends with all its room. Then it shows the first room in which
+/// the run does not write all that fits, or does not end with a write fault.
+pub fn fill_each_room(
+    alloc: Global,
+    case: &mut TestCase,
+    out: &mut String,
+) -> Result<(), NoMemory> {
+    let mut whole = SinkMem::new(alloc, ROOM)?;
+    let end = run(alloc, &case.words, &mut case.shelf, &mut whole);
+    put_end(end, case, out)?;
+    for room in 0..ROOM {
+        let mut sink = SinkMem::new(alloc, room)?;
+        let outcome = run(alloc, &case.words, &mut case.shelf, &mut sink);
+        if sink.bytes().len() != room as usize || !is_front(&sink, outcome, &whole, end) {
+            writeln!(out, "wrong in a room of {room}")?;
+            return Ok(());
+        }
+        if room as usize == whole.bytes().len() {
+            out.push_str("right in each room\n")?;
+            return Ok(());
+        }
+    }
+    Ok(())
+}
+
+/// Runs a case with each put that fails in turn, until none does, and shows how it ends then. Before this it shows the first failing put at which
+/// the run does not write a front of the text, or does not end with a write fault.
+pub fn fail_each_put(alloc: Global, case: &mut TestCase, out: &mut String) -> Result<(), NoMemory> {
+    let mut whole = SinkMem::new(alloc, ROOM)?;
+    let end = run(alloc, &case.words, &mut case.shelf, &mut whole);
+    put_end(end, case, out)?;
+    let mut before = 0usize;
+    for call in 0..ROOM {
+        let mut sink = SinkMem::new(alloc, ROOM)?;
+        sink.fail_call(call);
+        let outcome = run(alloc, &case.words, &mut case.shelf, &mut sink);
+        let length = sink.bytes().len();
+        if length < before || (call == 0 && length > 0) || !is_front(&sink, outcome, &whole, end) {
+            writeln!(out, "wrong where put {call} fails")?;
+            return Ok(());
+        }
+        if length == whole.bytes().len() {
+            out.push_str("right where each put fails\n")?;
+            return Ok(());
+        }
+        before = length;
+    }
+    Ok(())
+}
+
+// Whether a run wrote a front of a text, and ended as it should: with its own end after the whole text, and else with a write fault.
+fn is_front(sink: &SinkMem, outcome: Outcome, whole: &SinkMem, end: Outcome) -> bool {
+    let bytes = sink.bytes();
+    let text = whole.bytes();
+    let wanted = match bytes.len() == text.len() {
+        true => end,
+        false => Outcome::WriteFault,
+    };
+    text.starts_with(bytes) && outcome == wanted
+}
