@@ -1,0 +1,153 @@
+//! Lines of proofs by clauses: which lines a checker takes, and the first fault of each other line.
+
+ghost use Rattle.clauses.specs.Checking.{IsChecking};
+
+use crate::unfit::Unfit;
+use crate::writing::{asked_of, put_taken};
+use clauses::laws::{start_is_checking, taken_line_keeps_checking};
+use clauses::{
+    AssumeFault, Basis, Claim, ClauseChecker, CloseFault, EventFall, FallLineFault, KnowFault,
+    Literal, LoopFault, WalkStep,
+};
+use event_graph::Network;
+use itv_base::EventId;
+use settle::StoredLine;
+use settle_lines::read_clause_line;
+use std::alloc::Global;
+use std::fmt::Write;
+
+/// Gives lines to a checker of the claim of the first row, as in `claim 0 3 740`, and writes in the end whether the lines are a proof.
+pub fn clauses(alloc: Global, net: &Network, rows: &str, out: &mut String) -> Result<(), Unfit> {
+    start_is_checking();
+    let (claim, rows) = rows.split_once('\n').ok_or(Unfit)?;
+    let asked = asked_of(claim)?;
+    let claim = Claim {
+        value: i64::try_from(asked.most)?,
+    };
+    if net.events() <= asked.from.0 || net.events() <= asked.to.0 {
+        return Err(Unfit);
+    }
+    let mut checker = ClauseChecker::new(alloc, net, asked.from, asked.to, claim)?;
+    take_each(alloc, net, &mut checker, rows, out)?;
+    Ok(write!(out, "{}\n", checker.is_over(net))?)
+}
+
+fn take_each(
+    alloc: Global,
+    net: &Network,
+    checker: &mut ClauseChecker,
+    rows: &str,
+    out: &mut String,
+) -> Result<(), Unfit>
+    requires checking { IsChecking net.now checker.old }
+    ensures checking { IsChecking net.now checker.new }
+{
+    for row in rows.lines() {
+        let line = read_clause_line(alloc, row.as_bytes())?;
+        take(alloc, net, checker, &line, out)?;
+    }
+    Ok(())
+}
+
+fn take(
+    alloc: Global,
+    net: &Network,
+    checker: &mut ClauseChecker,
+    line: &StoredLine,
+    out: &mut String,
+) -> Result<(), Unfit>
+    requires checking { IsChecking net.now checker.old }
+    ensures checking { IsChecking net.now checker.new }
+{
+    match line {
+        StoredLine::Fall(fall) if fall.event.0 < net.events() => {
+            put_taken(take_fall(net, checker, *fall), out)?
+        }
+        StoredLine::Fall(_) => return Err(Unfit),
+        StoredLine::Know(literal, basis) => {
+            put_taken(take_know(net, checker, *literal, *basis), out)?
+        }
+        StoredLine::Loop(event, steps) => {
+            put_taken(keep_loop(alloc, net, checker, *event, steps), out)?
+        }
+        StoredLine::Assume(literals) => put_taken(assume(alloc, net, checker, literals), out)?,
+        StoredLine::Close => put_taken(close(alloc, net, checker), out)?,
+    }
+    Ok(())
+}
+
+fn take_fall(
+    net: &Network,
+    checker: &mut ClauseChecker,
+    fall: EventFall,
+) -> Result<(), FallLineFault>
+    requires checking { IsChecking net.now checker.old }
+    requires event { fall.event.0 < net.now.events }
+    ensures checking { IsChecking net.now checker.new }
+{
+    taken_line_keeps_checking();
+    match checker.take_fall(net, fall) {
+        Ok(()) => Ok(()),
+        Err(fault) => Err(fault),
+    }
+}
+
+fn take_know(
+    net: &Network,
+    checker: &mut ClauseChecker,
+    literal: Literal,
+    basis: Basis,
+) -> Result<(), KnowFault>
+    requires checking { IsChecking net.now checker.old }
+    ensures checking { IsChecking net.now checker.new }
+{
+    taken_line_keeps_checking();
+    match checker.take_know(net, literal, basis) {
+        Ok(()) => Ok(()),
+        Err(fault) => Err(fault),
+    }
+}
+
+fn keep_loop(
+    alloc: Global,
+    net: &Network,
+    checker: &mut ClauseChecker,
+    event: EventId,
+    steps: &[WalkStep],
+) -> Result<(), LoopFault>
+    requires checking { IsChecking net.now checker.old }
+    ensures checking { IsChecking net.now checker.new }
+{
+    taken_line_keeps_checking();
+    match checker.keep_loop(alloc, net, event, steps) {
+        Ok(()) => Ok(()),
+        Err(fault) => Err(fault),
+    }
+}
+
+fn assume(
+    alloc: Global,
+    net: &Network,
+    checker: &mut ClauseChecker,
+    literals: &[Literal],
+) -> Result<(), AssumeFault>
+    requires checking { IsChecking net.now checker.old }
+    ensures checking { IsChecking net.now checker.new }
+{
+    taken_line_keeps_checking();
+    match checker.assume(alloc, net, literals) {
+        Ok(()) => Ok(()),
+        Err(fault) => Err(fault),
+    }
+}
+
+fn close(alloc: Global, net: &Network, checker: &mut ClauseChecker) -> Result<(), CloseFault>
+    requires checking { IsChecking net.now checker.old }
+    ensures checking { IsChecking net.now checker.new }
+{
+    taken_line_keeps_checking();
+    match checker.close(alloc, net) {
+        Ok(()) => Ok(()),
+        Err(fault) => Err(fault),
+    }
+}
