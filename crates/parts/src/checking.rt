@@ -49,6 +49,6 @@ fn bound_of(row: &str) -> Result<Goal, Unfit> {
     Ok(Goal::Bound {
         from: asked.from,
         to: asked.to,
-        value: i64::try_from(asked.most)?,
+        value: asked.number,
     })
 }

@@ -22,7 +22,7 @@ pub fn clauses(alloc: Global, net: &Network, rows: &str, out: &mut String) -> Re
     let (claim, rows) = rows.split_once('\n').ok_or(Unfit)?;
     let asked = asked_of(claim)?;
     let claim = Claim {
-        value: i64::try_from(asked.most)?,
+        value: asked.number,
     };
     if net.events() <= asked.from.0 || net.events() <= asked.to.0 {
         return Err(Unfit);

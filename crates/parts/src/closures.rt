@@ -49,8 +49,8 @@ pub fn matrix(alloc: Global, net: &Network, out: &mut String) -> Result<(), Unfi
     for from in 0..count {
         out.push_str("\n")?;
         for to in 0..count {
-            put_end(matrix.at(EventId(from), EventId(to)), out)?;
             out.push_str(" ")?;
+            put_end(matrix.at(EventId(from), EventId(to)), out)?;
         }
     }
     Ok(())

@@ -38,43 +38,44 @@ fn texts_of(alloc: Global, row: &str) -> Result<Texts, Unfit> {
     Ok(texts)
 }
 
-// Writes the job, the design, the budget and what else the job needs. A job without a design or without a budget has none of it.
+// Writes the job, its design and its other file, its budget, and whether it writes proofs, as far as the job has them.
 fn put_task(task: Task<'_>, out: &mut String) -> Result<(), AllocError> {
-    let (job, design, budget, other) = match task {
+    let (job, design, budget, cert) = match task {
         Task::Matrix { design } => return write!(out, "matrix {design}"),
         Task::Check { design, report } => return write!(out, "check {design} {report}"),
         Task::Confirm { design, report } => return write!(out, "confirm {design} {report}"),
         Task::Generated { size, budget } => return write!(out, "self {size} {budget}"),
-        Task::Bounds {
-            design,
-            budget,
-            cert,
-        } => ("bounds", design, budget, flag(cert)),
-        Task::Fall {
-            design,
-            budget,
-            cert,
-        } => ("fall", design, budget, flag(cert)),
-        Task::Settle {
-            design,
-            budget,
-            cert,
-        } => ("settle", design, budget, flag(cert)),
-        Task::Redraw { design, budget } => ("redraw", design, budget, ""),
-        Task::Why { design, budget } => ("why", design, budget, ""),
-        Task::Brief { design, budget } => ("brief", design, budget, ""),
-        Task::Lint { design, budget } => ("lint", design, budget, ""),
         Task::Whatif {
             design,
             edits,
             budget,
-        } => ("whatif", design, budget, edits),
+        } => return write!(out, "whatif {design} {edits} {budget}"),
+        Task::Bounds {
+            design,
+            budget,
+            cert,
+        } => ("bounds", design, budget, Some(cert)),
+        Task::Fall {
+            design,
+            budget,
+            cert,
+        } => ("fall", design, budget, Some(cert)),
+        Task::Settle {
+            design,
+            budget,
+            cert,
+        } => ("settle", design, budget, Some(cert)),
+        Task::Redraw { design, budget } => ("redraw", design, budget, None),
+        Task::Why { design, budget } => ("why", design, budget, None),
+        Task::Brief { design, budget } => ("brief", design, budget, None),
+        Task::Lint { design, budget } => ("lint", design, budget, None),
     };
-    write!(out, "{job} {design} {budget} {other}")
-}
-
-fn flag(is_set: bool) -> &'static str {
-    if is_set { "true" } else { "false" }
+    write!(out, "{job} {design} {budget}")?;
+    out.push_str(match cert {
+        Some(true) => " true",
+        Some(false) => " false",
+        None => "",
+    })
 }
 
 /// Writes the front of a file of the generated design of a size, for a row as in `1 bus.json 80`, or the fault of the size.

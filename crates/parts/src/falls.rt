@@ -30,8 +30,9 @@ pub fn fall(alloc: Global, net: &Network, row: &str, out: &mut String) -> Result
     if net.events() <= asked.from.0 || net.events() <= asked.to.0 {
         return Err(Unfit);
     }
+    let turns = u64::try_from(asked.number)?;
     let mut falling = Falling::new(alloc, net, View::of(net)?)?;
-    let fallen = falling.greatest(net, asked.from, asked.to, asked.most, &mut QuietFall)?;
+    let fallen = falling.greatest(net, asked.from, asked.to, turns, &mut QuietFall)?;
     match asked.word {
         "answer" => put_fallen(fallen, out)?,
         "times" => put_numbers(falling.times(), out)?,

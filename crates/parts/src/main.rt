@@ -141,6 +141,7 @@ fn answer_row(
         "verdict" => verdicts::verdict(row, out),
         "raise" => verdicts::raise(row, out),
         "lanes" => closures::lanes(alloc, row, out),
+        "no memory" => networks::no_memory(out),
         _ => answer_over(alloc, &network(alloc, subject, out)?, verb, row, out),
     }
 }

@@ -2,7 +2,7 @@
 
 use crate::unfit::Unfit;
 use crate::writing::range_of;
-use event_graph::{Cause, Network};
+use event_graph::{Cause, Network, PushFault};
 use itv_base::{EventId, MAX_EVENTS};
 use line_words::short_in;
 use std::alloc::Global;
@@ -85,4 +85,9 @@ fn add(
         write!(out, "{fault}\n")?;
     }
     Ok(())
+}
+
+/// Writes the text of the fault that a constraint finds no memory, which no row brings about.
+pub fn no_memory(out: &mut String) -> Result<(), Unfit> {
+    Ok(write!(out, "{}", PushFault::NoMemory)?)
 }

@@ -6,7 +6,7 @@ ghost use Rattle.event_graph.specs.Proof.{Split};
 ghost use Rattle.certificate.specs.Text.{proof_text};
 
 use crate::unfit::Unfit;
-use crate::writing::{bytes_of, put_bytes};
+use crate::writing::{bytes_of, put_bytes, put_taken};
 use certificate::{LineFault, SinkScribe, TreeScribe, read_line, write_line};
 use event_graph::{Line, Scribe, ScribeFailed};
 use itv_base::{Sink, SinkMem};
@@ -83,7 +83,7 @@ pub fn lent(alloc: Global, rows: &str, out: &mut String) -> Result<(), Unfit> {
     let mut sink = SinkMem::new(alloc, 8)?;
     for row in rows.lines() {
         let split = split_into(short_in(row).ok_or(Unfit)?, &mut buffer, &mut sink);
-        out.push_str(if split.is_ok() { "written: " } else { "cut: " })?;
+        put_taken(split, out)?;
         put_bytes(sink.bytes(), out)?;
     }
     Ok(())

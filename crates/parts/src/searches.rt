@@ -36,8 +36,9 @@ fn search_pair(
         word,
         from,
         to,
-        most,
+        number,
     } = asked;
+    let most = u64::try_from(number)?;
     if net.events() <= from.0 || net.events() <= to.0 || most == 0 {
         return Err(Unfit);
     }
@@ -82,7 +83,7 @@ fn put_answer(answer: GreatestAnswer, out: &mut String) -> Result<(), AllocError
 fn put_splits(kept: &TreeScribe, out: &mut String) -> Result<(), AllocError> {
     for k in 0..kept.len() {
         if let Line::Split(constraint) = kept.line(k) {
-            write!(out, "{constraint} ")?;
+            write!(out, " {constraint}")?;
         }
     }
     Ok(())
@@ -94,8 +95,9 @@ pub fn settle(alloc: Global, net: &Network, row: &str, out: &mut String) -> Resu
     if net.events() <= asked.from.0 || net.events() <= asked.to.0 {
         return Err(Unfit);
     }
+    let turns = u64::try_from(asked.number)?;
     let settler = Settler::new(alloc, net)?;
-    let found = settler.greatest(alloc, net, asked.from, asked.to, asked.most)?;
+    let found = settler.greatest(alloc, net, asked.from, asked.to, turns)?;
     match found.answer {
         Settled::Closed(value) => write!(out, "closed {value}")?,
         Settled::Unbounded => out.push_str("unbounded")?,

@@ -5,7 +5,7 @@ ghost use Rattle.event_graph.specs.Times.{IsTime};
 
 use crate::unfit::Unfit;
 use itv_base::{EventId, Range};
-use line_words::{open_in, short_in};
+use line_words::{long_in, open_in, short_in};
 use std::alloc::{AllocError, Global};
 use std::fmt::{Display, Write};
 
@@ -15,7 +15,7 @@ pub struct Asked<'a> {
     pub word: &'a str,
     pub from: EventId,
     pub to: EventId,
-    pub most: u64,
+    pub number: i64,
 }
 
 /// Reads a row as in `answer 0 2 100`.
@@ -25,7 +25,7 @@ pub fn asked_of(row: &str) -> Result<Asked<'_>, Unfit> {
         word: words.next().ok_or(Unfit)?,
         from: EventId(words.next().and_then(short_in).ok_or(Unfit)?),
         to: EventId(words.next().and_then(short_in).ok_or(Unfit)?),
-        most: words.next().ok_or(Unfit)?.parse::<u64>()?,
+        number: words.next().and_then(long_in).ok_or(Unfit)?,
     })
 }
 
@@ -62,7 +62,7 @@ pub fn are_times(values: &[i64]) -> bool
     values.iter().all(|&value| -limit < value && value < limit)
 }
 
-/// The bytes of a text. A line end is written `\n`, a carriage return `\r`, and the byte 255, which is in no text, `\x`.
+/// The bytes of a text. A line end is written `\n`, a carriage return `\r`, a space `\s`, and the byte 255, which is in no text, `\x`.
 pub fn bytes_of(alloc: Global, text: &str) -> Result<Vec<u8>, Unfit> {
     let mut bytes = Vec::new(alloc);
     let mut is_escape = false;
@@ -70,6 +70,7 @@ pub fn bytes_of(alloc: Global, text: &str) -> Result<Vec<u8>, Unfit> {
         let meant = match (is_escape, byte) {
             (true, b'n') => b'\n',
             (true, b'r') => b'\r',
+            (true, b's') => b' ',
             (true, b'x') => 255,
             _ => byte,
         };
