@@ -16,8 +16,8 @@ use std::fmt::Write;
 /// Writes the greatest separations from the event of the first row, or `loop` if no times meet the always-edges. Each other row is an edge that is
 /// chosen, as in `path 1.0u`, or takes the last choice `back`, and the separations are written again. Where no times meet a choice, it is not made.
 pub fn levels(alloc: Global, net: &Network, rows: &str, out: &mut String) -> Result<(), Unfit> {
-    let (from, rows) = rows.split_once('\n').ok_or(Unfit)?;
-    let from = short_in(from).ok_or(Unfit)?;
+    let (from, rows) = rows.split_once('\n').ok_or(())?;
+    let from = short_in(from).ok_or(())?;
     if net.events() <= from {
         return Err(Unfit);
     }
@@ -55,7 +55,7 @@ fn step(
 
 fn edge_of(alloc: Global, row: &str) -> Result<EdgeName, Unfit> {
     match read_line(alloc, row.as_bytes())?.line() {
-        Line::Path(edges) => edges.first().copied().ok_or(Unfit),
+        Line::Path(edges) => edges.first().copied().ok_or(()),
         _ => Err(Unfit),
     }
 }
@@ -108,7 +108,7 @@ fn put_uppers(net: &Network, bounds: &Bounds, out: &mut String) -> Result<(), Al
 /// Writes the greatest separation of event 0 from the event of the row, the step from it to that of event 1, and how many events are reached by
 /// as many such steps as their number says.
 pub fn along(alloc: Global, net: &Network, row: &str, out: &mut String) -> Result<(), Unfit> {
-    let from = short_in(row).ok_or(Unfit)?;
+    let from = short_in(row).ok_or(())?;
     if net.events() <= from || net.events() < 2 {
         return Err(Unfit);
     }

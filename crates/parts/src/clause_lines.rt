@@ -19,7 +19,7 @@ use std::fmt::Write;
 /// Gives lines to a checker of the claim of the first row, as in `claim 0 3 740`, and writes in the end whether the lines are a proof.
 pub fn clauses(alloc: Global, net: &Network, rows: &str, out: &mut String) -> Result<(), Unfit> {
     start_is_checking();
-    let (claim, rows) = rows.split_once('\n').ok_or(Unfit)?;
+    let (claim, rows) = rows.split_once('\n').ok_or(())?;
     let asked = asked_of(claim)?;
     let claim = Claim {
         value: asked.number,

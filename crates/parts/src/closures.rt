@@ -14,7 +14,7 @@ use std::fmt::Write;
 /// Writes a row that is improved by another row less 20, once one by one and once by lanes. The two rows have a bar between them, and a star is an
 /// absent entry.
 pub fn lanes(alloc: Global, row: &str, out: &mut String) -> Result<(), Unfit> {
-    let (entries, others) = row.split_once('|').ok_or(Unfit)?;
+    let (entries, others) = row.split_once('|').ok_or(())?;
     let others = numbers_of(alloc, others)?;
     let mut plain = numbers_of(alloc, entries)?;
     let mut lanes = numbers_of(alloc, entries)?;

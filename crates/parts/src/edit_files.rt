@@ -9,7 +9,7 @@ use std::fmt::Write;
 
 /// Writes the edits of a file, or its fault. The row has a number and a text: the file has this text so many times.
 pub fn edits(alloc: Global, net: &Network, row: &str, out: &mut String) -> Result<(), Unfit> {
-    let (count, text) = row.split_once(' ').ok_or(Unfit)?;
+    let (count, text) = row.split_once(' ').ok_or(())?;
     let text = bytes_of(alloc, text)?;
     let mut bytes = Vec::new(alloc);
     for _ in 0..count.parse::<u32>()? {

@@ -11,10 +11,10 @@ use std::alloc::Global;
 
 /// Writes the chain from an event to another at some times, or that there is none, for a row as in `1 2 -100 0 600`.
 pub fn chain(alloc: Global, net: &Network, row: &str, out: &mut String) -> Result<(), Unfit> {
-    let (from, row) = row.split_once(' ').ok_or(Unfit)?;
-    let (to, row) = row.split_once(' ').ok_or(Unfit)?;
-    let from = short_in(from).ok_or(Unfit)?;
-    let to = short_in(to).ok_or(Unfit)?;
+    let (from, row) = row.split_once(' ').ok_or(())?;
+    let (to, row) = row.split_once(' ').ok_or(())?;
+    let from = short_in(from).ok_or(())?;
+    let to = short_in(to).ok_or(())?;
     let times = numbers_of(alloc, row)?;
     if net.events() <= from || net.events() <= to || times.len() != net.events() as usize {
         return Err(Unfit);

@@ -108,7 +108,7 @@ fn put_value(
 ) -> Result<(), Unfit>
     requires begun { IsBegun net.now checker.now }
 {
-    let event = short_in(event).ok_or(Unfit)?;
+    let event = short_in(event).ok_or(())?;
     if net.events() <= event {
         return Err(Unfit);
     }

@@ -85,7 +85,7 @@ fn put_text(text: Option<&str>, out: &mut String) -> Result<(), AllocError> {
 
 /// Writes a label to a sink with this room, for a row as in `12 @lin [0,250]`: what the sink has then, and whether the label is whole.
 pub fn written(alloc: Global, row: &str, out: &mut String) -> Result<(), Unfit> {
-    let (room, text) = row.split_once(' ').ok_or(Unfit)?;
+    let (room, text) = row.split_once(' ').ok_or(())?;
     let mut sink = SinkMem::new(alloc, room.parse::<u32>()?)?;
     let Ok(label) = read_label(text) else {
         return Err(Unfit);

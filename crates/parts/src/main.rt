@@ -58,7 +58,7 @@ fn answer_case(alloc: Global, case: &str, out: &mut String) -> Result<(), Unfit>
     out.push_str("\n")?;
     let subject = lines_of(alloc, body, true)?;
     let rows = lines_of(alloc, body, false)?;
-    if answer(alloc, verb, subject.as_str(), rows.as_str(), out).is_err() {
+    if let Err(Unfit) = answer(alloc, verb, subject.as_str(), rows.as_str(), out) {
         out.push_str("unfit\n")?;
     }
     Ok(())
@@ -107,7 +107,7 @@ fn answer_each(
     out: &mut String,
 ) -> Result<(), Unfit> {
     for row in rows.lines() {
-        if answer_row(alloc, verb, subject, row, out).is_err() {
+        if let Err(Unfit) = answer_row(alloc, verb, subject, row, out) {
             out.push_str("unfit")?;
         }
         out.push_str("\n")?;

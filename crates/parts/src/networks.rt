@@ -11,16 +11,13 @@ use std::fmt::Write;
 /// The network of a subject. Its first line is as in `events 3`. Each other line is a constraint, or `chain LOW:HIGH`, by which each event comes
 /// in this range after the event before it. Where there is no room for a constraint, the fault is written.
 pub fn network(alloc: Global, subject: &str, out: &mut String) -> Result<Network, Unfit> {
-    let (head, rules) = subject.split_once('\n').ok_or(Unfit)?;
-    let events = head
-        .strip_prefix("events ")
-        .and_then(short_in)
-        .ok_or(Unfit)?;
+    let (head, constraints) = subject.split_once('\n').ok_or(())?;
+    let events = head.strip_prefix("events ").and_then(short_in).ok_or(())?;
     let mut net = Network::new(alloc, events.min(MAX_EVENTS))?;
-    for rule in rules.lines() {
-        match rule.strip_prefix("chain ") {
+    for line in constraints.lines() {
+        match line.strip_prefix("chain ") {
             Some(ends) => push_chain(alloc, &mut net, ends, out)?,
-            None => push_rule(alloc, &mut net, rule, out)?,
+            None => push_constraint(alloc, &mut net, line, out)?,
         }
     }
     Ok(net)
@@ -37,10 +34,15 @@ fn push_chain(alloc: Global, net: &mut Network, ends: &str, out: &mut String) ->
 }
 
 // Adds a constraint as in `late 2 0:500:700 1:200:*`: its kind, its target, and its causes with their ranges. `late*3` adds it three times.
-fn push_rule(alloc: Global, net: &mut Network, rule: &str, out: &mut String) -> Result<(), Unfit> {
-    let mut words = rule.split(' ');
-    let kind = words.next().ok_or(Unfit)?;
-    let target = words.next().and_then(short_in).ok_or(Unfit)?;
+fn push_constraint(
+    alloc: Global,
+    net: &mut Network,
+    line: &str,
+    out: &mut String,
+) -> Result<(), Unfit> {
+    let mut words = line.split(' ');
+    let kind = words.next().ok_or(())?;
+    let target = words.next().and_then(short_in).ok_or(())?;
     let mut causes = Vec::new(alloc);
     for word in words {
         causes.push(cause_of(word)?)?;
@@ -54,9 +56,9 @@ fn push_rule(alloc: Global, net: &mut Network, rule: &str, out: &mut String) -> 
 
 // A cause with its range, as in `0:500:700`.
 fn cause_of(word: &str) -> Result<Cause, Unfit> {
-    let (event, ends) = word.split_once(':').ok_or(Unfit)?;
+    let (event, ends) = word.split_once(':').ok_or(())?;
     Ok(Cause {
-        event: EventId(short_in(event).ok_or(Unfit)?),
+        event: EventId(short_in(event).ok_or(())?),
         range: range_of(ends)?,
     })
 }

@@ -31,7 +31,7 @@ pub fn put_line(alloc: Global, line: &Line<'_>, out: &mut String) -> Result<(), 
 
 /// Writes the lines of the subject by a scribe whose buffer has this room.
 pub fn scribe(alloc: Global, subject: &str, row: &str, out: &mut String) -> Result<(), Unfit> {
-    let mut buffer = LineBuffer::new(alloc, short_in(row).ok_or(Unfit)?)?;
+    let mut buffer = LineBuffer::new(alloc, short_in(row).ok_or(())?)?;
     let mut sink = SinkMem::new(alloc, 200)?;
     for line in subject.lines() {
         let scribe = &mut SinkScribe {
@@ -82,7 +82,7 @@ pub fn lent(alloc: Global, rows: &str, out: &mut String) -> Result<(), Unfit> {
     let mut buffer = LineBuffer::new(alloc, 100)?;
     let mut sink = SinkMem::new(alloc, 8)?;
     for row in rows.lines() {
-        let split = split_into(short_in(row).ok_or(Unfit)?, &mut buffer, &mut sink);
+        let split = split_into(short_in(row).ok_or(())?, &mut buffer, &mut sink);
         put_taken(split, out)?;
         put_bytes(sink.bytes(), out)?;
     }

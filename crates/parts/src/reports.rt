@@ -12,7 +12,7 @@ use std::fmt::Write;
 /// read: `again ROOM` the text, written by a buffer with this room; `puts ROOM` the same by sinks whose second put fails; `line N TEXT` the text
 /// with another line in place of line N; `front N` its first N bytes; `more TEXT` the text with this text after it; `text TEXT` this text alone.
 pub fn report(alloc: Global, subject: &str, row: &str, out: &mut String) -> Result<(), Unfit> {
-    let (what, rest) = row.split_once(' ').ok_or(Unfit)?;
+    let (what, rest) = row.split_once(' ').ok_or(())?;
     let text = subject.as_bytes();
     match what {
         "again" => again(alloc, text, rest.parse::<u32>()?, false, out),
@@ -25,7 +25,7 @@ pub fn report(alloc: Global, subject: &str, row: &str, out: &mut String) -> Resu
             out,
         ),
         "front" => {
-            let front = text.get(..rest.parse::<usize>()?).ok_or(Unfit)?;
+            let front = text.get(..rest.parse::<usize>()?).ok_or(())?;
             again(alloc, front, LINE_ROOM, false, out)
         }
         "more" => again(
@@ -41,7 +41,7 @@ pub fn report(alloc: Global, subject: &str, row: &str, out: &mut String) -> Resu
 
 // A text with another line in place of the line with a number, counted from 1.
 fn with_line(alloc: Global, text: &str, row: &str) -> Result<Vec<u8>, Unfit> {
-    let (number, line) = row.split_once(' ').ok_or(Unfit)?;
+    let (number, line) = row.split_once(' ').ok_or(())?;
     let number = number.parse::<usize>()?;
     let mut whole = Vec::new(alloc);
     for (k, old) in text.lines().enumerate() {

@@ -5,7 +5,7 @@ ghost use Rattle.branch.specs.Work.{IsMadeFor};
 
 use crate::proof_lines::put_tree;
 use crate::unfit::Unfit;
-use crate::writing::{Asked, asked_of, put_end};
+use crate::writing::{PairQuestion, asked_of, put_end};
 use branch::{GreatestAnswer, SearchFinding, Work, find, greatest};
 use certificate::TreeScribe;
 use event_graph::{Line, Network};
@@ -27,12 +27,12 @@ fn search_pair(
     net: &Network,
     work: &mut Work,
     kept: &mut TreeScribe,
-    asked: Asked<'_>,
+    asked: PairQuestion<'_>,
     out: &mut String,
 ) -> Result<(), Unfit>
     requires made { IsMadeFor net.now work.old }
 {
-    let Asked {
+    let PairQuestion {
         word,
         from,
         to,

@@ -1,13 +1,10 @@
 //! Rows that cannot be answered.
 
-use std::fmt::Debug;
-
-/// The row has not the form that its verb wants, or memory was wanted and not found. It has no `Debug`, so that each fault that has it
-/// becomes an `Unfit` by `?`.
-#[derive(Drop)]
+/// The row has not the form that its verb wants, or memory was wanted and not found. It is not `Drop`, so each fault that is becomes an `Unfit`
+/// by `?`, and no `Unfit` is passed over.
 pub struct Unfit;
 
-impl<E: Debug + Drop> From<E> for Unfit {
+impl<E: Drop> From<E> for Unfit {
     fn from(_: E) -> Unfit {
         Unfit
     }

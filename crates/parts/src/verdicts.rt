@@ -12,9 +12,9 @@ use requirements::{BothBounds, Bound, Verdict, judge, raise_past, slack};
 /// Writes the verdict and the two slacks of a range, a least and a greatest bound, as in `0:250 0 250`.
 pub fn verdict(row: &str, out: &mut String) -> Result<(), Unfit> {
     let mut words = row.split(' ');
-    let range = range_of(words.next().ok_or(Unfit)?)?;
-    let least = bound_of(words.next().ok_or(Unfit)?)?;
-    let greatest = bound_of(words.next().ok_or(Unfit)?)?;
+    let range = range_of(words.next().ok_or(())?)?;
+    let least = bound_of(words.next().ok_or(())?)?;
+    let greatest = bound_of(words.next().ok_or(())?)?;
     if !has_times(least) || !has_times(greatest) {
         return Err(Unfit);
     }
@@ -35,11 +35,11 @@ pub fn verdict(row: &str, out: &mut String) -> Result<(), Unfit> {
 fn bound_of(word: &str) -> Result<Bound, Unfit> {
     match word.split_once(':') {
         Some((limit, attained)) => Ok(Bound::Within {
-            limit: open_in(limit).ok_or(Unfit)?,
-            attained: open_in(attained).ok_or(Unfit)?,
+            limit: open_in(limit).ok_or(())?,
+            attained: open_in(attained).ok_or(())?,
         }),
         None if word == "*" => Ok(Bound::Unbounded),
-        None => Ok(Bound::Closed(long_in(word).ok_or(Unfit)?)),
+        None => Ok(Bound::Closed(long_in(word).ok_or(())?)),
     }
 }
 
@@ -57,7 +57,7 @@ fn has_times(bound: Bound) -> bool
 
 /// Writes the times 0, 5, 7 and 0 after events 1 and 3 are raised, until event 1 comes past this limit after event 0.
 pub fn raise(row: &str, out: &mut String) -> Result<(), Unfit> {
-    let limit = long_in(row).ok_or(Unfit)?;
+    let limit = long_in(row).ok_or(())?;
     if !is_time(limit) {
         return Err(Unfit);
     }

@@ -11,13 +11,13 @@ pub fn kind(row: &str, out: &mut String) -> Result<(), Unfit> {
 
 /// Writes whether two kinds may be joined, for a row of two waves with their places as in `01 1, 10 1`.
 pub fn join(row: &str, out: &mut String) -> Result<(), Unfit> {
-    let (first, second) = row.split_once(", ").ok_or(Unfit)?;
+    let (first, second) = row.split_once(", ").ok_or(())?;
     let is_joined = may_join(kind_of(first)?, kind_of(second)?);
     Ok(out.push_str(if is_joined { "joined" } else { "apart" })?)
 }
 
 fn kind_of(text: &str) -> Result<MarkKind, Unfit> {
-    let (wave, place) = text.rsplit_once(' ').ok_or(Unfit)?;
+    let (wave, place) = text.rsplit_once(' ').ok_or(())?;
     Ok(kind_at(wave, place.parse::<u64>()?))
 }
 

@@ -11,7 +11,7 @@ use std::fmt::{Display, Write};
 
 /// What a row asks about a pair of events: a word for what to print, the pair, and a budget or another number.
 #[derive(Clone, Copy)]
-pub struct Asked<'a> {
+pub struct PairQuestion<'a> {
     pub word: &'a str,
     pub from: EventId,
     pub to: EventId,
@@ -19,21 +19,21 @@ pub struct Asked<'a> {
 }
 
 /// Reads a row as in `answer 0 2 100`.
-pub fn asked_of(row: &str) -> Result<Asked<'_>, Unfit> {
+pub fn asked_of(row: &str) -> Result<PairQuestion<'_>, Unfit> {
     let mut words = row.split(' ');
-    Ok(Asked {
-        word: words.next().ok_or(Unfit)?,
-        from: EventId(words.next().and_then(short_in).ok_or(Unfit)?),
-        to: EventId(words.next().and_then(short_in).ok_or(Unfit)?),
-        number: words.next().and_then(long_in).ok_or(Unfit)?,
+    Ok(PairQuestion {
+        word: words.next().ok_or(())?,
+        from: EventId(words.next().and_then(short_in).ok_or(())?),
+        to: EventId(words.next().and_then(short_in).ok_or(())?),
+        number: words.next().and_then(long_in).ok_or(())?,
     })
 }
 
 /// The range with two ends as in `-5:*`. A star is an open end.
 pub fn range_of(ends: &str) -> Result<Range, Unfit> {
-    let (low, high) = ends.split_once(':').ok_or(Unfit)?;
-    let low = open_in(low).ok_or(Unfit)?;
-    let high = open_in(high).ok_or(Unfit)?;
+    let (low, high) = ends.split_once(':').ok_or(())?;
+    let low = open_in(low).ok_or(())?;
+    let high = open_in(high).ok_or(())?;
     Ok(Range::new(low, high)?)
 }
 
@@ -41,7 +41,7 @@ pub fn range_of(ends: &str) -> Result<Range, Unfit> {
 pub fn numbers_of(alloc: Global, text: &str) -> Result<Vec<i64>, Unfit> {
     let mut numbers = Vec::new(alloc);
     for word in text.split_whitespace() {
-        numbers.push(open_in(word).ok_or(Unfit)?.unwrap_or(i64::MAX))?;
+        numbers.push(open_in(word).ok_or(())?.unwrap_or(i64::MAX))?;
     }
     Ok(numbers)
 }
