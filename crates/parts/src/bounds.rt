@@ -22,12 +22,25 @@ pub fn levels(alloc: Global, net: &Network, rows: &str, out: &mut String) -> Res
         return Err(Unfit);
     }
     let mut bounds = Bounds::new(alloc, net)?;
-    if let Fit::Loop = bounds.start(net, Some(EventId(from))) {
-        return Ok(out.push_str("loop\n")?);
+    match bounds.start(net, Some(EventId(from))) {
+        Fit::Loop => Ok(out.push_str("loop\n")?),
+        Fit::Fits => take_rows(alloc, net, &mut bounds, rows, out),
     }
-    put_uppers(net, &bounds, out)?;
+}
+
+fn take_rows(
+    alloc: Global,
+    net: &Network,
+    bounds: &mut Bounds,
+    rows: &str,
+    out: &mut String,
+) -> Result<(), Unfit>
+    requires stands { Stands net.now bounds.old }
+    requires source { IsSome bounds.old.source }
+{
+    put_uppers(net, bounds, out)?;
     for row in rows.lines() {
-        step(alloc, net, &mut bounds, row, out)?;
+        step(alloc, net, bounds, row, out)?;
     }
     Ok(())
 }
@@ -55,7 +68,7 @@ fn step(
 
 fn edge_of(alloc: Global, row: &str) -> Result<EdgeName, Unfit> {
     match read_line(alloc, row.as_bytes())?.line() {
-        Line::Path(edges) => edges.first().copied().ok_or(()),
+        Line::Path(edges) => Ok(edges.first().copied().ok_or(())?),
         _ => Err(Unfit),
     }
 }

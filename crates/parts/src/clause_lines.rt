@@ -3,7 +3,7 @@
 ghost use Rattle.clauses.specs.Checking.{IsChecking};
 
 use crate::unfit::Unfit;
-use crate::writing::{asked_of, put_taken};
+use crate::writing::put_taken;
 use clauses::laws::{start_is_checking, taken_line_keeps_checking};
 use clauses::{
     AssumeFault, Basis, Claim, ClauseChecker, CloseFault, EventFall, FallLineFault, KnowFault,
@@ -11,23 +11,23 @@ use clauses::{
 };
 use event_graph::Network;
 use itv_base::EventId;
+use line_words::long_in;
 use settle::StoredLine;
 use settle_lines::read_clause_line;
 use std::alloc::Global;
 use std::fmt::Write;
 
-/// Gives lines to a checker of the claim of the first row, as in `claim 0 3 740`, and writes in the end whether the lines are a proof.
+/// Gives lines to a checker of the claim of the first row, as in `claim 740`: how far event 3 comes after event 0 at most. Writes in the end whether
+/// the lines are a proof.
 pub fn clauses(alloc: Global, net: &Network, rows: &str, out: &mut String) -> Result<(), Unfit> {
     start_is_checking();
     let (claim, rows) = rows.split_once('\n').ok_or(())?;
-    let asked = asked_of(claim)?;
-    let claim = Claim {
-        value: asked.number,
-    };
-    if net.events() <= asked.from.0 || net.events() <= asked.to.0 {
+    let value = claim.strip_prefix("claim ").and_then(long_in).ok_or(())?;
+    if net.events() <= 3 {
         return Err(Unfit);
     }
-    let mut checker = ClauseChecker::new(alloc, net, asked.from, asked.to, claim)?;
+    let claim = Claim { value };
+    let mut checker = ClauseChecker::new(alloc, net, EventId(0), EventId(3), claim)?;
     take_each(alloc, net, &mut checker, rows, out)?;
     Ok(write!(out, "{}\n", checker.is_over(net))?)
 }

@@ -33,14 +33,22 @@ pub fn fall(alloc: Global, net: &Network, row: &str, out: &mut String) -> Result
     let turns = u64::try_from(asked.number)?;
     let mut falling = Falling::new(alloc, net, View::of(net)?)?;
     let fallen = falling.greatest(net, asked.from, asked.to, turns, &mut QuietFall)?;
-    match asked.word {
-        "answer" => put_fallen(fallen, out)?,
-        "times" => put_numbers(falling.times(), out)?,
-        "ray" => put_flags(falling.ray(), out)?,
-        "turns" => write!(out, "{}", falling.turns())?,
-        _ => write!(out, "{}", falling.enough())?,
+    Ok(put_asked(asked.word, &falling, fallen, out)?)
+}
+
+fn put_asked(
+    word: &str,
+    falling: &Falling,
+    fallen: Fallen,
+    out: &mut String,
+) -> Result<(), AllocError> {
+    match word {
+        "answer" => put_fallen(fallen, out),
+        "times" => put_numbers(falling.times(), out),
+        "ray" => put_flags(falling.ray(), out),
+        "turns" => write!(out, "{}", falling.turns()),
+        _ => write!(out, "{}", falling.enough()),
     }
-    Ok(())
 }
 
 fn put_fallen(fallen: Fallen, out: &mut String) -> Result<(), AllocError> {

@@ -98,11 +98,14 @@ pub fn settle(alloc: Global, net: &Network, row: &str, out: &mut String) -> Resu
     let turns = u64::try_from(asked.number)?;
     let settler = Settler::new(alloc, net)?;
     let found = settler.greatest(alloc, net, asked.from, asked.to, turns)?;
-    match found.answer {
-        Settled::Closed(value) => write!(out, "closed {value}")?,
-        Settled::Unbounded => out.push_str("unbounded")?,
-        Settled::Inconsistent => out.push_str("inconsistent")?,
-        Settled::Spent => out.push_str("spent")?,
+    Ok(put_settled(found.answer, out)?)
+}
+
+fn put_settled(answer: Settled, out: &mut String) -> Result<(), AllocError> {
+    match answer {
+        Settled::Closed(value) => write!(out, "closed {value}"),
+        Settled::Unbounded => out.push_str("unbounded"),
+        Settled::Inconsistent => out.push_str("inconsistent"),
+        Settled::Spent => out.push_str("spent"),
     }
-    Ok(())
 }
