@@ -1,6 +1,6 @@
 //! Greatest separations along always-edges and chosen edges.
 
-ghost use Rattle.std.specs.Prelude.{IsSome};
+ghost use Rattle.std.specs.Prelude.{◌≤◌, IsSome};
 ghost use Rattle.diff_bounds.specs.Standing.{Stands};
 
 use crate::unfit::Unfit;
@@ -126,9 +126,18 @@ pub fn along(alloc: Global, net: &Network, row: &str, out: &mut String) -> Resul
         return Err(Unfit);
     }
     let mut bounds = Bounds::new(alloc, net)?;
-    if let Fit::Loop = bounds.start(net, Some(EventId(from))) {
-        return Ok(out.push_str("loop")?);
+    match bounds.start(net, Some(EventId(from))) {
+        Fit::Loop => out.push_str("loop")?,
+        Fit::Fits => put_even(net, &bounds, out)?,
     }
+    Ok(())
+}
+
+fn put_even(net: &Network, bounds: &Bounds, out: &mut String) -> Result<(), AllocError>
+    requires events { 2 ≤ net.now.events }
+    requires stands { Stands net.now bounds.now }
+    requires source { IsSome bounds.now.source }
+{
     let first = bounds.upper(EventId(0)).unwrap_or(0);
     let step = bounds.upper(EventId(1)).unwrap_or(0).wrapping_sub(first);
     let mut count = 0u32;
@@ -138,5 +147,5 @@ pub fn along(alloc: Global, net: &Network, row: &str, out: &mut String) -> Resul
             count = count.saturating_add(1);
         }
     }
-    Ok(write!(out, "{first}, by steps of {step} to {count} events")?)
+    write!(out, "{first}, by steps of {step} to {count} events")
 }

@@ -2,8 +2,8 @@
 
 ghost use Rattle.clauses.specs.Checking.{IsChecking};
 
+use crate::clause_faults::{put_assumed, put_closed, put_fall, put_known, put_loop};
 use crate::unfit::Unfit;
-use crate::writing::put_taken;
 use clauses::laws::{start_is_checking, taken_line_keeps_checking};
 use clauses::{
     AssumeFault, Basis, Claim, ClauseChecker, CloseFault, EventFall, FallLineFault, KnowFault,
@@ -61,17 +61,17 @@ fn take(
 {
     match line {
         StoredLine::Fall(fall) if fall.event.0 < net.events() => {
-            put_taken(take_fall(net, checker, *fall), out)?
+            put_fall(take_fall(net, checker, *fall), out)?
         }
         StoredLine::Fall(_) => return Err(Unfit),
         StoredLine::Know(literal, basis) => {
-            put_taken(take_know(net, checker, *literal, *basis), out)?
+            put_known(take_know(net, checker, *literal, *basis), out)?
         }
         StoredLine::Loop(event, steps) => {
-            put_taken(keep_loop(alloc, net, checker, *event, steps), out)?
+            put_loop(keep_loop(alloc, net, checker, *event, steps), out)?
         }
-        StoredLine::Assume(literals) => put_taken(assume(alloc, net, checker, literals), out)?,
-        StoredLine::Close => put_taken(close(alloc, net, checker), out)?,
+        StoredLine::Assume(literals) => put_assumed(assume(alloc, net, checker, literals), out)?,
+        StoredLine::Close => put_closed(close(alloc, net, checker), out)?,
     }
     Ok(())
 }

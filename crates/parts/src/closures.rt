@@ -34,8 +34,14 @@ pub fn lanes(alloc: Global, row: &str, out: &mut String) -> Result<(), Unfit> {
 fn are_entries(values: &[i64]) -> bool
     ensures { IsTrue result → All IsEntry values.now }
 {
+    values.iter().all(|&value| is_entry(value))
+}
+
+fn is_entry(value: i64) -> bool
+    ensures { IsTrue result → IsEntry value }
+{
     let limit: i64 = 1 << 61;
-    values.iter().all(|&value| value == ABSENT || (-limit < value && value < limit))
+    value == ABSENT || (-limit < value && value < limit)
 }
 
 /// Writes the closure of a network, a line for each of the first eight events, or its fault.

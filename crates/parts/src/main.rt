@@ -5,6 +5,7 @@
 
 mod bounds;
 mod checking;
+mod clause_faults;
 mod clause_lines;
 mod closures;
 mod commands;
