@@ -1,0 +1,11 @@
+//! Rows that cannot be answered.
+
+/// The row has not the form that its verb wants, or memory was wanted and not found. It is not `Drop`, so each fault that is becomes an `Unfit`
+/// by `?`, and no `Unfit` is passed over.
+pub struct Unfit;
+
+impl<E: Drop> From<E> for Unfit {
+    fn from(_: E) -> Unfit {
+        Unfit
+    }
+}
