@@ -5,7 +5,7 @@ import re
 
 import kit as kits
 
-PAGE_TOOLS = ("heap.c", "pack-page", "web")
+PAGE_TOOLS = ("pack-page", "web", "web-heap.c")
 
 
 def lines_of(top, names):
