@@ -5,6 +5,8 @@ import re
 
 import kit as kits
 
+PAGE_TOOLS = ("pack-page", "web", "web-heap.c")
+
 
 def lines_of(top, names):
     """The lines of crates.txt of these crates, in order."""
@@ -35,8 +37,8 @@ def sum_of(top, name, folders=kits.FOLDERS):
 
 
 def sum_of_page(top):
-    """The sum of what the page is made of: the crate `web` and all below it, the folder page/, the designs of examples/, and the tool."""
-    files = [*(top / "page").rglob("*"), *(top / "examples").rglob("*.json"), *(top / "tools/dev").glob("web*")]
+    """The sum of what the page is made of: the crate `web` and all below it, the folder page/, the designs of examples/, and the tools."""
+    files = [*(top / "page").rglob("*"), *(top / "examples").rglob("*.json"), *(top / "tools/dev" / name for name in PAGE_TOOLS)]
     total = hashlib.sha256(f"{sum_of(top, 'web')}\n".encode())
     for path in sorted(files):
         if path.is_file():
@@ -62,10 +64,10 @@ def text_of(values):
 def put_program(data_of, folder, values):
     """Puts a program into a folder, with what it was made of beside it; at each moment the program there is whole and is what SOURCES says."""
     folder.mkdir(parents=True, exist_ok=True)
-    new = folder / "itv.new"
-    new.write_bytes(data_of.read_bytes())
-    new.chmod(0o755)
+    program, text = (folder / f"{name}.{os.getpid()}" for name in ("itv", "SOURCES"))
+    program.write_bytes(data_of.read_bytes())
+    program.chmod(0o755)
+    text.write_text(text_of(values))
     (folder / "SOURCES").unlink(missing_ok=True)
-    new.replace(folder / "itv")
-    (folder / "SOURCES.new").write_text(text_of(values))
-    (folder / "SOURCES.new").replace(folder / "SOURCES")
+    program.replace(folder / "itv")
+    text.replace(folder / "SOURCES")
