@@ -8,7 +8,7 @@ use Rattle.itv_cli.specs.Run.{call_of}
 use Rattle.itv_cli.specs.Status.{code_of}
 use Rattle.web.specs.declared.TheConstants.{UNFIT, NO_ROOM}
 use Rattle.web.specs.Given.{Given, IsFit, files_in, words_in}
-use Rattle.web.specs.Answered.{Answered, RunWrote, IsRun, run_on, usable, shelf_with, empty_sink}
+use Rattle.web.specs.Answered.{Answered, RunWrote, ClausesHold, run_on, usable, shelf_with, empty_sink}
 use Rattle.web.specs.Answered.Answered.{ran, unfit, no_room}
 use Rattle.web.proofs.Cutting.{shelf_of}
 
@@ -19,13 +19,13 @@ not_below n lt = absurd (lt_irrefl n lt)
 -- where memory is missing before a run, the call answers like a run that ends for want of memory
 without : (given : Given) (out : List ℕ) → IsFit given → Answered given (code_of NoMemory) 0 out
 without given out fit =
-    let run : IsRun (run_on given (shelf_with (files_in given)) empty_sink) NoMemory = record {
+    let run : ClausesHold (run_on given (shelf_with (files_in given)) empty_sink) NoMemory = record {
       means = record { sink = refl; shelf = refl };
       completes = λ asked is no_fault. inl refl;
       refuses_words = λ no_fault. (λ is. inl refl, λ is. inl refl);
       shows_faults = (λ lt. not_below 0 lt, λ lt. not_below 0 lt);
     } in
-    ran fit NoMemory (record { shelf = shelf_with (files_in given); sink = empty_sink; wrote = refl; is_run = run }) (omega arith) refl
+    ran fit NoMemory (record { shelf = shelf_with (files_in given); sink = empty_sink; wrote = refl; clauses = run }) (omega arith) refl
 
 pub without_memory : (given : Given) (status wrote : ℕ) (out : List ℕ) → IsFit given → status ≡ code_of NoMemory → wrote ≡ 0 → Answered given status wrote out
 without_memory given status wrote out fit is_status is_wrote =
@@ -36,17 +36,17 @@ without_memory given status wrote out fit is_status is_wrote =
 -- what a run says, at the words and the states that a page gives it
 run_of : (given : Given) (words : List (List ℕ)) (shelf shelf' : MemShelf) (room : ℕ) (sink sink' : MemSink) (outcome : Outcome)
     → words ≡ words_in given → shelf ≡ shelf_of (files_in given) → sink ≡ record { bytes = []; room = room; failing = None; calls = 0; faults = 0 }
-    → IsRun (call_of words (shelf_state shelf) (shelf_state shelf') (sink_state sink) (sink_state sink')) outcome → RunWrote given outcome sink'.bytes
+    → ClausesHold (call_of words (shelf_state shelf) (shelf_state shelf') (sink_state sink) (sink_state sink')) outcome → RunWrote given outcome sink'.bytes
 run_of given words shelf shelf' room sink sink' outcome is_words is_shelf is_sink run =
-    let Words : List (List ℕ) → Type 0 = λ w. IsRun (call_of w (shelf_state shelf) (shelf_state shelf') (sink_state sink) (sink_state sink')) outcome in
-    let Shelf : MemShelf → Type 0 = λ s. IsRun (call_of (words_in given) (shelf_state s) (shelf_state shelf') (sink_state sink) (sink_state sink')) outcome in
-    let Sink : MemSink → Type 0 = λ s. IsRun (call_of (words_in given) (shelf_with (files_in given)) (shelf_state shelf') (sink_state s) (sink_state sink')) outcome in
-    record { shelf = shelf_state shelf'; sink = sink_state sink'; wrote = refl; is_run = subst Sink is_sink (subst Shelf is_shelf (subst Words is_words run)) }
+    let Words : List (List ℕ) → Type 0 = λ w. ClausesHold (call_of w (shelf_state shelf) (shelf_state shelf') (sink_state sink) (sink_state sink')) outcome in
+    let Shelf : MemShelf → Type 0 = λ s. ClausesHold (call_of (words_in given) (shelf_state s) (shelf_state shelf') (sink_state sink) (sink_state sink')) outcome in
+    let Sink : MemSink → Type 0 = λ s. ClausesHold (call_of (words_in given) (shelf_with (files_in given)) (shelf_state shelf') (sink_state s) (sink_state sink')) outcome in
+    record { shelf = shelf_state shelf'; sink = sink_state sink'; wrote = refl; clauses = subst Sink is_sink (subst Shelf is_shelf (subst Words is_words run)) }
 
 -- after a run, what it wrote is handed over if there is room for it
 pub after_run : (given : Given) (words : List (List ℕ)) (shelf shelf' : MemShelf) (room : ℕ) (sink sink' : MemSink) (outcome : Outcome) (text out out' : List ℕ) (status wrote : ℕ)
     → IsFit given → words ≡ words_in given → shelf ≡ shelf_of (files_in given) → sink ≡ record { bytes = []; room = room; failing = None; calls = 0; faults = 0 }
-    → IsRun (call_of words (shelf_state shelf) (shelf_state shelf') (sink_state sink) (sink_state sink')) outcome
+    → ClausesHold (call_of words (shelf_state shelf) (shelf_state shelf') (sink_state sink) (sink_state sink')) outcome
     → text ≡ sink'.bytes → length out' ≡ length out
     → (length text ≤ usable out → (status ≡ code_of outcome) × (wrote ≡ length text) × (take wrote out' ≡ text))
     → (usable out < length text → (status ≡ NO_ROOM) × (wrote ≡ 0))

@@ -20,7 +20,7 @@ abbrev pub run_on : Given → ShelfState → SinkState → Call
 run_on given shelf sink = call_of (words_in given) (shelf_with (files_in given)) shelf empty_sink sink
 
 -- all that the clauses of a run say of it
-pub record IsRun (call : Call) (outcome : Outcome) : Type 0 where
+pub record ClausesHold (call : Call) (outcome : Outcome) : Type 0 where
   pub means : OutcomeMeans call outcome
   pub completes : Completes call outcome
   pub refuses_words : RefusesWords call outcome
@@ -31,7 +31,7 @@ pub record RunWrote (given : Given) (outcome : Outcome) (text : List ℕ) : Type
   pub shelf : ShelfState
   pub sink : SinkState
   pub wrote : sink.written ≡ Some text
-  pub is_run : IsRun (run_on given shelf sink) outcome
+  pub clauses : ClausesHold (run_on given shelf sink) outcome
 
 -- how many bytes a call may write into its room: all of it, and no more than a number of 32 bits counts
 abbrev pub usable : List ℕ → ℕ
