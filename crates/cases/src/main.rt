@@ -13,7 +13,7 @@ mod test_case;
 use crate::lines::take_line;
 use crate::test_case::TestCase;
 use itv_base::NoMemory;
-use std::io::{self, BufRead, BufReader, ErrorKind};
+use std::io::{self, ErrorKind};
 
 fn main(rt: HostRuntime) -> io::Result<()> {
     match TestCase::new(rt.alloc()) {
@@ -26,7 +26,7 @@ fn main(rt: HostRuntime) -> io::Result<()> {
 fn take_lines(rt: &(impl Input + Print + AllocGlobal), case: &mut TestCase) -> io::Result<()> {
     let alloc = rt.alloc();
     let mut out = String::new(alloc);
-    for line in BufReader::new(alloc, rt.reader())?.lines(alloc) {
+    for line in rt.lines(alloc) {
         let line = line?;
         if let Err(NoMemory) = take_line(alloc, line.as_str(), case, &mut out) {
             return Err(io::Error::from(ErrorKind::OutOfMemory));
