@@ -1,0 +1,469 @@
+// The page at work: what a key, a button or a dropped file does.
+
+import { Analysis } from "./analysis.js";
+import { answerOf } from "./answer.js";
+import { Editor } from "./editor.js";
+import { Files, lastPart } from "./files.js";
+import { fillFigures, linkWith, pageWith, saveDiagram, stemOf, stillPage } from "./handing.js";
+import { drawingsOf, jobTabs, paneOf } from "./jobs.js";
+import { checksumOf, download } from "./packing.js";
+import { jobsOf } from "./printed.js";
+import { Ended } from "./runner.js";
+import { fillTabs } from "./tabs.js";
+import { escaped } from "./texts.js";
+
+// How long the page waits behind a key for the next one, and after how long it shows that it searches, in milliseconds.
+const WAIT = 20;
+const SHOWN_AFTER = 300;
+
+const NEW_SHEET = `{
+  "signal": [
+    { "name": "CLK",  "wave": "p.",  "node": ".c" },
+    { "name": "DATA", "wave": "x=",  "node": ".d" }
+  ],
+  "edge": [
+    "c~>d @lin [0,2000] tCO",
+    "c->d @ask"
+  ]
+}
+`;
+
+function byId(id) {
+  return document.getElementById(id);
+}
+
+export class App {
+  /** `parts` has the CodeMirror and JSON5 libraries, the runner, the examples, the licences, and the text of the page as it was loaded. */
+  constructor(parts) {
+    Object.assign(this, parts);
+    this.files = new Files(this.json5);
+    this.editor = new Editor(this.CodeMirror, byId("editor"), (name, text) => this.changeText(name, text));
+    this.current = "";
+    this.job = "bounds";
+    this.jobs = [];
+    this.analysis = null;
+    this.finished = 0;
+    this.listen();
+    this.fillExamples();
+  }
+
+  /** Learns the jobs of the program, and opens files. */
+  async start(packed) {
+    this.open(packed);
+    this.jobs = jobsOf((await this.runner.run(["--help"], {})).text);
+    this.showJobTabs();
+  }
+
+  // What is opened.
+
+  /** Takes files in the place of all others. */
+  open({ design, files }) {
+    this.files.replace(files, design);
+    this.editor.forget();
+    this.showFile(this.files.design);
+    this.begin();
+  }
+
+  fillExamples() {
+    for (const { name, title } of this.examples.designs) byId("examples").add(new Option(title ? `${lastPart(name)} – ${title}` : name, name));
+  }
+
+  openExample(name) {
+    const texts = this.examples.files;
+    const files = { [name]: texts[name] };
+    this.files.replace(files, name);
+    for (const sheet of this.files.missing()) if (texts[sheet]) files[sheet] = texts[sheet];
+    this.open({ design: name, files });
+  }
+
+  /** Takes files that were chosen or dropped. A page's own saved design is not read here. */
+  async take(list) {
+    const opened = [];
+    const texts = await Promise.all([...list].map(async (file) => [file.name, await file.text()]));
+    const inOrder = [...texts].sort((a, b) => /"?\bitv"?\s*:/.test(b[1]) - /"?\bitv"?\s*:/.test(a[1]));
+    const isFresh = !this.files.missing().some((name) => inOrder.some(([other]) => lastPart(other) === lastPart(name)));
+    if (isFresh && inOrder.length) this.files.replace({}, "");
+    for (const [name, text] of inOrder) opened.push(this.files.put(name, text));
+    for (const name of opened) this.editor.forget(name);
+    if (opened.length) this.showFile(isFresh ? this.files.design : opened[0]);
+    this.begin();
+  }
+
+  // The files.
+
+  /** Shows a file in the editor. */
+  showFile(name) {
+    this.current = name;
+    const file = this.files.find(name);
+    if (file) this.editor.show(name, file.text);
+    this.showFileTabs();
+    this.showMarks();
+    this.showDrawings();
+  }
+
+  showFileTabs() {
+    const items = this.files.list.map(({ name, changed }) => {
+      const isDesign = name === this.files.design;
+      return { id: name, label: `${isDesign ? "▶ " : ""}${lastPart(name)}${changed ? " •" : ""}`, hint: isDesign ? `${name}: this is verified` : name };
+    });
+    const missing = this.files.missing().map((name) => ({ id: name, label: `+ ${lastPart(name)}`, kind: "missing", hint: `${name} is not here: begin it` }));
+    fillTabs(byId("file-tabs"), [...items, ...missing], this.current, (name) => (this.files.find(name) ? this.showFile(name) : this.beginSheet(name)));
+    byId("as-design").disabled = this.current === this.files.design;
+  }
+
+  beginSheet(name) {
+    this.files.put(name, NEW_SHEET);
+    this.showFile(name);
+    this.begin();
+  }
+
+  changeText(name, text) {
+    const file = this.files.find(name);
+    if (!file || file.text === text) return;
+    file.text = text;
+    if (!file.changed) {
+      file.changed = true;
+      this.showFileTabs();
+    }
+    clearTimeout(this.timer);
+    byId("job").classList.add("stale");
+    byId("sentence").classList.add("stale");
+    this.timer = setTimeout(() => this.begin(), WAIT);
+  }
+
+  // The answer.
+
+  /** Ends what is searched for, and looks at the files as they are now. */
+  async begin() {
+    clearTimeout(this.timer);
+    this.runner.end();
+    const analysis = new Analysis(this.runner, this.files);
+    this.pending = analysis;
+    this.showProgress();
+    try {
+      await analysis.findReport();
+      this.showSentence(analysis);
+      if (analysis.report) await analysis.findMore();
+      if (analysis.report && analysis.report.isOpen) await analysis.settle();
+      await this.runShownJob(analysis);
+    } catch (error) {
+      if (!(error instanceof Ended)) throw error;
+      if (this.pending === analysis) this.showStopped();
+      return;
+    }
+    this.show(analysis);
+  }
+
+  /** Runs the job whose tab is shown, where a key alone doesn't. */
+  async runShownJob(analysis) {
+    const tab = jobTabs(analysis, this.jobs).find(({ id }) => id === this.job);
+    if (tab && (this.job !== "settle" || analysis.report.isOpen)) await analysis.run(this.job);
+  }
+
+  show(analysis) {
+    this.analysis = analysis;
+    this.finished++;
+    this.hideProgress();
+    this.showSentence(analysis);
+    this.showJobTabs();
+    this.showJob();
+    this.showFileTabs();
+    this.showMarks();
+    this.showDrawings();
+    this.showIdentity(analysis);
+  }
+
+  showSentence(analysis) {
+    const sentence = byId("sentence");
+    const { refusal } = analysis;
+    const settled = analysis.settled ? ' <small class="remark">(settled by job settle)</small>' : "";
+    const { kind, says } = refusal
+      ? { kind: "fail", says: `✗ ${escaped(lastPart(analysis.refusedName))}: ${escaped(refusal.says)}` }
+      : answerOf(analysis.report, analysis.entries, analysis.unit);
+    const isNoted = kind === "pass" && analysis.warnings.length;
+    sentence.className = isNoted ? "undecided" : kind;
+    const html = `${says}${settled}`;
+    if (sentence.dataset.html !== html) sentence.innerHTML = html;
+    sentence.dataset.html = html;
+  }
+
+  /** Says that the search was ended. */
+  showStopped() {
+    this.hideProgress();
+    const sentence = byId("sentence");
+    sentence.className = "undecided";
+    sentence.textContent = "? You ended the search before it had an answer.";
+    delete sentence.dataset.html;
+    this.finished++;
+  }
+
+  showProgress() {
+    clearInterval(this.clock);
+    const began = performance.now();
+    byId("progress").hidden = true;
+    this.clock = setInterval(() => {
+      byId("progress").hidden = false;
+      byId("elapsed").textContent = `searching for ${Math.round((performance.now() - began) / 1000)} s`;
+    }, SHOWN_AFTER);
+  }
+
+  hideProgress() {
+    clearInterval(this.clock);
+    byId("progress").hidden = true;
+    for (const id of ["job", "sentence"]) byId(id).classList.remove("stale");
+  }
+
+  showJobTabs() {
+    if (!this.analysis) return;
+    const tabs = jobTabs(this.analysis, this.jobs);
+    if (!tabs.some(({ id }) => id === this.job)) this.job = "bounds";
+    fillTabs(byId("job-tabs"), tabs, this.job, (id) => this.chooseJob(id));
+  }
+
+  /** Shows the tab of a job, which is run now where it was not. */
+  async chooseJob(job) {
+    this.job = job;
+    const { analysis } = this;
+    this.showJobTabs();
+    if (job !== "settle") await this.runJob(analysis, job);
+    if (this.analysis === analysis) this.showJob();
+  }
+
+  async runJob(analysis, job) {
+    this.showProgress();
+    try {
+      await analysis.run(job);
+    } catch (error) {
+      if (!(error instanceof Ended)) throw error;
+    }
+    this.hideProgress();
+  }
+
+  showJob() {
+    const pane = byId("job");
+    const open = new Set([...pane.querySelectorAll("details[id][open]")].map(({ id }) => id));
+    pane.innerHTML = this.analysis.refusal && this.job === "bounds" ? this.refusalPane() : paneOf(this.analysis, this.job);
+    for (const id of open) if (byId(id)) byId(id).open = true;
+    fillFigures(this.analysis, pane);
+  }
+
+  refusalPane() {
+    const { refusal } = this.analysis;
+    const link = refusal.line ? `<p><code>${escaped(refusal.line)}</code></p>` : "";
+    return `<p><a href="#" id="to-fault">${escaped(refusal.says)}</a></p>${link}${paneOf({ ...this.analysis, report: null }, "none")}`;
+  }
+
+  /** Puts the marks of the answer into the text that is shown. */
+  showMarks() {
+    const { analysis } = this;
+    const read = this.files.find(this.current) && this.files.readOf(this.current);
+    if (!analysis || !read) return;
+    if (analysis.refusal) {
+      const { start, end, says, line } = analysis.refusal;
+      this.editor.setMarks(analysis.refusedName === this.current ? [{ start, end, kind: "fail", says, below: line || " " }] : []);
+      return;
+    }
+    this.editor.setMarks(read.value ? [...this.verdictMarks(read), ...this.warningMarks(read)] : []);
+  }
+
+  /** The marks of the verdicts at the edges of a file. */
+  verdictMarks(read) {
+    const says = { pass: "this requirement passes", fail: "this requirement fails", undecided: "this requirement is undecided", contradicts: "this rule is one of those that contradict each other" };
+    return [...(this.analysis.verdicts().get(this.current) || [])]
+      .filter(([, word]) => says[word])
+      .map(([number, word]) => ({ ...this.edgePlace(read, number), kind: word === "contradicts" ? "fail" : word, says: says[word] }));
+  }
+
+  /** The marks of the warnings at the edges of a file. */
+  warningMarks(read) {
+    const { design, warnings } = this.analysis;
+    return warnings.flatMap((warning) =>
+      warning.edges
+        .filter(({ part }) => this.analysis.fileOf(part === null ? null : design.partNumber(part)) === this.current)
+        .map(({ number }) => ({ ...this.edgePlace(read, number), kind: "warning", says: warning.line })),
+    );
+  }
+
+  /** Where an edge stands in the text of a file. */
+  edgePlace(read, number) {
+    const { start, end } = read.value.at(Object.hasOwn(read.tree, "itv") ? "edges" : "edge", number);
+    return { start, end };
+  }
+
+  showDrawings() {
+    const verdicts = this.analysis && this.analysis.report ? this.analysis.verdicts() : new Map();
+    const treeOf = (name) => (this.files.find(name) ? this.files.readOf(name).tree : null);
+    const html = this.files.find(this.current) ? drawingsOf(this.current, treeOf, verdicts) : "";
+    // A text that is no JSON at this moment leaves the last drawing.
+    if (html || treeOf(this.current)) byId("drawings").innerHTML = html;
+  }
+
+  /** Says of what the page is: the files with their grades, their checksum, and the program. */
+  async showIdentity(analysis) {
+    this.identity = await identityOf(analysis, this.program);
+    byId("of").innerHTML = this.identity;
+    document.title = `${lastPart(analysis.name)} – itv`;
+  }
+
+  /** Goes to an edge of a file. */
+  goTo(name, number) {
+    const file = name || this.files.design;
+    if (!this.files.find(file)) return;
+    if (file !== this.current) this.showFile(file);
+    const read = this.files.readOf(file);
+    if (!read.value) return;
+    const { start, end } = this.edgePlace(read, number);
+    this.editor.reveal(start, end);
+  }
+
+  // Buttons.
+
+  listen() {
+    const on = (id, act) => byId(id).addEventListener("click", () => act());
+    on("new", () => this.open({ design: "sheet.json", files: { "sheet.json": NEW_SHEET } }));
+    on("open", () => byId("picker").click());
+    on("save", () => this.save());
+    on("link", () => this.copyLink());
+    on("save-page", () => download(`${stemOf(this.files.design)}.html`, pageWith(this.page, this.files.packed()), "text/html"));
+    on("save-still", () => this.saveStill());
+    on("stop", () => this.runner.end());
+    on("as-design", () => this.makeDesign());
+    on("rename", () => this.rename());
+    on("close", () => this.closeFile());
+    byId("picker").addEventListener("change", (event) => this.take(event.target.files).then(() => (event.target.value = "")));
+    byId("examples").addEventListener("change", (event) => event.target.value && this.openExample(event.target.value));
+    byId("job").addEventListener("toggle", () => this.analysis && fillFigures(this.analysis, byId("job")), true);
+    document.addEventListener("click", (event) => this.click(event));
+    this.listenToDrops();
+    window.addEventListener("beforeunload", (event) => this.files.list.some((file) => file.changed) && event.preventDefault());
+  }
+
+  listenToDrops() {
+    document.addEventListener("dragover", (event) => {
+      event.preventDefault();
+      document.body.classList.add("dropping");
+    });
+    document.addEventListener("dragleave", (event) => event.relatedTarget || document.body.classList.remove("dropping"));
+    document.addEventListener(
+      "drop",
+      (event) => {
+        document.body.classList.remove("dropping");
+        if (!event.dataTransfer.files.length) return;
+        event.preventDefault();
+        event.stopPropagation();
+        this.take(event.dataTransfer.files);
+      },
+      true,
+    );
+  }
+
+  /** What a click on a part of the answer or of a drawing does. */
+  click(event) {
+    const edge = event.target.closest("[data-edge]");
+    const button = event.target.closest("button");
+    const row = event.target.closest('a[href^="#row-"]');
+    if (edge || event.target.closest("#to-fault")) event.preventDefault();
+    if (edge) this.goTo(edge.dataset.file, Number(edge.dataset.edge));
+    else if (event.target.closest("#to-fault")) this.goToFault();
+    else if (row) this.openRow(row.getAttribute("href").slice(1));
+    else if (button && button.classList.contains("save-diagram")) saveDiagram(button.closest("figure").querySelector("svg"), stemOf(this.files.design));
+    else if (button && button.classList.contains("save-raw")) this.saveRaw();
+    else if (button && button.classList.contains("open-redraw")) this.openRedraw();
+    else if (button && button.classList.contains("run-job")) this.runJob(this.analysis, this.job).then(() => this.showJob());
+    if (!event.target.closest(".menu") || button) for (const menu of document.querySelectorAll(".menu[open]")) menu.open = false;
+  }
+
+  openRow(id) {
+    const row = byId(id);
+    if (row) row.open = true;
+  }
+
+  goToFault() {
+    const { refusal, refusedName } = this.analysis;
+    if (this.files.find(refusedName)) this.showFile(refusedName);
+    this.editor.reveal(refusal.start, refusal.end);
+  }
+
+  saveRaw() {
+    download(`${stemOf(this.files.design)}.${this.job}`, this.analysis.texts.get(this.job).text, "text/plain");
+  }
+
+  openRedraw() {
+    const name = this.files.put(`${stemOf(this.files.design)}-redraw.json`, this.analysis.texts.get("redraw").text);
+    this.files.design = name;
+    this.showFile(name);
+    this.begin();
+  }
+
+  save() {
+    const file = this.files.find(this.current);
+    if (!file) return;
+    download(lastPart(file.name), file.saved, "application/json");
+    file.changed = false;
+    this.showFileTabs();
+  }
+
+  async copyLink() {
+    const link = await linkWith(this.files.packed());
+    try {
+      await navigator.clipboard.writeText(link);
+      this.say("the link is copied");
+    } catch {
+      location.hash = link.slice(link.indexOf("#"));
+      this.say("the link stands in the address line");
+    }
+  }
+
+  saveStill() {
+    if (!this.analysis || !this.analysis.report) {
+      this.say("there is no answer to save");
+      return;
+    }
+    download(`${stemOf(this.files.design)}-still.html`, stillPage(this.analysis, this.identity || ""), "text/html");
+  }
+
+  makeDesign() {
+    this.files.design = this.current;
+    this.showFileTabs();
+    this.begin();
+  }
+
+  rename() {
+    const name = prompt("the name of the file", this.current);
+    if (name === null || name === this.current) return;
+    const before = this.current;
+    if (!this.files.rename(before, name)) {
+      this.say("this name is taken or empty");
+      return;
+    }
+    this.editor.rename(before, name);
+    this.showFile(name);
+    this.begin();
+  }
+
+  closeFile() {
+    this.files.remove(this.current);
+    this.editor.forget(this.current);
+    if (!this.files.list.length) this.files.put("sheet.json", NEW_SHEET);
+    this.showFile(this.files.design);
+    this.begin();
+  }
+
+  /** Says something for a moment beside the buttons. */
+  say(text) {
+    byId("note").textContent = text;
+    setTimeout(() => (byId("note").textContent = ""), 4000);
+  }
+}
+
+/** What a page is of: the files with the grades of their parts, their checksum, and the program. */
+async function identityOf(analysis, program) {
+  const grades = new Map();
+  for (const { name, file, grade } of analysis.design ? analysis.design.parts : []) {
+    if (file !== null) grades.set(file, [...(grades.get(file) || []), grade ? `${name}, grade ${grade}` : name]);
+  }
+  const names = [...new Set(analysis.reads.filter((read) => read).map((read) => read.name))];
+  const list = names.map((name) => `<b>${escaped(name)}</b>${grades.has(name) ? ` (${escaped(grades.get(name).join("; "))})` : ""}`).join(", ");
+  const sum = await checksumOf(analysis.reads.filter((read) => read).map((read) => read.text));
+  return `${list}${sum ? ` · SHA-256 of the files ${sum}` : ""} · program ${escaped(program)}`;
+}

@@ -1,0 +1,91 @@
+// Unpacks what the page holds, and starts it.
+
+import { App } from "./app.js";
+import { fromBase64, fromLink, gunzipped } from "./packing.js";
+import { Runner } from "./runner.js";
+import { escaped } from "./texts.js";
+
+const FIRST = "examples/cpu-sram-fast.json";
+
+/** The text of the page as it was loaded. It is taken before the page changes itself. */
+function textOfPage() {
+  return `<!DOCTYPE html>\n${document.documentElement.outerHTML}\n`;
+}
+
+/** The bytes that an element holds in gzip and base64. */
+function unpacked(id) {
+  return gunzipped(fromBase64(document.getElementById(id).textContent));
+}
+
+/** Runs the script of a library, which is a module of node where `exports` are wanted of it. */
+function libraryOf(source, require = null) {
+  const module = { exports: {} };
+  new Function("module", "exports", "require", source)(module, module.exports, require);
+  return module.exports;
+}
+
+/** The JSON5 library, whose files name each other. */
+function json5Of(sources) {
+  const kept = {};
+  const load = (name) => (kept[name] = kept[name] || libraryOf(sources[`${name}.js`], (path) => load(path.replace(/^\.\//, ""))));
+  return { parse: load("parse") };
+}
+
+/** The CodeMirror library with its addons, which are scripts that find it as a global name. */
+function codeMirrorOf(sources) {
+  for (const source of sources) new Function(source).call(window);
+  return window.CodeMirror;
+}
+
+/** What a browser gets to read that can't run the program. */
+function sayUnfit(error) {
+  const sentence = document.getElementById("sentence");
+  sentence.className = "fail";
+  sentence.textContent =
+    "✗ This browser can't run the program: it wants WebAssembly with 64-bit memory, as Chromium has it from version 133 and Firefox from version 134 on.";
+  document.getElementById("of").textContent = String(error);
+}
+
+/** The files that the page opens with: those of the address, or those that it was saved with, or the first example. */
+async function firstFiles(examples) {
+  const linked = /^#design=(.+)$/.exec(location.hash);
+  const packed = linked && (await fromLink(linked[1]));
+  if (packed && packed.files) return packed;
+  const saved = JSON.parse(document.getElementById("saved").textContent);
+  if (saved) return saved;
+  const sheets = JSON.parse(examples.files[FIRST]).parts.map((part) => part.sheet);
+  return { design: FIRST, files: Object.fromEntries([FIRST, ...new Set(sheets)].map((name) => [name, examples.files[name]])) };
+}
+
+async function start() {
+  const page = textOfPage();
+  const [bytes, packed] = await Promise.all([unpacked("wasm"), unpacked("packed")]);
+  const { codemirror, json5, examples, licences } = JSON.parse(new TextDecoder().decode(packed));
+  let module;
+  try {
+    module = await WebAssembly.compile(bytes);
+  } catch (error) {
+    sayUnfit(error);
+    return;
+  }
+  const runner = new Runner(document.getElementById("worker").textContent, module);
+  const program = document.querySelector('meta[name="itv-program"]').content;
+  document.getElementById("about").innerHTML = aboutOf(program, licences);
+  const app = new App({ CodeMirror: codeMirrorOf(codemirror), json5: json5Of(json5), examples, runner, page, program });
+  // For tests, and for whoever wants to run a job by hand in the browser's console.
+  window.itv = app;
+  window.addEventListener("hashchange", async () => /^#design=/.test(location.hash) && app.open(await firstFiles(examples)));
+  await app.start(await firstFiles(examples));
+}
+
+/** What stands under "about this page". */
+function aboutOf(program, licences) {
+  const texts = Object.entries(licences).map(([name, text]) => `<details><summary>${escaped(name)}</summary><pre>${text.split("\n").map(escaped).join("\n")}</pre></details>`);
+  return (
+    `<p>The program is itv, an interface timing verifier for timing diagrams, compiled to WebAssembly: ${escaped(program)}. It runs in this page alone, and nothing ` +
+    "leaves the page. The answers are those of the program; the drawing and the words around them are the page's own.</p>" +
+    `<p>Keys in the editor: Ctrl-F searches, Ctrl-Z takes back, Ctrl-] and Ctrl-[ move lines; Tab leads on to the next part of the page.</p>${texts.join("")}`
+  );
+}
+
+start();
