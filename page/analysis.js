@@ -6,7 +6,7 @@ import { Matrix, Report, Why, warningsOf } from "./printed.js";
 import { refusalOf } from "./refusals.js";
 
 // The cases that each search may close behind a key. Where they do not suffice job settle goes on.
-export const BUDGET = 2000;
+export const BUDGET = 200;
 const MOST_EVENTS_OF_A_MATRIX = 1024;
 
 /** The words of a job on a design. */

@@ -63,6 +63,7 @@ export class Entry {
   get mainBound() {
     const [low, high] = this.row.slack;
     if (this.row.side) return this.row.side === "low" ? "min" : "max";
+    if (this.row.verdict === "undecided") return this.row.bounds.max.isOpen ? "max" : "min";
     if (this.row.kind === "ask") return "max";
     if (high === null) return low === null && this.row.low === null ? "max" : "min";
     return low === null || high < low ? "max" : "min";
@@ -91,7 +92,8 @@ export function entriesOf(design, report) {
 /** The unit of a page: by the greatest number that its rows show. */
 export function unitOf(report) {
   const numbers = report.rows.flatMap((row) => [row.low, row.high, ...row.slack, ...Object.values(row.bounds).map((bound) => bound.value)]);
-  return unitFor(Math.max(1000, ...numbers.filter((number) => number !== null).map(Math.abs)));
+  const known = numbers.filter((number) => number !== null).map(Math.abs);
+  return unitFor(known.length ? Math.max(...known) : 1000);
 }
 
 /** The name of an entry as a part of a page. */

@@ -58,6 +58,7 @@ export class App {
 
   /** Takes files in the place of all others. */
   open({ design, files }) {
+    delete byId("job").dataset.of;
     this.files.replace(files, design);
     this.editor.forget();
     this.showFile(this.files.design);
@@ -241,9 +242,12 @@ export class App {
 
   showJob() {
     const pane = byId("job");
-    const open = new Set([...pane.querySelectorAll("details[id][open]")].map(({ id }) => id));
+    // What was folded or opened by hand stays so while the same design is edited.
+    const isSame = pane.dataset.of === `${this.job} ${this.analysis.name}`;
+    const folds = isSame ? [...pane.querySelectorAll("details[id]")].map(({ id, open }) => [id, open]) : [];
+    pane.dataset.of = `${this.job} ${this.analysis.name}`;
     pane.innerHTML = this.analysis.refusal && this.job === "bounds" ? this.refusalPane() : paneOf(this.analysis, this.job);
-    for (const id of open) if (byId(id)) byId(id).open = true;
+    for (const [id, open] of folds) if (byId(id)) byId(id).open = open;
     fillFigures(this.analysis, pane);
   }
 

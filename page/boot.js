@@ -27,7 +27,7 @@ function libraryOf(source, require = null) {
 /** The JSON5 library, whose files name each other. */
 function json5Of(sources) {
   const kept = {};
-  const load = (name) => (kept[name] = kept[name] || libraryOf(sources[`${name}.js`], (path) => load(path.replace(/^\.\//, ""))));
+  const load = (name) => (kept[name] = kept[name] || libraryOf(sources[`${name}.js`], (path) => load(path.split("/").pop())));
   return { parse: load("parse") };
 }
 

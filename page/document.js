@@ -48,7 +48,7 @@ function originLink(design, origin, end) {
 
 /** The cell of a number. */
 function numberCell(text, kind = "") {
-  return `<td class="number ${kind}">${text.replace(/ (?=[a-z]+$)/, "&nbsp;")}</td>`;
+  return `<td class="number ${kind}">${text.replace(/ (?=(?:s|ms|us|ns|ps)\b)/g, "&nbsp;")}</td>`;
 }
 
 /** The cell of a bound: a number, or what is known in its place. */
@@ -71,7 +71,7 @@ function slackCell(entry, unit) {
 function lineOf(facts, entry) {
   const { row } = entry;
   const marks = [row.start, row.end].map((event) => `<span class="name">${escaped(facts.design.eventTitle(event))}</span>`).join(" to ");
-  const demanded = row.kind === "req" ? demandedText(row, facts.unit).replace(/ (?=[a-z]+\b)(?!to\b)/g, " ") : "a question";
+  const demanded = row.kind === "req" ? demandedText(row, facts.unit).replace(/ (?=(?:s|ms|us|ns|ps)\b)/g, "&nbsp;") : "a question";
   return (
     `<tr class="${row.verdict || "ask"}"><th scope="row"><a href="#row-${row.number}">${nameOf(entry)}</a></th><td class="marks">${marks}</td>` +
     `<td class="demand">${demanded}</td>${boundCell(row.bounds.min, facts.unit)}${boundCell(row.bounds.max, facts.unit)}` +

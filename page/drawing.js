@@ -5,7 +5,10 @@ import { Strip, WAVE } from "./strip.js";
 import { CHARACTER, escaped, fitted, room } from "./texts.js";
 import { EVEN_BRICKS, runsOf } from "./waves.js";
 
+// A brick is as wide as WaveDrom draws it, and wider where the sheet has few of them.
 const BRICK = 40;
+const WIDEST_BRICK = 96;
+const WANTED_WIDTH = 560;
 const LANE = 44;
 const TOP = 20;
 // The places along an arc where its label may stand, the best one first.
@@ -17,7 +20,8 @@ const LABEL_MOST = 34 * CHARACTER;
 export function drawingOf(sheet, file, verdictOf) {
   const grouped = sheet.lanes.some((lane) => lane.group);
   const gutter = Math.max(...sheet.lanes.map((lane) => room(lane.name)), 0) + 2 * PAD + (grouped ? 18 : 0);
-  const canvas = new Canvas(gutter, 0, sheet.bricks, gutter + sheet.bricks * BRICK + PAD);
+  const brick = Math.min(Math.max(WANTED_WIDTH / sheet.bricks, BRICK), WIDEST_BRICK);
+  const canvas = new Canvas(gutter, 0, sheet.bricks, gutter + sheet.bricks * brick + PAD);
   canvas.plain = true;
   const top = sheet.title ? TOP + 18 : TOP;
   const height = top + sheet.lanes.length * LANE + (sheet.foot ? 18 : 0);
@@ -81,10 +85,16 @@ function putMarks(canvas, lanes, top) {
   }
 }
 
+/** The two control points of a bent arc; undefined where its shape has none. An arc between marks that stand one below the other swings out. */
+function controlsOf(shape, dx, dy) {
+  if (shape.includes("~") && Math.abs(dx) < 1) return [BRICK, dy * 0.2, BRICK, dy * 0.8];
+  return { "~": [0.7 * dx, 0, 0.3 * dx, dy], "-~": [0.7 * dx, 0, dx, dy], "~-": [0, 0, 0.3 * dx, dy] }[shape];
+}
+
 /** The commands of a path from one mark to another by the shape of its edge, as WaveDrom bends it, and a place along it by a share of its length. */
 function bend(shape, [x, y], [toX, toY]) {
   const [dx, dy] = [toX - x, toY - y];
-  const control = { "~": [0.7 * dx, 0, 0.3 * dx, dy], "-~": [0.7 * dx, 0, dx, dy], "~-": [0, 0, 0.3 * dx, dy] }[shape];
+  const control = controlsOf(shape, dx, dy);
   if (control) {
     const [ax, ay, bx, by] = control;
     const at = (t) => [

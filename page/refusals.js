@@ -13,7 +13,7 @@ export function labelFault(label, version) {
   const kind = /^@([A-Za-z]*)/.exec(label)[1];
   if (!["lin", "late", "early", "req", "ask"].includes(kind)) return `there is no kind '${kind}': the kinds are lin, late, early, req and ask, in small letters`;
   const rest = label.slice(kind.length + 1);
-  const head = /^(?:\+(?:[1-9]|[1-5]\d|6[0-4]))?(?::\w+)?/.exec(rest)[0];
+  const head = /^(?:\+(?:[1-9]|[1-5]\d|6[0-4])(?!\d))?(?::\w+)?/.exec(rest)[0];
   const behind = rest.slice(head.length);
   if (behind.startsWith("+")) return "behind + a whole number from 1 to 64 is wanted";
   if (kind === "ask") return "behind @ask a space is wanted in front of a note";

@@ -3,6 +3,7 @@ they are missing."""
 import base64
 import json
 import os
+import select
 import shutil
 import socket
 import subprocess
@@ -10,6 +11,9 @@ import tempfile
 import time
 
 PACKAGES = {"chromium": ["chromium", "fonts-dejavu-core"], "firefox-esr": ["firefox-esr", "fonts-dejavu-core"]}
+
+# After how many seconds without an answer a browser counts as hung.
+SILENCE = 90
 
 
 class BrowserError(Exception):
@@ -44,12 +48,8 @@ class Chromium:
                                         pass_fds=(read_commands, write_answers))
         os.close(read_commands)
         os.close(write_answers)
-        self.number, self.rest, self.events, self.session = 0, b"", [], None
-        page = next(target for target in self.call("Target.getTargets")["targetInfos"] if target["type"] == "page")
-        self.session = self.call("Target.attachToTarget", targetId=page["targetId"], flatten=True)["sessionId"]
-        for domain in ("Page", "Runtime", "Log"):
-            self.call(f"{domain}.enable")
-        self.call("Browser.setDownloadBehavior", of_page=False, behavior="allow", downloadPath=self.downloads, eventsEnabled=True)
+        self.number, self.rest, self.events, self.session, self.target = 0, b"", [], None, None
+        self.call("Browser.setDownloadBehavior", behavior="allow", downloadPath=self.downloads, eventsEnabled=True)
 
     def close(self):
         self.process.terminate()
@@ -60,6 +60,8 @@ class Chromium:
 
     def read_message(self):
         while b"\0" not in self.rest:
+            if not select.select([self.answers], [], [], SILENCE)[0]:
+                raise BrowserError(f"Chromium said nothing for {SILENCE} s")
             piece = os.read(self.answers, 1 << 20)
             if not piece:
                 raise BrowserError("Chromium ended")
@@ -101,7 +103,15 @@ class Chromium:
         raise BrowserError(f"after {seconds} s there was no {script}")
 
     def open(self, address):
+        """Opens an address in a new page, and closes the page of before."""
+        before = self.target
+        self.target = self.call("Target.createTarget", of_page=False, url="about:blank")["targetId"]
+        self.session = self.call("Target.attachToTarget", of_page=False, targetId=self.target, flatten=True)["sessionId"]
+        if before:
+            self.call("Target.closeTarget", of_page=False, targetId=before)
         self.events.clear()
+        for domain in ("Page", "Runtime", "Log", "Network", "DOM"):
+            self.call(f"{domain}.enable")
         self.call("Page.navigate", url=address)
 
     def type(self, text):
