@@ -59,6 +59,7 @@ export class App {
   /** Takes files in the place of all others. */
   open({ design, files }) {
     delete byId("job").dataset.of;
+    byId("examples").value = this.examples.files[design] === files[design] ? design : "";
     this.files.replace(files, design);
     this.editor.forget();
     this.showFile(this.files.design);
@@ -252,9 +253,9 @@ export class App {
   }
 
   refusalPane() {
-    const { refusal } = this.analysis;
-    const link = refusal.line ? `<p><code>${escaped(refusal.line)}</code></p>` : "";
-    return `<p><a href="#" id="to-fault">${escaped(refusal.says)}</a></p>${link}${paneOf({ ...this.analysis, report: null }, "none")}`;
+    const { refusal, refusedName } = this.analysis;
+    const printed = refusal.line ? `<p>The program says: <code>${escaped(refusal.line)}</code></p>` : "";
+    return `<p><a href="#" id="to-fault">Go to the place in ${escaped(lastPart(refusedName))}</a></p>${printed}`;
   }
 
   /** Puts the marks of the answer into the text that is shown. */

@@ -190,7 +190,7 @@ export class Design {
   /** What draws a rule, in a few words. `end` is an event that the rule is about. */
   originTitle(origin, end) {
     const edge = this.edgeOf(origin, end);
-    if (edge) return edge.title || origin.note || origin.text;
+    if (edge) return edge.title || origin.note || (origin.kind === "edge" ? edge.text.split(" ")[0] : origin.text);
     if (origin.kind === "net" && this.nets[origin.number]) return this.nets[origin.number].name || origin.note || origin.text;
     if (origin.kind === "lane") return `order on ${this.laneTitle(this.partNumber(end.split(".")[0]), origin.number)}`;
     return origin.note || origin.text;

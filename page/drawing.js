@@ -11,8 +11,11 @@ const WIDEST_BRICK = 96;
 const WANTED_WIDTH = 560;
 const LANE = 44;
 const TOP = 20;
-// The places along an arc where its label may stand, the best one first.
-const LABEL_PLACES = [0.5, 0.4, 0.6, 0.3, 0.7, 0.2, 0.8];
+// The places along an arc where its label may stand, and how far beside it, the best ones first.
+const ALONG = [0.5, 0.4, 0.6, 0.3, 0.7, 0.2, 0.8];
+const LABEL_PLACES = [...ALONG.map((share) => [share, 0]), ...ALONG.flatMap((share) => [[share, -14], [share, 14]])];
+// How far the arcs between the same two marks swing out beside each other.
+const APART = 16;
 const LABEL_MOST = 34 * CHARACTER;
 
 /** The drawing of a sheet as an element of SVG. `verdictOf` gives for the number of an edge the word of its colour: `pass`, `fail`, `undecided`, `ask`,
@@ -46,9 +49,9 @@ function putLane(canvas, lane, bricks, y) {
   if (lane.wave) new Strip(canvas, y).draw(withoutTail(runsOf({ ...lane, wave: lane.wave }, bricks, 1, EVEN_BRICKS), lane.wave.length));
 }
 
-/** The runs that the wave itself draws: behind its last brick nothing stands. */
+/** The runs that the wave itself draws: in front of its first brick and behind its last one nothing stands. */
 function withoutTail({ runs, gaps }, length) {
-  const kept = runs.filter((run) => run.start === null || run.start < length);
+  const kept = runs.filter((run) => run.kind !== "none" && (run.start === null || run.start < length));
   return { runs: kept.map((run) => (run.end === null || run.end > length ? { ...run, end: length } : run)), gaps };
 }
 
@@ -85,16 +88,22 @@ function putMarks(canvas, lanes, top) {
   }
 }
 
-/** The two control points of a bent arc; undefined where its shape has none. An arc between marks that stand one below the other swings out. */
-function controlsOf(shape, dx, dy) {
-  if (shape.includes("~") && Math.abs(dx) < 1) return [BRICK, dy * 0.2, BRICK, dy * 0.8];
+/** The two control points of a bent arc; undefined where its shape has none. An arc between marks that stand one below the other swings out, and so does
+ * one beside others between the same marks. */
+function controlsOf(shape, dx, dy, beside) {
+  if (shape.includes("~") && Math.abs(dx) < 1) return [BRICK + beside, dy * 0.2, BRICK + beside, dy * 0.8];
+  if (beside && !shape.includes("|")) {
+    const length = Math.hypot(dx, dy) || 1;
+    const [outX, outY] = [(-dy / length) * beside, (dx / length) * beside];
+    return [0.3 * dx + outX, 0.3 * dy + outY, 0.7 * dx + outX, 0.7 * dy + outY];
+  }
   return { "~": [0.7 * dx, 0, 0.3 * dx, dy], "-~": [0.7 * dx, 0, dx, dy], "~-": [0, 0, 0.3 * dx, dy] }[shape];
 }
 
 /** The commands of a path from one mark to another by the shape of its edge, as WaveDrom bends it, and a place along it by a share of its length. */
-function bend(shape, [x, y], [toX, toY]) {
+function bend(shape, [x, y], [toX, toY], beside) {
   const [dx, dy] = [toX - x, toY - y];
-  const control = controlsOf(shape, dx, dy);
+  const control = controlsOf(shape, dx, dy, beside);
   if (control) {
     const [ax, ay, bx, by] = control;
     const at = (t) => [
@@ -116,16 +125,20 @@ function bend(shape, [x, y], [toX, toY]) {
 function putArcs(canvas, sheet, file, verdictOf, top) {
   const places = marksOf(canvas, sheet.lanes, top);
   const taken = [];
+  const counts = new Map();
   for (const edge of sheet.edges) {
     const [start, end] = [places.get(edge.start), places.get(edge.end)];
     if (!start || !end) continue;
-    const bent = bend(edge.shape.replace(/[<>]/g, ""), start, end);
+    const pair = [edge.start, edge.end].sort().join("");
+    const count = counts.get(pair) || 0;
+    counts.set(pair, count + 1);
+    const bent = bend(edge.shape.replace(/[<>]/g, ""), start, end, count * APART * (edge.start <= edge.end ? 1 : -1));
     const kind = edge.label.startsWith("@") ? verdictOf(edge.number) || "rule" : "comment";
     canvas.put(`<g class="arc arc-${kind}" data-file="${escaped(file)}" data-edge="${edge.number}"><title>${escaped(edge.text)}</title>`);
     canvas.put(`<path d="M${point(start[0])} ${point(start[1])}${bent.path}"/>`);
     if (edge.shape.includes(">")) putHead(canvas, end, bent.at(0.9));
     if (edge.shape.includes("<")) putHead(canvas, start, bent.at(0.1));
-    putLabel(canvas, edge.title || edge.label, bent, taken);
+    putLabel(canvas, edge.title || edge.label.replace(/^@lin /, ""), bent, taken);
     canvas.put("</g>");
   }
 }
@@ -143,8 +156,9 @@ function putLabel(canvas, text, bent, taken) {
   const shown = fitted(text, LABEL_MOST);
   if (!shown) return;
   const half = room(shown) / 2 + 3;
-  const boxes = LABEL_PLACES.map((share) => {
-    const [x, y] = bent.at(share);
+  const boxes = LABEL_PLACES.map(([share, aside]) => {
+    const [x, onArc] = bent.at(share);
+    const y = Math.max(onArc + aside, 8);
     const middle = Math.min(Math.max(x, half), Math.max(canvas.width - half, half));
     return { left: middle - half, right: middle + half, top: y - 7, bottom: y + 7, x: middle, y };
   });

@@ -21,7 +21,7 @@ export function labelFault(label, version) {
   if (!behind.startsWith(" ")) return `behind @${kind} a space is wanted in front of the range`;
   const range = behind.slice(1);
   if (range.startsWith("$")) return version === 2 ? "behind $ the name of a number is wanted" : "a number with a name, $NAME, is read in a netlist with \"itv\": 2 alone";
-  if (range.startsWith(" ")) return "there is one space too many in front of the range";
+  if (range.startsWith(" ")) return "there is a space too many in front of the range";
   if (!range.startsWith("[")) return "a range begins with [, as [0,2000]";
   return rangeFault(range);
 }
@@ -31,7 +31,7 @@ function rangeFault(range) {
   const close = range.indexOf("]");
   if (close < 0) return "the range is not closed by ]";
   const inner = range.slice(1, close);
-  if (/\s/.test(inner)) return "no space stands within a range";
+  if (/\s/.test(inner)) return "there may be no space within a range";
   const ends = inner.split(",");
   if (ends.length !== 2) return "a range has two ends with one comma between them, as [0,2000]";
   const bad = ends.find((end) => !/^(?:\*|0|-?[1-9]\d*)$/.test(end));
