@@ -7,7 +7,8 @@ import { refusalOf } from "./refusals.js";
 
 // The cases that each search may close behind a key. Where they do not suffice job settle goes on.
 export const BUDGET = 200;
-const MOST_EVENTS_OF_A_MATRIX = 1024;
+// A matrix of more events is worked out only where its tab is chosen: it has a number for each pair.
+const MOST_EVENTS_OF_WINDOWS = 256;
 
 /** The words of a job on a design. */
 export function wordsOf(job, design) {
@@ -74,7 +75,8 @@ export class Analysis {
   async findMore() {
     this.why = new Why((await this.run("why")).text);
     this.warnings = warningsOf((await this.run("lint")).text);
-    if (this.report.rows.length && this.report.events.length <= MOST_EVENTS_OF_A_MATRIX) {
+    for (const warning of this.warnings) warning.edges = warning.edges.filter(({ part, number }) => this.design.edge(part, number));
+    if (this.report.rows.length && this.report.events.length <= MOST_EVENTS_OF_WINDOWS) {
       const { status, text } = await this.run("matrix");
       this.matrix = status === 0 ? new Matrix(text) : null;
     }

@@ -164,6 +164,7 @@ export class App {
 
   show(analysis) {
     this.analysis = analysis;
+    analysis.width = widthOfDiagrams();
     this.finished++;
     this.hideProgress();
     this.showSentence(analysis);
@@ -340,7 +341,15 @@ export class App {
     byId("job").addEventListener("toggle", () => this.analysis && fillFigures(this.analysis, byId("job")), true);
     document.addEventListener("click", (event) => this.click(event));
     this.listenToDrops();
+    window.addEventListener("resize", () => this.resize());
     window.addEventListener("beforeunload", (event) => this.files.list.some((file) => file.changed) && event.preventDefault());
+  }
+
+  /** Draws the diagrams anew where the window has got another size. */
+  resize() {
+    if (!this.analysis || this.analysis.width === widthOfDiagrams()) return;
+    this.analysis.width = widthOfDiagrams();
+    this.showJob();
   }
 
   listenToDrops() {
@@ -371,7 +380,7 @@ export class App {
     if (edge) this.goTo(edge.dataset.file, Number(edge.dataset.edge));
     else if (event.target.closest("#to-fault")) this.goToFault();
     else if (row) this.openRow(row.getAttribute("href").slice(1));
-    else if (button && button.classList.contains("save-diagram")) saveDiagram(button.closest("figure").querySelector("svg"), stemOf(this.files.design));
+    else if (button && button.classList.contains("save-diagram")) saveDiagram(this.analysis, Number(button.dataset.row), button.dataset.which);
     else if (button && button.classList.contains("save-raw")) this.saveRaw();
     else if (button && button.classList.contains("open-redraw")) this.openRedraw();
     else if (button && button.classList.contains("run-job")) this.runJob(this.analysis, this.job).then(() => this.showJob());
@@ -459,6 +468,11 @@ export class App {
     byId("note").textContent = text;
     setTimeout(() => (byId("note").textContent = ""), 4000);
   }
+}
+
+/** How wide the diagrams are, in steps of 20 pixels: as wide as their part of the page, within limits. */
+function widthOfDiagrams() {
+  return Math.floor(Math.min(Math.max(byId("job").clientWidth, 440), 1100) / 20) * 20;
 }
 
 /** What a page is of: the files with the grades of their parts, their checksum, and the program. */

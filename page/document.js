@@ -73,7 +73,7 @@ function lineOf(facts, entry) {
   const marks = [row.start, row.end].map((event) => `<span class="name">${escaped(facts.design.eventTitle(event))}</span>`).join(" to ");
   const demanded = row.kind === "req" ? demandedText(row, facts.unit).replace(/ (?=(?:s|ms|us|ns|ps)\b)/g, "&nbsp;") : "a question";
   return (
-    `<tr class="${row.verdict || "ask"}"><th scope="row"><a href="#row-${row.number}">${nameOf(entry)}</a></th><td class="marks">${marks}</td>` +
+    `<tr class="${row.verdict || "ask"}"><th scope="row"><a href="#row-${row.number}">${nameOf(entry)}</a><small class="marks">${marks}</small></th>` +
     `<td class="demand">${demanded}</td>${boundCell(row.bounds.min, facts.unit)}${boundCell(row.bounds.max, facts.unit)}` +
     `<td class="verdict verdict-${row.verdict}">${SIGNS[row.verdict] || ""}</td>${slackCell(entry, facts.unit)}</tr>`
   );
@@ -81,7 +81,7 @@ function lineOf(facts, entry) {
 
 /** The table of the entries, failed ones first. */
 export function tableOf(facts) {
-  const heads = ["requirement", "from and to", "demanded"].map((head) => `<th scope="col">${head}</th>`).join("");
+  const heads = ["requirement", "demanded"].map((head) => `<th scope="col">${head}</th>`).join("");
   const numbers = ["least", "greatest"].map((head) => `<th scope="col" class="number">${head}</th>`).join("");
   const lines = facts.entries.map((entry) => lineOf(facts, entry)).join("\n");
   return (
@@ -123,7 +123,7 @@ export function figureOf(facts, entry, which) {
   const caption = `<figcaption>${captionOf(facts, bound)}</figcaption>`;
   if (!bound.times) return `<figure>${caption}</figure>`;
   const title = `${entry.title}: the ${which === "min" ? "least" : "greatest"} separation`;
-  const save = '<button type="button" class="save-diagram small">save SVG</button>';
+  const save = `<button type="button" class="save-diagram small" data-row="${entry.row.number}" data-which="${which}">save SVG</button>`;
   return `<figure>${caption}\n${svgOf(facts, entry.row, bound, title)}<div class="under">${stepsOf(facts, bound)}${save}</div></figure>`;
 }
 

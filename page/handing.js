@@ -24,14 +24,17 @@ export async function linkWith(packed) {
   return `${location.href.replace(/#.*$/, "")}#design=${await asLink(packed)}`;
 }
 
-/** Saves a diagram of the page as a file of SVG. */
-export function saveDiagram(svg, name) {
-  download(`${name}.svg`, diagramFile(svg), "image/svg+xml");
+/** Saves the diagram of a bound as a file of SVG. */
+export function saveDiagram(analysis, row, which) {
+  download(`${stemOf(analysis.name)}.svg`, diagramFile(analysis, row, which), "image/svg+xml");
 }
 
-/** The text of such a file. */
-export function diagramFile(svg) {
-  return svgFile(svg.outerHTML, styleOfDiagrams(), document.getElementById("patterns").innerHTML.trim());
+/** The text of such a file: the diagram of a bound of a row, which is as wide wherever it is saved. */
+export function diagramFile(analysis, row, which) {
+  const entry = analysis.entries.find((other) => other.row.number === row);
+  const box = document.createElement("div");
+  box.innerHTML = figureOf({ ...analysis, width: null }, entry, which);
+  return svgFile(box.querySelector("svg").outerHTML, styleOfDiagrams(), document.getElementById("patterns").innerHTML.trim());
 }
 
 /** The part of the page's style that diagrams need. */
@@ -45,7 +48,7 @@ export function stillPage(analysis, identity) {
   const { says } = answerOf(analysis.report, analysis.entries, analysis.unit);
   const box = document.createElement("div");
   box.innerHTML = bodyOf(analysis);
-  fillFigures(analysis, box, true);
+  fillFigures({ ...analysis, width: null }, box, true);
   for (const button of box.querySelectorAll("button")) button.remove();
   for (const link of box.querySelectorAll("a.edge")) link.replaceWith(...link.childNodes);
   const files = analysis.reads.map((read) => `<details><summary>${escaped(read.name)}</summary><pre>${read.text.split("\n").map(escaped).join("\n")}</pre></details>`);

@@ -19,10 +19,10 @@ const GUTTER = 0.4;
 const SPAN = 12;
 
 /** The diagram of one bound: which lanes and times it shows, and its lines of SVG. `facts` has the design, the report, the matrix or null, the unit
- * of the page, and what a step is called. */
+ * of the page, and how wide a diagram is. */
 export class Picture {
   constructor(facts, row, bound) {
-    Object.assign(this, { design: facts.design, matrix: facts.matrix, unit: facts.unit, row, bound });
+    Object.assign(this, { design: facts.design, matrix: facts.matrix, unit: facts.unit, width: facts.width || WIDTH, row, bound });
     this.times = new Map(facts.report.events.map((event, number) => [event, bound.times[number]]));
     this.numbers = new Map(facts.report.events.map((event, number) => [event, number]));
     this.raised = new Set(bound.raised.map((number) => facts.report.events[number]));
@@ -31,8 +31,8 @@ export class Picture {
     this.chooseLanes();
     this.margin = this.lanes.some((lane) => this.groupOf(lane)) ? 16 : 0;
     const titles = [...this.lanes.map(([part, lane]) => this.design.laneTitle(part, lane)), "separation"];
-    const widest = Math.min(Math.max(...titles.map(room)), WIDTH * GUTTER);
-    this.canvas = new Canvas(widest + 2 * PAD + this.margin, ...this.view());
+    const widest = Math.min(Math.max(...titles.map(room)), this.width * GUTTER);
+    this.canvas = new Canvas(widest + 2 * PAD + this.margin, ...this.view(), this.width);
     this.bottom = PAD + this.lanes.length * LANE;
     this.height = this.bottom;
   }
@@ -130,7 +130,7 @@ export class Picture {
     for (let time = Math.ceil(this.canvas.low / step) * step; time <= this.canvas.high; time += step) {
       const [x, label] = [this.canvas.x(time), tickText(time, this.unit)];
       this.canvas.path("grid", [[x, PAD], [x, y + 5]]);
-      if (x - room(label) / 2 >= left - PAD && x + room(label) / 2 <= WIDTH) {
+      if (x - room(label) / 2 >= left - PAD && x + room(label) / 2 <= this.width) {
         this.canvas.put(`<text class="scale" data-ps="${time}" x="${point(x)}" y="${y + 18}" text-anchor="middle">${label}</text>`);
       }
     }
@@ -327,7 +327,7 @@ export class Picture {
 export function svgOf(facts, row, bound, title) {
   const picture = new Picture(facts, row, bound);
   const lines = picture.draw();
-  const size = `width="${WIDTH}" height="${picture.height}" viewBox="0 0 ${WIDTH} ${picture.height}"`;
+  const size = `width="${picture.width}" height="${picture.height}" viewBox="0 0 ${picture.width} ${picture.height}"`;
   return [`<svg class="diagram" ${size} role="img" aria-label="${escaped(title)}">`, `<title>${escaped(title)}</title>`, ...lines, "</svg>"].join("\n");
 }
 

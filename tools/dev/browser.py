@@ -13,7 +13,7 @@ import time
 PACKAGES = {"chromium": ["chromium", "fonts-dejavu-core"], "firefox-esr": ["firefox-esr", "fonts-dejavu-core"]}
 
 # After how many seconds without an answer a browser counts as hung.
-SILENCE = 90
+SILENCE = 180
 
 
 class BrowserError(Exception):
@@ -92,7 +92,7 @@ class Chromium:
             raise BrowserError(details.get("exception", {}).get("description") or details["text"])
         return result["result"].get("value")
 
-    def wait_for(self, script, seconds=30):
+    def wait_for(self, script, seconds=120):
         """Waits until a script gives a value that counts as true, and gives it."""
         end = time.monotonic() + seconds
         while time.monotonic() < end:
@@ -130,7 +130,7 @@ class Chromium:
         logged = [event["params"]["entry"]["text"] for event in self.events if event.get("method") == "Log.entryAdded" and event["params"]["entry"]["level"] == "error"]
         return [details.get("exception", {}).get("description") or details["text"] for details in thrown] + logged
 
-    def downloaded(self, seconds=10):
+    def downloaded(self, seconds=60):
         """The name and the bytes of the file that the page has saved, which is then taken away."""
         end = time.monotonic() + seconds
         while time.monotonic() < end:
@@ -225,7 +225,7 @@ class Firefox:
             raise BrowserError(result["error"])
         return result.get("value")
 
-    def wait_for(self, script, seconds=60):
+    def wait_for(self, script, seconds=120):
         end = time.monotonic() + seconds
         while time.monotonic() < end:
             value = self.evaluate(script)
