@@ -2,11 +2,12 @@
 
 import { Analysis } from "./analysis.js";
 import { answerOf } from "./answer.js";
+import { Buttons } from "./buttons.js";
+import { identityOf } from "./document.js";
 import { Editor } from "./editor.js";
-import { Files, lastPart } from "./files.js";
-import { fillFigures, linkWith, pageWith, saveDiagram, stemOf, stillPage } from "./handing.js";
+import { Files, NEW_SHEET, lastPart } from "./files.js";
+import { fillFigures, stemOf } from "./handing.js";
 import { drawingsOf, jobTabs, paneOf } from "./jobs.js";
-import { checksumOf, download } from "./packing.js";
 import { jobsOf } from "./printed.js";
 import { Ended } from "./runner.js";
 import { fillTabs } from "./tabs.js";
@@ -16,17 +17,13 @@ import { escaped } from "./texts.js";
 const WAIT = 20;
 const SHOWN_AFTER = 300;
 
-const NEW_SHEET = `{
-  "signal": [
-    { "name": "CLK",  "wave": "p.",  "node": ".c" },
-    { "name": "DATA", "wave": "x=",  "node": ".d" }
-  ],
-  "edge": [
-    "c~>d @lin [0,2000] tCO",
-    "c->d @ask"
-  ]
-}
-`;
+// What is said of an edge with a mark.
+const VERDICTS = {
+  pass: "this requirement passes",
+  fail: "this requirement fails",
+  undecided: "this requirement is undecided",
+  contradicts: "this rule is one of those that contradict each other",
+};
 
 function byId(id) {
   return document.getElementById(id);
@@ -43,15 +40,14 @@ export class App {
     this.jobs = [];
     this.analysis = null;
     this.finished = 0;
-    this.listen();
+    new Buttons(this).listen();
     this.fillExamples();
   }
 
   /** Learns the jobs of the program, and opens files. */
   async start(packed) {
-    this.open(packed);
     this.jobs = jobsOf((await this.runner.run(["--help"], {})).text);
-    this.showJobTabs();
+    this.open(packed);
   }
 
   // What is opened.
@@ -274,10 +270,9 @@ export class App {
 
   /** The marks of the verdicts at the edges of a file. */
   verdictMarks(read) {
-    const says = { pass: "this requirement passes", fail: "this requirement fails", undecided: "this requirement is undecided", contradicts: "this rule is one of those that contradict each other" };
     return [...(this.analysis.verdicts().get(this.current) || [])]
-      .filter(([, word]) => says[word])
-      .map(([number, word]) => ({ ...this.edgePlace(read, number), kind: word === "contradicts" ? "fail" : word, says: says[word] }));
+      .filter(([, word]) => VERDICTS[word])
+      .map(([number, word]) => ({ ...this.edgePlace(read, number), kind: word === "contradicts" ? "fail" : word, says: VERDICTS[word] }));
   }
 
   /** The marks of the warnings at the edges of a file. */
@@ -322,29 +317,6 @@ export class App {
     this.editor.reveal(start, end);
   }
 
-  // Buttons.
-
-  listen() {
-    const on = (id, act) => byId(id).addEventListener("click", () => act());
-    on("new", () => this.open({ design: "sheet.json", files: { "sheet.json": NEW_SHEET } }));
-    on("open", () => byId("picker").click());
-    on("save", () => this.save());
-    on("link", () => this.copyLink());
-    on("save-page", () => download(`${stemOf(this.files.design)}.html`, pageWith(this.page, this.files.packed()), "text/html"));
-    on("save-still", () => this.saveStill());
-    on("stop", () => this.runner.end());
-    on("as-design", () => this.makeDesign());
-    on("rename", () => this.rename());
-    on("close", () => this.closeFile());
-    byId("picker").addEventListener("change", (event) => this.take(event.target.files).then(() => (event.target.value = "")));
-    byId("examples").addEventListener("change", (event) => event.target.value && this.openExample(event.target.value));
-    byId("job").addEventListener("toggle", () => this.analysis && fillFigures(this.analysis, byId("job")), true);
-    document.addEventListener("click", (event) => this.click(event));
-    this.listenToDrops();
-    window.addEventListener("resize", () => this.resize());
-    window.addEventListener("beforeunload", (event) => this.files.list.some((file) => file.changed) && event.preventDefault());
-  }
-
   /** Draws the diagrams anew where the window has got another size. */
   resize() {
     if (!this.analysis || this.analysis.width === widthOfDiagrams()) return;
@@ -352,54 +324,10 @@ export class App {
     this.showJob();
   }
 
-  listenToDrops() {
-    document.addEventListener("dragover", (event) => {
-      event.preventDefault();
-      document.body.classList.add("dropping");
-    });
-    document.addEventListener("dragleave", (event) => event.relatedTarget || document.body.classList.remove("dropping"));
-    document.addEventListener(
-      "drop",
-      (event) => {
-        document.body.classList.remove("dropping");
-        if (!event.dataTransfer.files.length) return;
-        event.preventDefault();
-        event.stopPropagation();
-        this.take(event.dataTransfer.files);
-      },
-      true,
-    );
-  }
-
-  /** What a click on a part of the answer or of a drawing does. */
-  click(event) {
-    const edge = event.target.closest("[data-edge]");
-    const button = event.target.closest("button");
-    const row = event.target.closest('a[href^="#row-"]');
-    if (edge || event.target.closest("#to-fault")) event.preventDefault();
-    if (edge) this.goTo(edge.dataset.file, Number(edge.dataset.edge));
-    else if (event.target.closest("#to-fault")) this.goToFault();
-    else if (row) this.openRow(row.getAttribute("href").slice(1));
-    else if (button && button.classList.contains("save-diagram")) saveDiagram(this.analysis, Number(button.dataset.row), button.dataset.which);
-    else if (button && button.classList.contains("save-raw")) this.saveRaw();
-    else if (button && button.classList.contains("open-redraw")) this.openRedraw();
-    else if (button && button.classList.contains("run-job")) this.runJob(this.analysis, this.job).then(() => this.showJob());
-    if (!event.target.closest(".menu") || button) for (const menu of document.querySelectorAll(".menu[open]")) menu.open = false;
-  }
-
-  openRow(id) {
-    const row = byId(id);
-    if (row) row.open = true;
-  }
-
-  goToFault() {
-    const { refusal, refusedName } = this.analysis;
-    if (this.files.find(refusedName)) this.showFile(refusedName);
-    this.editor.reveal(refusal.start, refusal.end);
-  }
-
-  saveRaw() {
-    download(`${stemOf(this.files.design)}.${this.job}`, this.analysis.texts.get(this.job).text, "text/plain");
+  makeDesign() {
+    this.files.design = this.current;
+    this.showFileTabs();
+    this.begin();
   }
 
   openRedraw() {
@@ -409,50 +337,10 @@ export class App {
     this.begin();
   }
 
-  save() {
-    const file = this.files.find(this.current);
-    if (!file) return;
-    download(lastPart(file.name), file.saved, "application/json");
-    file.changed = false;
-    this.showFileTabs();
-  }
-
-  async copyLink() {
-    const link = await linkWith(this.files.packed());
-    try {
-      await navigator.clipboard.writeText(link);
-      this.say("the link is copied");
-    } catch {
-      location.hash = link.slice(link.indexOf("#"));
-      this.say("the link stands in the address line");
-    }
-  }
-
-  saveStill() {
-    if (!this.analysis || !this.analysis.report) {
-      this.say("there is no answer to save");
-      return;
-    }
-    download(`${stemOf(this.files.design)}-still.html`, stillPage(this.analysis, this.identity || ""), "text/html");
-  }
-
-  makeDesign() {
-    this.files.design = this.current;
-    this.showFileTabs();
-    this.begin();
-  }
-
-  rename() {
-    const name = prompt("the name of the file", this.current);
-    if (name === null || name === this.current) return;
-    const before = this.current;
-    if (!this.files.rename(before, name)) {
-      this.say("this name is taken or empty");
-      return;
-    }
-    this.editor.rename(before, name);
-    this.showFile(name);
-    this.begin();
+  goToFault() {
+    const { refusal, refusedName } = this.analysis;
+    if (this.files.find(refusedName)) this.showFile(refusedName);
+    this.editor.reveal(refusal.start, refusal.end);
   }
 
   closeFile() {
@@ -473,16 +361,4 @@ export class App {
 /** How wide the diagrams are, in steps of 20 pixels: as wide as their part of the page, within limits. */
 function widthOfDiagrams() {
   return Math.floor(Math.min(Math.max(byId("job").clientWidth, 440), 1100) / 20) * 20;
-}
-
-/** What a page is of: the files with the grades of their parts, their checksum, and the program. */
-async function identityOf(analysis, program) {
-  const grades = new Map();
-  for (const { name, file, grade } of analysis.design ? analysis.design.parts : []) {
-    if (file !== null) grades.set(file, [...(grades.get(file) || []), grade ? `${name}, grade ${grade}` : name]);
-  }
-  const names = [...new Set(analysis.reads.filter((read) => read).map((read) => read.name))];
-  const list = names.map((name) => `<b>${escaped(name)}</b>${grades.has(name) ? ` (${escaped(grades.get(name).join("; "))})` : ""}`).join(", ");
-  const sum = await checksumOf(analysis.reads.filter((read) => read).map((read) => read.text));
-  return `${list}${sum ? ` · SHA-256 of the files ${sum}` : ""} · program ${escaped(program)}`;
 }

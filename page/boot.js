@@ -3,7 +3,7 @@
 import { App } from "./app.js";
 import { fromBase64, fromLink, gunzipped } from "./packing.js";
 import { Runner } from "./runner.js";
-import { escaped } from "./texts.js";
+import { escaped, escapedText } from "./texts.js";
 
 const FIRST = "examples/cpu-sram-fast.json";
 
@@ -80,10 +80,10 @@ async function start() {
 
 /** What stands under "about this page". */
 function aboutOf(program, licences) {
-  const texts = Object.entries(licences).map(([name, text]) => `<details><summary>${escaped(name)}</summary><pre>${text.split("\n").map(escaped).join("\n")}</pre></details>`);
+  const texts = Object.entries(licences).map(([name, text]) => `<details><summary>${escaped(name)}</summary><pre>${escapedText(text)}</pre></details>`);
   return (
-    `<p>The program is itv, an interface timing verifier for timing diagrams, compiled to WebAssembly: ${escaped(program)}. It runs in this page alone, and nothing ` +
-    "leaves the page. The answers are those of the program; the drawing and the words around them are the page's own.</p>" +
+    `<p>The program is itv, an interface timing verifier for timing diagrams, compiled to WebAssembly: ${escaped(program)}. It runs in this page, and ` +
+    "nothing leaves the page. The answers are those of the program; the drawing and the words around them are the page's own.</p>" +
     `<p>Keys in the editor: Ctrl-F searches, Ctrl-Z takes back, Ctrl-] and Ctrl-[ move lines; Tab leads on to the next part of the page.</p>${texts.join("")}`
   );
 }

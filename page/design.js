@@ -129,7 +129,8 @@ export class Design {
   readNetlist(tree, treeOf) {
     this.cycles = tree.cycles;
     const sheets = new Map(sheetNames(tree).map((name) => [name, new Sheet(treeOf(name))]));
-    this.parts = tree.parts.map((part) => ({ name: part.name, sheet: sheets.get(part.sheet), file: part.sheet, grade: tree.itv === 2 ? textIn(part, "grade") : "" }));
+    const gradeOf = (part) => (tree.itv === 2 ? textIn(part, "grade") : "");
+    this.parts = tree.parts.map((part) => ({ name: part.name, sheet: sheets.get(part.sheet), file: part.sheet, grade: gradeOf(part) }));
     this.wires = listOf(tree.edges).map((text, number) => wireEdge(String(text), number));
     this.nets = listOf(tree.nets).map((net) => ({ name: textIn(net, "name"), pins: listOf(net.pins) }));
   }
@@ -153,7 +154,8 @@ export class Design {
     for (let cycle = 0; cycle < this.cycles; cycle++) {
       const add = (edges, part, prefix) => {
         for (const edge of edges) {
-          if (edge.isRowIn(cycle)) rows.push({ edge, part, cycle, start: `${prefix}${edge.start}@${cycle - edge.shift}`, end: `${prefix}${edge.end}@${cycle}` });
+          const [start, end] = [`${prefix}${edge.start}@${cycle - edge.shift}`, `${prefix}${edge.end}@${cycle}`];
+          if (edge.isRowIn(cycle)) rows.push({ edge, part, cycle, start, end });
         }
       };
       this.parts.forEach(({ name, sheet }, part) => add(sheet.edges, part, `${name}.`));

@@ -1,6 +1,7 @@
 // The answer's part of the page: the sentence, the warnings, the table of the rows, and a diagram of each bound.
 
 import { SIGNS, nameOf } from "./answer.js";
+import { checksumOf } from "./packing.js";
 import { svgOf } from "./picture.js";
 import { demandedText, escaped, inUnit } from "./texts.js";
 
@@ -108,13 +109,14 @@ function captionOf(facts, bound) {
   return `<b>${word}: the search ended too early.</b> ${limit}, ${found}.`;
 }
 
-/** The steps behind a bound, as a list. */
-function stepsOf(facts, bound) {
+/** The steps behind a bound of a row, as a list. */
+function stepsOf(facts, row, bound) {
   const items = bound.steps.map((step) => {
     const weight = inUnit(step.weight, facts.unit);
-    return `<li>${eventsText(facts.design, [step.start]) } to ${eventsText(facts.design, [step.end])}: ${weight}, ${originLink(facts.design, step.origin, step.end)}</li>`;
+    const both = `${eventsText(facts.design, [step.start])} to ${eventsText(facts.design, [step.end])}`;
+    return `<li>${both}: ${weight}, ${originLink(facts.design, step.origin, step.end)}</li>`;
   });
-  return items.length ? `<details class="steps"><summary>${items.length} steps add up</summary><ol>${items.join("")}</ol></details>` : "";
+  return items.length ? `<details class="steps" id="steps-${row.number}-${bound.which}"><summary>${items.length} steps add up</summary><ol>${items.join("")}</ol></details>` : "";
 }
 
 /** The diagram of a bound with what is said over and under it. */
@@ -124,7 +126,7 @@ export function figureOf(facts, entry, which) {
   if (!bound.times) return `<figure>${caption}</figure>`;
   const title = `${entry.title}: the ${which === "min" ? "least" : "greatest"} separation`;
   const save = `<button type="button" class="save-diagram small" data-row="${entry.row.number}" data-which="${which}">save SVG</button>`;
-  return `<figure>${caption}\n${svgOf(facts, entry.row, bound, title)}<div class="under">${stepsOf(facts, bound)}${save}</div></figure>`;
+  return `<figure>${caption}\n${svgOf(facts, entry.row, bound, title)}<div class="under">${stepsOf(facts, entry.row, bound)}${save}</div></figure>`;
 }
 
 /** The figure of an entry, which is drawn when the part that holds it is opened. */
@@ -152,7 +154,7 @@ function sectionOf(facts, entry, isOpen) {
   return (
     `<details class="row" id="row-${row.number}"${isOpen ? " open" : ""}><summary><h3>${nameOf(entry)}: ${verdict}</h3></summary>\n` +
     `${edgeLink(facts.design, part, entry.drawn.edge.number)}\n${placeholder(entry, first)}\n` +
-    `<details class="other"><summary>${otherTitle(facts, entry, other)}</summary>${placeholder(entry, other)}</details></details>`
+    `<details class="other" id="other-${row.number}"><summary>${otherTitle(facts, entry, other)}</summary>${placeholder(entry, other)}</details></details>`
   );
 }
 
@@ -182,7 +184,7 @@ export function warningList(facts) {
     return `<li>${escaped(WARNINGS[warning.word] || "a warning")}: <code class="line">${escaped(warning.line)}</code>${links}</li>`;
   });
   const count = `${facts.warnings.length} warning${facts.warnings.length === 1 ? "" : "s"} of the drawing`;
-  return `<details class="warnings" open><summary><h2>! ${count}</h2></summary><ul>${items.join("")}</ul></details>`;
+  return `<details class="warnings" id="warnings" open><summary><h2>! ${count}</h2></summary><ul>${items.join("")}</ul></details>`;
 }
 
 /** What the signs of the diagrams mean. */
@@ -190,12 +192,25 @@ export function legendOf(facts) {
   const asked = facts.report.rows.some((row) => row.kind === "req");
   const shown = [...LEGEND.slice(0, 2), ...(facts.matrix ? [LEGEND[2]] : []), ...(asked ? LEGEND.slice(3) : [])];
   const items = shown.map(([sign, text]) => `<li><svg width="24" height="16" aria-hidden="true">${sign}</svg>${text}</li>`).join("");
-  const remark = "Each diagram is one case that the rules allow, with the first event of its row at 0. All times but those of a scale are as the program printed them.";
-  return `<details class="legend"><summary>what the signs of the diagrams mean</summary><p>${remark}</p><ul>${items}</ul></details>`;
+  const remark =
+    "Each diagram is one case that the rules allow, with the first event of its row at 0. All times but those of a scale are as the program printed them.";
+  return `<details class="legend" id="legend"><summary>what the signs of the diagrams mean</summary><p>${remark}</p><ul>${items}</ul></details>`;
 }
 
 /** The whole answer but the sentence. */
 export function bodyOf(facts) {
   const rows = facts.entries.length ? [tableOf(facts), sectionsOf(facts), legendOf(facts)] : [];
   return [warningList(facts), contradictionOf(facts), ...rows].filter((part) => part).join("\n");
+}
+
+/** What a page is of: the files with the grades of their parts, their checksum, and the program. */
+export async function identityOf(analysis, program) {
+  const grades = new Map();
+  for (const { name, file, grade } of analysis.design ? analysis.design.parts : []) {
+    if (file !== null) grades.set(file, [...(grades.get(file) || []), grade ? `${name}, grade ${grade}` : name]);
+  }
+  const names = [...new Set(analysis.reads.filter((read) => read).map((read) => read.name))];
+  const list = names.map((name) => `<b>${escaped(name)}</b>${grades.has(name) ? ` (${escaped(grades.get(name).join("; "))})` : ""}`).join(", ");
+  const sum = await checksumOf(analysis.reads.filter((read) => read).map((read) => read.text));
+  return `${list}${sum ? ` · SHA-256 of the files ${sum}` : ""} · program ${escaped(program)}`;
 }

@@ -4,6 +4,19 @@ import { isNetlist, sheetNames } from "./design.js";
 import { scanned } from "./places.js";
 import { read } from "./relaxed.js";
 
+/** The text with which a file begins that is not there yet. */
+export const NEW_SHEET = `{
+  "signal": [
+    { "name": "CLK",  "wave": "p.",  "node": ".c" },
+    { "name": "DATA", "wave": "x=",  "node": ".d" }
+  ],
+  "edge": [
+    "c~>d @lin [0,2000] tCO",
+    "c->d @ask"
+  ]
+}
+`;
+
 /** The last part of a name. */
 export function lastPart(name) {
   return name.split(/[\\/]/).pop();

@@ -5,7 +5,7 @@ import { bodyOf, figureOf } from "./document.js";
 import { asLink, download, inScript } from "./packing.js";
 import { lastPart } from "./files.js";
 import { svgFile } from "./picture.js";
-import { escaped } from "./texts.js";
+import { escaped, escapedText } from "./texts.js";
 
 const SAVED = /(<script type="application\/json" id="saved">)[^]*?(<\/script>)/;
 
@@ -51,7 +51,7 @@ export function stillPage(analysis, identity) {
   fillFigures({ ...analysis, width: null }, box, true);
   for (const button of box.querySelectorAll("button")) button.remove();
   for (const link of box.querySelectorAll("a.edge")) link.replaceWith(...link.childNodes);
-  const files = analysis.reads.map((read) => `<details><summary>${escaped(read.name)}</summary><pre>${read.text.split("\n").map(escaped).join("\n")}</pre></details>`);
+  const files = analysis.reads.map((read) => `<details><summary>${escaped(read.name)}</summary><pre>${escapedText(read.text)}</pre></details>`);
   const title = escaped(analysis.name);
   const about = analysis.design.title ? `<p class="remark">${escaped(analysis.design.title)}</p>` : "";
   const patterns = `<svg class="patterns" width="0" height="0" aria-hidden="true"><defs>${document.getElementById("patterns").innerHTML}</defs></svg>`;

@@ -4,7 +4,7 @@ import { bodyOf, edgeLink } from "./document.js";
 import { drawingOf } from "./drawing.js";
 import { Sheet } from "./design.js";
 import { Matrix, Report } from "./printed.js";
-import { escaped, inUnit } from "./texts.js";
+import { escaped, escapedText, inUnit } from "./texts.js";
 
 const MOST_EVENTS_OF_A_TABLE = 60;
 
@@ -29,14 +29,9 @@ export function rawOf(printed, isOpen = false) {
   const words = printed.words.map((word) => (/^[\w.,:=/+-]+$/.test(word) ? word : `'${word}'`)).join(" ");
   const save = '<button type="button" class="save-raw small">save text</button>';
   return (
-    `<details class="raw"${isOpen ? " open" : ""}><summary>the text of <code>itv ${escaped(words)}</code>, status ${printed.status}</summary>` +
+    `<details class="raw" id="raw"${isOpen ? " open" : ""}><summary>the text of <code>itv ${escaped(words)}</code>, status ${printed.status}</summary>` +
     `${save}<pre class="printed">${escapedText(printed.text)}</pre></details>`
   );
-}
-
-/** A text of several lines as it may stand in HTML. */
-function escapedText(text) {
-  return text.split("\n").map(escaped).join("\n");
 }
 
 /** What stands under a tab, of an analysis in which this job has been run. */
@@ -77,7 +72,10 @@ function whyOf(analysis, entry) {
 
 /** Whether job settle knows more than the search by cases. */
 function settlePane(analysis, printed) {
-  if (!printed) return '<p>Job settle bounds the same rows by another search. It is run here on its own where bounds are open.</p><button type="button" class="run-job">run it now</button>';
+  if (!printed) {
+    const about = "Job settle bounds the same rows by another search. Where bounds are open it is run without being asked.";
+    return `<p>${about}</p><button type="button" class="run-job">run it now</button>`;
+  }
   const report = new Report(printed.text);
   return report.isOpen ? "<p>Some bounds stay open.</p>" : "<p>Each bound is settled.</p>";
 }
@@ -87,7 +85,8 @@ function redrawPane(analysis, printed) {
   if (!printed || !printed.text.startsWith("{")) return "";
   const sheet = new Sheet(JSON.parse(printed.text));
   const begin = '<button type="button" class="open-redraw">open it as a file</button>';
-  return `<p>The first requirement that fails, at times that break it, with the events in the order of their times. ${begin}</p><div class="table-box">${drawingOf(sheet, "", () => "")}</div>`;
+  const about = "The first requirement that fails, at times that break it, with the events in the order of their times.";
+  return `<p>${about} ${begin}</p><div class="table-box">${drawingOf(sheet, "", () => "")}</div>`;
 }
 
 /** The greatest separations between all events as a table. */

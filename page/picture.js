@@ -65,7 +65,8 @@ export class Picture {
     const [first, last] = [Math.min(...cycles), Math.max(...cycles)];
     let near = [...this.times].filter(([event]) => first <= this.cycleOf(event) && this.cycleOf(event) <= last).map(([, time]) => time);
     const span = high - low || Math.floor((Math.max(...near) - Math.min(...near)) / SPAN) || 1000;
-    if (Math.max(high, ...near) - Math.min(low, ...near) > SPAN * span) near = near.filter((time) => low - 2 * span <= time && time <= high + 2 * span);
+    const isNear = (time) => low - 2 * span <= time && time <= high + 2 * span;
+    if (Math.max(high, ...near) - Math.min(low, ...near) > SPAN * span) near = near.filter(isNear);
     [low, high] = [Math.min(low, ...near), Math.max(high, ...near)];
     const margin = (high - low) * 0.06 || span;
     return [low - margin, high + margin];
@@ -149,7 +150,9 @@ export class Picture {
     const { name, sheet } = this.design.parts[part];
     const events = [];
     for (let cycle = 0; cycle < this.design.cycles; cycle++) {
-      for (const { place, mark } of sheet.lanes[lane].marks) events.push({ event: `${name}.${mark}@${cycle}`, mark, cycle, brick: cycle * sheet.bricks + place });
+      for (const { place, mark } of sheet.lanes[lane].marks) {
+        events.push({ event: `${name}.${mark}@${cycle}`, mark, cycle, brick: cycle * sheet.bricks + place });
+      }
     }
     return events;
   }
@@ -266,7 +269,8 @@ export class Picture {
     this.canvas.put(
       `<circle class="${kind}" data-event="${escaped(event)}" data-ps="${time}" cx="${point(x)}" cy="${point(y)}" r="2.6"><title>${title}</title></circle>`,
     );
-    if (this.raised.has(event)) this.canvas.paths("raised", [[[x + 4, y], [x + 14, y]], [[x + 18, y], [x + 13, y - 3], [x + 13, y + 3]]], { closed: true });
+    const tip = [[x + 18, y], [x + 13, y - 3], [x + 13, y + 3]];
+    if (this.raised.has(event)) this.canvas.paths("raised", [[[x + 4, y], [x + 14, y]], tip], { closed: true });
   }
 
   /** Lines from the marks of the row down to its arrow, and from those of the steps to theirs. */

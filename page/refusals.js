@@ -8,10 +8,13 @@ const RANGE_FAULTS = {
   EmptyRange: "the low end is above the high end",
 };
 
+const NAMED_NUMBER = 'a number with a name, $NAME, is read in a netlist with "itv": 2 alone';
+const KINDS = ["lin", "late", "early", "req", "ask"];
+
 /** The reason why a label is not of the form `@kind[+K][:tag] [LOW,HIGH] note`. */
 export function labelFault(label, version) {
   const kind = /^@([A-Za-z]*)/.exec(label)[1];
-  if (!["lin", "late", "early", "req", "ask"].includes(kind)) return `there is no kind '${kind}': the kinds are lin, late, early, req and ask, in small letters`;
+  if (!KINDS.includes(kind)) return `there is no kind '${kind}': the kinds are lin, late, early, req and ask, in small letters`;
   const rest = label.slice(kind.length + 1);
   const head = /^(?:\+(?:[1-9]|[1-5]\d|6[0-4])(?!\d))?(?::\w+)?/.exec(rest)[0];
   const behind = rest.slice(head.length);
@@ -20,7 +23,7 @@ export function labelFault(label, version) {
   if (!behind) return `behind @${kind} a range is wanted, as [0,2000]`;
   if (!behind.startsWith(" ")) return `behind @${kind} a space is wanted in front of the range`;
   const range = behind.slice(1);
-  if (range.startsWith("$")) return version === 2 ? "behind $ the name of a number is wanted" : "a number with a name, $NAME, is read in a netlist with \"itv\": 2 alone";
+  if (range.startsWith("$")) return version === 2 ? "behind $ the name of a number is wanted" : NAMED_NUMBER;
   if (range.startsWith(" ")) return "there is a space too many in front of the range";
   if (!range.startsWith("[")) return "a range begins with [, as [0,2000]";
   return rangeFault(range);
@@ -36,7 +39,8 @@ function rangeFault(range) {
   if (ends.length !== 2) return "a range has two ends with one comma between them, as [0,2000]";
   const bad = ends.find((end) => !/^(?:\*|0|-?[1-9]\d*)$/.test(end));
   if (bad === "") return "an end is missing: an open end is *";
-  if (bad !== undefined) return /^-?\d*\.\d+$/.test(bad) ? `'${bad}' is no whole number: times are whole picoseconds` : `'${bad}' is neither a whole number nor *`;
+  if (bad !== undefined && /^-?\d*\.\d+$/.test(bad)) return `'${bad}' is no whole number: times are whole picoseconds`;
+  if (bad !== undefined) return `'${bad}' is neither a whole number nor *`;
   return "behind the range a space is wanted in front of a note";
 }
 
@@ -71,20 +75,21 @@ function secondMark(file, mark) {
   return file.value.at("signal");
 }
 
+const GRADES = (file) => file.value.at("itv_grades");
 const IN_EDGE = (file, [number]) => edgeValue(file, number);
 const range = (words) => RANGE_FAULTS[words[words.length - 1]];
 
 // For each fault of a file: where it stands, from the file and the words behind the fault's name, and what it says.
 const OF_FILE = {
   TooLong: [(file) => file.value, () => "The file has more than 4,194,304 bytes."],
-  NotJson: [(file) => file.value, () => "This is no strict JSON for the program: a number as great as 1e999, half a surrogate pair, or nesting deeper than 127."],
+  NotJson: [(file) => file.value, () => "The program takes no number as great as 1e999, no half of a surrogate pair, and no nesting deeper than 127."],
   NotObject: [(file) => file.value, () => "The drawing has to stand in { }."],
   NoSignal: [(file) => file.value.at("signal"), () => '"signal" is missing, or is no list of lanes.'],
   EdgesNotList: [(file) => file.value.at(isNetlist(file.tree) ? "edges" : "edge"), () => "The edges are no list of texts."],
   EdgeNotText: [IN_EDGE, () => "This edge is no text: put it in quotes."],
-  Grades: [(file) => file.value.at("itv_grades"), () => '"itv_grades" has to be an object of grades, each an object of names with a list of two: whole numbers or null.'],
-  Limits: [(file) => file.value.at("itv_grades"), (file, words) => `In grade ${words[0]}, parameter ${words[1]}, in the order of their names: ${range(words)}.`],
-  NoGrade: [(file) => file.value.at("itv_grades"), () => "A part of the netlist names a grade that this sheet has not."],
+  Grades: [GRADES, () => '"itv_grades" is an object of grades, each an object of names with a list of two: whole numbers or null.'],
+  Limits: [GRADES, (file, words) => `In grade ${words[0]}, parameter ${words[1]}, in the order of their names: ${range(words)}.`],
+  NoGrade: [GRADES, () => "A part of the netlist names a grade that this sheet has not."],
   BadNode: [(file, [lane]) => laneValue(file, lane, "node"), () => "A mark is one visible character of ASCII; . and space are no mark."],
   DoubleMark: [(file, [mark]) => secondMark(file, mark), (file, [mark]) => `The mark ${mark} stands twice on this sheet.`],
   DoublePin: [(file, [lane]) => laneValue(file, lane, "name"), () => "An earlier lane with marks has the same name."],

@@ -13,6 +13,11 @@ export function escaped(text) {
     .replace(/[&<>"']/g, (char) => ENTITIES[char]);
 }
 
+/** A text of several lines as it may stand in HTML. */
+export function escapedText(text) {
+  return text.split("\n").map(escaped).join("\n");
+}
+
 /** How many pixels a text takes at most. */
 export function room(text) {
   let characters = 0;

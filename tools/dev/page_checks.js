@@ -50,6 +50,8 @@
     for (let node = walker.nextNode(); node; node = walker.nextNode()) {
       const head = node.parentElement.closest("thead");
       if (!node.data.trim() || node.parentElement.closest("title, desc, script, style, defs, .table-box, pre, select, .drawing")) continue;
+      const fold = node.parentElement.closest("details:not([open])");
+      if (fold && !node.parentElement.closest("summary")) continue;
       // At a small width the head of the table is for screen readers alone.
       if (head && getComputedStyle(head).position === "absolute") continue;
       const range = document.createRange();
