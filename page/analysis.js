@@ -71,16 +71,20 @@ export class Analysis {
     this.entries = this.report.rows.length ? entriesOf(this.design, this.report) : [];
   }
 
-  /** Finds what belongs to a report: steps, warnings, windows, and where bounds are open what job settle says. */
-  async findMore() {
+  /** Finds the steps behind the bounds, and the rules that contradict each other. */
+  async findSteps() {
     this.why = new Why((await this.run("why")).text);
-    this.warnings = warningsOf((await this.run("lint")).text);
-    for (const warning of this.warnings) warning.edges = warning.edges.filter(({ part, number }) => this.design.edge(part, number));
-    if (this.report.rows.length && this.report.events.length <= MOST_EVENTS_OF_WINDOWS) {
-      const { status, text } = await this.run("matrix");
-      this.matrix = status === 0 ? new Matrix(text) : null;
-    }
     this.join();
+  }
+
+  /** Finds the warnings, and the windows of the marks. */
+  async findMore() {
+    const warnings = warningsOf((await this.run("lint")).text);
+    for (const warning of warnings) warning.edges = warning.edges.filter(({ part, number }) => this.design.edge(part, number));
+    this.warnings = warnings;
+    if (!this.report.rows.length || this.report.events.length > MOST_EVENTS_OF_WINDOWS) return;
+    const { status, text } = await this.run("matrix");
+    this.matrix = status === 0 ? new Matrix(text) : null;
   }
 
   /** Lets job settle go on where the search by cases ended too early. */

@@ -16,6 +16,8 @@ import { escaped } from "./texts.js";
 // How long the page waits behind a key for the next one, and after how long it shows that it searches, in milliseconds.
 const WAIT = 20;
 const SHOWN_AFTER = 300;
+// After how many milliseconds an answer is shown before its warnings are known.
+const EARLY = 150;
 
 // What is said of an edge with a mark.
 const VERDICTS = {
@@ -63,7 +65,7 @@ export class App {
   }
 
   fillExamples() {
-    for (const { name, title } of this.examples.designs) byId("examples").add(new Option(title ? `${lastPart(name)} – ${title}` : name, name));
+    for (const { name, title } of this.examples.designs) byId("examples").add(new Option(title ? `${lastPart(name)} – ${title}` : lastPart(name), name));
   }
 
   openExample(name) {
@@ -137,13 +139,10 @@ export class App {
     this.runner.end();
     const analysis = new Analysis(this.runner, this.files);
     this.pending = analysis;
+    for (const id of ["job", "of"]) byId(id).classList.add("stale");
     this.showProgress();
     try {
-      await analysis.findReport();
-      this.showSentence(analysis);
-      if (analysis.report) await analysis.findMore();
-      if (analysis.report && analysis.report.isOpen) await analysis.settle();
-      await this.runShownJob(analysis);
+      await this.find(analysis);
     } catch (error) {
       if (!(error instanceof Ended)) throw error;
       if (this.pending === analysis) this.showStopped();
@@ -152,24 +151,45 @@ export class App {
     this.show(analysis);
   }
 
+  /** Runs one job after another. What is known early is shown early. */
+  async find(analysis) {
+    const began = performance.now();
+    await analysis.findReport();
+    this.showSentence(analysis);
+    if (analysis.report && analysis.report.isOpen) await analysis.settle();
+    if (analysis.report) {
+      this.showSentence(analysis);
+      await analysis.findSteps();
+      if (performance.now() - began > EARLY) this.showAnswer(analysis);
+      await analysis.findMore();
+    }
+    await this.runShownJob(analysis);
+  }
+
   /** Runs the job whose tab is shown, where a key alone doesn't. */
   async runShownJob(analysis) {
     const tab = jobTabs(analysis, this.jobs).find(({ id }) => id === this.job);
     if (tab && (this.job !== "settle" || analysis.report.isOpen)) await analysis.run(this.job);
   }
 
+  /** Shows all that was found. */
   show(analysis) {
-    this.analysis = analysis;
-    analysis.width = widthOfDiagrams();
     this.finished++;
     this.hideProgress();
+    this.showAnswer(analysis);
+  }
+
+  showAnswer(analysis) {
+    this.analysis = analysis;
+    analysis.width = widthOfDiagrams();
+    for (const id of ["job", "sentence", "of"]) byId(id).classList.remove("stale");
+    this.showIdentity(analysis);
     this.showSentence(analysis);
     this.showJobTabs();
     this.showJob();
     this.showFileTabs();
     this.showMarks();
     this.showDrawings();
-    this.showIdentity(analysis);
   }
 
   showSentence(analysis) {
@@ -189,6 +209,8 @@ export class App {
   /** Says that the search was ended. */
   showStopped() {
     this.hideProgress();
+    // What stands below is the answer to an earlier text.
+    byId("job").classList.add("stale");
     const sentence = byId("sentence");
     sentence.className = "undecided";
     sentence.textContent = "? You ended the search before it had an answer.";
@@ -217,6 +239,7 @@ export class App {
     const tabs = jobTabs(this.analysis, this.jobs);
     if (!tabs.some(({ id }) => id === this.job)) this.job = "bounds";
     fillTabs(byId("job-tabs"), tabs, this.job, (id) => this.chooseJob(id));
+    byId("job").setAttribute("aria-label", tabs.find(({ id }) => id === this.job).label);
   }
 
   /** Shows the tab of a job, which is run now where it was not. */

@@ -18,6 +18,7 @@ export class Buttons {
     on("new", () => this.app.open({ design: "sheet.json", files: { "sheet.json": NEW_SHEET } }));
     on("open", () => byId("picker").click());
     on("save", () => this.save());
+    on("save-strict", () => this.saveStrict());
     on("link", () => this.copyLink());
     on("save-page", () => download(`${stemOf(this.app.files.design)}.html`, pageWith(this.app.page, this.app.files.packed()), "text/html"));
     on("save-still", () => this.saveStill());
@@ -84,6 +85,13 @@ export class Buttons {
     download(lastPart(file.name), file.saved, "application/json");
     file.changed = false;
     this.app.showFileTabs();
+  }
+
+  /** Saves the shown file in strict JSON, as the program reads it. */
+  saveStrict() {
+    const read = this.app.files.readOf(this.app.current);
+    if (read && read.strict !== null) download(lastPart(read.name), read.strict, "application/json");
+    else this.app.say("the file is no JSON, not even in the relaxed spelling");
   }
 
   async copyLink() {
