@@ -1,4 +1,4 @@
-// The page at work: what a key, a button or a dropped file does.
+// The page at work: which files are open, what is found behind a key, and what of it is shown.
 
 import { Analysis } from "./analysis.js";
 import { answerOf } from "./answer.js";
