@@ -116,7 +116,9 @@ function stepsOf(facts, row, bound) {
     const both = `${eventsText(facts.design, [step.start])} to ${eventsText(facts.design, [step.end])}`;
     return `<li>${both}: ${weight}, ${originLink(facts.design, step.origin, step.end)}</li>`;
   });
-  return items.length ? `<details class="steps" id="steps-${row.number}-${bound.which}"><summary>${items.length === 1 ? "one step" : `${items.length} steps add up`}</summary><ol>${items.join("")}</ol></details>` : "";
+  if (!items.length) return "";
+  const title = items.length === 1 ? "one step" : `${items.length} steps add up`;
+  return `<details class="steps" id="steps-${row.number}-${bound.which}"><summary>${title}</summary><ol>${items.join("")}</ol></details>`;
 }
 
 /** The diagram of a bound with what is said over and under it. */
