@@ -127,7 +127,8 @@ class Chromium:
     def faults(self):
         """What the page threw, and what its console has as errors."""
         thrown = [event["params"]["exceptionDetails"] for event in self.events if event.get("method") == "Runtime.exceptionThrown"]
-        logged = [event["params"]["entry"]["text"] for event in self.events if event.get("method") == "Log.entryAdded" and event["params"]["entry"]["level"] == "error"]
+        entries = [event["params"]["entry"] for event in self.events if event.get("method") == "Log.entryAdded"]
+        logged = [entry["text"] for entry in entries if entry["level"] == "error"]
         return [details.get("exception", {}).get("description") or details["text"] for details in thrown] + logged
 
     def downloaded(self, seconds=60):
