@@ -1,0 +1,129 @@
+// What is said of a report: its rows in the order of the page, with rows of equal cycles joined, and the answer in a sentence.
+
+import { counted, escaped, inUnit, unitFor } from "./texts.js";
+
+/** The words of a verdict, each with a sign. */
+export const SIGNS = { pass: "✓ pass", fail: "✗ fail", undecided: "? undecided" };
+
+/** Numbers in their order as ranges: `0 to 6, 9`. */
+export function rangesOf(numbers) {
+  const ranges = [];
+  for (const number of numbers) {
+    const last = ranges[ranges.length - 1];
+    if (last && last[1] === number - 1) last[1] = number;
+    else ranges.push([number, number]);
+  }
+  return ranges.map(([first, last]) => (first === last ? `${first}` : `${first} to ${last}`)).join(", ");
+}
+
+/** A row of the report beside the row of the drawing that it answers, with the rows of other cycles that say the same. It is called by its note or its
+ * parameter and its cycles, or else by its events. */
+export class Entry {
+  constructor(design, row, drawn) {
+    this.row = row;
+    this.drawn = drawn;
+    this.cycles = [drawn.cycle];
+    this.design = design;
+  }
+
+  /** The name without the cycles. */
+  get name() {
+    return this.drawn.edge.title || `${this.design.eventTitle(this.row.start)} to ${this.design.eventTitle(this.row.end)}`;
+  }
+
+  /** The cycles in words; empty where the name has the cycle or there is one cycle alone. */
+  get cyclesText() {
+    if (this.design.cycles === 1 || (!this.drawn.edge.title && this.cycles.length === 1)) return "";
+    return `${this.cycles.length === 1 ? "cycle" : "cycles"} ${rangesOf(this.cycles)}`;
+  }
+
+  /** The name and the cycles, as a text. */
+  get title() {
+    return this.cyclesText ? `${this.name} in ${this.cyclesText}` : this.name;
+  }
+
+  /** Why its worst slack is no number: nothing bounds its broken side, or a search that ended too early. Null where it is a number. */
+  get lack() {
+    const broken = this.row.brokenBound;
+    if (broken && broken.kind === "unbounded") return "unbounded";
+    return this.row.verdict === "undecided" || (broken && broken.isOpen) ? "not known" : null;
+  }
+
+  /** The place of the row in the page: failed rows come first, unbounded ones in front of them. Undecided rows follow, then the others by slack, and
+   * questions last. */
+  get rank() {
+    const kind = ["fail", "undecided", "pass", null].indexOf(this.row.verdict);
+    const lack = ["unbounded", "not known", null].indexOf(this.lack);
+    const slack = this.row.leastSlack;
+    return [kind, lack, slack === null ? 1 : 0, slack || 0, this.row.number];
+  }
+
+  /** The bound that says more of the row, `max` or `min`: on the side that fails, or else on the side with less to spare. For a question it is the
+   * greatest separation. */
+  get mainBound() {
+    const [low, high] = this.row.slack;
+    if (this.row.side) return this.row.side === "low" ? "min" : "max";
+    if (this.row.verdict === "undecided") return this.row.bounds.max.isOpen ? "max" : "min";
+    if (this.row.kind === "ask") return "max";
+    if (high === null) return low === null && this.row.low === null ? "max" : "min";
+    return low === null || high < low ? "max" : "min";
+  }
+}
+
+function compareRanks(first, second) {
+  for (let place = 0; place < first.length; place++) {
+    if (first[place] !== second[place]) return first[place] - second[place];
+  }
+  return 0;
+}
+
+/** The rows in the order of the page. Rows of one edge of one part that have equal numbers are one entry, the entry of the first of them. */
+export function entriesOf(design, report) {
+  const drawn = design.rows();
+  const entries = new Map();
+  report.rows.forEach((row, number) => {
+    const key = `${drawn[number].part} ${drawn[number].edge.number} ${row.numbers}`;
+    if (entries.has(key)) entries.get(key).cycles.push(drawn[number].cycle);
+    else entries.set(key, new Entry(design, row, drawn[number]));
+  });
+  return [...entries.values()].sort((first, second) => compareRanks(first.rank, second.rank));
+}
+
+/** The unit of a page: by the greatest number that its rows show. */
+export function unitOf(report) {
+  const numbers = report.rows.flatMap((row) => [row.low, row.high, ...row.slack, ...Object.values(row.bounds).map((bound) => bound.value)]);
+  const known = numbers.filter((number) => number !== null).map(Math.abs);
+  return unitFor(known.length ? Math.max(...known) : 1000);
+}
+
+/** The name of an entry as a part of a page. */
+export function nameOf(entry) {
+  return `<span class="name">${escaped(entry.name)}</span>${entry.cyclesText ? ` in ${entry.cyclesText}` : ""}`;
+}
+
+/** The answer: its class (`pass`, `fail`, `undecided` or `plain`) and its sentence, as a part of a page. */
+export function answerOf(report, entries, unit) {
+  const asked = report.rows.filter((row) => row.kind === "req");
+  const questions = report.rows.length - asked.length;
+  if (report.finding === "inconsistent") return { kind: "fail", says: "✗ The rules contradict each other: no times satisfy them all." };
+  if (report.finding !== "consistent") return { kind: "undecided", says: "? The search ended before it was known whether any times satisfy the rules." };
+  if (!report.rows.length) return { kind: "undecided", says: "? Nothing is asked: there is no question and no requirement." };
+  if (!asked.length) return { kind: "plain", says: `${counted(questions, "question")} answered; there is no requirement.` };
+  const passed = asked.filter((row) => row.verdict === "pass").length;
+  const open = asked.filter((row) => row.verdict === "undecided").length;
+  const kind = asked.some((row) => row.verdict === "fail") ? "fail" : open ? "undecided" : "pass";
+  const sign = { pass: "✓", fail: "✗", undecided: "?" }[kind];
+  const count = `${passed} of ${asked.length} requirement${asked.length === 1 ? " passes" : "s pass"}${open ? `, ${open} undecided` : ""}`;
+  return { kind, says: `${sign} ${count}${worstOf(entries, unit)}.` };
+}
+
+/** What the sentence says of the worst requirement. */
+function worstOf(entries, unit) {
+  const asked = entries.filter((entry) => entry.row.kind === "req");
+  if (asked[0].lack === "unbounded") return `; nothing bounds ${nameOf(asked[0])}`;
+  if (asked[0].lack) return `; the search ended before ${nameOf(asked[0])} was settled`;
+  const known = asked.filter((entry) => entry.row.leastSlack !== null);
+  if (!known.length) return "";
+  const worst = known.reduce((least, entry) => (entry.row.leastSlack < least.row.leastSlack ? entry : least));
+  return `, worst slack ${inUnit(worst.row.leastSlack, unit)}: ${nameOf(worst)}`;
+}

@@ -1,0 +1,206 @@
+// What the program printed: a report or a text of job settle, a matrix, the chains of job why and the warnings of job lint.
+
+/** The number; null for an open end. */
+function numberOf(word) {
+  return word === "*" || word === undefined ? null : Number(word);
+}
+
+/** The greatest or the least separation of a row, `which` being `max` or `min`.
+ *
+ * `kind` is `number`, `unbounded`, `within` or `spent`. `value` is the number, or what was found within a limit; null where there is none. `times`
+ * has a time for each event, where the bound has times, and `raised` the numbers of the events that can be put off. */
+export class Bound {
+  constructor(which, words) {
+    this.which = which;
+    this.times = null;
+    this.raised = [];
+    this.limit = null;
+    this.value = null;
+    this.steps = [];
+    this.kind = ["unbounded", "within", "spent"].includes(words[0]) ? words[0] : "number";
+    if (this.kind === "number") this.value = Number(words[0]);
+    if (this.kind === "within") {
+      this.limit = numberOf(words[1]);
+      this.value = words.length > 2 ? Number(words[3]) : null;
+    }
+  }
+
+  /** Whether the search ended before the bound was known. */
+  get isOpen() {
+    return this.kind === "within" || this.kind === "spent";
+  }
+}
+
+/** A row: its events, the demanded range, its bounds, its verdict and slack, and what draws it where job why said so. */
+export class Row {
+  constructor(words) {
+    this.number = Number(words[0]);
+    [this.kind, this.start, this.end] = words.slice(1, 4);
+    this.low = this.high = null;
+    if (this.kind === "req") [this.low, this.high] = words[4].slice(1, -1).split(",").map(numberOf);
+    this.bounds = {};
+    this.verdict = this.side = null;
+    this.slack = [null, null];
+  }
+
+  /** The lesser slack that is a number; null where neither is. */
+  get leastSlack() {
+    const numbers = this.slack.filter((end) => end !== null);
+    return numbers.length ? Math.min(...numbers) : null;
+  }
+
+  /** The bound of the side that the verdict calls broken; null where it calls none so. */
+  get brokenBound() {
+    return this.side ? this.bounds[this.side === "low" ? "min" : "max"] : null;
+  }
+
+  /** The numbers that are printed of the row, as a text by which rows are compared. */
+  get numbers() {
+    const bounds = ["max", "min"].map((which) => {
+      const bound = this.bounds[which];
+      return bound && [bound.kind, bound.value, bound.limit];
+    });
+    return JSON.stringify([this.low, this.high, bounds, this.verdict, this.side, this.slack]);
+  }
+}
+
+/** A report of job bounds or a text of job settle, or what stands before its end. */
+export class Report {
+  constructor(text) {
+    this.job = this.finding = this.end = this.times = this.last = null;
+    this.events = [];
+    this.rows = [];
+    for (const line of text.split("\n")) {
+      const [word, ...words] = line.split(" ");
+      const read = Report.READERS[word];
+      if (read) read(this, words);
+    }
+  }
+
+  /** The row that was read last. */
+  get row() {
+    return this.rows[this.rows.length - 1];
+  }
+
+  /** Whether a search ended before all was known. */
+  get isOpen() {
+    return ["unsettled", "spent"].includes(this.finding) || this.rows.some((row) => Object.values(row.bounds).some((bound) => bound.isOpen));
+  }
+
+  /** Takes a bound of the row that was read last. */
+  readBound(which, words) {
+    this.last = this.row.bounds[which] = new Bound(which, words);
+  }
+
+  /** Takes times: of the finding, of a bound, or behind a verdict. Those behind a verdict are passed over. */
+  readTimes(words) {
+    if (!this.rows.length) this.times = words.map(Number);
+    else if (this.last) this.last.times = words.map(Number);
+  }
+}
+
+Report.READERS = {
+  itv: (report, words) => (report.job = words[0]),
+  event: (report, words) => report.events.push(words[1]),
+  finding: (report, words) => (report.finding = words[0]),
+  row: (report, words) => report.rows.push(new Row(words)),
+  max: (report, words) => report.readBound("max", words),
+  min: (report, words) => report.readBound("min", words),
+  times: (report, words) => report.readTimes(words),
+  raise: (report, words) => (report.last.raised = words.map(Number)),
+  verdict: (report, words) => {
+    [report.row.verdict, report.row.side = null] = words;
+    report.last = null;
+  },
+  slack: (report, words) => (report.row.slack = words.map(numberOf)),
+  end: (report, words) => (report.end = words[0]),
+};
+
+/** The greatest separations that the rules without a choice allow, by the numbers of two events; null where they allow any. */
+export class Matrix {
+  constructor(text) {
+    const lines = text.split("\n");
+    this.events = lines.filter((line) => line.startsWith("event ")).map((line) => line.split(" ")[2]);
+    this.rows = lines.filter((line) => line.startsWith("row ")).map((line) => line.split(" ").slice(1).map(numberOf));
+  }
+
+  /** The times between which an event stands where another one stands at 0; null where a side is open or there is one time alone. */
+  window(origin, event) {
+    if (!this.rows.length) return null;
+    const low = this.rows[event][origin];
+    const high = this.rows[origin][event];
+    return low === null || high === null || -low >= high ? null : [-low, high];
+  }
+}
+
+/** Where a rule is drawn: `kind` is `edge`, `lane`, `net` or `wire`, with its number; `text` are these words, and `note` is what stands behind them. */
+export class Origin {
+  constructor(words) {
+    const line = words.join(" ");
+    const match = /^(?:(edge|wire) (\d+)|(lane) (\d+) order|(net) (\d+) pin (\d+))/.exec(line);
+    this.text = match ? match[0] : line;
+    this.note = match ? line.slice(match[0].length).trim() : "";
+    this.kind = match ? match[1] || match[3] || match[5] : null;
+    this.number = match ? Number(match[2] || match[4] || match[6]) : null;
+  }
+}
+
+/** What job why printed: the rules that contradict each other, the origin of each row, and the steps behind its bounds. */
+export class Why {
+  constructor(text) {
+    this.rules = [];
+    this.origins = new Map();
+    this.steps = new Map();
+    let row = null;
+    let steps = [];
+    for (const line of text.split("\n")) {
+      const [word, ...words] = line.split(" ");
+      if (word === "rule") this.rules.push({ kind: words[0], start: words[1], end: words[2], range: words[3], origin: new Origin(words.slice(4)) });
+      if (word === "row") {
+        row = Number(words[0]);
+        this.origins.set(row, new Origin(words.slice(words[1] === "req" ? 5 : 4)));
+      }
+      if (word === "max" || word === "min") this.steps.set(`${row} ${word}`, (steps = []));
+      if (word === "step") steps.push({ start: words[0], end: words[1], weight: Number(words[2]), origin: new Origin(words.slice(3)) });
+    }
+  }
+
+  /** The steps behind a bound of a row; none where none were printed. */
+  stepsOf(row, which) {
+    return this.steps.get(`${row} ${which}`) || [];
+  }
+}
+
+/** A warning of job lint: its word, its line, and the edges that it names, as a part (null for the netlist) and a number for each. */
+export class Warning {
+  constructor(line) {
+    const words = line.split(" ");
+    this.word = words[0];
+    this.line = line;
+    this.edges = [];
+    for (let place = 1; place + 1 < words.length; place++) {
+      if (words[place] === "edge" && /^\d+$/.test(words[place + 1])) this.edges.push({ part: partBefore(words, place), number: Number(words[place + 1]) });
+      if (words[place] === "wire" && /^\d+$/.test(words[place + 1])) this.edges.push({ part: null, number: Number(words[place + 1]) });
+    }
+    this.row = words[0] === "order" && words[1] === "row" ? Number(words[2]) : null;
+  }
+}
+
+/** The part of an edge that a warning names: the word in front of it, or of a driven mark the part of the mark. */
+function partBefore(words, place) {
+  return words[place - 2] === "pin" || words[place - 1].includes(".") ? words[1].split(".")[0] : words[place - 1];
+}
+
+/** The warnings of job lint. */
+export function warningsOf(text) {
+  return text
+    .split("\n")
+    .filter((line) => line.startsWith("warning "))
+    .map((line) => new Warning(line.slice("warning ".length)));
+}
+
+/** The jobs that the program's help lists. */
+export function jobsOf(help) {
+  const jobs = /^Jobs:\n((?: {2}.*\n)*)/m.exec(help);
+  return jobs ? [...jobs[1].matchAll(/^ {2}(\w+)/gm)].map((match) => match[1]) : [];
+}

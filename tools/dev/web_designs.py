@@ -1,0 +1,197 @@
+"""The designs that the tests of the page open: those that are drawn, wrong labels and nets, and large ones."""
+import glob
+import json
+import os
+
+TOP = os.path.dirname(os.path.dirname(os.path.dirname(os.path.abspath(__file__))))
+
+
+def text_of(name):
+    with open(os.path.join(TOP, name), encoding="utf-8") as file:
+        return file.read()
+
+
+def examples_text():
+    """All files of the examples by their names."""
+    paths = glob.glob(os.path.join(TOP, "examples", "**", "*"), recursive=True)
+    return {os.path.relpath(path, TOP): text_of(path) for path in sorted(paths) if os.path.isfile(path)}
+
+
+def drawn_designs():
+    """Designs that are drawn in tests: a name, and the design and its files."""
+    texts = {name: text for name, text in examples_text().items() if name.endswith(".json")}
+
+    def example(name, **changed):
+        design = dict(json.loads(texts[name]), **changed)
+        sheets = {part["sheet"]: texts[part["sheet"]] for part in design.get("parts", [])}
+        return name, {name: json.dumps(design), **sheets}
+
+    def sheet(tree):
+        return "sheet.json", {"sheet.json": json.dumps(tree)}
+
+    return {
+        "passes": example("examples/sram-write.json"),
+        "fails": example("examples/shared-bus.json"),
+        "inconsistent": example("examples/contradiction.json"),
+        "unbounded": sheet(unbounded()),
+        "two cycles": example("examples/cpu-sram.json"),
+        "64 cycles": example("examples/cpu-sram-fast.json", cycles=64),
+        "groups": example("examples/two-masters.json"),
+        "93 marks": sheet(many_marks()),
+    }
+
+
+def unbounded():
+    """An answer that nothing bounds: no rule says how late the data comes."""
+    lanes = [
+        {"name": "CLK", "wave": "P.|.", "node": ".c"},
+        {"name": "DATA", "wave": "x.=.", "node": "..v", "data": ["a value"]},
+        {"name": "BUSY", "wave": "u.d.", "node": "..b"},
+    ]
+    return {"signal": lanes, "edge": ["c~>v @lin [3000,*] tCO", "v~>b @lin [0,2000] tB", "c->v @ask clock to data", "c->b @req [0,20000] busy in time"]}
+
+
+def many_marks():
+    """A sheet with as many marks as there are, in a chain over six lanes, some of whose names are long."""
+    marks = [chr(code) for code in range(33, 127) if chr(code) != "."]
+    lanes = [{"name": f"lane {number}" + " with a long name" * (number % 2), "wave": "0" * 94, "node": ["."] * 94} for number in range(6)]
+    for place, mark in enumerate(marks):
+        lanes[place % 6]["node"][place + 1] = mark
+    for lane in lanes:
+        level, wave = 0, []
+        for char in lane["node"]:
+            level = level if char == "." else 1 - level
+            wave.append("." if wave and char == "." else str(level))
+        lane["wave"], lane["node"] = "".join(wave), "".join(lane["node"])
+    rules = [f"{first}->{second} @lin [100,{200 + place}]" for place, (first, second) in enumerate(zip(marks, marks[1:]))]
+    rows = [f"{marks[first]}->{marks[second]} @req [{50 * (second - first)},*] from {first} to {second}" for first, second in ((0, 92), (10, 12), (3, 40))]
+    return {"signal": lanes, "edge": rules + rows}
+
+
+def fourteen_rows():
+    """A sheet with fourteen requirements on fourteen lanes, half of which fail."""
+    letters = "abcdefghijklmno"
+    lanes = [{"name": f"lane {letter}", "wave": "0" + "." * place + "1" + "." * (14 - place), "node": "." * (place + 1) + letter}
+             for place, letter in enumerate(letters)]
+    rules = [f"{first}~>{second} @lin [1000,{2000 + 100 * place}] t{place}" for place, (first, second) in enumerate(zip(letters, letters[1:]))]
+    rows = [f"a->{letter} @req [{1000 * (place + 1) + (500 if place % 2 else 0)},*] r{place}" for place, letter in enumerate(letters[1:])]
+    return {"signal": lanes, "edge": rules + rows}
+
+
+def layers(count, width):
+    """A network of layers: units of an odd layer wait for two of the layer before, and those of an even one for the first of two."""
+    files, parts, nets, wires = {}, [], [], []
+    pins = [{"name": f"u{k}", "wave": "01", "node": "." + chr(97 + k)} for k in range(width)]
+    following = [{"name": f"v{k}", "wave": "01", "node": "." + chr(65 + k)} for k in range(width)]
+    for kind in ("late", "early"):
+        edges = [f"{chr(97 + k)}->{chr(65 + (k + step) % width)} @{kind} [{500 + 37 * k + 11 * step},{900 + 53 * k + 29 * step}]"
+                 for k in range(width) for step in (0, 1)]
+        files[f"{kind}.json"] = json.dumps({"signal": pins + following, "edge": edges})
+    first = [f"a->{chr(97 + k)} @lin [{100 * k},{100 * k + 250}]" for k in range(1, width)]
+    files["first.json"] = json.dumps({"signal": pins, "edge": first})
+    parts.append({"name": "F", "sheet": "first.json"})
+    before, lane = "F", "u"
+    for layer in range(count):
+        parts.append({"name": f"L{layer}", "sheet": ("late.json", "early.json")[layer % 2]})
+        nets += [{"pins": [f"{before}.{lane}{k}", f"L{layer}.u{k}"], "delay": [0, 50]} for k in range(width)]
+        before, lane = f"L{layer}", "v"
+    wires = [f"F.a {before}.A @ask", f"F.a {before}.A @req [*,1000000] in a microsecond"]
+    files["net.json"] = json.dumps({"itv": 1, "cycles": 1, "parts": parts, "nets": nets, "edges": wires})
+    return "net.json", files
+
+
+def sheet_with(edge, **keys):
+    return {"signal": [{"name": "A", "wave": "01", "node": ".a"}, {"name": "B", "wave": "01", "node": ".b"}], "edge": ["a->b @lin [0,5]", edge], **keys}
+
+
+# Wrong labels, and a part of what is said of each.
+LABELS = {
+    "a->b @lin [0, 2000]": "there may be no space within a range",
+    "a->b @lin[0,2000]": "a space is wanted in front of the range",
+    "a->b @lin [0,2.5]": "'2.5' is no whole number",
+    "a->b @lin 0..2000": "a range begins with [",
+    "a->b @linear [0,2]": "there is no kind 'linear'",
+    "a->b @LIN [0,2]": "there is no kind 'LIN'",
+    "a->b @lin [2000]": "two ends with one comma",
+    "a->b @lin [0,inf]": "'inf' is neither a whole number nor *",
+    "a->b @lin [0,]": "an end is missing: an open end is *",
+    "a->b @lin [2,*]ns": "a space is wanted in front of a note",
+    "a->b @lin $tAA": 'a number with a name, $NAME, is read in a netlist with "itv": 2 alone',
+    "a->b @lin": "a range is wanted",
+    "a->b @lin+65 [0,2]": "a whole number from 1 to 64",
+    "a->b @lin [9,2]": "the low end is above the high end",
+    "a->k @lin [0,2]": "no lane has the mark k",
+}
+
+
+NETS = {
+    '{ "pins": ["A.X", "B.Y"] }': "No part has this name",
+    '{ "pins": ["CPU.ADDR", "RAM.NO"] }': "no lane of this name with a mark",
+    '{ "pins": ["CPU.ADDR", "RAM.ADDR"], "delay": 300 }': "a list of two",
+    '{ "pins": ["CPU.ADDR", "RAM.ADDR"], "delay": [0, "*"] }': "null for an open end",
+    '{ "pins": ["CPU.ADDR", "ADDR"] }': 'The pin "ADDR" is no text PART.LANE',
+    '{ "pins": ["CPU.ADDR", "RAM.ADDR"], "delay": [300, 100] }': "The low end is above the high end",
+}
+
+
+# A report whose rows pass, fail with a slack, pass closely, are left open by the budget, fail beyond it, fail unbounded, and ask.
+ROWS = """itv report 1
+budget 9
+events 2
+event 0 U.a@0
+event 1 U.b@0
+finding consistent
+times 0 5
+rows 7
+row 0 req U.a@0 U.b@0 [0,9]
+max 6
+times 0 6
+min 5
+times 0 5
+verdict pass
+slack 5 3
+row 1 req U.a@0 U.b@0 [7,9]
+max 6
+times 0 6
+min 5
+times 0 5
+verdict fail low
+times 0 5
+slack -2 3
+row 2 req U.a@0 U.b@0 [4,9]
+max 6
+times 0 6
+min 5
+times 0 5
+verdict pass
+slack 1 3
+row 3 req U.a@0 U.b@0 [0,9]
+max within 12 found 6
+times 0 6
+min 5
+times 0 5
+verdict undecided
+slack 5 *
+row 4 req U.a@0 U.b@0 [0,8]
+max within * found 12
+times 0 12
+min 5
+times 0 5
+verdict fail high
+times 0 12
+slack 5 *
+row 5 req U.a@0 U.b@0 [0,9]
+max unbounded
+times 0 70
+raise 1
+min 5
+times 0 5
+verdict fail high
+times 0 70
+slack 5 *
+row 6 ask U.a@0 U.b@0
+max within 8 found 6
+times 0 6
+min within *
+end fail
+"""
