@@ -1,5 +1,6 @@
 //! Lines of proofs by clauses: which lines a checker takes, and the first fault of each other line.
 
+ghost use Rattle.std.specs.Prelude.{◌<◌};
 ghost use Rattle.clauses.specs.Checking.{IsChecking};
 
 use crate::clause_faults::{put_assumed, put_closed, put_fall, put_known, put_loop};
@@ -22,7 +23,8 @@ use std::fmt::Write;
 pub fn clauses(alloc: Global, net: &Network, rows: &str, out: &mut String) -> Result<(), Unfit> {
     start_is_checking();
     let (claim, rows) = rows.split_once('\n').ok_or(())?;
-    let value = claim.strip_prefix("claim ").and_then(long_in).ok_or(())?;
+    let value = claim.strip_prefix("claim ").ok_or(())?;
+    let value = long_in(value).ok_or(())?;
     if net.events() <= 3 {
         return Err(Unfit);
     }

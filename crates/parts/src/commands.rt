@@ -81,7 +81,7 @@ fn put_task(task: Task<'_>, out: &mut String) -> Result<(), AllocError> {
 /// Writes the front of a file of the generated design of a size, for a row as in `1 bus.json 80`, or the fault of the size.
 pub fn files(alloc: Global, row: &str, out: &mut String) -> Result<(), Unfit> {
     let mut words = row.split(' ');
-    let size = words.next().and_then(short_in).ok_or(())?;
+    let size = short_in(words.next().ok_or(())?).ok_or(())?;
     let name = words.next().ok_or(())?;
     let count = words.next().ok_or(())?.parse::<usize>()?;
     let mut shelf = match make(alloc, size) {

@@ -12,7 +12,8 @@ use std::fmt::Write;
 /// in this range after the event before it. Where there is no room for a constraint, the fault is written.
 pub fn network(alloc: Global, subject: &str, out: &mut String) -> Result<Network, Unfit> {
     let (head, constraints) = subject.split_once('\n').ok_or(())?;
-    let events = head.strip_prefix("events ").and_then(short_in).ok_or(())?;
+    let events = head.strip_prefix("events ").ok_or(())?;
+    let events = short_in(events).ok_or(())?;
     let mut net = Network::new(alloc, events.min(MAX_EVENTS))?;
     for line in constraints.lines() {
         match line.strip_prefix("chain ") {
@@ -42,7 +43,7 @@ fn push_constraint(
 ) -> Result<(), Unfit> {
     let mut words = line.split(' ');
     let kind = words.next().ok_or(())?;
-    let target = words.next().and_then(short_in).ok_or(())?;
+    let target = short_in(words.next().ok_or(())?).ok_or(())?;
     let mut causes = Vec::new(alloc);
     for word in words {
         causes.push(cause_of(word)?)?;

@@ -1,6 +1,5 @@
 //! Greatest separations by searches over choices of causes, and whatever the choices.
 
-ghost use Rattle.std.specs.Prelude.{◌<◌};
 ghost use Rattle.branch.specs.Work.{IsMadeFor};
 
 use crate::proof_lines::put_tree;

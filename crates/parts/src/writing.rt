@@ -23,9 +23,9 @@ pub fn asked_of(row: &str) -> Result<PairQuestion<'_>, Unfit> {
     let mut words = row.split(' ');
     Ok(PairQuestion {
         word: words.next().ok_or(())?,
-        from: EventId(words.next().and_then(short_in).ok_or(())?),
-        to: EventId(words.next().and_then(short_in).ok_or(())?),
-        number: words.next().and_then(long_in).ok_or(())?,
+        from: EventId(short_in(words.next().ok_or(())?).ok_or(())?),
+        to: EventId(short_in(words.next().ok_or(())?).ok_or(())?),
+        number: long_in(words.next().ok_or(())?).ok_or(())?,
     })
 }
 
