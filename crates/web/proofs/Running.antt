@@ -8,8 +8,8 @@ use Rattle.itv_cli.specs.Run.{call_of}
 use Rattle.itv_cli.specs.Status.{code_of}
 use Rattle.web.specs.declared.TheConstants.{UNFIT, NO_ROOM}
 use Rattle.web.specs.Given.{Given, IsFit, files_in, words_in}
-use Rattle.web.specs.Answered.{Answered, RunWrote, ClausesHold, run_on, usable, shelf_with, empty_sink}
-use Rattle.web.specs.Answered.Answered.{ran, unfit, no_room}
+use Rattle.web.specs.Answered.{IsAnswered, RunWrote, ClausesHold, run_on, usable, shelf_with, empty_sink}
+use Rattle.web.specs.Answered.IsAnswered.{ran, unfit, no_room}
 use Rattle.web.proofs.Cutting.{shelf_of}
 
 -- no number is below itself
@@ -17,7 +17,7 @@ not_below : {A : Type 0} (n : ℕ) → n < n → A
 not_below n lt = absurd (lt_irrefl n lt)
 
 -- where memory is missing before a run, the call answers like a run that ends for want of memory
-without : (given : Given) (out : List ℕ) → IsFit given → Answered given (code_of NoMemory) 0 out
+without : (given : Given) (out : List ℕ) → IsFit given → IsAnswered given (code_of NoMemory) 0 out
 without given out fit =
     let run : ClausesHold (run_on given (shelf_with (files_in given)) empty_sink) NoMemory = record {
       means = record { sink = refl; shelf = refl };
@@ -27,10 +27,10 @@ without given out fit =
     } in
     ran fit NoMemory (record { shelf = shelf_with (files_in given); sink = empty_sink; wrote = refl; clauses = run }) (omega arith) refl
 
-pub without_memory : (given : Given) (status wrote : ℕ) (out : List ℕ) → IsFit given → status ≡ code_of NoMemory → wrote ≡ 0 → Answered given status wrote out
+pub without_memory : (given : Given) (status wrote : ℕ) (out : List ℕ) → IsFit given → status ≡ code_of NoMemory → wrote ≡ 0 → IsAnswered given status wrote out
 without_memory given status wrote out fit is_status is_wrote =
-    let P : ℕ → Type 0 = λ s. Answered given s wrote out in
-    let Q : ℕ → Type 0 = λ w. Answered given (code_of NoMemory) w out in
+    let P : ℕ → Type 0 = λ s. IsAnswered given s wrote out in
+    let Q : ℕ → Type 0 = λ w. IsAnswered given (code_of NoMemory) w out in
     subst P (sym is_status) (subst Q (sym is_wrote) (without given out fit))
 
 -- what a run says, at the words and the states that a page gives it
@@ -50,7 +50,7 @@ pub after_run : (given : Given) (words : List (List ℕ)) (shelf shelf' : MemShe
     → text ≡ sink'.bytes → length out' ≡ length out
     → (length text ≤ usable out → (status ≡ code_of outcome) × (wrote ≡ length text) × (take wrote out' ≡ text))
     → (usable out < length text → (status ≡ NO_ROOM) × (wrote ≡ 0))
-    → Answered given status wrote out'
+    → IsAnswered given status wrote out'
 after_run given words shelf shelf' room sink sink' outcome text out out' status wrote fit is_words is_shelf is_sink run is_text same_length handed lacking =
     let Run : List ℕ → Type 0 = λ t. RunWrote given outcome t in
     let run_wrote : RunWrote given outcome text = subst Run (sym is_text) (run_of given words shelf shelf' room sink sink' outcome is_words is_shelf is_sink run) in
@@ -80,7 +80,7 @@ code_within BadWords = omega arith
 code_within CheckRefused = omega arith
 
 -- where what is handed over is fit, the status does not say that it is not
-pub fit_status : (given : Given) (status wrote : ℕ) (out : List ℕ) → Answered given status wrote out → IsFit given → status ≢ UNFIT
+pub fit_status : (given : Given) (status wrote : ℕ) (out : List ℕ) → IsAnswered given status wrote out → IsFit given → status ≢ UNFIT
 fit_status given status wrote out (ran fit outcome run within is) _ same = let below = code_within outcome in let no : ⊥ = omega (arith, below, is, same) in no
 fit_status given status wrote out (unfit never is none) fit same = never fit
 fit_status given status wrote out (no_room fit outcome text run past is none) _ same = let no : ⊥ = omega (arith, is, same) in no

@@ -39,7 +39,7 @@ usable out = min (length out) (2 ^ 32 - 1)
 
 -- What the call answers: a status, how many bytes it wrote, and its room. Each case has a status of its own. Either a run came to an outcome, and what it
 -- wrote stands at the front of the room. Or what was handed over is not fit, and nothing ran. Or a run wrote more than there is room for.
-pub data Answered (given : Given) (status wrote : ℕ) (out : List ℕ) : Type 0 where
-  ran : IsFit given → (outcome : Outcome) → RunWrote given outcome (take wrote out) → wrote ≤ usable out → status ≡ code_of outcome → Answered given status wrote out
-  unfit : ¬ (IsFit given) → status ≡ UNFIT → wrote ≡ 0 → Answered given status wrote out
-  no_room : IsFit given → (outcome : Outcome) (text : List ℕ) → RunWrote given outcome text → usable out < length text → status ≡ NO_ROOM → wrote ≡ 0 → Answered given status wrote out
+pub data IsAnswered (given : Given) (status wrote : ℕ) (out : List ℕ) : Type 0 where
+  ran : IsFit given → (outcome : Outcome) → RunWrote given outcome (take wrote out) → wrote ≤ usable out → status ≡ code_of outcome → IsAnswered given status wrote out
+  unfit : ¬ (IsFit given) → status ≡ UNFIT → wrote ≡ 0 → IsAnswered given status wrote out
+  no_room : IsFit given → (outcome : Outcome) (text : List ℕ) → RunWrote given outcome text → usable out < length text → status ≡ NO_ROOM → wrote ≡ 0 → IsAnswered given status wrote out

@@ -3,7 +3,7 @@
 ghost use Rattle.std.specs.Prelude.{◌≡◌, ◌≤◌, ◌<◌, [], length, take};
 ghost use Rattle.itv_cli.specs.Status.{code_of};
 ghost use Rattle.web.specs.Given.{Given, IsFit, files_in, words_in};
-ghost use Rattle.web.specs.Answered.{Answered, usable};
+ghost use Rattle.web.specs.Answered.{IsAnswered, usable};
 
 use crate::NO_ROOM;
 use itv_base::{NoMemory, ShelfMem, SinkMem, Texts};
@@ -21,7 +21,7 @@ pub fn answer(
     requires { wrote.old ≡ 0 }
     ensures answered { (given : Given) → IsFit given → words.now ≡ words_in given
         → shelf.old ≡ record { files = files_in given; failing = []; calls = 0; faults = 0; last = [] }
-        → Answered given result wrote.new out.new }
+        → IsAnswered given result wrote.new out.new }
 {
     match SinkMem::new(alloc, usable_of(out)) {
         Ok(mut sink) => {

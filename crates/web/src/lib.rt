@@ -6,7 +6,7 @@ mod handed;
 
 ghost use Rattle.std.specs.Prelude.{◌≡◌, ◌≢◌};
 ghost use Rattle.web.specs.Given.{IsFit, given_of};
-ghost use Rattle.web.specs.Answered.{Answered};
+ghost use Rattle.web.specs.Answered.{IsAnswered};
 
 use crate::given::{is_fit, shelf_of, texts_of};
 use crate::handed::answer;
@@ -40,7 +40,7 @@ pub extern "C" fn itv_run(
     out: &mut [u8],
     wrote: &mut u32,
 ) -> u8
-    ensures answered { Answered (given_of words.now word_sizes.now names.now name_sizes.now files.now file_sizes.now)
+    ensures answered { IsAnswered (given_of words.now word_sizes.now names.now name_sizes.now files.now file_sizes.now)
         result wrote.new out.new }
     ensures fit { IsFit (given_of words.now word_sizes.now names.now name_sizes.now files.now file_sizes.now)
         → result ≢ UNFIT }
