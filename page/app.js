@@ -56,6 +56,7 @@ export class App {
 
   /** Takes files in the place of all others. */
   open({ design, files }) {
+    this.analysis = null;
     delete byId("job").dataset.of;
     byId("examples").value = this.examples.files[design] === files[design] ? design : "";
     this.files.replace(files, design);
@@ -244,8 +245,9 @@ export class App {
 
   /** Shows the tab of a job, which is run now where it was not. */
   async chooseJob(job) {
-    this.job = job;
     const { analysis } = this;
+    if (!analysis) return;
+    this.job = job;
     this.showJobTabs();
     if (job !== "settle") await this.runJob(analysis, job);
     if (this.analysis === analysis) this.showJob();

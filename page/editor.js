@@ -22,6 +22,8 @@ export class Editor {
       // Tab leads on to the next part of the page.
       extraKeys: { Tab: false, "Shift-Tab": false, "Ctrl-]": "indentMore", "Ctrl-[": "indentLess" },
     });
+    // An editor that screen readers can read waits 80 ms before it takes what was typed. The answer wants it at once.
+    this.view.getInputField().addEventListener("input", () => setTimeout(() => takeTyped(this.view.display.input), 0));
     this.view.on("change", (view, change) => {
       if (change.origin !== "setValue" && this.name !== null) onChange(this.name, view.getValue());
     });
@@ -104,4 +106,12 @@ export class Editor {
     this.view.scrollIntoView({ from, to }, 60);
     this.view.focus();
   }
+}
+
+/** Lets CodeMirror take what was typed now, and not after its own delay, unless a character is still being composed. */
+function takeTyped(input) {
+  if (input.composing || !input.readDOMTimeout || !input.updateFromDOM) return;
+  clearTimeout(input.readDOMTimeout);
+  input.readDOMTimeout = null;
+  input.updateFromDOM();
 }
