@@ -99,7 +99,7 @@ export class Analysis {
 
   /** What a run says that gave no report. */
   refusalFrom({ status, text, fault }) {
-    if (fault) return { file: 0, start: 0, end: 1, says: "The program was ended by the browser, so there is no answer.", line: fault };
+    if (fault) return { file: 0, start: 0, end: 1, says: "The program was ended before it had an answer.", line: fault };
     const line = text.split("\n")[0];
     if (status === 7) return { file: 0, start: 0, end: 1, says: "There was not enough memory.", line: "" };
     const found = refusalOf(line, this.reads.map((read) => read && { ...read, version: this.version })) || { file: 0, start: 0, end: 1, says: line };

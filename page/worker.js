@@ -7,6 +7,8 @@ const FIRST_ROOM = 1 << 20;
 const MOST_ROOM = 1 << 30;
 // The status of a run whose output was wanted to be longer than its room.
 const NO_ROOM = 6;
+// The statuses of a call that is no run with an answer: what was handed over does not fit, and the output did not fit into its room.
+const WITHOUT_ANSWER = { 254: "what was handed over does not fit", 255: "the output did not fit into its room" };
 
 let program = null;
 
@@ -24,7 +26,7 @@ function placed(instance, bytes) {
   return place;
 }
 
-/** Puts texts one behind another into memory, and their lengths as 32 bits each. What comes back are the arguments of two slices. */
+/** Puts texts one after another into memory, and their lengths as 32 bits each. What comes back are the arguments of two slices. */
 function placedTexts(instance, texts) {
   const pieces = texts.map((text) => new TextEncoder().encode(text));
   const all = new Uint8Array(pieces.reduce((sum, piece) => sum + piece.length, 0));
@@ -40,6 +42,7 @@ function runIn(bytes, words, names, texts) {
   const output = room(instance, bytes);
   const wrote = room(instance, 4);
   const status = instance.exports.itv_run(...slices, output, BigInt(bytes), wrote);
+  if (status in WITHOUT_ANSWER) throw new Error(WITHOUT_ANSWER[status]);
   const { buffer } = instance.exports.memory;
   const length = new DataView(buffer).getUint32(Number(wrote), true);
   return { status, text: new TextDecoder().decode(new Uint8Array(buffer, Number(output), length)) };
