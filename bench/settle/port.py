@@ -35,7 +35,7 @@ def without_contracts(text):
 
 
 def as_rust(crate, text):
-    text = without_contracts(text).replace("Debug, Drop)", "Debug)").replace("derive(Drop)", "derive(Debug)")
+    text = re.sub(r"#\[derive\(Drop\)\]\n", "", without_contracts(text)).replace(", Drop)", ")")
     text = text.replace("crate::", f"crate::{crate}::").replace("pub mod laws;\n", "")
     text = re.sub(r"\buse (itv_base|event_graph|falling|clauses)::", r"use crate::\1::", text)
     text = re.sub(r"impl<T: Drop> From<AllocFailed<T>> for \w+ \{.*?\n\}\n", "", text, flags=re.S)
