@@ -6,7 +6,7 @@ import { Matrix, Report, Why, warningsOf } from "./printed.js";
 import { refusalOf } from "./refusals.js";
 
 // The cases that each search may close behind a key. Where they do not suffice job settle goes on.
-export const BUDGET = 200;
+export const BUDGET = 100;
 // A matrix of more events is worked out only where its tab is chosen: it has a number for each pair.
 const MOST_EVENTS_OF_WINDOWS = 256;
 
