@@ -48,11 +48,8 @@ fn real_files_are_fetched_by_their_names(rt: HostRuntime) -> Result<(), Fail> {
         "conformance_folder",
         "conformance_folder/a.json",
     ] {
-        assert_eq!(rt;
-            shelf.fetch(alloc, name, 100).err(),
-            Some(FetchFault::Failed),
-            "of {name}"
-        );
+        let answer = shelf.fetch(alloc, name, 100);
+        assert!(rt; matches!(&answer, Err(FetchFault::Failed)), "of {name}");
     }
     fs::remove_file(&rt, "conformance_sheet.json")?;
     fs::remove_file(&rt, "conformance_empty.json")?;
@@ -70,23 +67,15 @@ fn a_run_reads_real_files(rt: HostRuntime) -> Result<(), Fail> {
     longest.push(b' ')?;
     fs::write(&rt, "conformance_longer.json", longest.as_slice())?;
     let mut shelf = ShelfDir::new(alloc, rt.clone()?)?;
-    for (name, end, text) in [
-        ("conformance_longest.json", Outcome::AllPass, REPORT),
-        (
-            "conformance_longer.json",
-            Outcome::Refused,
-            "refused file 0 TooLong\n",
-        ),
-        (
-            "conformance_none.json",
-            Outcome::ReadFault,
-            "cannot read file 0\n",
-        ),
+    for (name, status, text) in [
+        ("conformance_longest.json", 0, REPORT),
+        ("conformance_longer.json", 4, "refused file 0 TooLong\n"),
+        ("conformance_none.json", 5, "cannot read file 0\n"),
     ] {
         let mut sink = SinkMem::new(alloc, 1_000)?;
         let outcome = run(alloc, &list_of(alloc, name)?, &mut shelf, &mut sink);
         assert_eq!(rt; str::from_utf8(sink.bytes())?, text, "of {name}");
-        assert_eq!(rt; outcome, end, "of {name}");
+        assert_eq!(rt; outcome.code(), status, "of {name}");
     }
     fs::remove_file(&rt, "conformance_longest.json")?;
     fs::remove_file(&rt, "conformance_longer.json")?;
@@ -99,6 +88,6 @@ fn standard_output_takes_a_line(rt: HostRuntime) -> Result<(), Fail> {
     let mut shelf = ShelfDir::new(alloc, rt.clone()?)?;
     let mut sink = SinkOut::new(rt.clone()?);
     let outcome = run(alloc, &list_of(alloc, "--help")?, &mut shelf, &mut sink);
-    assert_eq!(rt; outcome, Outcome::Help);
+    assert!(rt; matches!(&outcome, Outcome::Help));
     Ok(())
 }
