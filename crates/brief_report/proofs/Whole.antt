@@ -22,23 +22,23 @@ use Rattle.brief_report.specs.Text.{brief_text, rows_text}
 use Rattle.jobs.specs.JobWrote.{Answered}
 
 -- there are no more findings of rows than rows
-few_rows : (drawn : Drawn) (word : FindingWord) (rows : List Row) (found : List RowFound) → AreRowsFound drawn word rows found → length found ≤ length rows
-few_rows drawn word [] [] are = omega arith
-few_rows drawn word [] (f ∷ found) are = absurd are
-few_rows drawn word (r ∷ rows) [] are = absurd are
-few_rows drawn word (r ∷ rows) (f ∷ found) are = let h = few_rows drawn word rows found are.1 in omega (arith, h)
+few_rows : (drawn : Drawn) (budget : ℕ) (word apart : FindingWord) (rows : List Row) (found : List RowFound) → AreRowsFound drawn budget word apart rows found → length found ≤ length rows
+few_rows drawn budget word apart [] [] are = omega arith
+few_rows drawn budget word apart [] (f ∷ found) are = absurd are
+few_rows drawn budget word apart (r ∷ rows) [] are = absurd are
+few_rows drawn budget word apart (r ∷ rows) (f ∷ found) are = let h = few_rows drawn budget word apart rows found are.1 in omega (arith, h)
 
-pub few_found : (drawn : Drawn) (finding : Finding) (found : List RowFound) → AreFound drawn finding found → length found ≤ length drawn.rows
-few_found drawn Consistent found are = few_rows drawn _ drawn.rows found are
-few_found drawn (Inconsistent set) found are = rw are (omega arith)
-few_found drawn Unsettled found are = few_rows drawn _ drawn.rows found are
+pub few_found : (drawn : Drawn) (budget : ℕ) (finding : Finding) (found : List RowFound) → AreFound drawn budget finding found → length found ≤ length drawn.rows
+few_found drawn budget Consistent found are = few_rows drawn budget _ are.word_apart drawn.rows found are.rows
+few_found drawn budget (Inconsistent set) found are = rw are (omega arith)
+few_found drawn budget Unsettled found are = few_rows drawn budget _ are.word_apart drawn.rows found are.rows
 
 pub brief_is : (noted : Noted) (drawn : Drawn) (finding : Finding) (rows found : List RowFound) (numbered : FindingWord) (word : EndWord) → rows ≡ found → numbered ≡ word_of finding
     → word ≡ ending_of drawn.rows finding found
     → ended (codes "itv brief 1") ++ (entry_text (line.finding numbered) ++ (rows_text noted drawn (numbered_rows drawn rows) ++ entry_text (line.ending word))) ≡ brief_text noted drawn finding found
 brief_is noted drawn finding rows found numbered word is_rows is_told is_word = rw (is_rows, is_told, is_word) refl
 
-module _ (noted : Noted) (drawn : Drawn) (budget : ℕ) (finding : Finding) (found : List RowFound) (f : IsFindingFound drawn.net finding) (a : AreFound drawn finding found) (s : SettlesWithin drawn.net budget finding found) where
+module _ (noted : Noted) (drawn : Drawn) (budget : ℕ) (finding : Finding) (found : List RowFound) (f : IsFindingFound drawn.net budget finding) (a : AreFound drawn budget finding found) (s : SettlesWithin drawn.net budget finding found) where
   -- the text says what was found
   pub answers_brief : (answer : Answer) → answer ≡ answer_of (ending_of drawn.rows finding found) → AnswersBrief noted drawn budget answer (brief_text noted drawn finding found)
   answers_brief answer is = record { finding = finding; found = found; is_finding = f; are_found = a; settles = s; is_text = refl; is_answer = is }

@@ -9,12 +9,13 @@ use Rattle.explained.specs.Answers.{AreFound, IsFindingFound, SettlesWithin}
 use Rattle.why_report.specs.Text.{Noted, ending_of}
 use Rattle.brief_report.specs.Text.{brief_text}
 
--- The text says what is found of the network and of each row, and all that is found is right. The word at the end of the text gives the answer.
+-- The text says what is found of the network and of each row. All that is found is right, and shown by searches within the budget. The word at the end of
+-- the text gives the answer.
 pub record AnswersBrief (noted : Noted) (drawn : Drawn) (budget : ℕ) (answer : Answer) (text : List ℕ) : Type 0 where
   pub finding : Finding
   pub found : List RowFound
-  pub is_finding : IsFindingFound drawn.net finding
-  pub are_found : AreFound drawn finding found
+  pub is_finding : IsFindingFound drawn.net budget finding
+  pub are_found : AreFound drawn budget finding found
   pub settles : SettlesWithin drawn.net budget finding found
   pub is_text : text ≡ brief_text noted drawn finding found
   pub is_answer : answer ≡ answer_of (ending_of drawn.rows finding found)

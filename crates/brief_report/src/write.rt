@@ -53,14 +53,17 @@ fn put_found<N: Notes, K: Sink>(
     buffer: &mut LineBuffer,
     sink: &mut K,
 ) -> Result<Answer, PutFailed>
-    requires finding { IsFindingFound drawn.now.net found.now.finding }
-    requires rows { AreFound drawn.now found.now.finding found.now.rows.items }
+    requires rows { (budget : ℕ) × AreFound drawn.now budget found.now.finding found.now.rows.items }
     requires times { All HasRowTimes found.now.rows.items }
     requires places { places.now ≡ map place_of (ordered (numbered_rows drawn.now found.now.rows.items)) }
-    ensures answers { (budget : ℕ) → SettlesWithin drawn.now.net budget found.now.finding found.now.rows.items
+    ensures answers { (budget : ℕ) → IsFindingFound drawn.now.net budget found.now.finding
+        → AreFound drawn.now budget found.now.finding found.now.rows.items
+        → SettlesWithin drawn.now.net budget found.now.finding found.now.rows.items
         → IfOk result (λ answer. (text : List ℕ) × AnswersBrief (N.noted notes.now) drawn.now budget answer text
         × (K.state sink.new ≡ grown (K.state sink.old) text)) }
-    ensures begins { (budget : ℕ) → SettlesWithin drawn.now.net budget found.now.finding found.now.rows.items
+    ensures begins { (budget : ℕ) → IsFindingFound drawn.now.net budget found.now.finding
+        → AreFound drawn.now budget found.now.finding found.now.rows.items
+        → SettlesWithin drawn.now.net budget found.now.finding found.now.rows.items
         → OnErr result ((text : List ℕ) × Answered (AnswersBrief (N.noted notes.now) drawn.now budget) text
         × CutShort (K.state sink.old) (K.state sink.new) text) }
 {

@@ -97,11 +97,11 @@ no_end word rows found other e =
     never_none tally.fails tally.found tally.within (λ same. other (sym (rows_keep (tally_of word) rows found) ∙ same)) e
 
 -- if the answer is that the network is inconsistent, it is
-none_found : (net : Net) (rows : List Row) (finding : Finding) (found : List RowFound) → IsFindingFound net finding → answers.Inconsistent ≡ answer_of (ending_of rows finding found)
+none_found : (net : Net) (budget : ℕ) (rows : List Row) (finding : Finding) (found : List RowFound) → IsFindingFound net budget finding → answers.Inconsistent ≡ answer_of (ending_of rows finding found)
     → IsInconsistent net
-none_found net rows Consistent found is e = absurd (no_end findings.Consistent rows found (λ same. cc same) e)
-none_found net rows (Inconsistent set) found is e = proof_of_nothing net is.1.lines is.1.proof
-none_found net rows Unsettled found is e = absurd (no_end findings.Unsettled rows found (λ same. cc same) e)
+none_found net budget rows Consistent found is e = absurd (no_end findings.Consistent rows found (λ same. cc same) e)
+none_found net budget rows (Inconsistent set) found is e = proof_of_nothing net is.holds.1.lines is.holds.1.proof
+none_found net budget rows Unsettled found is e = absurd (no_end findings.Unsettled rows found (λ same. cc same) e)
 
 -- where the bounds of rows are settled, none is within
 within_none : (least most : Bound) → IsBoundSettled least → IsBoundSettled most → (is_within least || is_within most) ≡ false
@@ -155,7 +155,7 @@ module _ (call : Call) (files : Files) (budget : ℕ) (plan : Planned) (drawn : 
   why_none result means e =
       let m = answered_by call result answers.Inconsistent (λ same. cc same) means e in
       let a = why_said answers.Inconsistent m in
-      none_found drawn.net drawn.rows a.finding a.found a.is_finding a.is_answer
+      none_found drawn.net budget drawn.rows a.finding a.found a.is_finding a.is_answer
 
   pub why_decides : (result : Outcome) → OutcomeMeans call result → result ≡ ends.Undecided → budget < cause_choices drawn.net.constraints
   why_decides result means e =

@@ -25,22 +25,15 @@ use Rattle.slack_report.specs.declared.words.FindingWord.TheVariants as findings
 use Rattle.right_report.specs.Right.ReportState.{greatest, least_by}
 use Rattle.right_report.specs.Right.LineClaims.{HasAttained, IsBoundOf}
 use Rattle.drawn.specs.declared.row.Row.{Row}
-use Rattle.explained.specs.Answers.{AreRowBounds, Explains, IsBoundFound, bound_of}
+use Rattle.explained.specs.Answers.{AreRowBounds, Explains, IsBehind, IsBoundFound, IsBoundShown, bound_of}
 use Rattle.explained.specs.declared.bound.BoundFound.{BoundFound}
 use Rattle.explained.specs.declared.bound.BoundFound.TheVariants.{Closed, Unbounded, Within}
 use Rattle.explained.specs.declared.pair.Pair.{Pair}
-use Rattle.explained.specs.Step.Bounding.{IsClosedBy, IsExplained, IsGreatestBy, bound_by, reversed_found}
-use Rattle.explained.specs.Step.Standing.{FindingAllows}
-use Rattle.explained.proofs.Standing.{is_finding}
+use Rattle.explained.specs.Step.Bounding.{IsClosedBy, IsExplained, IsGreatestBy, IsGreatestShown, bound_by, reversed_found}
+use Rattle.explained.proofs.Numbers.{neg_neg, no_neg}
+use Rattle.explained.proofs.Shown.{greatest_shown, least_shown}
 
 -- ---- numbers
-
-neg_neg : (z : ℤ) → neg_ℤ (neg_ℤ z) ≡ z
-neg_neg z = omega (arith, ints)
-
-no_neg : (z : Option ℤ) → z ≡ option_map neg_ℤ (option_map neg_ℤ z)
-no_neg None = refl
-no_neg (Some z) = ap Some (sym (neg_neg z))
 
 time_close : (time : ℤ) → IsClose time → IsTime time
 time_close time h = (omega (arith, ints, h.0, h.1), omega (arith, ints, h.0, h.1))
@@ -137,50 +130,76 @@ least_of net word row most bounds.Unbounded times set is = is.found
 least_of net word row most (bounds.Within limit attained) times set is =
     (subst (IsRootBound net row.to row.from) (no_neg limit) is.root, attained_turned word attained is.rests)
 
--- both with what stands behind them
-pub greatest_found : (net : Net) (word : FindingWord) (row : Row) (found : BoundFound) → IsExplained net word (record { from = row.from; to = row.to }) found
-    → IsBoundFound net word row greatest found
-greatest_found net word row (Closed value chain) is = record { holds = explained_holds net word row.from row.to (Closed value chain) is; right = (is.0, is.1); behind = is.2 }
-greatest_found net word row (Unbounded set) is = record { holds = explained_holds net word row.from row.to (Unbounded set) is; right = is.0; behind = is.1 }
-greatest_found net word row (Within limit attained) is = record { holds = explained_holds net word row.from row.to (Within limit attained) is; right = (is.root, is.rests); behind = tt }
+-- what stands behind a greatest bound, behind a row
+greatest_right : (net : Net) (word : FindingWord) (row : Row) (found : BoundFound) → IsExplained net word (record { from = row.from; to = row.to }) found
+    → IsBoundOf net word row greatest (bound_of found) × IsBehind net row greatest found
+greatest_right net word row (Closed value chain) is = ((is.0, is.1), is.2)
+greatest_right net word row (Unbounded set) is = (is.0, is.1)
+greatest_right net word row (Within limit attained) is = ((is.root, is.rests), tt)
 
-pub least_found : (net : Net) (word : FindingWord) (row : Row) (most : Bound) (found : BoundFound) → IsExplained net word (record { from = row.to; to = row.from }) found
-    → IsBoundFound net word row (least_by most) (reversed_found found)
-least_found net word row most (Closed value chain) is = record {
-  holds = least_holds net word row.from row.to (Closed value chain) is;
-  right = (is.0, (least_is_reversed_greatest net row.from row.to (neg_ℤ value)).1 (subst (IsGreatest net row.to row.from) (sym (neg_neg value)) is.1));
-  behind = subst (λ z. Explains net row.to row.from z chain.items) (sym (neg_neg value)) is.2;
-}
-least_found net word row most (Unbounded set) is = record { holds = least_holds net word row.from row.to (Unbounded set) is; right = is.0; behind = is.1 }
-least_found net word row most (Within limit attained) is = record {
-  holds = least_holds net word row.from row.to (Within limit attained) is;
-  right = (subst (IsRootBound net row.to row.from) (no_neg limit) is.root, attained_turned word attained is.rests);
-  behind = tt;
-}
+-- and by the reversed pair behind a least bound
+least_right : (net : Net) (word : FindingWord) (row : Row) (most : Bound) (found : BoundFound) → IsExplained net word (record { from = row.to; to = row.from }) found
+    → IsBoundOf net word row (least_by most) (bound_of (reversed_found found)) × IsBehind net row (least_by most) (reversed_found found)
+least_right net word row most (Closed value chain) is = (
+  (is.0, (least_is_reversed_greatest net row.from row.to (neg_ℤ value)).1 (subst (IsGreatest net row.to row.from) (sym (neg_neg value)) is.1)),
+  subst (λ z. Explains net row.to row.from z chain.items) (sym (neg_neg value)) is.2,
+)
+least_right net word row most (Unbounded set) is = (is.0, is.1)
+least_right net word row most (Within limit attained) is = ((subst (IsRootBound net row.to row.from) (no_neg limit) is.root, attained_turned word attained is.rests), tt)
+
+turned_bound : (found : BoundFound) → bound_of (reversed_found found) ≡ reversed (bound_of found)
+turned_bound (Closed value chain) = refl
+turned_bound (Unbounded set) = refl
+turned_bound (Within limit attained) = refl
+
+-- both with what stands behind them and with the lines that show them
+pub greatest_found : (net : Net) (budget : ℕ) (word : FindingWord) (row : Row) (found : BoundFound) → IsExplained net word (record { from = row.from; to = row.to }) found
+    → IsGreatestShown net budget (record { from = row.from; to = row.to }) (bound_of found) → IsBoundFound net budget word row greatest found
+greatest_found net budget word row found is shown =
+    let stands = greatest_right net word row found is in
+    record { holds = explained_holds net word row.from row.to found is; right = stands.0; behind = stands.1; shown = greatest_shown net budget row (bound_of found) shown }
+
+pub least_found : (net : Net) (budget : ℕ) (word : FindingWord) (row : Row) (most : Bound) (found : BoundFound) → IsExplained net word (record { from = row.to; to = row.from }) found
+    → IsGreatestShown net budget (record { from = row.to; to = row.from }) (bound_of found) → IsBoundFound net budget word row (least_by most) (reversed_found found)
+least_found net budget word row most found is shown =
+    let stands = least_right net word row most found is in
+    let e : reversed (bound_of found) ≡ bound_of (reversed_found found) = sym (turned_bound found) in
+    record {
+      holds = subst (IsLeastBound net row.from row.to) e (least_holds net word row.from row.to found is);
+      right = stands.0;
+      behind = stands.1;
+      shown = subst (IsBoundShown net budget row (least_by most)) e (least_shown net budget row most (bound_of found) shown);
+    }
 
 -- ---- both
 
 pair_of : (row : Row) (pair : Pair) → row.from ≡ pair.from → row.to ≡ pair.to → pair ≡ record { from = row.from; to = row.to }
 pair_of row pair f t = rw (f, t) refl
 
+-- a greatest bound of a pair by a search of it
+pub record IsSearched (net : Net) (budget : ℕ) (word : FindingWord) (pair : Pair) (value : Bound) (times : List ℤ) (set : List Bool) : Type 0 where
+  pub bound : IsGreatestBy net word pair value times set
+  pub shown : IsGreatestShown net budget pair value
+
 -- both bounds of a row, each by the search of a pair
-pub both_of : (net : Net) (word later : FindingWord) (pair turned : Pair) (row : Row) (most fewest least : Bound) (times others : List ℤ) (set flags : List Bool) → FindingAllows net word
-    → later ≡ word → turned ≡ record { from = pair.to; to = pair.from } → least ≡ reversed fewest → row.from ≡ pair.from → row.to ≡ pair.to
-    → IsGreatestBy net word pair most times set → IsGreatestBy net later turned fewest others flags → AreRowBounds net row (record { least = least; greatest = most })
-both_of net word later pair turned row most fewest least times others set flags allows same_word same_turned same_least f t first second =
+pub both_of : (net : Net) (budget : ℕ) (word : FindingWord) (pair turned : Pair) (row : Row) (most fewest least : Bound) (times others : List ℤ) (set flags : List Bool)
+    → turned ≡ record { from = pair.to; to = pair.from } → least ≡ reversed fewest → row.from ≡ pair.from → row.to ≡ pair.to
+    → IsSearched net budget word pair most times set → IsSearched net budget word turned fewest others flags
+    → AreRowBounds net budget word row (record { least = least; greatest = most })
+both_of net budget word pair turned row most fewest least times others set flags same_turned same_least f t first second =
     let same : pair ≡ record { from = row.from; to = row.to } = pair_of row pair f t in
     let other : turned ≡ record { from = row.to; to = row.from } = same_turned ∙ ap (λ (p : Pair). record { from = p.to; to = p.from }) same in
-    let one : IsGreatestBy net word (record { from = row.from; to = row.to }) most times set = subst (λ (p : Pair). IsGreatestBy net word p most times set) same first in
-    let two : IsGreatestBy net word (record { from = row.to; to = row.from }) fewest others flags =
-    subst (λ (w : FindingWord). IsGreatestBy net w (record { from = row.to; to = row.from }) fewest others flags) same_word
-    (subst (λ (p : Pair). IsGreatestBy net later p fewest others flags) other second) in
+    let one : IsSearched net budget word (record { from = row.from; to = row.to }) most times set = subst (λ (p : Pair). IsSearched net budget word p most times set) same first in
+    let two : IsSearched net budget word (record { from = row.to; to = row.from }) fewest others flags =
+    subst (λ (p : Pair). IsSearched net budget word p fewest others flags) other second in
+    let turn : reversed fewest ≡ least = sym same_least in
     record {
       holds = (
-        holds_by net word row.from row.to most times set one,
-        subst (IsLeastBound net row.from row.to) (sym same_least) ((reversed_greatest_is_least net row.from row.to fewest).0 (holds_by net word row.to row.from fewest others flags two)),
+        holds_by net word row.from row.to most times set one.bound,
+        subst (IsLeastBound net row.from row.to) turn ((reversed_greatest_is_least net row.from row.to fewest).0 (holds_by net word row.to row.from fewest others flags two.bound)),
       );
-      word = word;
-      finding = is_finding net word allows;
-      greatest = greatest_of net word row most times set one;
-      least = subst (λ (b : Bound). IsBoundOf net word row (least_by most) b) (sym same_least) (least_of net word row most fewest others flags two);
+      greatest = greatest_of net word row most times set one.bound;
+      least = subst (λ (b : Bound). IsBoundOf net word row (least_by most) b) turn (least_of net word row most fewest others flags two.bound);
+      greatest_shown = greatest_shown net budget row most one.shown;
+      least_shown = subst (IsBoundShown net budget row (least_by most)) turn (least_shown net budget row most fewest two.shown);
     }

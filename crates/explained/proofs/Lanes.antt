@@ -16,83 +16,118 @@ use Rattle.explained.specs.declared.bound.BoundFound.{BoundFound}
 use Rattle.explained.specs.declared.desk.Desk.{Desk}
 use Rattle.explained.specs.declared.pair.Pair.{Pair}
 use Rattle.explained.specs.declared.row.RowFound.{RowFound}
-use Rattle.explained.specs.Step.Bounding.{IsExplained, reversed_found}
-use Rattle.explained.specs.Step.Standing.{FindingAllows, IsReady}
+use Rattle.explained.specs.Step.Bounding.{IsExplained, IsGreatestShown, reversed_found}
+use Rattle.explained.specs.declared.searches.Searches.{Searches}
+use Rattle.explained.specs.Step.Standing.{IsReady, KeepsFinding, KeepsFindings, word_apart, word_in}
 use Rattle.explained.specs.Step.Resting.{AreBoundsApart}
 use Rattle.explained.proofs.Behind.{greatest_found, least_found}
-use Rattle.explained.proofs.Standing.{is_finding}
 
--- the bounds apart that are right by both bounds of a row are right in what is found of it
-pub told_of : (apart : Net) (row : Row) (kind : RowKind) (found : RowFound) → AreBoundsApart apart row kind (record { least = bound_of found.least; greatest = bound_of found.greatest }) found.apart
-    → IsApartOf apart row kind found
-told_of apart row kinds.Ask found rests = rests
-told_of apart row (kinds.Req range) found rests = rests
+-- the bounds apart that are found by both bounds of a row are found with it
+told_of : (apart : Net) (budget : ℕ) (word : FindingWord) (row : Row) (kind : RowKind) (found : RowFound)
+    → AreBoundsApart apart budget word row kind (record { least = bound_of found.least; greatest = bound_of found.greatest }) found.apart → IsApartOf apart budget word row kind found
+told_of apart budget word row kinds.Ask found rests = rests
+told_of apart budget word row (kinds.Req range) found rests = rests
 
 -- both bounds of a row, as they are found
-both_found : (net : Net) (word : FindingWord) (row : Row) (most fewest : BoundFound) → FindingAllows net word → IsBoundFound net word row greatest most
-    → IsBoundFound net word row (least_by (bound_of most)) fewest → AreRowBounds net row (record { least = bound_of fewest; greatest = bound_of most })
-both_found net word row most fewest allows first second = record {
+both_found : (net : Net) (budget : ℕ) (word : FindingWord) (row : Row) (most fewest : BoundFound) → IsBoundFound net budget word row greatest most
+    → IsBoundFound net budget word row (least_by (bound_of most)) fewest → AreRowBounds net budget word row (record { least = bound_of fewest; greatest = bound_of most })
+both_found net budget word row most fewest first second = record {
   holds = (first.holds, second.holds);
-  word = word;
-  finding = is_finding net word allows;
   greatest = first.right;
   least = second.right;
+  greatest_shown = first.shown;
+  least_shown = second.shown;
 }
 
+-- what the search of a pair finds, with what makes it so and the lines that show it
+pub record IsFoundBy (net : Net) (budget : ℕ) (word : FindingWord) (pair : Pair) (found : BoundFound) : Type 0 where
+  pub explained : IsExplained net word pair found
+  pub shown : IsGreatestShown net budget pair (bound_of found)
+
 -- what is found of a row: by the searches of its pair and of the reversed one, and by its bounds in the network apart
-pub row_found : (drawn : Drawn) (net apart : Net) (word later : FindingWord) (row : Row) (turned : Pair) (most searched fewest : BoundFound) (both : BothBounds) (rests : Option BothBounds)
-    → net ≡ drawn.net → apart ≡ net_apart drawn → later ≡ word → turned ≡ record { from = row.to; to = row.from } → fewest ≡ reversed_found searched
-    → both ≡ record { least = bound_of fewest; greatest = bound_of most } → FindingAllows drawn.net word
-    → IsExplained net word (record { from = row.from; to = row.to }) most → IsExplained net later turned searched
-    → (AreRowBounds drawn.net row both → AreBoundsApart apart row row.kind both rests) → IsRowFound drawn word row (record { greatest = most; least = fewest; apart = rests })
-row_found drawn net apart word later row turned most searched fewest both rests same_net same_apart same_word same_turned same_fewest same_both allows first second tells =
-    let one : IsBoundFound drawn.net word row greatest most =
-    greatest_found drawn.net word row most (subst (λ (n : Net). IsExplained n word (record { from = row.from; to = row.to }) most) same_net first) in
-    let there : IsExplained drawn.net word (record { from = row.to; to = row.from }) searched =
-    subst (λ (n : Net). IsExplained n word (record { from = row.to; to = row.from }) searched) same_net
-    (subst (λ (w : FindingWord). IsExplained net w (record { from = row.to; to = row.from }) searched) same_word
-    (subst (λ (p : Pair). IsExplained net later p searched) same_turned second)) in
-    let two : IsBoundFound drawn.net word row (least_by (bound_of most)) fewest =
-    subst (λ (f : BoundFound). IsBoundFound drawn.net word row (least_by (bound_of most)) f) (sym same_fewest) (least_found drawn.net word row (bound_of most) searched there) in
-    let bounds : AreRowBounds drawn.net row both = subst (λ (b : BothBounds). AreRowBounds drawn.net row b) (sym same_both) (both_found drawn.net word row most fewest allows one two) in
-    let is_told : AreBoundsApart (net_apart drawn) row row.kind (record { least = bound_of fewest; greatest = bound_of most }) rests =
-    subst (λ (n : Net). AreBoundsApart n row row.kind (record { least = bound_of fewest; greatest = bound_of most }) rests) same_apart
-    (subst (λ (b : BothBounds). AreBoundsApart apart row row.kind b rests) same_both (tells bounds)) in
-    record { greatest = one; least = two; apart = told_of (net_apart drawn) row row.kind (record { greatest = most; least = fewest; apart = rests }) is_told }
+pub row_found : (drawn : Drawn) (net apart : Net) (budget : ℕ) (word there : FindingWord) (row : Row) (turned : Pair) (most searched fewest : BoundFound) (both : BothBounds) (rests : Option BothBounds)
+    → net ≡ drawn.net → apart ≡ net_apart drawn → turned ≡ record { from = row.to; to = row.from } → fewest ≡ reversed_found searched
+    → both ≡ record { least = bound_of fewest; greatest = bound_of most }
+    → IsFoundBy net budget word (record { from = row.from; to = row.to }) most → IsFoundBy net budget word turned searched
+    → (AreRowBounds drawn.net budget word row both → AreBoundsApart apart budget there row row.kind both rests)
+    → IsRowFound drawn budget word there row (record { greatest = most; least = fewest; apart = rests })
+row_found drawn net apart budget word there row turned most searched fewest both rests same_net same_apart same_turned same_fewest same_both first second tells =
+    let straight : Pair = record { from = row.from; to = row.to } in
+    let back : Pair = record { from = row.to; to = row.from } in
+    let one_by : IsFoundBy drawn.net budget word straight most = subst (λ (n : Net). IsFoundBy n budget word straight most) same_net first in
+    let two_by : IsFoundBy drawn.net budget word back searched =
+    subst (λ (n : Net). IsFoundBy n budget word back searched) same_net (subst (λ (p : Pair). IsFoundBy net budget word p searched) same_turned second) in
+    let one : IsBoundFound drawn.net budget word row greatest most = greatest_found drawn.net budget word row most one_by.explained one_by.shown in
+    let two : IsBoundFound drawn.net budget word row (least_by (bound_of most)) fewest =
+    subst (λ (f : BoundFound). IsBoundFound drawn.net budget word row (least_by (bound_of most)) f) (sym same_fewest)
+    (least_found drawn.net budget word row (bound_of most) searched two_by.explained two_by.shown) in
+    let bounds : AreRowBounds drawn.net budget word row both = subst (λ (b : BothBounds). AreRowBounds drawn.net budget word row b) (sym same_both) (both_found drawn.net budget word row most fewest one two) in
+    let is_told : AreBoundsApart (net_apart drawn) budget there row row.kind (record { least = bound_of fewest; greatest = bound_of most }) rests =
+    subst (λ (n : Net). AreBoundsApart n budget there row row.kind (record { least = bound_of fewest; greatest = bound_of most }) rests) same_apart
+    (subst (λ (b : BothBounds). AreBoundsApart apart budget there row row.kind b rests) same_both (tells bounds)) in
+    record { greatest = one; least = two; apart = told_of (net_apart drawn) budget there row row.kind (record { greatest = most; least = fewest; apart = rests }) is_told }
 
 -- one row more
-pub rows_more : (drawn : Drawn) (word : FindingWord) (rows : List Row) (found : List RowFound) (row : Row) (last : RowFound) → AreRowsFound drawn word rows found
-    → IsRowFound drawn word row last → AreRowsFound drawn word (rows ++ row ∷ []) (found ++ last ∷ [])
-rows_more drawn word [] [] row last before is = (is, tt)
-rows_more drawn word [] (f ∷ found) row last before is = absurd before
-rows_more drawn word (r ∷ rows) [] row last before is = absurd before
-rows_more drawn word (r ∷ rows) (f ∷ found) row last before is = (before.0, rows_more drawn word rows found row last before.1 is)
+rows_more : (drawn : Drawn) (budget : ℕ) (word there : FindingWord) (rows : List Row) (found : List RowFound) (row : Row) (last : RowFound) → AreRowsFound drawn budget word there rows found
+    → IsRowFound drawn budget word there row last → AreRowsFound drawn budget word there (rows ++ row ∷ []) (found ++ last ∷ [])
+rows_more drawn budget word there [] [] row last before is = (is, tt)
+rows_more drawn budget word there [] (f ∷ found) row last before is = absurd before
+rows_more drawn budget word there (r ∷ rows) [] row last before is = absurd before
+rows_more drawn budget word there (r ∷ rows) (f ∷ found) row last before is = (before.0, rows_more drawn budget word there rows found row last before.1 is)
 
--- the first `count` rows are found
-pub record AreSoFar (drawn : Drawn) (word : FindingWord) (count : ℕ) (rows : List Row) (found : List RowFound) (desk : Desk) : Type 0 where
+-- what a desk finds of a row, and of rows
+abbrev pub FindsRow : Drawn → Desk → Row → RowFound → Type 0
+FindsRow drawn desk row found = IsRowFound drawn desk.searches.budget desk.searches.word (word_apart desk) row found
+
+abbrev pub FindsRows : Drawn → Desk → List Row → List RowFound → Type 0
+FindsRows drawn desk rows found = AreRowsFound drawn desk.searches.budget desk.searches.word (word_apart desk) rows found
+
+-- the first `count` rows are found; the desk keeps the findings and the budget of the first one
+pub record AreSoFar (drawn : Drawn) (first : Desk) (count : ℕ) (rows : List Row) (found : List RowFound) (desk : Desk) : Type 0 where
   pub ready : IsReady drawn desk
-  pub same : desk.searches.word ≡ word
-  pub are : AreRowsFound drawn word (take count rows) found
+  pub kept : KeepsFindings first desk
+  pub are : FindsRows drawn first (take count rows) found
   pub times : All HasRowTimes found
 
-pub one_more : (drawn : Drawn) (word : FindingWord) (count : ℕ) (rows : List Row) (found more : List RowFound) (desk after : Desk) (row : Row) (last : RowFound) → count < length rows
-    → row ≡ get_or rows count row → AreSoFar drawn word count rows found desk → more ≡ found ++ last ∷ [] → IsReady drawn after → after.searches.word ≡ desk.searches.word
-    → IsRowFound drawn desk.searches.word row last → HasRowTimes last → AreSoFar drawn word (count + 1) rows more after
-one_more drawn word count rows found more desk after row last within at so_far pushed ready same is times =
+-- what a desk that keeps the findings finds of a row, the first desk finds
+by_first : (drawn : Drawn) (first desk : Desk) (row : Row) (last : RowFound) → KeepsFindings first desk → FindsRow drawn desk row last → FindsRow drawn first row last
+by_first drawn first desk row last kept is =
+    subst (λ b. IsRowFound drawn b first.searches.word (word_apart first) row last) kept.whole.budget
+    (subst (λ (w : FindingWord). IsRowFound drawn desk.searches.budget w (word_apart first) row last) kept.whole.word
+    (subst (λ (w : FindingWord). IsRowFound drawn desk.searches.budget desk.searches.word w row last) kept.apart is))
+
+kept_twice : (first desk after : Desk) → KeepsFindings first desk → KeepsFindings desk after → KeepsFindings first after
+kept_twice first desk after one two = record {
+  whole = record { word = two.whole.word ∙ one.whole.word; budget = two.whole.budget ∙ one.whole.budget };
+  apart = two.apart ∙ one.apart;
+}
+
+pub one_more : (drawn : Drawn) (first : Desk) (count : ℕ) (rows : List Row) (found more : List RowFound) (desk after : Desk) (row : Row) (last : RowFound) → count < length rows
+    → row ≡ get_or rows count row → AreSoFar drawn first count rows found desk → more ≡ found ++ last ∷ [] → IsReady drawn after → KeepsFindings desk after
+    → FindsRow drawn desk row last → HasRowTimes last → AreSoFar drawn first (count + 1) rows more after
+one_more drawn first count rows found more desk after row last within at so_far pushed ready kept is times =
     let next : take (count + 1) rows ≡ take count rows ++ row ∷ [] = take_more rows count row within ∙ ap (λ (r : Row). take count rows ++ r ∷ []) (sym at) in
-    let here : IsRowFound drawn word row last = subst (λ (w : FindingWord). IsRowFound drawn w row last) so_far.same is in
+    let here : FindsRow drawn first row last = by_first drawn first desk row last so_far.kept is in
+    let both : FindsRows drawn first (take count rows ++ row ∷ []) (found ++ last ∷ []) =
+    rows_more drawn first.searches.budget first.searches.word (word_apart first) (take count rows) found row last so_far.are here in
     record {
       ready = ready;
-      same = same ∙ so_far.same;
-      are = subst (λ (fs : List RowFound). AreRowsFound drawn word (take (count + 1) rows) fs) (sym pushed)
-          (subst (λ (rs : List Row). AreRowsFound drawn word rs (found ++ last ∷ [])) (sym next) (rows_more drawn word (take count rows) found row last so_far.are here));
+      kept = kept_twice first desk after so_far.kept kept;
+      are = subst (FindsRows drawn first (take (count + 1) rows)) (sym pushed) (subst (λ (rs : List Row). FindsRows drawn first rs (found ++ last ∷ [])) (sym next) both);
       times = subst (All HasRowTimes) (sym pushed) (All-push HasRowTimes found last so_far.times times);
     }
 
-pub none_yet : (drawn : Drawn) (rows : List Row) (found : List RowFound) (desk : Desk) → IsReady drawn desk → found ≡ [] → AreSoFar drawn desk.searches.word 0 rows found desk
+-- the searches of a row keep the findings and the budget
+pub row_kept : (old new : Desk) (between : Searches) → KeepsFinding old.searches between → KeepsFinding between new.searches
+    → ((word : FindingWord) → word_in word new.apart ≡ word_in word old.apart) → KeepsFindings old new
+row_kept old new between one two same =
+    let word : new.searches.word ≡ old.searches.word = two.word ∙ one.word in
+    record { whole = record { word = word; budget = two.budget ∙ one.budget }; apart = same new.searches.word ∙ ap (λ (w : FindingWord). word_in w old.apart) word }
+
+pub none_yet : (drawn : Drawn) (rows : List Row) (found : List RowFound) (desk : Desk) → IsReady drawn desk → found ≡ [] → AreSoFar drawn desk 0 rows found desk
 none_yet drawn rows found desk ready none = record {
   ready = ready;
-  same = refl;
-  are = subst (λ (fs : List RowFound). AreRowsFound drawn desk.searches.word [] fs) (sym none) tt;
+  kept = record { whole = record { word = refl; budget = refl }; apart = refl };
+  are = subst (FindsRows drawn desk []) (sym none) tt;
   times = subst (All HasRowTimes) (sym none) (λ k d within. absurd (omega arith));
 }

@@ -1,4 +1,6 @@
 pub mod Wider
+pub mod Numbers
+pub mod Shown
 pub mod Behind
 pub mod Standing
 pub mod Lanes

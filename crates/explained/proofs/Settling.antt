@@ -1,53 +1,58 @@
 -- What a budget is enough for.
-use Rattle.std.proofs.Common.{◌≡◌, ◌≤◌, ◌*◌, ℕ, ℤ, Bool, true, false, List, [], ◌∷◌, ◌++◌, All, length, Option, Some, None, sym, subst, arith}
-use Rattle.std.specs.Prelude.{IfSome, if◌then◌else◌}
+use Rattle.std.proofs.Common.{◌≡◌, ◌<◌, ◌≤◌, ◌*◌, ℕ, zero, suc, Bool, true, false, List, [], ◌∷◌, All, length, Option, Some, None, refl, sym, subst, arith}
+use Rattle.std.specs.Prelude.{IfOk, if◌then◌else◌, Result, Ok, Err}
 use Rattle.std.proofs.Math.Nat.{mul_comm, mul-le-mul_left}
-use Rattle.std.proofs.lemmas.List.Elements.{All-head, All-push, All-tail}
+use Rattle.std.proofs.lemmas.List.Elements.{All-head, All-tail}
+use Rattle.itv_base.specs.Range.{Ends}
+use Rattle.itv_base.specs.declared.row_kind.RowKind.{RowKind}
+use Rattle.itv_base.specs.declared.row_kind.RowKind.TheVariants as kinds
 use Rattle.event_graph.specs.Edges.{cause_choices, choices_of}
 use Rattle.event_graph.specs.Network.{Constraint, IsConstraint, IsNet, Net}
-use Rattle.event_graph.specs.Proof.{ProofLine}
+use Rattle.event_graph.specs.Proof.{Nothing}
+use Rattle.event_graph.proofs.ProofCounts.{stopped_proof_is_below_choices}
 use Rattle.event_graph.proofs.Products.{choices_of-some}
-use Rattle.branch.specs.Answers.{IsGreatestAnswer, Evidence, Finds, PairSearch}
-use Rattle.branch.specs.declared.answer.GreatestAnswer.{GreatestAnswer}
-use Rattle.branch.specs.declared.answer.GreatestAnswer.TheVariants as answers
-use Rattle.branch.specs.declared.answer.SearchFinding.{SearchFinding}
-use Rattle.branch.specs.declared.answer.SearchFinding.TheVariants as founds
-use Rattle.requirements.specs.Bounds.{reversed}
+use Rattle.requirements.specs.declared.bound.BothBounds.{BothBounds}
 use Rattle.requirements.specs.declared.bound.Bound.{Bound}
 use Rattle.requirements.specs.declared.bound.Bound.TheVariants as bounds
+use Rattle.requirements.specs.declared.verdict.Verdict.{Verdict}
+use Rattle.requirements.specs.declared.verdict.Verdict.TheVariants as verdicts
 use Rattle.slack_report.specs.declared.words.FindingWord.{FindingWord}
 use Rattle.slack_report.specs.declared.words.FindingWord.TheVariants as findings
+use Rattle.right_report.specs.Right.ReportState.{NextBound, greatest, least_by}
+use Rattle.right_report.specs.Right.LineClaims.{HasAttained, IsBoundOf}
+use Rattle.right_report.specs.Shown.{goal_of}
 use Rattle.origin.specs.declared.origin.Origin.{Origin}
 use Rattle.drawn.specs.Drawn.{Drawn}
-use Rattle.explained.specs.Answers.{IsBoundSettled, IsRowSettled}
+use Rattle.drawn.specs.declared.row.Row.{Row}
+use Rattle.explained.specs.Answers.{AreFound, AreRowsFound, AreSettledApart, FoundSettles, IsApart, IsApartOf, IsBoundSettled, IsBoundShown, IsFindingFound, IsFindingShown, IsRowFound, IsRowSettled, RestsOnOrder, SettlesWithin, bound_of, verdict_in}
 use Rattle.explained.specs.Apart.{constraints_apart, keeps_order, net_apart}
-use Rattle.explained.specs.declared.desk.Apart.{Apart}
-use Rattle.explained.specs.declared.desk.Desk.{Desk}
+use Rattle.explained.specs.declared.finding.Finding.{Finding}
+use Rattle.explained.specs.declared.finding.Finding.TheVariants.{Consistent, Inconsistent, Unsettled}
+use Rattle.explained.specs.declared.network.NetworkFound.{NetworkFound}
 use Rattle.explained.specs.declared.row.RowFound.{RowFound}
-use Rattle.explained.specs.Step.Bounding.{bound_by}
-use Rattle.explained.specs.Step.Settling.{IsEnoughFor, SufficesApart}
-use Rattle.explained.specs.Step.Standing.{net_in, word_of_found}
+use Rattle.explained.proofs.Wider.{is_net_apart}
 
--- ---- searches
+-- ---- one search
 
--- a search for times settles the finding
-pub found_settles : (net : Net) (budget leaves : ℕ) (lines : List ProofLine) (known : Option (List ℤ)) (found : SearchFinding) (word : FindingWord) → word ≡ word_of_found found
-    → Finds net budget lines leaves known found → cause_choices net.constraints ≤ budget → word ≡ findings.Unsettled → ⊥
-found_settles net budget leaves lines known founds.Consistent word is finds enough none = absurd (cc (is, none))
-found_settles net budget leaves lines known founds.Inconsistent word is finds enough none = absurd (cc (is, none))
-found_settles net budget leaves lines known founds.Unsettled word is finds enough none = omega (arith, finds.below_choices, enough)
+-- behind an unsettled finding the budget was used up
+unsettled_below : (net : Net) (budget : ℕ) → IsNet net → IsFindingShown net budget findings.Unsettled → budget < cause_choices net.constraints
+unsettled_below net budget is_net shown = stopped_proof_is_below_choices net Nothing shown.0 budget is_net shown.1
 
--- a search for a greatest separation settles the bound
-pub answer_settles : (search : PairSearch) (left : Evidence) (answer : GreatestAnswer) → IsGreatestAnswer search left answer → cause_choices search.net.constraints ≤ search.budget
-    → IsBoundSettled (bound_by answer)
-answer_settles search left (answers.Closed value) is enough = tt
-answer_settles search left answers.Unbounded is enough = tt
-answer_settles search left (answers.Enclosed upper attained) is enough = absurd (omega (arith, is.below_choices, enough))
+-- a bound without an attained number stands only behind an unsettled finding
+unsettled_by : (word : FindingWord) → HasAttained word None → word ≡ findings.Unsettled
+unsettled_by findings.Consistent attained = absurd (cc attained)
+unsettled_by findings.Inconsistent attained = absurd attained
+unsettled_by findings.Unsettled attained = refl
 
-pub reversed_settled : (bound : Bound) → IsBoundSettled bound → IsBoundSettled (reversed bound)
-reversed_settled (bounds.Closed value) settled = tt
-reversed_settled bounds.Unbounded settled = tt
-reversed_settled (bounds.Within limit attained) settled = settled
+-- a budget that suffices settles a bound behind a finding that is settled
+bound_settles : (net : Net) (budget : ℕ) (word : FindingWord) (row : Row) (side : NextBound) (bound : Bound) → IsNet net → cause_choices net.constraints ≤ budget
+    → (word ≡ findings.Unsettled → ⊥) → IsBoundOf net word row side bound → IsBoundShown net budget row side bound → IsBoundSettled bound
+bound_settles net budget word row side (bounds.Closed value) is_net enough settled right shown = tt
+bound_settles net budget word row side bounds.Unbounded is_net enough settled right shown = tt
+bound_settles net budget word row side (bounds.Within limit None) is_net enough settled right shown = settled (unsettled_by word right.1)
+bound_settles net budget word row side (bounds.Within limit (Some found)) is_net enough settled right shown =
+    let below : budget < cause_choices net.constraints = stopped_proof_is_below_choices net (goal_of row side found) shown.0 budget is_net shown.1 in
+    absurd (omega (arith, below, enough))
 
 -- ---- apart
 
@@ -69,27 +74,74 @@ fewer_choices events (c ∷ cs) (drew ∷ os) all =
     (fewer_choices events cs os (All-tail (IsConstraint events) c cs all))
 
 -- a budget that suffices in the drawn network suffices in the network apart
-pub suffices_apart : (drawn : Drawn) (budget : ℕ) (apart : Option Apart) → IsNet drawn.net → net_in drawn.net apart ≡ net_apart drawn
-    → IfSome apart (λ (a : Apart). a.searches.budget ≡ budget) → cause_choices drawn.net.constraints ≤ budget → SufficesApart apart
-suffices_apart drawn budget None is_net is same enough = tt
-suffices_apart drawn budget (Some a) is_net is same enough =
+suffices_apart : (drawn : Drawn) (budget : ℕ) → IsNet drawn.net → cause_choices drawn.net.constraints ≤ budget → cause_choices (net_apart drawn).constraints ≤ budget
+suffices_apart drawn budget is_net enough =
     let fewer : cause_choices (net_apart drawn).constraints ≤ cause_choices drawn.net.constraints =
     fewer_choices drawn.net.events drawn.net.constraints drawn.origins is_net.constraints in
-    let here : cause_choices a.net.constraints ≤ cause_choices drawn.net.constraints =
-    subst (λ (n : Net). cause_choices n.constraints ≤ cause_choices drawn.net.constraints) (sym is) fewer in
-    omega (arith, here, same, enough)
+    omega (arith, fewer, enough)
+
+-- so a finding that is searched there is settled
+apart_settles : (drawn : Drawn) (budget : ℕ) (word : FindingWord) → IsNet drawn.net → cause_choices drawn.net.constraints ≤ budget → IsFindingShown (net_apart drawn) budget word
+    → word ≡ findings.Unsettled → ⊥
+apart_settles drawn budget word is_net enough shown unsettled =
+    let below : budget < cause_choices (net_apart drawn).constraints =
+    unsettled_below (net_apart drawn) budget (is_net_apart drawn is_net) (subst (IsFindingShown (net_apart drawn) budget) unsettled shown) in
+    let fewer = suffices_apart drawn budget is_net enough in
+    omega (arith, below, fewer)
+
+module _ (net : Net) (budget : ℕ) (word : FindingWord) (row : Row) (is_net : IsNet net) (enough : cause_choices net.constraints ≤ budget) (settled : word ≡ findings.Unsettled → ⊥) where
+  rests_settled : (range : Ends) (rests : Option BothBounds) → RestsOnOrder net budget word row range rests → AreSettledApart rests
+  rests_settled range None is = tt
+  rests_settled range (Some both) is = (
+    bound_settles net budget word row greatest both.greatest is_net enough settled is.0.greatest is.0.greatest_shown,
+    bound_settles net budget word row (least_by both.greatest) both.least is_net enough settled is.0.least is.0.least_shown,
+  )
+
+  none_settled : (rests : Option BothBounds) → rests ≡ None → AreSettledApart rests
+  none_settled rests none = subst AreSettledApart (sym none) tt
+
+  judged_settled : (range : Ends) (verdict : Verdict) (rests : Option BothBounds) → IsApart net budget word row range verdict rests → AreSettledApart rests
+  judged_settled range verdicts.Pass rests is = rests_settled range rests is
+  judged_settled range verdicts.FailHigh rests is = none_settled rests is
+  judged_settled range verdicts.FailLow rests is = none_settled rests is
+  judged_settled range verdicts.Undecided rests is = none_settled rests is
+
+  pub apart_settled : (kind : RowKind) (found : RowFound) → IsApartOf net budget word row kind found → AreSettledApart found.apart
+  apart_settled kinds.Ask found is = none_settled found.apart is
+  apart_settled (kinds.Req range) found is = judged_settled range (verdict_in range found) found.apart is
 
 -- ---- rows
 
--- if the budget of a desk was enough at first, it still is, and the rows so far are settled
-abbrev pub SoFar : Net → Desk → Desk → List RowFound → Type 0
-SoFar net first desk found = IsEnoughFor net first → IsEnoughFor net desk × All IsRowSettled found
+module _ (drawn : Drawn) (budget : ℕ) (word word_apart : FindingWord) (is_net : IsNet drawn.net) (enough : cause_choices drawn.net.constraints ≤ budget)
+    (settled : word ≡ findings.Unsettled → ⊥) (settled_apart : word_apart ≡ findings.Unsettled → ⊥) where
+  row_settled : (row : Row) (found : RowFound) → IsRowFound drawn budget word word_apart row found → IsRowSettled found
+  row_settled row found is = record {
+    greatest = bound_settles drawn.net budget word row greatest (bound_of found.greatest) is_net enough settled is.greatest.right is.greatest.shown;
+    least = bound_settles drawn.net budget word row (least_by (bound_of found.greatest)) (bound_of found.least) is_net enough settled is.least.right is.least.shown;
+    apart = apart_settled (net_apart drawn) budget word_apart row (is_net_apart drawn is_net) (suffices_apart drawn budget is_net enough) settled_apart row.kind found is.apart;
+  }
 
-pub none_settled : (net : Net) (desk : Desk) (found : List RowFound) → found ≡ [] → SoFar net desk desk found
-none_settled net desk found none = λ enough. (enough, subst (All IsRowSettled) (sym none) (λ k d within. absurd (omega arith)))
+  pub rows_settled : (rows : List Row) (found : List RowFound) → AreRowsFound drawn budget word word_apart rows found → All IsRowSettled found
+  rows_settled [] [] are k d h = absurd (omega arith)
+  rows_settled [] (f ∷ found) are k d h = absurd are
+  rows_settled (r ∷ rows) [] are k d h = absurd are
+  rows_settled (r ∷ rows) (f ∷ found) are zero d h = row_settled r f are.0
+  rows_settled (r ∷ rows) (f ∷ found) are (suc k) d h = rows_settled rows found are.1 k d (omega arith)
 
-pub one_settled : (net : Net) (first desk after : Desk) (found more : List RowFound) (last : RowFound) → SoFar net first desk found → more ≡ found ++ last ∷ []
-    → (IsEnoughFor net desk → IsEnoughFor net after) → (IsEnoughFor net desk → IsRowSettled last) → SoFar net first after more
-one_settled net first desk after found more last so_far pushed enough settles = λ start.
-    let here = so_far start in
-    (enough here.0, subst (All IsRowSettled) (sym pushed) (All-push IsRowSettled found last here.1 (settles here.0)))
+-- ---- the whole
+
+pub found_settles : FoundSettles
+found_settles drawn budget Consistent found is_net finding are enough =
+    let settled_apart : are.word_apart ≡ findings.Unsettled → ⊥ = apart_settles drawn budget are.word_apart is_net enough are.finding_apart.shown in
+    ((λ e. cc e), rows_settled drawn budget findings.Consistent are.word_apart is_net enough (λ e. cc e) settled_apart drawn.rows found are.rows)
+found_settles drawn budget (Inconsistent set) found is_net finding are enough = ((λ e. cc e), subst (All IsRowSettled) (sym are) (λ k d within. absurd (omega arith)))
+found_settles drawn budget Unsettled found is_net finding are enough =
+    let below : budget < cause_choices drawn.net.constraints = unsettled_below drawn.net budget is_net finding.shown in
+    absurd (omega (arith, below, enough))
+
+-- so it is with what a network gives, if memory lasts
+pub explained_settles : {E : Type 0} (drawn : Drawn) (budget : ℕ) (result : Result NetworkFound E) → IsNet drawn.net
+    → IfOk result (λ (found : NetworkFound). IsFindingFound drawn.net budget found.finding) → IfOk result (λ (found : NetworkFound). AreFound drawn budget found.finding found.rows.items)
+    → IfOk result (λ (found : NetworkFound). SettlesWithin drawn.net budget found.finding found.rows.items)
+explained_settles drawn budget (Ok found) is_net finding rows = found_settles drawn budget found.finding found.rows.items is_net finding rows
+explained_settles drawn budget (Err e) is_net finding rows = tt

@@ -15,9 +15,18 @@ use Rattle.branch.specs.declared.answer.SearchFinding.TheVariants as founds
 use Rattle.event_graph.specs.Proof.{ProofLine}
 use Rattle.chains.specs.Named.{HasMarked, IsIn, IsRefuting}
 use Rattle.drawn.specs.Drawn.{Drawn}
+use Rattle.requirements.specs.declared.bound.BothBounds.{BothBounds}
+use Rattle.requirements.specs.declared.verdict.Verdict.TheVariants as verdicts
+use Rattle.itv_base.specs.Range.{Ends}
+use Rattle.itv_base.specs.declared.row_kind.RowKind.{RowKind}
+use Rattle.itv_base.specs.declared.row_kind.RowKind.TheVariants as kinds
+use Rattle.drawn.specs.declared.row.Row.{Row}
+use Rattle.explained.specs.Answers.{FindingHolds, IsFindingApart, IsFindingFound, IsFindingShown, IsShownApart, RestsOnOrder, verdict_by, word_of}
+use Rattle.explained.specs.declared.finding.Finding.{Finding}
 use Rattle.explained.specs.Apart.{net_apart}
 use Rattle.explained.specs.declared.desk.Apart.{Apart}
-use Rattle.explained.specs.Step.Standing.{FindingAllows, HasFound, net_in, word_of_found}
+use Rattle.explained.specs.Step.Resting.{AreBoundsApart}
+use Rattle.explained.specs.Step.Standing.{FindingAllows, HasFound, HasSameBudget, IsSettledApart, net_in, word_in, word_of_found}
 use Rattle.explained.proofs.Wider.{always_is_wider, apart_is_wider}
 
 -- what the search for times finds
@@ -49,6 +58,11 @@ is_finding net findings.Consistent allows = tt
 is_finding net findings.Inconsistent allows = absurd allows
 is_finding net findings.Unsettled allows = allows
 
+-- a finding that is right and shown is found
+pub finding_found : (net : Net) (budget : ℕ) (word : FindingWord) (finding : Finding) → word ≡ word_of finding → FindingHolds net finding → IsFindingShown net budget word
+    → IsFindingFound net budget finding
+finding_found net budget word finding is holds shown = record { holds = holds; shown = subst (IsFindingShown net budget) is shown }
+
 -- ---- apart
 
 -- what the finding of the drawn network allows, it allows in the network apart
@@ -61,6 +75,49 @@ allows_apart drawn findings.Unsettled allows = (allows.0, always_is_wider drawn 
 pub in_memory : (P : Net → Type 0) (drawn : Drawn) (apart : Option Apart) → net_in drawn.net apart ≡ net_apart drawn → P (net_apart drawn) → IfSome apart (λ (a : Apart). P a.net)
 in_memory P drawn None is p = tt
 in_memory P drawn (Some a) is p = subst P (sym is) p
+
+-- the same budget by another name
+pub same_budget : (spent budget : ℕ) (apart : Option Apart) → spent ≡ budget → HasSameBudget budget apart → HasSameBudget spent apart
+same_budget spent budget apart same has = subst (λ (b : ℕ). HasSameBudget b apart) (sym same) has
+
+pub rests_within : (net : Net) (spent budget : ℕ) (word : FindingWord) (row : Row) (range : Ends) (rests : Option BothBounds) → spent ≡ budget
+    → RestsOnOrder net spent word row range rests → RestsOnOrder net budget word row range rests
+rests_within net spent budget word row range rests same is = subst (λ (b : ℕ). RestsOnOrder net b word row range rests) same is
+
+-- a requirement that passes in the drawn network has the bounds apart by which it rests on the order, or not
+pub judged_apart : (apart : Apart) (there : Option Apart) (row : Row) (kind : RowKind) (range : Ends) (both : BothBounds) (rests : Option BothBounds)
+    → there ≡ Some apart → kind ≡ kinds.Req range → verdict_by range both ≡ verdicts.Pass → RestsOnOrder apart.net apart.searches.budget apart.searches.word row range rests
+    → (net : Net) (budget : ℕ) (word : FindingWord) → HasSameBudget budget there → AreBoundsApart (net_in net there) budget (word_in word there) row kind both rests
+judged_apart apart there row kind range both rests same_there same_kind passes is net budget word has =
+    let same : apart.searches.budget ≡ budget = subst (HasSameBudget budget) same_there has in
+    rw (same_there, same_kind, passes) (rests_within apart.net apart.searches.budget budget apart.searches.word row range rests same is)
+
+-- ---- the finding of the network apart
+
+-- behind a consistent finding of the drawn network it is searched
+pub searched_apart : (net : Net) (spent budget : ℕ) (there : FindingWord) (known : Option (List ℤ)) → FindingAllows net findings.Consistent → HasFound net there known
+    → IsFindingShown net spent there → spent ≡ budget → IsFindingApart net budget findings.Consistent there
+searched_apart net spent budget there known allows found shown same = record {
+  holds = is_finding net there (not_inconsistent net there known allows found);
+  shown = subst (λ (b : ℕ). IsFindingShown net b there) same shown;
+}
+
+-- behind an unsettled one it is not
+pub unsettled_apart : (net : Net) (budget : ℕ) (there : FindingWord) → FindingAllows net findings.Unsettled → there ≡ findings.Unsettled
+    → IsFindingApart net budget findings.Unsettled there
+unsettled_apart net budget there allows same = record { holds = subst (IsFinding net) (sym same) (is_finding net findings.Unsettled allows); shown = same }
+
+-- behind a finding that is not inconsistent a network apart that is the drawn one has this finding too
+whole_shown : (net : Net) (budget : ℕ) (word : FindingWord) → FindingAllows net word → IsFindingShown net budget word → IsShownApart net budget word word
+whole_shown net budget findings.Consistent allows shown = shown
+whole_shown net budget findings.Inconsistent allows shown = allows
+whole_shown net budget findings.Unsettled allows shown = refl
+
+pub finding_apart : (drawn : Drawn) (budget : ℕ) (word : FindingWord) (apart : Option Apart) → net_in drawn.net apart ≡ net_apart drawn → FindingAllows drawn.net word
+    → IsFindingShown drawn.net budget word → IsSettledApart budget word apart → IsFindingApart (net_apart drawn) budget word (word_in word apart)
+finding_apart drawn budget word None is allows shown settled =
+    subst (λ (n : Net). IsFindingApart n budget word word) is (record { holds = is_finding drawn.net word allows; shown = whole_shown drawn.net budget word allows shown })
+finding_apart drawn budget word (Some a) is allows shown settled = subst (λ (n : Net). IsFindingApart n budget word a.searches.word) is settled
 
 -- ---- marks
 

@@ -4,11 +4,12 @@ use Rattle.std.specs.Prelude.{IsSomeAnd, if◌then◌else◌}
 use Rattle.std.proofs.lemmas.List.{length-map, length-take-le, take_all}
 use Rattle.std.proofs.lemmas.Option.{get_or_from_slice_get}
 use Rattle.event_graph.proofs.EdgesMet.{All-found, found_below, take_next}
+use Rattle.event_graph.proofs.Ends.{HasOwnEnds, all_own, ends_of_all}
 use Rattle.itv_base.specs.declared.names.EdgeName.{EdgeName}
 use Rattle.origin.specs.declared.origin.Origin.{Origin}
 use Rattle.event_graph.specs.declared.edge.Edge.{Edge}
 use Rattle.event_graph.specs.Edges.{IsAlways, Meets, edge, holds_always}
-use Rattle.event_graph.specs.Network.{Constraint, Net, with_constraint}
+use Rattle.event_graph.specs.Network.{Constraint, IsConstraint, IsNet, Net, with_constraint}
 use Rattle.event_graph.specs.RootBound.{MeetsAlways}
 use Rattle.event_graph.specs.Satisfying.{Holds}
 use Rattle.drawn.specs.Drawn.{Drawn, OriginsFit}
@@ -161,13 +162,24 @@ each_found P cs each = λ k d within.
     let f = found_below cs k within in
     subst P (sym (get_or_from_slice_get cs k f.0 d f.1)) (each k f.0 f.1)
 
+-- what holds of all constraints of a network holds of those that keep no order
+all_apart : (P : Constraint → Type 0) (cs : List Constraint) (origins : List (List Origin)) → All P cs → All P (constraints_apart cs origins)
+all_apart P cs origins all = each_found P (constraints_apart cs origins) (λ k c at. let w = apart_within cs origins k c at in All-found P cs w.0 c w.1 all)
+
 -- so times that satisfy the drawn network satisfy the network apart
 pub apart_is_wider : ApartIsWider
-apart_is_wider drawn times sat = record {
-  count = sat.count;
-  each = each_found (Holds times) (constraints_apart drawn.net.constraints drawn.origins)
-      (λ k c at. let w = apart_within drawn.net.constraints drawn.origins k c at in All-found (Holds times) drawn.net.constraints w.0 c w.1 sat.each);
-}
+apart_is_wider drawn times sat = record { count = sat.count; each = all_apart (Holds times) drawn.net.constraints drawn.origins sat.each }
+
+-- and the network apart is within the limits too
+pub is_net_apart : (drawn : Drawn) → IsNet drawn.net → IsNet (net_apart drawn)
+is_net_apart drawn is_net =
+    let fewer = fewer_apart drawn.net.constraints drawn.origins in
+    record {
+      events = is_net.events;
+      constraints = all_apart (IsConstraint drawn.net.events) drawn.net.constraints drawn.origins is_net.constraints;
+      count = omega (arith, fewer, is_net.count);
+      ends = ends_of_all (net_apart drawn) (all_apart HasOwnEnds drawn.net.constraints drawn.origins (all_own drawn.net is_net.ends));
+    }
 
 -- an always-edge, by the constraint of its number alone
 always_at : (net other : Net) (name : EdgeName) (e : Edge) (number : ℕ) → slice_get other.constraints number ≡ slice_get net.constraints name.constraint → IsAlways net name

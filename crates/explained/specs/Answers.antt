@@ -7,7 +7,8 @@ use Rattle.itv_base.specs.declared.row_kind.RowKind.{RowKind}
 use Rattle.itv_base.specs.declared.row_kind.RowKind.TheVariants as kinds
 use Rattle.event_graph.specs.Bounds.{IsRay}
 use Rattle.event_graph.specs.Edges.{cause_choices}
-use Rattle.event_graph.specs.Network.{Net}
+use Rattle.event_graph.specs.Network.{IsNet, Net}
+use Rattle.event_graph.specs.Proof.{ProofLine}
 use Rattle.event_graph.specs.RootBound.{MeetsAlways}
 use Rattle.event_graph.specs.Satisfying.{Satisfies}
 use Rattle.event_graph.specs.Times.{separation}
@@ -24,6 +25,7 @@ use Rattle.slack_report.specs.declared.words.FindingWord.{FindingWord}
 use Rattle.slack_report.specs.declared.words.FindingWord.TheVariants as findings
 use Rattle.right_report.specs.Right.ReportState.{NextBound, greatest, least_by}
 use Rattle.right_report.specs.Right.LineClaims.{IsBoundOf, IsFinding}
+use Rattle.right_report.specs.Shown.{ShowsBound, ShowsFinding}
 use Rattle.drawn.specs.Drawn.{Drawn}
 use Rattle.drawn.specs.declared.row.Row.{Row}
 use Rattle.explained.specs.Apart.{net_apart}
@@ -37,15 +39,24 @@ use Rattle.explained.specs.declared.row.RowFound.{RowFound}
 
 -- some times satisfy; or a proof shows that none do, and the set has just the constraints that it names, so they contradict each other by themselves;
 -- or, unsettled, some times meet all always-edges
-abbrev pub IsFindingFound : Net → Finding → Type 0
-IsFindingFound net Consistent = (times : List ℤ) × Satisfies times net
-IsFindingFound net (Inconsistent set) = (length set.items ≡ length net.constraints) × IsRefuting net set.items
-IsFindingFound net Unsettled = (times : List ℤ) × MeetsAlways times net
+abbrev pub FindingHolds : Net → Finding → Type 0
+FindingHolds net Consistent = (times : List ℤ) × Satisfies times net
+FindingHolds net (Inconsistent set) = (length set.items ≡ length net.constraints) × IsRefuting net set.items
+FindingHolds net Unsettled = (times : List ℤ) × MeetsAlways times net
 
 abbrev pub word_of : Finding → FindingWord
 word_of Consistent = findings.Consistent
 word_of (Inconsistent set) = findings.Inconsistent
 word_of Unsettled = findings.Unsettled
+
+-- the lines of some search show a finding within a budget, as in job bounds: an unsettled one has a stopped proof that used the budget up
+abbrev pub IsFindingShown : Net → ℕ → FindingWord → Type 0
+IsFindingShown net budget word = (lines : List ProofLine) × ShowsFinding net budget lines word
+
+-- a finding is right, and a search within the budget makes it
+pub record IsFindingFound (net : Net) (budget : ℕ) (finding : Finding) : Type 0 where
+  pub holds : FindingHolds net finding
+  pub shown : IsFindingShown net budget (word_of finding)
 
 -- ---- a bound
 
@@ -80,11 +91,17 @@ abbrev pub BoundHolds : Net → Row → NextBound → Bound → Type 0
 BoundHolds net row greatest value = IsGreatestBound net row.from row.to value
 BoundHolds net row (least_by most) value = IsLeastBound net row.from row.to value
 
--- a bound is right, by itself and behind a finding, and what stands behind it is so too
-pub record IsBoundFound (net : Net) (word : FindingWord) (row : Row) (side : NextBound) (found : BoundFound) : Type 0 where
+-- the lines of some search show a bound of a row within a budget, as in job bounds: one that was left open with an attained number has a stopped proof
+-- that used the budget up; there are no lines behind an unsettled finding
+abbrev pub IsBoundShown : Net → ℕ → Row → NextBound → Bound → Type 0
+IsBoundShown net budget row side bound = (lines : List ProofLine) × ShowsBound net budget lines row side bound
+
+-- a bound is right, by itself and behind a finding, what stands behind it is so too, and a search within the budget makes it
+pub record IsBoundFound (net : Net) (budget : ℕ) (word : FindingWord) (row : Row) (side : NextBound) (found : BoundFound) : Type 0 where
   pub holds : BoundHolds net row side (bound_of found)
   pub right : IsBoundOf net word row side (bound_of found)
   pub behind : IsBehind net row side found
+  pub shown : IsBoundShown net budget row side (bound_of found)
 
 -- ---- a row
 
@@ -94,50 +111,69 @@ verdict_in range found = verdict_of range (bound_of found.least) (bound_of found
 abbrev pub verdict_by : Ends → BothBounds → Verdict
 verdict_by range both = verdict_of range both.least both.greatest
 
--- both bounds of a row are right in a network, by themselves and behind a right finding
-pub record AreRowBounds (net : Net) (row : Row) (both : BothBounds) : Type 0 where
+-- What the searches find of whether times satisfy the network apart, by the finding of the drawn network. Behind a consistent one a search of its own
+-- within the budget makes the finding. Behind an unsettled one nothing is searched, and the network apart is unsettled too.
+abbrev pub IsShownApart : Net → ℕ → FindingWord → FindingWord → Type 0
+IsShownApart apart budget findings.Consistent word = IsFindingShown apart budget word
+IsShownApart apart budget findings.Inconsistent word = ⊥
+IsShownApart apart budget findings.Unsettled word = word ≡ findings.Unsettled
+
+-- the one finding of the network apart behind a finding of the drawn network
+pub record IsFindingApart (apart : Net) (budget : ℕ) (word word_apart : FindingWord) : Type 0 where
+  pub holds : IsFinding apart word_apart
+  pub shown : IsShownApart apart budget word word_apart
+
+-- both bounds of a row are right in a network, by themselves and behind a finding, and searches within the budget make them
+pub record AreRowBounds (net : Net) (budget : ℕ) (word : FindingWord) (row : Row) (both : BothBounds) : Type 0 where
   pub holds : IsGreatestBound net row.from row.to both.greatest × IsLeastBound net row.from row.to both.least
-  pub word : FindingWord
-  pub finding : IsFinding net word
+  pub greatest_shown : IsBoundShown net budget row greatest both.greatest
+  pub least_shown : IsBoundShown net budget row (least_by both.greatest) both.least
   pub greatest : IsBoundOf net word row greatest both.greatest
   pub least : IsBoundOf net word row (least_by both.greatest) both.least
 
--- a requirement that passes in the drawn network passes in the network apart too, by bounds that are right there; or the bounds that are given are
--- right there, and it does not pass by them
-abbrev pub RestsOnOrder : Net → Row → Ends → Option BothBounds → Type 0
-RestsOnOrder apart row range None = (both : BothBounds) × AreRowBounds apart row both × (verdict_by range both ≡ verdicts.Pass)
-RestsOnOrder apart row range (Some both) = AreRowBounds apart row both × (verdict_by range both ≡ verdicts.Pass → ⊥)
+-- a requirement that passes in the drawn network passes in the network apart too, by bounds that are found there; or the bounds that are given are
+-- found there, and it does not pass by them
+abbrev pub RestsOnOrder : Net → ℕ → FindingWord → Row → Ends → Option BothBounds → Type 0
+RestsOnOrder apart budget word row range None = (both : BothBounds) × AreRowBounds apart budget word row both × (verdict_by range both ≡ verdicts.Pass)
+RestsOnOrder apart budget word row range (Some both) = AreRowBounds apart budget word row both × (verdict_by range both ≡ verdicts.Pass → ⊥)
 
-abbrev pub IsApart : Net → Row → Ends → Verdict → Option BothBounds → Type 0
-IsApart apart row range verdicts.Pass rests = RestsOnOrder apart row range rests
-IsApart apart row range verdicts.FailHigh rests = rests ≡ None
-IsApart apart row range verdicts.FailLow rests = rests ≡ None
-IsApart apart row range verdicts.Undecided rests = rests ≡ None
+abbrev pub IsApart : Net → ℕ → FindingWord → Row → Ends → Verdict → Option BothBounds → Type 0
+IsApart apart budget word row range verdicts.Pass rests = RestsOnOrder apart budget word row range rests
+IsApart apart budget word row range verdicts.FailHigh rests = rests ≡ None
+IsApart apart budget word row range verdicts.FailLow rests = rests ≡ None
+IsApart apart budget word row range verdicts.Undecided rests = rests ≡ None
 
 -- a row that only asks has no bounds apart
-abbrev pub IsApartOf : Net → Row → RowKind → RowFound → Type 0
-IsApartOf apart row kinds.Ask found = found.apart ≡ None
-IsApartOf apart row (kinds.Req range) found = IsApart apart row range (verdict_in range found) found.apart
+abbrev pub IsApartOf : Net → ℕ → FindingWord → Row → RowKind → RowFound → Type 0
+IsApartOf apart budget word row kinds.Ask found = found.apart ≡ None
+IsApartOf apart budget word row (kinds.Req range) found = IsApart apart budget word row range (verdict_in range found) found.apart
 
 -- what is found of a row: both of its bounds, with what stands behind them, and, if its verdict rests on the order of a lane, both bounds without
 -- this order
-pub record IsRowFound (drawn : Drawn) (word : FindingWord) (row : Row) (found : RowFound) : Type 0 where
-  pub greatest : IsBoundFound drawn.net word row greatest found.greatest
-  pub least : IsBoundFound drawn.net word row (least_by (bound_of found.greatest)) found.least
-  pub apart : IsApartOf (net_apart drawn) row row.kind found
+pub record IsRowFound (drawn : Drawn) (budget : ℕ) (word word_apart : FindingWord) (row : Row) (found : RowFound) : Type 0 where
+  pub greatest : IsBoundFound drawn.net budget word row greatest found.greatest
+  pub least : IsBoundFound drawn.net budget word row (least_by (bound_of found.greatest)) found.least
+  pub apart : IsApartOf (net_apart drawn) budget word_apart row row.kind found
 
 -- what is found of each row, in order
-abbrev pub AreRowsFound : Drawn → FindingWord → List Row → List RowFound → Type 0
-AreRowsFound drawn word [] [] = Unit {0}
-AreRowsFound drawn word [] (found ∷ others) = ⊥
-AreRowsFound drawn word (row ∷ rows) [] = ⊥
-AreRowsFound drawn word (row ∷ rows) (found ∷ others) = IsRowFound drawn word row found × AreRowsFound drawn word rows others
+abbrev pub AreRowsFound : Drawn → ℕ → FindingWord → FindingWord → List Row → List RowFound → Type 0
+AreRowsFound drawn budget word word_apart [] [] = Unit {0}
+AreRowsFound drawn budget word word_apart [] (found ∷ others) = ⊥
+AreRowsFound drawn budget word word_apart (row ∷ rows) [] = ⊥
+AreRowsFound drawn budget word word_apart (row ∷ rows) (found ∷ others) =
+    IsRowFound drawn budget word word_apart row found × AreRowsFound drawn budget word word_apart rows others
+
+-- what is found of each row behind a finding of the drawn network and the one finding of the network apart
+pub record AreFoundBehind (drawn : Drawn) (budget : ℕ) (word : FindingWord) (found : List RowFound) : Type 0 where
+  pub word_apart : FindingWord
+  pub finding_apart : IsFindingApart (net_apart drawn) budget word word_apart
+  pub rows : AreRowsFound drawn budget word word_apart drawn.rows found
 
 -- what is found of each row; behind an inconsistent finding there is nothing
-abbrev pub AreFound : Drawn → Finding → List RowFound → Type 0
-AreFound drawn Consistent found = AreRowsFound drawn findings.Consistent drawn.rows found
-AreFound drawn (Inconsistent set) found = found ≡ []
-AreFound drawn Unsettled found = AreRowsFound drawn findings.Unsettled drawn.rows found
+abbrev pub AreFound : Drawn → ℕ → Finding → List RowFound → Type 0
+AreFound drawn budget Consistent found = AreFoundBehind drawn budget findings.Consistent found
+AreFound drawn budget (Inconsistent set) found = found ≡ []
+AreFound drawn budget Unsettled found = AreFoundBehind drawn budget findings.Unsettled found
 
 -- ---- what a budget is enough for
 
@@ -161,6 +197,11 @@ pub record IsRowSettled (found : RowFound) : Type 0 where
 -- a budget that is no less than the number of cause choices leaves neither the finding nor a bound open
 abbrev pub SettlesWithin : Net → ℕ → Finding → List RowFound → Type 0
 SettlesWithin net budget finding found = cause_choices net.constraints ≤ budget → (finding ≡ Unsettled → ⊥) × All IsRowSettled found
+
+-- so it is wherever a finding and rows are found within the budget, since a stopped proof that used the budget up closes fewer cases than there are
+abbrev pub FoundSettles : Type 0
+FoundSettles = (drawn : Drawn) (budget : ℕ) (finding : Finding) (found : List RowFound) → IsNet drawn.net → IsFindingFound drawn.net budget finding
+    → AreFound drawn budget finding found → SettlesWithin drawn.net budget finding found
 
 -- ---- what follows
 

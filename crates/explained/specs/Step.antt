@@ -2,4 +2,3 @@
 pub mod Standing
 pub mod Bounding
 pub mod Resting
-pub mod Settling

@@ -1,16 +1,14 @@
 //! Greatest bounds of pairs of events.
 
-ghost use Rattle.std.specs.Prelude.{◌≡◌, ◌<◌, ◌≤◌, ℤ, IsSomeAnd, List};
-ghost use Rattle.event_graph.specs.Edges.{cause_choices};
+ghost use Rattle.std.specs.Prelude.{◌≡◌, ◌<◌, ℕ, ℤ, IsSomeAnd, List};
 ghost use Rattle.event_graph.specs.RootBound.{MeetsAlways};
 ghost use Rattle.event_graph.specs.Satisfying.{Satisfies};
 ghost use Rattle.branch.specs.Work.{IsMadeFor};
 ghost use Rattle.requirements.specs.Bounds.{HasTimes};
 ghost use Rattle.drawn.specs.declared.row.Row.{Row};
-ghost use Rattle.explained.specs.Answers.{AreRowBounds, IsBoundSettled};
-ghost use Rattle.explained.specs.Step.Bounding.{IsGreatestBy, bound_by};
-ghost use Rattle.explained.specs.Step.Settling.{IsEnough};
-ghost use Rattle.explained.specs.Step.Standing.{IsNotInconsistent};
+ghost use Rattle.explained.specs.Answers.{AreRowBounds};
+ghost use Rattle.explained.specs.Step.Bounding.{IsGreatestBy, IsGreatestShown, bound_by};
+ghost use Rattle.explained.specs.Step.Standing.{IsNotInconsistent, KeepsFinding};
 
 use crate::pair::Pair;
 use crate::searches::{Searches, greatest_of};
@@ -26,10 +24,9 @@ pub fn greatest_bound(net: &Network, pair: Pair, searches: &mut Searches) -> Bou
     requires from { pair.from.0 < net.now.events }
     requires to { pair.to.0 < net.now.events }
     ensures settled { IsNotInconsistent net.now searches.new }
-    ensures word { searches.new.word ≡ searches.old.word }
+    ensures kept { KeepsFinding searches.old searches.new }
     ensures bound { IsGreatestBy net.now searches.old.word pair result searches.new.work.times searches.new.work.ray }
-    ensures enough { IsEnough net.now searches.old → IsEnough net.now searches.new }
-    ensures settles { IsEnough net.now searches.old → IsBoundSettled result }
+    ensures shown { IsGreatestShown net.now searches.old.budget pair result }
     ensures times { HasTimes result }
 {
     match searches.word {
@@ -51,7 +48,7 @@ fn searched_bound(net: &Network, pair: Pair, budget: u64, work: &mut Work) -> Bo
     ensures made { IsMadeFor net.now work.new }
     ensures known { work.new.known ≡ work.old.known }
     ensures bound { IsGreatestBy net.now FindingWord.Consistent pair result work.new.times work.new.ray }
-    ensures settles { cause_choices net.now.constraints ≤ budget → IsBoundSettled result }
+    ensures shown { IsGreatestShown net.now budget pair result }
     ensures times { HasTimes result }
 {
     let answer = greatest_of(net, pair, budget, work);
@@ -81,6 +78,7 @@ fn limit_of(net: &Network, pair: Pair, work: &mut Work) -> Bound
     ensures made { IsMadeFor net.now work.new }
     ensures known { work.new.known ≡ work.old.known }
     ensures bound { IsGreatestBy net.now FindingWord.Unsettled pair result work.new.times work.new.ray }
+    ensures shown { (budget : ℕ) → IsGreatestShown net.now budget pair result }
     ensures times { HasTimes result }
 {
     match root_bound(work, net, pair.from, pair.to) {
@@ -98,9 +96,9 @@ pub fn both_bounds(net: &Network, pair: Pair, searches: &mut Searches) -> BothBo
     requires from { pair.from.0 < net.now.events }
     requires to { pair.to.0 < net.now.events }
     ensures settled { IsNotInconsistent net.now searches.new }
-    ensures bounds { (row : Row) → row.from ≡ pair.from → row.to ≡ pair.to → AreRowBounds net.now row result }
-    ensures enough { IsEnough net.now searches.old → IsEnough net.now searches.new }
-    ensures settles { IsEnough net.now searches.old → IsBoundSettled result.greatest × IsBoundSettled result.least }
+    ensures kept { KeepsFinding searches.old searches.new }
+    ensures bounds { (row : Row) → row.from ≡ pair.from → row.to ≡ pair.to
+        → AreRowBounds net.now searches.old.budget searches.old.word row result }
     ensures least { HasTimes result.least }
     ensures greatest { HasTimes result.greatest }
 {

@@ -1,10 +1,9 @@
 //! All memory for the searches.
 
-ghost use Rattle.std.specs.Prelude.{◌≡◌, ◌≤◌, IfOk, IfSome};
+ghost use Rattle.std.specs.Prelude.{◌≡◌, ◌≤◌, ℕ, IfOk, IfSome};
 ghost use Rattle.event_graph.specs.Network.{Net};
 ghost use Rattle.explained.specs.Apart.{net_apart};
-ghost use Rattle.explained.specs.Step.Settling.{IsEnoughApart, SufficesApart};
-ghost use Rattle.explained.specs.Step.Standing.{FindingAllows, IsDeskFor, IsFor, IsFresh, IsNotInconsistent, net_in};
+ghost use Rattle.explained.specs.Step.Standing.{FindingAllows, HasSameBudget, IsDeskFor, IsFor, IsFresh, IsNotInconsistent, IsSettledApart, net_in};
 
 use crate::apart::network_apart;
 use crate::searches::{Searches, find_quietly};
@@ -38,7 +37,6 @@ impl Desk {
         ensures made { IfOk result (λ desk. IsFor drawn.now.net desk.searches) }
         ensures desk { IfOk result (IsDeskFor drawn.now) }
         ensures budget { IfOk result (λ desk. desk.searches.budget ≡ budget) }
-        ensures apart { IfOk result (λ desk. IfSome desk.apart (λ a. a.searches.budget ≡ budget)) }
     {
         let net = drawn.network();
         Ok(Desk {
@@ -54,7 +52,7 @@ fn new_apart(alloc: Global, drawn: &DrawnNetwork, budget: u64) -> Result<Option<
     requires budget { 1 ≤ budget }
     ensures apart { IfOk result (λ apart. net_in drawn.now.net apart ≡ net_apart drawn.now) }
     ensures fresh { IfOk result (λ apart. IfSome apart (λ a. IsFresh a.net a.searches)) }
-    ensures budget { IfOk result (λ apart. IfSome apart (λ a. a.searches.budget ≡ budget)) }
+    ensures budget { IfOk result (HasSameBudget budget) }
 {
     match network_apart(alloc, drawn)? {
         None => Ok(None),
@@ -71,7 +69,8 @@ pub fn settle_apart(word: FindingWord, apart: &mut Option<Apart>)
     requires fresh { IfSome apart.old (λ a. IsFresh a.net a.searches) }
     requires allows { IfSome apart.old (λ a. FindingAllows a.net word) }
     ensures settled { IfSome apart.new (λ a. IsNotInconsistent a.net a.searches) }
-    ensures enough { (word ≡ FindingWord.Unsettled → ⊥) → SufficesApart apart.old → IsEnoughApart apart.new }
+    ensures finding { (budget : ℕ) → HasSameBudget budget apart.old → IsSettledApart budget word apart.new }
+    ensures budget { (budget : ℕ) → HasSameBudget budget apart.old → HasSameBudget budget apart.new }
     ensures same { (net : Net) → net_in net apart.new ≡ net_in net apart.old }
 {
     if let Some(apart) = apart {

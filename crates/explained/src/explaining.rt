@@ -2,10 +2,9 @@
 
 ghost use Rattle.std.specs.Prelude.{◌≡◌, ◌<◌, IfOk};
 ghost use Rattle.requirements.specs.Bounds.{HasTimes};
-ghost use Rattle.explained.specs.Answers.{IsBoundSettled, bound_of};
-ghost use Rattle.explained.specs.Step.Bounding.{IsExplained};
-ghost use Rattle.explained.specs.Step.Settling.{IsEnough};
-ghost use Rattle.explained.specs.Step.Standing.{IsNotInconsistent};
+ghost use Rattle.explained.specs.Answers.{bound_of};
+ghost use Rattle.explained.specs.Step.Bounding.{IsExplained, IsGreatestShown};
+ghost use Rattle.explained.specs.Step.Standing.{IsNotInconsistent, KeepsFinding};
 
 use crate::bound::BoundFound;
 use crate::bounding::greatest_bound;
@@ -30,11 +29,10 @@ pub fn explain_greatest(
     requires from { pair.from.0 < net.now.events }
     requires to { pair.to.0 < net.now.events }
     ensures settled { IsNotInconsistent net.now searches.new }
-    ensures word { searches.new.word ≡ searches.old.word }
+    ensures kept { KeepsFinding searches.old searches.new }
     ensures chains { chains.new.events ≡ net.now.events }
     ensures found { IfOk result (IsExplained net.now searches.old.word pair) }
-    ensures enough { IsEnough net.now searches.old → IsEnough net.now searches.new }
-    ensures settles { IfOk result (λ found. IsEnough net.now searches.old → IsBoundSettled (bound_of found)) }
+    ensures shown { IfOk result (λ found. IsGreatestShown net.now searches.old.budget pair (bound_of found)) }
     ensures times { IfOk result (λ found. HasTimes (bound_of found)) }
 {
     match greatest_bound(net, pair, searches) {

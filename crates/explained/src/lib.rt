@@ -17,6 +17,7 @@ mod row;
 mod rows;
 mod searches;
 
+pub use apart::network_apart;
 pub use bound::BoundFound;
 pub use finding::Finding;
 pub use network::{NetworkFound, explain};

@@ -3,8 +3,7 @@
 ghost use Rattle.std.specs.Prelude.{◌≡◌, ◌≤◌, All, IfOk, length};
 ghost use Rattle.itv_base.specs.declared.limits.TheConstants.{MAX_BUDGET};
 ghost use Rattle.chains.specs.Named.{IsRefuting};
-ghost use Rattle.explained.specs.Answers.{AreFound, HasRowTimes, IsFindingFound, IsRowSettled, SettlesWithin};
-ghost use Rattle.explained.specs.Step.Settling.{IsEnough, SufficesApart};
+ghost use Rattle.explained.specs.Answers.{AreFound, HasRowTimes, IsFindingFound, IsFindingShown, SettlesWithin};
 ghost use Rattle.explained.specs.Step.Standing.{HasFound, IsDeskFor, IsFor};
 
 use crate::desk::Desk;
@@ -26,15 +25,15 @@ pub struct NetworkFound {
 }
 
 /// Finds whether some times satisfy a drawn network, and both bounds of each of its rows, with what makes it so. Each search closes at most `budget`
-/// cases. If the budget is no less than the number of cause choices, neither the finding nor a bound is left open. Where some constraint keeps the
+/// cases; it leaves its finding or its bound open only if it closes just as many. If the budget is no less than the number of cause choices, neither the finding nor a bound is left open. Where some constraint keeps the
 /// order of a lane, a row that passes is searched once more without such orders.
 ///
 /// `NoMemory` may come in place of an answer.
 pub fn explain(alloc: Global, drawn: &DrawnNetwork, budget: u64) -> Result<NetworkFound, NoMemory>
     requires least { 1 ≤ budget }
     requires most { budget ≤ MAX_BUDGET }
-    ensures finding { IfOk result (λ found. IsFindingFound drawn.now.net found.finding) }
-    ensures rows { IfOk result (λ found. AreFound drawn.now found.finding found.rows.items) }
+    ensures finding { IfOk result (λ found. IsFindingFound drawn.now.net budget found.finding) }
+    ensures rows { IfOk result (λ found. AreFound drawn.now budget found.finding found.rows.items) }
     ensures settles { IfOk result (λ found. SettlesWithin drawn.now.net budget found.finding found.rows.items) }
     ensures times { IfOk result (λ found. All HasRowTimes found.rows.items) }
 {
@@ -54,13 +53,12 @@ fn found_behind(
 ) -> Result<NetworkFound, NoMemory>
     requires made { IsFor drawn.now.net desk.old.searches }
     requires found { HasFound drawn.now.net desk.old.searches.word desk.old.searches.work.known }
+    requires shown { IsFindingShown drawn.now.net desk.old.searches.budget desk.old.searches.word }
     requires desk { IsDeskFor drawn.now desk.old }
     requires count { length marking.now ≡ length drawn.now.net.constraints }
     requires marks { desk.old.searches.word ≡ FindingWord.Inconsistent → IsRefuting drawn.now.net marking.now }
-    ensures finding { IfOk result (λ found. IsFindingFound drawn.now.net found.finding) }
-    ensures rows { IfOk result (λ found. AreFound drawn.now found.finding found.rows.items) }
-    ensures settles { IfOk result (λ found. IsEnough drawn.now.net desk.old.searches → SufficesApart desk.old.apart
-        → (found.finding ≡ Finding.Unsettled → ⊥) × All IsRowSettled found.rows.items) }
+    ensures finding { IfOk result (λ found. IsFindingFound drawn.now.net desk.old.searches.budget found.finding) }
+    ensures rows { IfOk result (λ found. AreFound drawn.now desk.old.searches.budget found.finding found.rows.items) }
     ensures times { IfOk result (λ found. All HasRowTimes found.rows.items) }
 {
     match desk.searches.word {

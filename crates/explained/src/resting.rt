@@ -1,11 +1,11 @@
 //! Whether a verdict rests on the order of a lane.
 
-ghost use Rattle.std.specs.Prelude.{◌≡◌, IfSome};
+ghost use Rattle.std.specs.Prelude.{◌≡◌, ℕ, IfSome};
 ghost use Rattle.event_graph.specs.Network.{Net};
 ghost use Rattle.drawn.specs.Drawn.{IsRowOf};
-ghost use Rattle.explained.specs.Answers.{AreRowBounds, AreSettledApart, HasTimesApart, RestsOnOrder};
-ghost use Rattle.explained.specs.Step.Settling.{IsEnough, IsEnoughApart};
-ghost use Rattle.explained.specs.Step.Standing.{IsNotInconsistent, net_in};
+ghost use Rattle.slack_report.specs.declared.words.FindingWord.{FindingWord};
+ghost use Rattle.explained.specs.Answers.{AreRowBounds, HasTimesApart, RestsOnOrder};
+ghost use Rattle.explained.specs.Step.Standing.{HasSameBudget, IsNotInconsistent, KeepsFinding, net_in, word_in};
 ghost use Rattle.explained.specs.Step.Resting.{AreBoundsApart};
 
 use crate::bounding::both_bounds;
@@ -22,10 +22,10 @@ pub fn bounds_apart(row: &Row, both: &BothBounds, apart: &mut Option<Apart>) -> 
     requires row { IfSome apart.old (λ a. IsRowOf a.net row.now) }
     ensures settled { IfSome apart.new (λ a. IsNotInconsistent a.net a.searches) }
     ensures same { (net : Net) → net_in net apart.new ≡ net_in net apart.old }
-    ensures rests { (net : Net) → AreRowBounds net row.now both.now
-        → AreBoundsApart (net_in net apart.old) row.now row.now.kind both.now result }
-    ensures enough { IsEnoughApart apart.old → IsEnoughApart apart.new }
-    ensures settles { IsEnoughApart apart.old → AreSettledApart result }
+    ensures word { (word : FindingWord) → word_in word apart.new ≡ word_in word apart.old }
+    ensures budget { (budget : ℕ) → HasSameBudget budget apart.old → HasSameBudget budget apart.new }
+    ensures rests { (net : Net) (budget : ℕ) (word : FindingWord) → HasSameBudget budget apart.old → AreRowBounds net budget word row.now both.now
+        → AreBoundsApart (net_in net apart.old) budget (word_in word apart.old) row.now row.now.kind both.now result }
     ensures times { HasTimesApart result }
 {
     match row.kind {
@@ -49,9 +49,8 @@ fn broken_apart(row: &Row, range: Range, apart: &mut Apart) -> Option<BothBounds
     requires row { IsRowOf apart.old.net row.now }
     ensures settled { IsNotInconsistent apart.new.net apart.new.searches }
     ensures same { apart.new.net ≡ apart.old.net }
-    ensures rests { RestsOnOrder apart.old.net row.now range result }
-    ensures enough { IsEnough apart.old.net apart.old.searches → IsEnough apart.new.net apart.new.searches }
-    ensures settles { IsEnough apart.old.net apart.old.searches → AreSettledApart result }
+    ensures kept { KeepsFinding apart.old.searches apart.new.searches }
+    ensures rests { RestsOnOrder apart.old.net apart.old.searches.budget apart.old.searches.word row.now range result }
     ensures times { HasTimesApart result }
 {
     let pair = Pair {

@@ -2,9 +2,8 @@
 
 ghost use Rattle.std.specs.Prelude.{◌≡◌, ◌<◌, ◌≤◌, All, IfOk, length, slice_get, IsSomeAnd};
 ghost use Rattle.drawn.specs.Drawn.{IsRowOf};
-ghost use Rattle.explained.specs.Answers.{AreRowsFound, HasRowTimes, IsRowFound, IsRowSettled};
-ghost use Rattle.explained.specs.Step.Settling.{IsEnough, IsEnoughFor, SufficesApart};
-ghost use Rattle.explained.specs.Step.Standing.{IsDeskFor, IsReady, IsNotInconsistent};
+ghost use Rattle.explained.specs.Answers.{AreFoundBehind, AreRowsFound, HasRowTimes, IsFindingShown, IsRowFound};
+ghost use Rattle.explained.specs.Step.Standing.{IsDeskFor, IsNotInconsistent, IsReady, KeepsFindings, word_apart};
 
 use crate::desk::{Desk, settle_apart};
 use crate::explaining::explain_greatest;
@@ -23,10 +22,9 @@ pub fn explain_rows(
     desk: &mut Desk,
 ) -> Result<Vec<RowFound>, NoMemory>
     requires settled { IsNotInconsistent drawn.now.net desk.old.searches }
+    requires shown { IsFindingShown drawn.now.net desk.old.searches.budget desk.old.searches.word }
     requires desk { IsDeskFor drawn.now desk.old }
-    ensures rows { IfOk result (λ found. AreRowsFound drawn.now desk.old.searches.word drawn.now.rows found.items) }
-    ensures settles { IfOk result (λ found. IsEnough drawn.now.net desk.old.searches → SufficesApart desk.old.apart
-        → All IsRowSettled found.items) }
+    ensures rows { IfOk result (λ found. AreFoundBehind drawn.now desk.old.searches.budget desk.old.searches.word found.items) }
     ensures times { IfOk result (λ found. All HasRowTimes found.items) }
 {
     settle_apart(desk.searches.word, &mut desk.apart);
@@ -40,8 +38,8 @@ fn explain_each(
     desk: &mut Desk,
 ) -> Result<Vec<RowFound>, NoMemory>
     requires ready { IsReady drawn.now desk.old }
-    ensures rows { IfOk result (λ found. AreRowsFound drawn.now desk.old.searches.word drawn.now.rows found.items) }
-    ensures settles { IfOk result (λ found. IsEnoughFor drawn.now.net desk.old → All IsRowSettled found.items) }
+    ensures rows { IfOk result (λ found. AreRowsFound drawn.now desk.old.searches.budget desk.old.searches.word (word_apart desk.old)
+        drawn.now.rows found.items) }
     ensures times { IfOk result (λ found. All HasRowTimes found.items) }
 {
     let rows = drawn.rows();
@@ -63,10 +61,8 @@ fn explain_row(
     requires ready { IsReady drawn.now desk.old }
     requires row { IsRowOf drawn.now.net row.now }
     ensures ready { IfOk result (λ _. IsReady drawn.now desk.new) }
-    ensures word { IfOk result (λ _. desk.new.searches.word ≡ desk.old.searches.word) }
-    ensures found { IfOk result (IsRowFound drawn.now desk.old.searches.word row.now) }
-    ensures enough { IfOk result (λ _. IsEnoughFor drawn.now.net desk.old → IsEnoughFor drawn.now.net desk.new) }
-    ensures settles { IfOk result (λ found. IsEnoughFor drawn.now.net desk.old → IsRowSettled found) }
+    ensures kept { IfOk result (λ _. KeepsFindings desk.old desk.new) }
+    ensures found { IfOk result (IsRowFound drawn.now desk.old.searches.budget desk.old.searches.word (word_apart desk.old) row.now) }
     ensures times { IfOk result HasRowTimes }
 {
     let net = drawn.network();

@@ -6,7 +6,7 @@ ghost use Rattle.event_graph.specs.Satisfying.{Satisfies};
 ghost use Rattle.branch.specs.Answers.{IsGreatestAnswer, evidence};
 ghost use Rattle.branch.specs.Work.{IsClose, IsMadeFor};
 ghost use Rattle.chains.specs.Named.{IsRefuting};
-ghost use Rattle.explained.specs.Step.Settling.{IsEnough, Suffices};
+ghost use Rattle.explained.specs.Answers.{IsFindingShown};
 ghost use Rattle.explained.specs.Step.Standing.{HasFound, IsFor, IsFresh, word_of_found};
 
 use crate::pair::Pair;
@@ -47,7 +47,8 @@ pub fn find_marking(net: &Network, searches: &mut Searches, marking: &mut Markin
     requires none { marking.old ≡ replicate (length net.now.constraints) false }
     ensures made { IsFor net.now searches.new }
     ensures found { HasFound net.now searches.new.word searches.new.work.known }
-    ensures enough { Suffices net.now searches.old → IsEnough net.now searches.new }
+    ensures budget { searches.new.budget ≡ searches.old.budget }
+    ensures shown { IsFindingShown net.now searches.old.budget searches.new.word }
     ensures count { length marking.new ≡ length net.now.constraints }
     ensures marks { searches.new.word ≡ FindingWord.Inconsistent → IsRefuting net.now marking.new }
 {
@@ -62,7 +63,8 @@ pub fn find_quietly(net: &Network, searches: &mut Searches)
     requires made { IsFor net.now searches.old }
     ensures made { IsFor net.now searches.new }
     ensures found { HasFound net.now searches.new.word searches.new.work.known }
-    ensures enough { Suffices net.now searches.old → IsEnough net.now searches.new }
+    ensures budget { searches.new.budget ≡ searches.old.budget }
+    ensures shown { IsFindingShown net.now searches.old.budget searches.new.word }
 {
     match find(&mut searches.work, net, searches.budget, &mut Quiet) {
         Ok(found) => searches.word = word_of(found),
@@ -93,6 +95,7 @@ pub fn greatest_of(net: &Network, pair: Pair, budget: u64, work: &mut Work) -> G
     ensures known { work.new.known ≡ work.old.known }
     ensures answers { (lines : List ProofLine)
         × IsGreatestAnswer (record { net = net.now; from = pair.from; to = pair.to; budget = budget }) (evidence lines work.new) result }
+    ensures count { work.new.leaves ≤ budget }
     ensures times { Satisfies work.new.times net.now }
     ensures close { All IsClose work.new.times }
 {

@@ -24,8 +24,8 @@ pub record AnswersLint (plan : Planned) (network : Drawn) (budget : ℕ) (answer
   pub is_design : composed_on plan.netlist (sheets_on plan.sheets plan.netlist.parts) ≡ Ok design
   pub finding : Finding
   pub found : List RowFound
-  pub is_finding : IsFindingFound network.net finding
-  pub are_found : AreFound network finding found
+  pub is_finding : IsFindingFound network.net budget finding
+  pub are_found : AreFound network budget finding found
   pub settles : SettlesWithin network.net budget finding found
   pub is_text : text ≡ lint_text plan design network (warnings_of plan design) found
   pub is_answer : answer ≡ answer_by (is_clean network (warnings_of plan design) found)

@@ -21,5 +21,5 @@ line_text plan d (Order number) = order_text number
 pub record AreLintFindings (plan : Planned) (design : Composed) (network : Drawn) (budget : ℕ) (findings : LintFindings) : Type 0 where
   pub is_design : composed_on plan.netlist (sheets_on plan.sheets plan.netlist.parts) ≡ Ok design
   pub warnings : findings.warnings.items ≡ warnings_of plan design
-  pub finding : (finding : Finding) × IsFindingFound network.net finding × AreFound network finding findings.found.items × SettlesWithin network.net budget finding findings.found.items
+  pub finding : (finding : Finding) × IsFindingFound network.net budget finding × AreFound network budget finding findings.found.items × SettlesWithin network.net budget finding findings.found.items
   pub clean : findings.clean ≡ is_clean network findings.warnings.items findings.found.items

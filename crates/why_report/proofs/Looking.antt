@@ -14,7 +14,7 @@ use Rattle.right_report.specs.Right.ReportState.{NextBound, greatest, least_by}
 use Rattle.slack_report.specs.declared.words.FindingWord.{FindingWord}
 use Rattle.drawn.specs.Drawn.{Drawn, OriginsFit}
 use Rattle.drawn.specs.declared.row.Row.{Row}
-use Rattle.explained.specs.Answers.{AreFound, AreRowsFound, HasRowTimes, IsBehind, bound_of, word_of}
+use Rattle.explained.specs.Answers.{AreFound, AreFoundBehind, AreRowsFound, FindingHolds, HasRowTimes, IsBehind, IsFindingFound, bound_of, word_of}
 use Rattle.explained.specs.declared.bound.BoundFound.{BoundFound}
 use Rattle.explained.specs.declared.bound.BoundFound.TheVariants.{Closed, Unbounded, Within}
 use Rattle.explained.specs.declared.finding.Finding.{Finding}
@@ -40,41 +40,50 @@ flags net row greatest (Unbounded set) b = b.2.count
 flags net row (least_by most) (Unbounded set) b = b.2.count
 flags net row side (Within limit attained) b = tt
 
-pub rows_count : (drawn : Drawn) (word : FindingWord) (rows : List Row) (found : List RowFound) → AreRowsFound drawn word rows found → length found ≡ length rows
-rows_count drawn word [] [] are = refl
-rows_count drawn word [] (f ∷ found) are = absurd are
-rows_count drawn word (r ∷ rows) [] are = absurd are
-rows_count drawn word (r ∷ rows) (f ∷ found) are = ap suc (rows_count drawn word rows found are.1)
+pub rows_count : (drawn : Drawn) (budget : ℕ) (word apart : FindingWord) (rows : List Row) (found : List RowFound) → AreRowsFound drawn budget word apart rows found → length found ≡ length rows
+rows_count drawn budget word apart [] [] are = refl
+rows_count drawn budget word apart [] (f ∷ found) are = absurd are
+rows_count drawn budget word apart (r ∷ rows) [] are = absurd are
+rows_count drawn budget word apart (r ∷ rows) (f ∷ found) are = ap suc (rows_count drawn budget word apart rows found are.1)
 
 -- what is found of each row can be written
-pub rows_told : (drawn : Drawn) (word : FindingWord) (rows : List Row) (found : List RowFound) → AreRowsFound drawn word rows found → All HasRowTimes found
+pub rows_told : (drawn : Drawn) (budget : ℕ) (word apart : FindingWord) (rows : List Row) (found : List RowFound) → AreRowsFound drawn budget word apart rows found → All HasRowTimes found
     → All (IsWritable drawn.net.events) found
-rows_told drawn word [] [] are times k d h = absurd (omega arith)
-rows_told drawn word [] (f ∷ found) are times k d h = absurd are
-rows_told drawn word (r ∷ rows) [] are times k d h = absurd are
-rows_told drawn word (r ∷ rows) (f ∷ found) are times zero d h = record {
+rows_told drawn budget word apart [] [] are times k d h = absurd (omega arith)
+rows_told drawn budget word apart [] (f ∷ found) are times k d h = absurd are
+rows_told drawn budget word apart (r ∷ rows) [] are times k d h = absurd are
+rows_told drawn budget word apart (r ∷ rows) (f ∷ found) are times zero d h = record {
   greatest = flags drawn.net r greatest f.greatest are.0.greatest.behind;
   least = flags drawn.net r (least_by (bound_of f.greatest)) f.least are.0.least.behind;
   times = times zero d h;
 }
-rows_told drawn word (r ∷ rows) (f ∷ found) are times (suc k) d h =
-    rows_told drawn word rows found are.1 (λ j e within. times (suc j) e (omega arith)) k d (omega arith)
+rows_told drawn budget word apart (r ∷ rows) (f ∷ found) are times (suc k) d h =
+    rows_told drawn budget word apart rows found are.1 (λ j e within. times (suc j) e (omega arith)) k d (omega arith)
 
 -- if the finding is not inconsistent, something is found of each row
-pub known_rows : (drawn : Drawn) (finding : Finding) (found : List RowFound) → (finding ≡ Consistent) ⊎ (finding ≡ Unsettled) → AreFound drawn finding found
-    → AreRowsFound drawn (word_of finding) drawn.rows found
-known_rows drawn Consistent found e are = are
-known_rows drawn (Inconsistent set) found (inl e) are = absurd (cc e)
-known_rows drawn (Inconsistent set) found (inr e) are = absurd (cc e)
-known_rows drawn Unsettled found e are = are
+known_rows : (drawn : Drawn) (budget : ℕ) (finding : Finding) (found : List RowFound) → (finding ≡ Consistent) ⊎ (finding ≡ Unsettled) → AreFound drawn budget finding found
+    → AreFoundBehind drawn budget (word_of finding) found
+known_rows drawn budget Consistent found e are = are
+known_rows drawn budget (Inconsistent set) found (inl e) are = absurd (cc e)
+known_rows drawn budget (Inconsistent set) found (inr e) are = absurd (cc e)
+known_rows drawn budget Unsettled found e are = are
 
-pub known_count : (drawn : Drawn) (finding : Finding) (found : List RowFound) → (finding ≡ Consistent) ⊎ (finding ≡ Unsettled) → AreFound drawn finding found
+pub known_count : (drawn : Drawn) (finding : Finding) (found : List RowFound) → (finding ≡ Consistent) ⊎ (finding ≡ Unsettled) → (budget : ℕ) × AreFound drawn budget finding found
     → length found ≡ length drawn.rows
-known_count drawn finding found e are = rows_count drawn (word_of finding) drawn.rows found (known_rows drawn finding found e are)
+known_count drawn finding found e are =
+    let behind = known_rows drawn are.0 finding found e are.1 in
+    rows_count drawn are.0 (word_of finding) behind.word_apart drawn.rows found behind.rows
 
-pub known_told : (drawn : Drawn) (finding : Finding) (found : List RowFound) → (finding ≡ Consistent) ⊎ (finding ≡ Unsettled) → AreFound drawn finding found
+pub known_told : (drawn : Drawn) (finding : Finding) (found : List RowFound) → (finding ≡ Consistent) ⊎ (finding ≡ Unsettled) → (budget : ℕ) × AreFound drawn budget finding found
     → All HasRowTimes found → All (IsWritable drawn.net.events) found
-known_told drawn finding found e are times = rows_told drawn (word_of finding) drawn.rows found (known_rows drawn finding found e are) times
+known_told drawn finding found e are times =
+    let behind = known_rows drawn are.0 finding found e are.1 in
+    rows_told drawn are.0 (word_of finding) behind.word_apart drawn.rows found behind.rows times
+
+-- a set of rules that contradict each other has a flag for each constraint
+pub set_count : (drawn : Drawn) (finding : Finding) (set : _) → finding ≡ Inconsistent set → (budget : ℕ) × IsFindingFound drawn.net budget finding
+    → length set.items ≡ length drawn.net.constraints
+set_count drawn finding set e is = (subst (FindingHolds drawn.net) e is.1.holds).0
 
 -- ---- constraints
 

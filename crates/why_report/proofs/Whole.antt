@@ -34,7 +34,7 @@ pub why_is : (noted : Noted) (drawn : Drawn) (finding : Finding) (rows found : L
     → ended (codes "itv why 1") ++ (entry_text (line.finding writable) ++ (found_text noted drawn finding rows ++ entry_text (line.ending word))) ≡ why_text noted drawn finding found
 why_is noted drawn finding rows found writable word is_rows is_told is_word = rw (is_rows, is_told, is_word) refl
 
-module _ (noted : Noted) (drawn : Drawn) (budget : ℕ) (finding : Finding) (found : List RowFound) (f : IsFindingFound drawn.net finding) (a : AreFound drawn finding found) (s : SettlesWithin drawn.net budget finding found) where
+module _ (noted : Noted) (drawn : Drawn) (budget : ℕ) (finding : Finding) (found : List RowFound) (f : IsFindingFound drawn.net budget finding) (a : AreFound drawn budget finding found) (s : SettlesWithin drawn.net budget finding found) where
   -- the text says what was found
   pub answers_why : (answer : Answer) → answer ≡ answer_of (ending_of drawn.rows finding found) → AnswersWhy noted drawn budget answer (why_text noted drawn finding found)
   answers_why answer is = record { finding = finding; found = found; is_finding = f; are_found = a; settles = s; is_text = refl; is_answer = is }

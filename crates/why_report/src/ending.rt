@@ -1,6 +1,6 @@
 //! The word at the end.
 
-ghost use Rattle.std.specs.Prelude.{◌≡◌, ◌||◌, length};
+ghost use Rattle.std.specs.Prelude.{◌≡◌, ◌||◌, ℕ, length};
 ghost use Rattle.slack_report.specs.declared.words.FindingWord.{FindingWord};
 ghost use Rattle.right_report.specs.Right.ReportState.{tally_of, end_word};
 ghost use Rattle.explained.specs.Answers.{AreFound, bound_of, word_of};
@@ -28,7 +28,7 @@ pub fn finding_word(finding: &Finding) -> FindingWord
 
 /// The word at the end, by what was found of the network and of each row.
 pub fn ending_of(drawn: &DrawnNetwork, finding: &Finding, found: &[RowFound]) -> EndWord
-    requires found { AreFound drawn.now finding.now found.now }
+    requires found { (budget : ℕ) × AreFound drawn.now budget finding.now found.now }
     ensures word { result ≡ ending_of drawn.now.rows finding.now found.now }
 {
     match finding {

@@ -49,13 +49,17 @@ fn put_found<N: Notes, K: Sink>(
     buffer: &mut LineBuffer,
     sink: &mut K,
 ) -> Result<Answer, PutFailed>
-    requires finding { IsFindingFound drawn.now.net found.now.finding }
-    requires rows { AreFound drawn.now found.now.finding found.now.rows.items }
+    requires finding { (budget : ℕ) × IsFindingFound drawn.now.net budget found.now.finding }
+    requires rows { (budget : ℕ) × AreFound drawn.now budget found.now.finding found.now.rows.items }
     requires times { All HasRowTimes found.now.rows.items }
-    ensures answers { (budget : ℕ) → SettlesWithin drawn.now.net budget found.now.finding found.now.rows.items
+    ensures answers { (budget : ℕ) → IsFindingFound drawn.now.net budget found.now.finding
+        → AreFound drawn.now budget found.now.finding found.now.rows.items
+        → SettlesWithin drawn.now.net budget found.now.finding found.now.rows.items
         → IfOk result (λ answer. (text : List ℕ) × AnswersWhy (N.noted notes.now) drawn.now budget answer text
         × (K.state sink.new ≡ grown (K.state sink.old) text)) }
-    ensures begins { (budget : ℕ) → SettlesWithin drawn.now.net budget found.now.finding found.now.rows.items
+    ensures begins { (budget : ℕ) → IsFindingFound drawn.now.net budget found.now.finding
+        → AreFound drawn.now budget found.now.finding found.now.rows.items
+        → SettlesWithin drawn.now.net budget found.now.finding found.now.rows.items
         → OnErr result ((text : List ℕ) × Answered (AnswersWhy (N.noted notes.now) drawn.now budget) text
         × CutShort (K.state sink.old) (K.state sink.new) text) }
 {
@@ -73,8 +77,8 @@ fn put_text<N: Notes, K: Sink>(
     buffer: &mut LineBuffer,
     sink: &mut K,
 ) -> Result<(), PutFailed>
-    requires finding { IsFindingFound drawn.now.net found.now.finding }
-    requires rows { AreFound drawn.now found.now.finding found.now.rows.items }
+    requires finding { (budget : ℕ) × IsFindingFound drawn.now.net budget found.now.finding }
+    requires rows { (budget : ℕ) × AreFound drawn.now budget found.now.finding found.now.rows.items }
     requires times { All HasRowTimes found.now.rows.items }
     requires word { word ≡ ending_of drawn.now.rows found.now.finding found.now.rows.items }
     ensures puts { Puts (K.state sink.old) (K.state sink.new)
@@ -96,8 +100,8 @@ fn put_behind<N: Notes, K: Sink>(
     buffer: &mut LineBuffer,
     sink: &mut K,
 ) -> Result<(), PutFailed>
-    requires finding { IsFindingFound drawn.now.net finding.now }
-    requires rows { AreFound drawn.now finding.now found.now }
+    requires finding { (budget : ℕ) × IsFindingFound drawn.now.net budget finding.now }
+    requires rows { (budget : ℕ) × AreFound drawn.now budget finding.now found.now }
     requires times { All HasRowTimes found.now }
     ensures puts { Puts (K.state sink.old) (K.state sink.new) (found_text (N.noted notes.now) drawn.now finding.now found.now) result }
 {

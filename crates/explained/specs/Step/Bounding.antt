@@ -1,7 +1,9 @@
 -- What stands behind a greatest bound of a pair.
-use Rattle.std.specs.Prelude.{◌≡◌, ℤ, neg_ℤ, Bool, List, All, Option, Some, IfSome, option_map}
+use Rattle.std.specs.Prelude.{◌≡◌, ℕ, ℤ, neg_ℤ, Bool, List, All, Option, None, Some, IfSome, option_map}
 use Rattle.event_graph.specs.Bounds.{IsGreatest, IsRay}
 use Rattle.event_graph.specs.Network.{Net}
+use Rattle.event_graph.specs.Proof.{IsStoppedProof, ProofGoal, ProofLine}
+use Rattle.event_graph.specs.Proof.{Bound as BoundGoal}
 use Rattle.event_graph.specs.RootBound.{IsRootBound}
 use Rattle.event_graph.specs.Satisfying.{Satisfies}
 use Rattle.event_graph.specs.Times.{IsTime, separation}
@@ -13,6 +15,7 @@ use Rattle.requirements.specs.declared.bound.Bound.TheVariants as bounds
 use Rattle.slack_report.specs.declared.words.FindingWord.{FindingWord}
 use Rattle.slack_report.specs.declared.words.FindingWord.TheVariants as findings
 use Rattle.right_report.specs.Right.LineClaims.{HasAttained}
+use Rattle.right_report.specs.Shown.{IsProofWithin, IsStoppedWithin}
 use Rattle.explained.specs.Answers.{CanRise, Explains}
 use Rattle.explained.specs.declared.bound.BoundFound.{BoundFound}
 use Rattle.explained.specs.declared.bound.BoundFound.TheVariants.{Closed, Unbounded, Within}
@@ -49,6 +52,17 @@ abbrev pub IsGreatestBy : Net → FindingWord → Pair → Bound → List ℤ �
 IsGreatestBy net word pair (bounds.Closed value) times set = IsClosedBy net word pair value times
 IsGreatestBy net word pair bounds.Unbounded times set = IsUnboundedBy net word pair times set
 IsGreatestBy net word pair (bounds.Within limit attained) times set = IsOpenBound net word pair limit attained
+
+-- no separation of the pair exceeds the number
+abbrev pub pair_goal : Pair → ℤ → ProofGoal
+pair_goal pair value = BoundGoal pair.from pair.to value
+
+-- some lines show a greatest bound of a pair within a budget, as lines show a bound of a row; a bound without an attained number needs none
+abbrev pub IsGreatestShown : Net → ℕ → Pair → Bound → Type 0
+IsGreatestShown net budget pair (bounds.Closed value) = (lines : List ProofLine) × IsProofWithin net (pair_goal pair value) budget lines
+IsGreatestShown net budget pair bounds.Unbounded = (lines : List ProofLine) × (value : ℤ) × IsStoppedWithin net (pair_goal pair value) budget lines
+IsGreatestShown net budget pair (bounds.Within limit None) = Unit {0}
+IsGreatestShown net budget pair (bounds.Within limit (Some attained)) = (lines : List ProofLine) × IsStoppedProof net (pair_goal pair attained) lines budget
 
 -- a greatest bound behind a finding, with the chain or the set that stands behind it
 abbrev pub IsExplained : Net → FindingWord → Pair → BoundFound → Type 0

@@ -1,5 +1,5 @@
 -- What is known of a network while its rows are searched.
-use Rattle.std.specs.Prelude.{◌≡◌, ◌<◌, ℤ, List, Option, Some, None, IfSome, IsSomeAnd}
+use Rattle.std.specs.Prelude.{◌≡◌, ◌<◌, ℕ, ℤ, List, Option, Some, None, IfSome, IsSomeAnd}
 use Rattle.event_graph.specs.Bounds.{IsInconsistent}
 use Rattle.event_graph.specs.Network.{Net}
 use Rattle.event_graph.specs.RootBound.{MeetsAlways}
@@ -10,6 +10,7 @@ use Rattle.branch.specs.Work.{IsMadeFor}
 use Rattle.slack_report.specs.declared.words.FindingWord.{FindingWord}
 use Rattle.slack_report.specs.declared.words.FindingWord.TheVariants as findings
 use Rattle.drawn.specs.Drawn.{Drawn}
+use Rattle.explained.specs.Answers.{IsFindingApart}
 use Rattle.explained.specs.Apart.{net_apart}
 use Rattle.explained.specs.declared.searches.Searches.{Searches}
 use Rattle.explained.specs.declared.desk.Apart.{Apart}
@@ -49,16 +50,39 @@ pub record IsNotInconsistent (net : Net) (searches : Searches) : Type 0 where
   pub found : HasFound net searches.word searches.work.known
   pub allows : FindingAllows net searches.word
 
+-- a search keeps the finding and the budget
+pub record KeepsFinding (old new : Searches) : Type 0 where
+  pub word : new.word ≡ old.word
+  pub budget : new.budget ≡ old.budget
+
 -- the network apart in some memory, or the network itself where there is no such memory
 abbrev pub net_in : Net → Option Apart → Net
 net_in net None = net
 net_in net (Some apart) = apart.net
+
+-- the finding of the network apart in some memory, or the one of the network itself where there is no such memory
+abbrev pub word_in : FindingWord → Option Apart → FindingWord
+word_in word None = word
+word_in word (Some apart) = apart.searches.word
+
+-- the finding of the network apart that a desk has
+abbrev pub word_apart : Desk → FindingWord
+word_apart desk = word_in desk.searches.word desk.apart
+
+-- searches of the network apart have this budget
+abbrev pub HasSameBudget : ℕ → Option Apart → Type 0
+HasSameBudget budget apart = IfSome apart (λ (a : Apart). a.searches.budget ≡ budget)
 
 -- the memory is made for a drawn network, and for its network apart if this is another
 pub record IsDeskFor (drawn : Drawn) (desk : Desk) : Type 0 where
   pub chains : desk.chains.events ≡ drawn.net.events
   pub apart : net_in drawn.net desk.apart ≡ net_apart drawn
   pub fresh : IfSome desk.apart (λ (a : Apart). IsFresh a.net a.searches)
+  pub budget : HasSameBudget desk.searches.budget desk.apart
+
+-- the finding of the network apart is made, if this is another network; behind the finding of the drawn network with this word
+abbrev pub IsSettledApart : ℕ → FindingWord → Option Apart → Type 0
+IsSettledApart budget word apart = IfSome apart (λ (a : Apart). IsFindingApart a.net budget word a.searches.word)
 
 -- findings were made in the drawn network and in the network apart; no finding is inconsistent
 pub record IsReady (drawn : Drawn) (desk : Desk) : Type 0 where
@@ -66,3 +90,9 @@ pub record IsReady (drawn : Drawn) (desk : Desk) : Type 0 where
   pub chains : desk.chains.events ≡ drawn.net.events
   pub apart : net_in drawn.net desk.apart ≡ net_apart drawn
   pub settled_apart : IfSome desk.apart (λ (a : Apart). IsNotInconsistent a.net a.searches)
+  pub budget : HasSameBudget desk.searches.budget desk.apart
+
+-- the searches of a row keep both findings and the budget
+pub record KeepsFindings (old new : Desk) : Type 0 where
+  pub whole : KeepsFinding old.searches new.searches
+  pub apart : word_apart new ≡ word_apart old

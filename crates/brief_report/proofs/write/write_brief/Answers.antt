@@ -5,10 +5,13 @@ use Rattle.brief_report.proofs.write.write_brief.Goals as goal
 pub returns-in_err-put_found : goal.returns-in_err-put_found
 returns-in_err-put_found g c =
     let p = err_from_is_err_and c.from_residual-in_err-put_found.result c.from_residual-in_err-put_found.ensures.1 in
-    record { works = rw (p.1, p.2) (c.in_err-put_found.ensures.begins c.args.budget c.in_ok-found.ensures.settles) }
+    record { works = rw (p.1, p.2) (c.in_err-put_found.ensures.begins c.args.budget c.in_ok-found.ensures.finding c.in_ok-found.ensures.rows c.in_ok-found.ensures.settles) }
 
 pub returns : goal.returns
-returns g c = record { works = c.in_ok-put_found.ensures.answers c.args.budget c.in_ok-found.ensures.settles }
+returns g c = record { works = c.in_ok-put_found.ensures.answers c.args.budget c.in_ok-found.ensures.finding c.in_ok-found.ensures.rows c.in_ok-found.ensures.settles }
 
 pub places_of-requires-clause-count : goal.places_of-requires-clause-count
-places_of-requires-clause-count g c = rw c.deref.ensures.value (few_found c.args.drawn.now c.in_ok-found.found.finding c.in_ok-found.found.rows.items c.in_ok-found.ensures.rows)
+places_of-requires-clause-count g c = rw c.deref.ensures.value (few_found c.args.drawn.now c.args.budget c.in_ok-found.found.finding c.in_ok-found.found.rows.items c.in_ok-found.ensures.rows)
+
+pub put_found-requires-clause-rows : goal.put_found-requires-clause-rows
+put_found-requires-clause-rows g c = (c.args.budget, c.in_ok-found.ensures.rows)

@@ -1,9 +1,9 @@
 use Rattle.std.proofs.Common.{subst, sym}
-use Rattle.explained.specs.Answers.{IsBoundSettled}
-use Rattle.explained.proofs.Settling.{answer_settles}
+use Rattle.explained.specs.Step.Bounding.{IsGreatestShown}
+use Rattle.explained.proofs.Shown.{answer_shown}
 use Rattle.explained.proofs.bounding.searched_bound.Goals as goal
 
-pub returns-clause-settles : goal.returns-clause-settles
-returns-clause-settles c = λ enough.
+pub returns-clause-shown : goal.returns-clause-shown
+returns-clause-shown c =
     let answers = c.greatest_of-answer.ensures.answers in
-    subst IsBoundSettled (sym c.bound_by.ensures) (answer_settles _ _ c.greatest_of-answer.result answers.1 enough)
+    subst (IsGreatestShown c.args.net.now c.args.budget c.args.pair) (sym c.bound_by.ensures) (answer_shown _ _ c.greatest_of-answer.result answers.1 c.greatest_of-answer.ensures.count)

@@ -1,21 +1,11 @@
 use Rattle.explained.proofs.Lanes.{none_yet, one_more}
-use Rattle.explained.proofs.Settling.{none_settled, one_settled}
 use Rattle.explained.proofs.rows.explain_each.Goals as goal
 
 pub loop-row-init : goal.loop-row-init
-loop-row-init c = (
-  none_yet c.args.drawn.now c.as_slice-row-items.result.now c.new-found.result.items c.args.desk.now c.requires.ready c.new-found.ensures.items,
-  none_settled c.args.drawn.now.net c.args.desk.now c.new-found.result.items c.new-found.ensures.items,
-)
+loop-row-init c = none_yet c.args.drawn.now c.as_slice-row-items.result.now c.new-found.result.items c.args.desk.now c.requires.ready c.new-found.ensures.items
 
 pub loop-row-preserved : goal.loop-row-preserved
-loop-row-preserved c = (
-  one_more c.args.drawn.now c.args.desk.now.searches.word c.loop-row.row-index c.as_slice-row-items.result.now c.loop-row.found.items c.push.new.self.items c.loop-row.desk c.explain_row.new.desk
-      c.row-item.result c.in_ok-last.last c.loop-row-test.true c.row-item.is c.loop-row.invariant.0 c.in_ok-push.ensures.items c.in_ok-last.ensures.ready c.in_ok-last.ensures.word
-      c.in_ok-last.ensures.found c.in_ok-last.ensures.times,
-  one_settled c.args.drawn.now.net c.args.desk.now c.loop-row.desk c.explain_row.new.desk c.loop-row.found.items c.push.new.self.items c.in_ok-last.last c.loop-row.invariant.1
-      c.in_ok-push.ensures.items c.in_ok-last.ensures.enough c.in_ok-last.ensures.settles,
-)
-
-pub returns-clause-settles : goal.returns-clause-settles
-returns-clause-settles c = λ enough. (c.loop-row.invariant.1 enough).1
+loop-row-preserved c =
+    one_more c.args.drawn.now c.args.desk.now c.loop-row.row-index c.as_slice-row-items.result.now c.loop-row.found.items c.push.new.self.items c.loop-row.desk c.explain_row.new.desk
+    c.row-item.result c.in_ok-last.last c.loop-row-test.true c.row-item.is c.loop-row.invariant c.in_ok-push.ensures.items c.in_ok-last.ensures.ready c.in_ok-last.ensures.kept
+    c.in_ok-last.ensures.found c.in_ok-last.ensures.times

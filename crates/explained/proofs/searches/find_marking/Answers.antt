@@ -1,4 +1,4 @@
-use Rattle.explained.proofs.Settling.{found_settles}
+use Rattle.explained.proofs.Shown.{finding_shown}
 use Rattle.explained.proofs.Standing.{marks_refute}
 use Rattle.explained.proofs.searches.find_marking.Goals as goal
 
@@ -8,10 +8,8 @@ returns-clause-marks c =
     marks_refute c.args.net.now c.args.searches.now.budget c.find.new.work.leaves found.0 c.find.new.work.known c.in-Ok.found c.word_of-searches.result c.args.marking.now c.find.new.scribe
     c.word_of-searches.ensures found.2 c.requires.none found.1
 
-pub returns-clause-enough : goal.returns-clause-enough
-returns-clause-enough c = λ suffices.
+pub returns-clause-shown : goal.returns-clause-shown
+returns-clause-shown c =
     let found = c.in-Ok.ensures.lines in
-    record {
-      suffices = suffices;
-      found = found_settles c.args.net.now c.args.searches.now.budget c.find.new.work.leaves found.0 c.find.new.work.known c.in-Ok.found c.word_of-searches.result c.word_of-searches.ensures found.2 suffices;
-    }
+    finding_shown c.args.net.now c.args.searches.now.budget c.find.new.work.leaves found.0 c.find.new.work.known c.in-Ok.found c.word_of-searches.result c.word_of-searches.ensures found.2
+    c.find.ensures.count.within_budget
