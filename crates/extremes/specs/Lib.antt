@@ -1,0 +1,4 @@
+-- The definitions of this crate: what is found, and between which calls.
+pub mod Found
+pub mod Ready
+pub mod Step
