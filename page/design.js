@@ -21,13 +21,14 @@ function listOf(value) {
   return Array.isArray(value) ? value : [];
 }
 
-/** A lane of a sheet: its outermost group, its name, its wave, its marks as places and characters, and the texts of its bus values.
+/** A lane of a sheet: its outermost group, its name, what it is called, its wave, its marks as places and characters, and the texts of its bus values.
  *
- * A group is a number and a title; null where the lane is in none. */
+ * A group is a number and a title; null where the lane is in none. A lane without a name that is alone in a group is called by the group's title. */
 export class Lane {
-  constructor(tree, group) {
+  constructor(tree, group, title) {
     this.group = group;
     this.name = textIn(tree, "name");
+    this.title = this.name || title;
     this.wave = textIn(tree, "wave");
     this.marks = [...textIn(tree, "node")].map((mark, place) => ({ place, mark })).filter(({ mark }) => mark !== "." && mark !== " ");
     const data = typeof tree.data === "string" ? tree.data.split(/\s+/).filter((text) => text) : listOf(tree.data);
@@ -78,10 +79,17 @@ function wireEdge(text, number) {
 /** The lanes of a list, those of its groups among them, each with its outermost group. */
 function lanesIn(signal, group = null) {
   return signal.flatMap((item, number) => {
-    if (isObject(item)) return [new Lane(item, group)];
+    if (isObject(item)) return [new Lane(item, group, "")];
     if (!Array.isArray(item)) return [];
-    return lanesIn(item, group || { number, title: typeof item[0] === "string" ? item[0] : "" });
+    const title = typeof item[0] === "string" ? item[0] : "";
+    if (isOneNamed(item)) return [new Lane(item[1], group, title)];
+    return lanesIn(item, group || { number, title });
   });
+}
+
+/** Whether a group is a title and one lane without a name. */
+function isOneNamed([title, lane, ...others]) {
+  return typeof title === "string" && isObject(lane) && !textIn(lane, "name") && others.length === 0;
 }
 
 /** The text of the head or of the foot; empty where it has none. */
@@ -167,7 +175,7 @@ export class Design {
   /** How a lane is called: with the name of its part in a netlist. */
   laneTitle(part, lane) {
     const { name, sheet } = this.parts[part];
-    const title = sheet.lanes[lane].name || `lane ${lane}`;
+    const title = sheet.lanes[lane].title || `lane ${lane}`;
     return this.alone ? title : `${name}.${title}`;
   }
 

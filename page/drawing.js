@@ -22,7 +22,7 @@ const LABEL_MOST = 34 * CHARACTER;
  * `contradicts`, or an empty text. `file` is the name of the sheet's file, by which an arc is a link to its edge. */
 export function drawingOf(sheet, file, verdictOf) {
   const grouped = sheet.lanes.some((lane) => lane.group);
-  const gutter = Math.max(...sheet.lanes.map((lane) => room(lane.name)), 0) + 2 * PAD + (grouped ? 18 : 0);
+  const gutter = Math.max(...sheet.lanes.map((lane) => room(lane.title)), 0) + 2 * PAD + (grouped ? 18 : 0);
   const brick = Math.min(Math.max(WANTED_WIDTH / sheet.bricks, BRICK), WIDEST_BRICK);
   const canvas = new Canvas(gutter, 0, sheet.bricks, gutter + sheet.bricks * brick + PAD);
   canvas.plain = true;
@@ -45,7 +45,7 @@ function putGrid(canvas, bricks, top, bottom) {
 }
 
 function putLane(canvas, lane, bricks, y) {
-  canvas.text(canvas.left - PAD, y + WAVE - 4, lane.name, "lane", "end");
+  canvas.text(canvas.left - PAD, y + WAVE - 4, lane.title, "lane", "end");
   if (lane.wave) new Strip(canvas, y).draw(withoutTail(runsOf({ ...lane, wave: lane.wave }, bricks, 1, EVEN_BRICKS), lane.wave.length));
 }
 
