@@ -17,7 +17,7 @@ export function rangesOf(numbers) {
 }
 
 /** A row of the report beside the row of the drawing that it answers, with the rows of other cycles that say the same. It is called by its note or its
- * parameter and its cycles, or else by its events. */
+ * parameter and its cycles, or else by its events, and by the speed grade of its part. */
 export class Entry {
   constructor(design, row, drawn) {
     this.row = row;
@@ -26,9 +26,11 @@ export class Entry {
     this.design = design;
   }
 
-  /** The name without the cycles. */
+  /** The name without the cycles, with the speed grade of the part behind it where it has one. */
   get name() {
-    return this.drawn.edge.title || `${this.design.eventTitle(this.row.start)} to ${this.design.eventTitle(this.row.end)}`;
+    const part = this.drawn.part === null ? null : this.design.parts[this.drawn.part];
+    const name = this.drawn.edge.title || `${this.design.eventTitle(this.row.start)} to ${this.design.eventTitle(this.row.end)}`;
+    return part && part.grade ? `${name} (${part.grade})` : name;
   }
 
   /** The cycles in words; empty where the name has the cycle or there is one cycle alone. */

@@ -28,7 +28,8 @@ const WARNINGS = {
   held: "a driven mark that its own sheet holds from below: a requirement may be meant",
   period: "periods of one clock that may not be meant",
   unit: "a number that is very small beside the others: the unit may be wrong",
-  order: "a row whose answer rests on the order of a lane",
+  order: "an answer that rests on the order of a lane",
+  open: "a search was left open",
   rows: "nothing is asked",
 };
 

@@ -171,24 +171,34 @@ export class Why {
   }
 }
 
-/** A warning of job lint: its word, its line, and the edges that it names, as a part (null for the netlist) and a number for each. */
+/** How many places a warning of a word names, where it is not one. */
+const PLACES = { both: 2, drivers: 2, own: 2, held: 2 };
+
+/**
+ * A warning of job lint: its word, its line, and the edges that it names, as a part (null for the netlist) and a number for each. Behind the places stands
+ * free text.
+ */
 export class Warning {
   constructor(line) {
-    const words = line.split(" ");
-    this.word = words[0];
+    const [word, ...words] = line.split(" ");
+    this.word = word;
     this.line = line;
-    this.edges = [];
-    for (let place = 1; place + 1 < words.length; place++) {
-      if (words[place] === "edge" && /^\d+$/.test(words[place + 1])) this.edges.push({ part: partBefore(words, place), number: Number(words[place + 1]) });
-      if (words[place] === "wire" && /^\d+$/.test(words[place + 1])) this.edges.push({ part: null, number: Number(words[place + 1]) });
-    }
-    this.row = words[0] === "order" && words[1] === "row" ? Number(words[2]) : null;
+    const mark = /^(\w+)\..$/.exec(words[0] || "");
+    const count = word === "period" && !mark ? 2 : PLACES[word] || 1;
+    this.edges = edgesOf(words.slice(mark ? 1 : 0), mark && mark[1], count);
+    this.row = (word === "order" || word === "open") && words[0] === "row" ? Number(words[1]) : null;
   }
 }
 
-/** The part of an edge that a warning names: the word in front of it, or of a driven mark the part of the mark. */
-function partBefore(words, place) {
-  return words[place - 2] === "pin" || words[place - 1].includes(".") ? words[1].split(".")[0] : words[place - 1];
+/** The edges among so many places at the front of words. An edge without a part stands beside a mark, and is of the mark's part. */
+function edgesOf(words, part, count) {
+  if (count === 0) return [];
+  const isNumber = (word) => /^\d+$/.test(word || "");
+  if (words[0] === "wire" && isNumber(words[1])) return [{ part: null, number: Number(words[1]) }, ...edgesOf(words.slice(2), part, count - 1)];
+  if (words[0] === "net" && isNumber(words[1])) return edgesOf(words.slice(words[2] === "pin" ? 4 : 2), part, count - 1);
+  if (part && words[0] === "edge" && isNumber(words[1])) return [{ part, number: Number(words[1]) }, ...edgesOf(words.slice(2), part, count - 1)];
+  if (words[1] === "edge" && isNumber(words[2])) return [{ part: words[0], number: Number(words[2]) }, ...edgesOf(words.slice(3), part, count - 1)];
+  return [];
 }
 
 /** The warnings of job lint. */

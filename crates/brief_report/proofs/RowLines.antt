@@ -16,7 +16,7 @@ use Rattle.explained.specs.declared.row.RowFound.{RowFound}
 use Rattle.explained.specs.Answers.{bound_of}
 use Rattle.slack_report.specs.Text.{bound_words, row_words}
 use Rattle.why_report.specs.Step.{by_words}
-use Rattle.why_report.specs.Text.{Noted, origin_words, part_of}
+use Rattle.why_report.specs.Text.{Noted, part_of, row_origin_words}
 use Rattle.brief_report.specs.declared.row_counts.RowCounts.{RowCounts}
 use Rattle.brief_report.specs.declared.line.RowLine.{RowLine}
 use Rattle.brief_report.specs.declared.row_rank.RowRank.{RowRank}
@@ -150,14 +150,14 @@ pieces_same row row' least least' most most' judged judged' by by' order order' 
 -- what a line says of a row is what the text has of it
 pub told_is : (noted : Noted) (drawn : Drawn) (numbered : NumberedRow) (line : RowLine) → line.number ≡ numbered.number → line.kind ≡ numbered.row.kind → name_view line.from ≡ name_of drawn numbered.row.from
     → name_view line.to ≡ name_of drawn numbered.row.to → line.both.least ≡ bound_of numbered.found.least → line.both.greatest ≡ bound_of numbered.found.greatest
-    → line.judged ≡ judged_in numbered.row.kind numbered.found → by_words line.by ≡ origin_words noted (part_of drawn numbered.row.from) numbered.row.origin
+    → line.judged ≡ judged_in numbered.row.kind numbered.found → by_words line.by ≡ row_origin_words noted (part_of drawn numbered.row.from) numbered.row.origin
     → line.rests_on_order ≡ is_some numbered.found.apart → row_line_words line ≡ numbered_row_words noted drawn numbered
 told_is noted drawn numbered line number kind from to least greatest judged by order =
     ap (λ n. codes "row" ∷ number_text n ∷ (front_words line ++ back_words line)) number
     ∙ ap (λ l. codes "row" ∷ number_text numbered.number ∷ l)
     (pieces_same (row_words line.kind (name_view line.from) (name_view line.to)) (row_words numbered.row.kind (name_of drawn numbered.row.from) (name_of drawn numbered.row.to))
     (bound_words line.both.least) (bound_words (bound_of numbered.found.least)) (bound_words line.both.greatest) (bound_words (bound_of numbered.found.greatest))
-    (judgement_words line.judged) (judged_words numbered.row.kind numbered.found) (by_words line.by) (origin_words noted (part_of drawn numbered.row.from) numbered.row.origin)
+    (judgement_words line.judged) (judged_words numbered.row.kind numbered.found) (by_words line.by) (row_origin_words noted (part_of drawn numbered.row.from) numbered.row.origin)
     (order_word line.rests_on_order) (order_words numbered.found.apart)
     (row_same line.kind numbered.row.kind (name_view line.from) (name_of drawn numbered.row.from) (name_view line.to) (name_of drawn numbered.row.to) kind from to)
     (ap bound_words least) (ap bound_words greatest) (ap judgement_words judged ∙ judged_are numbered.row.kind numbered.found) by (ap order_word order ∙ order_is numbered.found.apart))

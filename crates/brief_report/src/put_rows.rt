@@ -87,7 +87,7 @@ fn put_row<N: Notes, K: Sink>(
         to: drawn.name(row.to),
         both: both_of(found),
         judged: judged_of(row.kind, found),
-        by: DrawnBy::of(notes, from.part, row.origin),
+        by: DrawnBy::of_row(notes, from.part, row.origin),
         rests_on_order: found.apart.is_some(),
     };
     put_line(&Line::Row(line), buffer, sink)

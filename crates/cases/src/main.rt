@@ -4,6 +4,7 @@
 #![tactic(auto)]
 
 mod failing_sinks;
+mod hinted;
 mod lines;
 mod open_file;
 mod runs;

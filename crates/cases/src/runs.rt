@@ -1,6 +1,7 @@
 //! Runs of a case, and what they show.
 
 use crate::failing_sinks::{fail_each_put, fill_each_room};
+use crate::hinted::show_hint;
 use crate::shown::Shown;
 use crate::test_case::TestCase;
 use itv_base::{NoMemory, SinkMem, Texts};
@@ -27,6 +28,7 @@ pub fn take_run(
         "each-front" => show_each_front(alloc, case, out),
         "each-room" => fill_each_room(alloc, case, out),
         "fail-each-put" => fail_each_put(alloc, case, out),
+        "hint" => show_hint(alloc, text, case, out),
         _ => {
             writeln!(out, "bad line {verb} {text}")?;
             Ok(())

@@ -1,7 +1,8 @@
 -- What the ends of runs of one job say over known files.
-use Rattle.std.proofs.Common.{◌≡◌, ◌∙◌, ◌+◌, ◌≤◌, ℕ, Bool, true, false, List, length, take, Option, Some, None, ◌⊎◌, inl, inr, refl, sym, ap, subst, arith, nat_lt, codes, if◌then◌else◌}
+use Rattle.std.proofs.Common.{◌≡◌, ◌∙◌, ◌+◌, ◌≤◌, ℕ, Bool, true, false, List, length, take, Option, Some, None, ◌⊎◌, inl, inr, refl, sym, ap, subst, arith, nat_lt, codes, if◌then◌else◌, Result, Ok}
 use Rattle.std.proofs.lemmas.Bool.{ltb-false}
 use Rattle.std.proofs.lemmas.List.{length-take, take_all}
+use Rattle.std.proofs.lemmas.Option.{same_Some}
 use Rattle.std.specs.Option.{option_map_or}
 use Rattle.event_graph.specs.Bounds.{IsInconsistent}
 use Rattle.event_graph.specs.RootBound.{HasNoRoot}
@@ -22,26 +23,35 @@ use Rattle.right_report.proofs.Refusing.{accepted_text_is_right, one_refused_lin
 use Rattle.drawn.specs.Drawn.{Drawn}
 use Rattle.drawn_names.proofs.Designs.{drawn_names_have_form, drawn_ranges_have_form}
 use Rattle.reading.specs.declared.refusal_place.RefusalPlace.{RefusalPlace}
-use Rattle.reading.specs.declared.refusal_place.RefusalPlace.TheVariants.{Report}
+use Rattle.reading.specs.declared.refusal_place.RefusalPlace.TheVariants.{Edits, Report}
 use Rattle.reading.specs.Design.{design_at}
 use Rattle.reading.specs.declared.refusal.Refusal.{Refusal}
 use Rattle.reading.specs.declared.refusal.Refusal.TheVariants.{TooLong}
-use Rattle.reading.specs.FileReading.{RunsTo, End, FileReading, gives, refuses, fetches, ◌>>=◌, ready, unread, end_over, file_at, within_limit}
+use Rattle.reading.specs.declared.refusal.Refusal.TheVariants as refusals
+use Rattle.reading.specs.FileReading.{RunsTo, End, FileReading, gives, refuses, fetches, ◌>>=◌, ready, unread, end_over, at, file_at, within_limit}
 use Rattle.bounds_report.proofs.WrittenLaws.{written_is_accepted, written_is_right}
 use Rattle.matrix_report.specs.Matrix.{AnswersMatrix, IsMatrixText}
 use Rattle.report_check.specs.Check.{AnswersCheck, refused_text}
 use Rattle.itv_cli.specs.Bounds.{AnswersBounds}
 use Rattle.settle_check.specs.Confirm.{AnswersConfirm}
 use Rattle.settle_report.specs.Settle.{AnswersSettle}
-use Rattle.itv_cli.specs.Task.{bounds, check, confirm, generated, matrix, settle, taken, task}
-use Rattle.itv_cli.specs.Job.{Answers, made_for, matrix_at, opening, turns_for}
+use Rattle.edits.specs.EditsFile.{edits_of}
+use Rattle.edits.specs.declared.edit.RangeEdit.{RangeEdit}
+use Rattle.edits.specs.declared.fault.EditsFault.{EditsFault}
+use Rattle.edits.specs.declared.file.TheConstants.{MAX_EDITS_BYTES}
+use Rattle.unroll.specs.declared.limit.TheConstants.{MAX_SESSION_ROWS}
+use Rattle.whatif_report.specs.Laws.{with_edits}
+use Rattle.whatif_report.specs.Whatif.{AnswersWhatif}
+use Rattle.whatif_report.proofs.Passing.{passed_edits_are_met}
+use Rattle.itv_cli.specs.Task.{bounds, check, confirm, generated, matrix, settle, taken, task, whatif}
+use Rattle.itv_cli.specs.Job.{Answers, edits_at, edits_in, made_for, matrix_at, opening, turns_for, whatif_at}
 use Rattle.itv_cli.specs.Run.{Call, HasRead, ReadsOver, HasAnswered, OutcomeMeans, outcome_of}
 use Rattle.itv_cli.specs.declared.outcome.Outcome.{Outcome}
 use Rattle.itv_cli.specs.declared.outcome.Outcome.TheVariants as ends
 use Rattle.itv_cli.specs.declared.ready.Ready.{Ready}
 use Rattle.itv_cli.specs.declared.ready.Ready.TheVariants as given
-use Rattle.conformance.specs.Clients.{AsksBounds, AsksCheck, AsksConfirm, AsksMatrix, AsksSettle, IsReportEnd, IsRightFile, IsSettledFile, IsSummaryOf, IsWrongFile}
-use Rattle.conformance.proofs.KnownFiles.{answer_over, never_refused, reported_over, same_asked, same_ready, told_behind, told_then}
+use Rattle.conformance.specs.Clients.{AsksBounds, AsksCheck, AsksConfirm, AsksMatrix, AsksSettle, AsksWhatif, IsReportEnd, IsRightFile, IsSettledFile, IsSummaryOf, IsWrongFile}
+use Rattle.conformance.proofs.KnownFiles.{answer_over, few_by, never_refused, reported_over, same_asked, same_ready, told_behind, told_then}
 
 -- ---- what was answered
 
@@ -220,6 +230,34 @@ module _ (call : Call) (files : Files) (budget : ℕ) (cert : Bool) (drawn : Dra
   pub settle_wrote : (result : Outcome) → OutcomeMeans call result → (end : IsReportEnd result) → (text : List ℕ) × AnswersSettle drawn (turns_for budget) cert (answer_of end.0) text × (call.sink_after ≡ grown call.sink_before text)
   settle_wrote result means end =
       let m = answered_by call result (answer_of end.0) (λ same. never_refused end.0 (sym same)) means end.1 in (m.text, settle_said (answer_of end.0) m, m.wrote)
+
+-- ---- job whatif
+
+-- the edits that were read are the edits of the file
+edits_told : (files : Files) (reading : Result (List RangeEdit) EditsFault) (had list : List RangeEdit) → end_over files (at Edits refusals.Edits reading) ≡ ready had
+    → reading ≡ Ok list → had ≡ list
+edits_told files reading had list told is =
+    same_ready had list (sym told ∙ ap (λ (r : Result (List RangeEdit) EditsFault). end_over files (at Edits refusals.Edits r)) is)
+
+module _ (call : Call) (files : Files) (budget : ℕ) (drawn : Drawn) (list : List RangeEdit) (known : call.shelf_before.files ≡ Some files)
+    (asks : AsksWhatif call.words files budget drawn list) where
+  whatif_said : (answer : Answer) (m : HasAnswered call answer) → AnswersWhatif drawn budget list answer m.text
+  whatif_said answer m =
+      let a = answer_over call files (whatif asks.design asks.file budget) answer m.text known m refl (record { words = asks.words; own = refl }) in
+      let (other, draws, more) = told_behind files (design_at asks.design) (whatif_at asks.file budget) a.given a.reads in
+      let few = few_by files (nat_lt MAX_SESSION_ROWS (length other.rows)) _ (edits_at asks.file budget other) a.given more in
+      let (bytes, had, behind) = told_behind files (file_at Edits asks.file MAX_EDITS_BYTES) (edits_in budget other) a.given few in
+      let (edits, read, is) = told_then files (at Edits refusals.Edits (edits_of other bytes)) (λ es. given.Whatif other es budget) a.given behind in
+      let same : other ≡ drawn = same_ready other drawn (sym draws ∙ asks.draws) in
+      let own : bytes ≡ asks.bytes = same_Some bytes asks.bytes (sym (file_had files Edits asks.file MAX_EDITS_BYTES bytes had) ∙ asks.is_file) in
+      let these : edits ≡ list = edits_told files (edits_of other bytes) edits list read (ap (λ (d : Drawn). edits_of d bytes) same ∙ (ap (edits_of drawn) own ∙ asks.read)) in
+      subst (λ (es : List RangeEdit). AnswersWhatif drawn budget es answer m.text) these
+      (subst (λ (d : Drawn). AnswersWhatif d budget edits answer m.text) same (subst (λ g. Answers g answer m.text) (sym is) a.answers))
+
+  pub whatif_met : (result : Outcome) → OutcomeMeans call result → result ≡ ends.AllPass → SomeSatisfy (with_edits drawn list).net × AllMet (with_edits drawn list)
+  whatif_met result means e =
+      let m = answered_by call result answers.AllPass (λ same. cc same) means e in
+      passed_edits_are_met drawn budget list m.text (whatif_said answers.AllPass m)
 
 -- ---- job matrix
 

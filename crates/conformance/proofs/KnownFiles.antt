@@ -54,7 +54,7 @@ use Rattle.words.specs.Task as tasks
 use Rattle.bounds_report.proofs.WrittenLaws.{written_is_right}
 use Rattle.itv_cli.specs.Bounds.{AnswersBounds}
 use Rattle.lint_report.specs.Lint.{answer_by}
-use Rattle.lint_report.specs.Text.{is_clean}
+use Rattle.lint_report.specs.Lines.{is_clean, lines_of}
 use Rattle.warnings.specs.Warnings.{warnings_of}
 use Rattle.why_report.specs.Text.{ending_of as explained_ending}
 use Rattle.itv_cli.specs.Job.{Answers, edits_at, edits_in, fall_at, fall_in, made_for, matrix_at, opening, planned_at, whatif_at}
@@ -229,10 +229,10 @@ never_warned true e = cc e
 never_warned false e = cc e
 
 -- a job of edits refuses nothing for what it found
-never_from : (first : SessionView) (kinds : List RowKind) (edits : List RangeEdit) (text : List ℕ) → AnswersFrom first kinds edits answers.DesignRefused text → ⊥
-never_from first kinds edits text a = never_refused (ending_of kinds (last_note a.note a.notes).found (last_note a.note a.notes).answers) a.is_answer
+never_from : (drawn : Drawn) (first : SessionView) (kinds : List RowKind) (edits : List RangeEdit) (text : List ℕ) → AnswersFrom drawn first kinds edits answers.DesignRefused text → ⊥
+never_from drawn first kinds edits text a = never_refused (ending_of kinds (last_note a.note a.notes).found (last_note a.note a.notes).answers) a.is_answer
 
-few_by : (files : Files) (b : Bool) (why : Refusal) (next : FileReading Ready) (to : Ready) → end_over files (if b then refuses Design why else next) ≡ ready to → end_over files next ≡ ready to
+pub few_by : (files : Files) (b : Bool) (why : Refusal) (next : FileReading Ready) (to : Ready) → end_over files (if b then refuses Design why else next) ≡ ready to → end_over files next ≡ ready to
 few_by files true why next to e = absurd (cc e)
 few_by files false why next to e = e
 
@@ -260,7 +260,7 @@ refused_redraws files (tasks.brief design budget) bytes own h =
 refused_redraws files (tasks.lint design budget) bytes own h =
     let (both, draws, is) = told_then files (planned_at design) (λ p. given.Lint p.0 p.1 budget) h.given h.reads in
     let answered : Answers (given.Lint both.0 both.1 budget) answers.DesignRefused bytes = subst (λ g. Answers g answers.DesignRefused bytes) (sym is) h.answers in
-    absurd (never_warned (is_clean both.1 (warnings_of both.0 answered.design) answered.found) answered.is_answer)
+    absurd (never_warned (is_clean both.0 answered.design both.1 (lines_of answered.design both.1 (warnings_of both.0 answered.design) answered.found)) answered.is_answer)
 refused_redraws files (matrix design) bytes own h =
     let (drawn, draws, comes) = told_behind files (design_at design) matrix_at h.given h.reads in
     absurd (subst (λ g. Answers g answers.DesignRefused bytes) (sym (small_by files (nat_lt MAX_MATRIX_EVENTS drawn.net.events) drawn _ h.given comes)) h.answers)
@@ -277,9 +277,9 @@ refused_redraws files (whatif design edits budget) bytes own h =
     let (drawn, draws, comes) = told_behind files (design_at design) (whatif_at edits budget) h.given h.reads in
     let few = few_by files (nat_lt MAX_SESSION_ROWS (length drawn.rows)) _ (edits_at edits budget drawn) h.given comes in
     let (file, fetched, behind) = told_behind files (file_at Edits edits MAX_EDITS_BYTES) (edits_in budget drawn) h.given few in
-    let (list, had, is) = told_then files (at Edits refusals.Edits (edits_of drawn.net file)) (λ es. given.Whatif drawn es budget) h.given behind in
+    let (list, had, is) = told_then files (at Edits refusals.Edits (edits_of drawn file)) (λ es. given.Whatif drawn es budget) h.given behind in
     let answered : Answers (given.Whatif drawn list budget) answers.DesignRefused bytes = subst (λ g. Answers g answers.DesignRefused bytes) (sym is) h.answers in
-    absurd (never_from answered.0 (kinds_of drawn.rows) list bytes answered.2)
+    absurd (never_from drawn answered.0 (kinds_of drawn.rows) list bytes answered.2)
 
 pub refused_others : (files : Files) (asked : Task) (bytes : List ℕ) → made_for asked ≡ None → ((design : List ℕ) (budget : ℕ) → asked ≡ redraw design budget → ⊥)
     → IsRefusalOf files asked bytes ⊎ IsAnswerOf files asked answers.DesignRefused bytes → IsRefusalOf files asked bytes

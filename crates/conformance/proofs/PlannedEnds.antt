@@ -2,8 +2,6 @@
 use Rattle.std.proofs.Common.{◌≡◌, ◌∙◌, ◌==◌, ◌<◌, ◌≤◌, ℕ, All, Bool, true, false, List, [], ◌∷◌, length, Some, None, Result, Ok, refl, sym, subst, arith}
 use Rattle.std.specs.Prelude.{◌&&◌, ◌||◌, if◌then◌else◌, not}
 use Rattle.std.proofs.lemmas.List.Elements.{All-head, All-tail}
-use Rattle.std.specs.List.{list_any}
-use Rattle.std.proofs.lemmas.Bool.{eqb-true}
 use Rattle.itv_base.specs.declared.row_kind.RowKind.{RowKind}
 use Rattle.itv_base.specs.declared.row_kind.RowKind.TheVariants as kinds
 use Rattle.event_graph.specs.Bounds.{IsInconsistent}
@@ -24,7 +22,7 @@ use Rattle.slack_report.specs.declared.words.FindingWord.TheVariants as findings
 use Rattle.requirements.specs.declared.bound.Bound.{Bound}
 use Rattle.requirements.specs.declared.bound.Bound.TheVariants as bounds
 use Rattle.right_report.specs.Right.ReportState.{ReportTally, tally_of, end_word, is_within, undecided_or_pass}
-use Rattle.plan.specs.Notes.{plan_note}
+use Rattle.plan.specs.Notes.{plan_notes}
 use Rattle.plan.specs.Plan.{Planned, sheets_on}
 use Rattle.explained.specs.declared.finding.Finding.{Finding}
 use Rattle.explained.specs.declared.finding.Finding.TheVariants.{Consistent, Inconsistent, Unsettled}
@@ -34,9 +32,9 @@ use Rattle.why_report.specs.Text.{ending_of, with_row, with_rows}
 use Rattle.why_report.specs.Why.{AnswersWhy}
 use Rattle.brief_report.specs.Brief.{AnswersBrief}
 use Rattle.warnings.specs.Warnings.{warnings_of}
-use Rattle.warnings.specs.declared.warning.Warning.{Warning}
 use Rattle.lint_report.specs.Lint.{AnswersLint, answer_by}
-use Rattle.lint_report.specs.Text.{is_clean, is_over}
+use Rattle.lint_report.specs.Lines.{is_clean, lines_of}
+use Rattle.lint_report.proofs.Cleaning.{clean_has_searched_all}
 use Rattle.reading.specs.FileReading.{◌>>=◌, gives, ready, end_over}
 use Rattle.words.specs.Task as tasks
 use Rattle.words.specs.Task.{Task}
@@ -46,7 +44,7 @@ use Rattle.itv_cli.specs.declared.outcome.Outcome.{Outcome}
 use Rattle.itv_cli.specs.declared.outcome.Outcome.TheVariants as ends
 use Rattle.itv_cli.specs.declared.ready.Ready.{Ready}
 use Rattle.itv_cli.specs.declared.ready.Ready.TheVariants as given
-use Rattle.conformance.specs.Clients.{AsksBrief, AsksLint, AsksPlanned, AsksWhy, HasNoWarning, IsReportEnd}
+use Rattle.conformance.specs.Clients.{AsksBrief, AsksLint, AsksPlanned, AsksWhy, IsLintClean, IsReportEnd}
 use Rattle.conformance.proofs.JobEnds.{answered_by}
 use Rattle.conformance.proofs.KnownFiles.{answer_over, never_refused, same_ready, told_then}
 
@@ -144,11 +142,11 @@ below_choices : (choices budget : ℕ) → (choices ≤ budget → ⊥) → budg
 below_choices choices budget past = omega (arith, past)
 
 module _ (call : Call) (files : Files) (budget : ℕ) (plan : Planned) (drawn : Drawn) (known : call.shelf_before.files ≡ Some files) (asks : AsksWhy call.words files budget plan drawn) where
-  why_said : (answer : Answer) (m : HasAnswered call answer) → AnswersWhy (plan_note plan) drawn budget answer m.text
+  why_said : (answer : Answer) (m : HasAnswered call answer) → AnswersWhy (plan_notes plan) drawn budget answer m.text
   why_said answer m = planned_said tasks.why (λ p b. given.Why p.0 p.1 b) (λ design b. refl) (λ design b. refl) call files budget plan drawn known asks answer m
 
   pub why_wrote : (result : Outcome) → OutcomeMeans call result → (end : IsReportEnd result)
-      → (text : List ℕ) × AnswersWhy (plan_note plan) drawn budget (answer_of end.0) text × (call.sink_after ≡ grown call.sink_before text)
+      → (text : List ℕ) × AnswersWhy (plan_notes plan) drawn budget (answer_of end.0) text × (call.sink_after ≡ grown call.sink_before text)
   why_wrote result means end = planned_wrote tasks.why (λ p b. given.Why p.0 p.1 b) (λ design b. refl) (λ design b. refl) call files budget plan drawn known asks result means end
 
   pub why_none : (result : Outcome) → OutcomeMeans call result → result ≡ ends.Inconsistent → IsInconsistent drawn.net
@@ -167,11 +165,11 @@ module _ (call : Call) (files : Files) (budget : ℕ) (plan : Planned) (drawn : 
 -- ---- job brief
 
 module _ (call : Call) (files : Files) (budget : ℕ) (plan : Planned) (drawn : Drawn) (known : call.shelf_before.files ≡ Some files) (asks : AsksBrief call.words files budget plan drawn) where
-  brief_said : (answer : Answer) (m : HasAnswered call answer) → AnswersBrief (plan_note plan) drawn budget answer m.text
+  brief_said : (answer : Answer) (m : HasAnswered call answer) → AnswersBrief (plan_notes plan) drawn budget answer m.text
   brief_said answer m = planned_said tasks.brief (λ p b. given.Brief p.0 p.1 b) (λ design b. refl) (λ design b. refl) call files budget plan drawn known asks answer m
 
   pub brief_wrote : (result : Outcome) → OutcomeMeans call result → (end : IsReportEnd result)
-      → (text : List ℕ) × AnswersBrief (plan_note plan) drawn budget (answer_of end.0) text × (call.sink_after ≡ grown call.sink_before text)
+      → (text : List ℕ) × AnswersBrief (plan_notes plan) drawn budget (answer_of end.0) text × (call.sink_after ≡ grown call.sink_before text)
   brief_wrote result means end = planned_wrote tasks.brief (λ p b. given.Brief p.0 p.1 b) (λ design b. refl) (λ design b. refl) call files budget plan drawn known asks result means end
 
   pub brief_decides : (result : Outcome) → OutcomeMeans call result → result ≡ ends.Undecided → budget < cause_choices drawn.net.constraints
@@ -183,24 +181,10 @@ module _ (call : Call) (files : Files) (budget : ℕ) (plan : Planned) (drawn : 
 
 -- ---- job lint
 
--- if a design passes, there is no warning
+-- a design passes where no line is to be printed
 none_clean : (clean : Bool) → answers.AllPass ≡ answer_by clean → clean ≡ true
 none_clean true e = refl
 none_clean false e = absurd (cc e)
-
-first_true : (a b : Bool) → (a && b) ≡ true → a ≡ true
-first_true true b e = refl
-first_true false b e = absurd (cc e)
-
-no_length : {A : Type 0} (xs : List A) → length xs ≡ 0 → xs ≡ []
-no_length [] e = refl
-no_length (x ∷ xs) e = absurd (omega (arith, e))
-
-none_warned : (drawn : Drawn) (warnings : List Warning) (found : List RowFound) → is_clean drawn warnings found ≡ true → warnings ≡ []
-none_warned drawn warnings found e = no_length warnings (eqb-true (length warnings) 0 (first_true (length warnings == 0) (not (list_any (is_over drawn) found)) e))
-
-same_ok : {A E : Type 0} (r : Result A E) (one two : A) → r ≡ Ok one → r ≡ Ok two → one ≡ two
-same_ok r one two is also = cc (is, also)
 
 module _ (call : Call) (files : Files) (budget : ℕ) (plan : Planned) (drawn : Drawn) (known : call.shelf_before.files ≡ Some files) (asks : AsksLint call.words files budget plan drawn) where
   lint_said : (answer : Answer) (m : HasAnswered call answer) → AnswersLint plan drawn budget answer m.text
@@ -210,11 +194,17 @@ module _ (call : Call) (files : Files) (budget : ℕ) (plan : Planned) (drawn : 
       → (text : List ℕ) × AnswersLint plan drawn budget (answer_of end.0) text × (call.sink_after ≡ grown call.sink_before text)
   lint_wrote result means end = planned_wrote tasks.lint (λ p b. given.Lint p.0 p.1 b) (λ design b. refl) (λ design b. refl) call files budget plan drawn known asks result means end
 
-  pub lint_clean : (result : Outcome) → OutcomeMeans call result → result ≡ ends.AllPass → HasNoWarning plan
+  pub lint_clean : (result : Outcome) → OutcomeMeans call result → result ≡ ends.AllPass → IsLintClean plan drawn
   lint_clean result means e =
       let m = answered_by call result answers.AllPass (λ same. cc same) means e in
       let a = lint_said answers.AllPass m in
-      λ design composed.
-      let same : a.design ≡ design = same_ok (composed_on plan.netlist (sheets_on plan.sheets plan.netlist.parts)) a.design design a.is_design composed in
-      subst (λ (d : Composed). warnings_of plan d ≡ []) same
-      (none_warned drawn (warnings_of plan a.design) a.found (none_clean (is_clean drawn (warnings_of plan a.design) a.found) a.is_answer))
+      let clean : is_clean plan a.design drawn (lines_of a.design drawn (warnings_of plan a.design) a.found) ≡ true =
+      none_clean (is_clean plan a.design drawn (lines_of a.design drawn (warnings_of plan a.design) a.found)) a.is_answer in
+      record {
+        design = a.design;
+        is_design = a.is_design;
+        found = a.found;
+        is_found = a.is_found;
+        silenced = clean;
+        ended = clean_has_searched_all plan a.design drawn (warnings_of plan a.design) a.found a.is_found clean;
+      }

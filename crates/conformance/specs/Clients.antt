@@ -14,6 +14,8 @@ use Rattle.slack_report.specs.Text.{report_text}
 use Rattle.right_report.specs.Right.LineClaims.{BeginsRightReport, IsRightReport}
 use Rattle.right_report.specs.Texts.{IsRefusedText, IsRightText}
 use Rattle.drawn.specs.Drawn.{Drawn}
+use Rattle.edits.specs.EditsFile.{edits_of}
+use Rattle.edits.specs.declared.edit.RangeEdit.{RangeEdit}
 use Rattle.reading.specs.declared.refusal_place.RefusalPlace.{RefusalPlace}
 use Rattle.reading.specs.declared.refusal.Refusal.{Refusal}
 use Rattle.reading.specs.Design.{design_at}
@@ -21,9 +23,13 @@ use Rattle.plan.specs.Plan.{Planned}
 use Rattle.reading.specs.FileReading.{RunsTo, ready, refused, end_over, unread}
 use Rattle.reading.specs.Refusal.{refusal_text, unread_text}
 use Rattle.settle_report.specs.Settle.{IsSettleText}
-use Rattle.words.specs.Task.{Task, bounds, check, confirm, matrix, settle, taken, task}
+use Rattle.words.specs.Task.{Task, bounds, check, confirm, matrix, settle, taken, task, whatif}
 use Rattle.words.specs.Task as tasks
 use Rattle.warnings.specs.Warnings.{warnings_of}
+use Rattle.lint_report.specs.declared.lint_found.LintFound.{LintFound}
+use Rattle.lint_report.specs.Clean.{HasSearchedAll}
+use Rattle.lint_report.specs.Found.{IsLintFound}
+use Rattle.lint_report.specs.Lines.{is_clean, lines_of}
 use Rattle.compose.specs.Compose.{composed_on}
 use Rattle.compose.specs.Design.{Composed}
 use Rattle.plan.specs.Plan.{sheets_on}
@@ -119,6 +125,16 @@ pub record AsksSettle (given : List (List ℕ)) (files : Files) (budget : ℕ) (
   pub words : taken given ≡ task (settle design budget cert)
   pub draws : Draws files design drawn
 
+-- the words ask job whatif about a design and a file of edits, the files of the design draw a network, and the file has these edits of it
+pub record AsksWhatif (given : List (List ℕ)) (files : Files) (budget : ℕ) (drawn : Drawn) (edits : List RangeEdit) : Type 0 where
+  pub design : List ℕ
+  pub file : List ℕ
+  pub words : taken given ≡ task (whatif design file budget)
+  pub draws : Draws files design drawn
+  pub bytes : List ℕ
+  pub is_file : file_of files file ≡ Some bytes
+  pub read : edits_of drawn bytes ≡ Ok edits
+
 -- the words ask for the matrix of a design, and the files of the design draw a network
 pub record AsksMatrix (given : List (List ℕ)) (files : Files) (drawn : Drawn) : Type 0 where
   pub design : List ℕ
@@ -143,9 +159,14 @@ AsksBrief given files budget plan drawn = AsksPlanned tasks.brief given files bu
 abbrev pub AsksLint : List (List ℕ) → Files → ℕ → Planned → Drawn → Type 0
 AsksLint given files budget plan drawn = AsksPlanned tasks.lint given files budget plan drawn
 
--- the design that a plan draws, if it draws one, has no warning
-abbrev pub HasNoWarning : Planned → Type 0
-HasNoWarning plan = (design : Composed) → composed_on plan.netlist (sheets_on plan.sheets plan.netlist.parts) ≡ Ok design → warnings_of plan design ≡ []
+-- The design that a plan draws has no line to print: all are silenced by notes, and what is found is right. The searches ended: nothing was left open.
+pub record IsLintClean (plan : Planned) (drawn : Drawn) : Type 0 where
+  pub design : Composed
+  pub is_design : composed_on plan.netlist (sheets_on plan.sheets plan.netlist.parts) ≡ Ok design
+  pub found : LintFound
+  pub is_found : IsLintFound drawn found
+  pub silenced : is_clean plan design drawn (lines_of design drawn (warnings_of plan design) found) ≡ true
+  pub ended : HasSearchedAll drawn found
 
 -- the file with a name is there, and is the text of a right report
 pub record IsRightFile (files : Files) (report : List ℕ) (drawn : Drawn) : Type 0 where

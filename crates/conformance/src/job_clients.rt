@@ -13,15 +13,17 @@ ghost use Rattle.reading.specs.declared.refusal.Refusal.{Refusal};
 ghost use Rattle.reading.specs.declared.refusal_place.RefusalPlace.{RefusalPlace};
 ghost use Rattle.reading.specs.Refusal.{refusal_text};
 ghost use Rattle.words.specs.Task.{bounds, generated, redraw, taken, task};
-ghost use Rattle.plan.specs.Notes.{plan_note};
+ghost use Rattle.plan.specs.Notes.{plan_notes};
 ghost use Rattle.plan.specs.Plan.{Planned};
 ghost use Rattle.why_report.specs.Why.{AnswersWhy};
 ghost use Rattle.brief_report.specs.Brief.{AnswersBrief};
 ghost use Rattle.lint_report.specs.Lint.{AnswersLint};
 ghost use Rattle.settle_report.specs.Settle.{AnswersSettle};
+ghost use Rattle.edits.specs.declared.edit.RangeEdit.{RangeEdit};
+ghost use Rattle.whatif_report.specs.Laws.{with_edits};
 ghost use Rattle.itv_cli.specs.Job.{turns_for};
 ghost use Rattle.jobs.specs.Ending.{answer_of};
-ghost use Rattle.conformance.specs.Clients.{AsksBounds, AsksBrief, AsksCheck, AsksConfirm, AsksLint, AsksMatrix, AsksSettle, AsksWhy, HasNoWarning, HasNoWrong, IsReportEnd, IsRightFile, IsSettledFile, IsSummaryOf, IsWrongFile, WroteOne};
+ghost use Rattle.conformance.specs.Clients.{AsksBounds, AsksBrief, AsksCheck, AsksConfirm, AsksLint, AsksMatrix, AsksSettle, AsksWhatif, AsksWhy, HasNoWrong, IsLintClean, IsReportEnd, IsRightFile, IsSettledFile, IsSummaryOf, IsWrongFile, WroteOne};
 
 use itv_base::{NoMemory, ShelfMem, SinkMem, Texts};
 use itv_cli::{Outcome, run};
@@ -84,6 +86,15 @@ pub fn confirmed_of(
     run(alloc, words, shelf, sink)
 }
 
+/// A run of job whatif. If it passes, some times satisfy the network with all edits, and all satisfying times meet every
+/// requirement.
+pub fn edited_of(alloc: Global, words: &Texts, shelf: &mut ShelfMem, sink: &mut SinkMem) -> Outcome
+    ensures met { (budget : ℕ) (drawn : Drawn) (edits : List RangeEdit) → AsksWhatif words.now shelf.old.files budget drawn edits
+        → result ≡ Outcome.AllPass → SomeSatisfy (with_edits drawn edits).net × AllMet (with_edits drawn edits) }
+{
+    run(alloc, words, shelf, sink)
+}
+
 /// A run of job why. With any end of a report it writes what was found of the network and of each row, and what makes
 /// it so. If it ends inconsistent, no times satisfy the network. It ends undecided only if the budget is below the
 /// number of cause choices.
@@ -94,7 +105,7 @@ pub fn explained_of(
     sink: &mut SinkMem,
 ) -> Outcome
     ensures wrote { (budget : ℕ) (plan : Planned) (drawn : Drawn) → AsksWhy words.now shelf.old.files budget plan drawn
-        → (end : IsReportEnd result) → WroteOne sink.old sink.new (AnswersWhy (plan_note plan) drawn budget (answer_of end.0)) }
+        → (end : IsReportEnd result) → WroteOne sink.old sink.new (AnswersWhy (plan_notes plan) drawn budget (answer_of end.0)) }
     ensures none { (budget : ℕ) (plan : Planned) (drawn : Drawn) → AsksWhy words.now shelf.old.files budget plan drawn
         → result ≡ Outcome.Inconsistent → IsInconsistent drawn.net }
     ensures decides { (budget : ℕ) (plan : Planned) (drawn : Drawn) → AsksWhy words.now shelf.old.files budget plan drawn
@@ -107,19 +118,19 @@ pub fn explained_of(
 /// of cause choices.
 pub fn briefed_of(alloc: Global, words: &Texts, shelf: &mut ShelfMem, sink: &mut SinkMem) -> Outcome
     ensures wrote { (budget : ℕ) (plan : Planned) (drawn : Drawn) → AsksBrief words.now shelf.old.files budget plan drawn
-        → (end : IsReportEnd result) → WroteOne sink.old sink.new (AnswersBrief (plan_note plan) drawn budget (answer_of end.0)) }
+        → (end : IsReportEnd result) → WroteOne sink.old sink.new (AnswersBrief (plan_notes plan) drawn budget (answer_of end.0)) }
     ensures decides { (budget : ℕ) (plan : Planned) (drawn : Drawn) → AsksBrief words.now shelf.old.files budget plan drawn
         → result ≡ Outcome.Undecided → budget < cause_choices drawn.net.constraints }
 {
     run(alloc, words, shelf, sink)
 }
 
-/// A run of job lint. If it passes, the design has no warning.
+/// A run of job lint. If it passes, the design has no line to print: nothing was found but what notes say is meant, and nothing was left open.
 pub fn warned_of(alloc: Global, words: &Texts, shelf: &mut ShelfMem, sink: &mut SinkMem) -> Outcome
     ensures wrote { (budget : ℕ) (plan : Planned) (drawn : Drawn) → AsksLint words.now shelf.old.files budget plan drawn
         → (end : IsReportEnd result) → WroteOne sink.old sink.new (AnswersLint plan drawn budget (answer_of end.0)) }
     ensures clean { (budget : ℕ) (plan : Planned) (drawn : Drawn) → AsksLint words.now shelf.old.files budget plan drawn
-        → result ≡ Outcome.AllPass → HasNoWarning plan }
+        → result ≡ Outcome.AllPass → IsLintClean plan drawn }
 {
     run(alloc, words, shelf, sink)
 }

@@ -15,7 +15,7 @@ use Rattle.netlist.specs.NetlistContents.{NetlistContents}
 use Rattle.netlist.specs.declared.fault.NetlistFault.TheVariants.{PartsNotList, TooManyParts, DoublePart, TooManySheets}
 use Rattle.netlist.specs.declared.fault.NetlistFault.TheVariants.{Part as PartFault}
 use Rattle.json_tree.specs.Words.{list_at, text_at}
-use Rattle.near_keys.specs.NearKeys.{near_in_netlist}
+use Rattle.near_keys.specs.StrayKeys.{stray_in_netlist}
 use Rattle.netlist.specs.Netlist.{cycles_of, demand, edges_of, grade_of, is_part, netlist_of, nets_of, part_by, part_of, parts_of, sheet_names, version_of, wires_of, with_part, lone_netlist}
 use Rattle.netlist.proofs.WholeNetlists.{netlist_whole}
 use Rattle.drawn_names.proofs.Apart.{AllOther, AreApart, apart_append, none_met}
@@ -108,7 +108,7 @@ netlist_holds tree netlist is =
     let (nets, are_nets, others) = result_then (nets_of tree) _ netlist more in
     let (wires, are_wires, texts) = result_then (wires_of tree) _ netlist others in
     let (edges, are_edges, last) = result_then (edges_of tree) _ netlist texts in
-    let same : record { version = version; cycles = cycles; parts = parts; nets = nets; wires = wires; edges = edges; near = near_in_netlist tree } ≡ netlist = cc last in
+    let same : record { version = version; cycles = cycles; parts = parts; nets = nets; wires = wires; edges = edges; stray = stray_in_netlist tree } ≡ netlist = cc last in
     let whole = netlist_whole tree netlist is in
     record { cycles = whole.few; parts = subst (λ (n : NetlistContents). AreNamed n.parts) same (parts_hold version tree parts are_parts); wires = whole.whole_wires }
 

@@ -1,11 +1,11 @@
--- The line of an edit, `set C.I [l,u]`.
-use Rattle.std.specs.Prelude.{◌≡◌, ◌<◌, ◌-◌, ◌^◌, ℕ, false, if◌then◌else◌, List, ◌++◌, codes, Option, Some, None, is_some, IsSome, Result, Ok, Err}
+-- The line of an edit, as `set 3.0 [0,12000]`, `set CPU edge 3 [2000,8000]`, `set net 0 [100,300]` or `set wire 1 [0,*]`.
+use Rattle.std.specs.Prelude.{◌≡◌, ◌-◌, ◌^◌, ℕ, false, if◌then◌else◌, List, ◌++◌, codes, Option, Some, None, option_map, Result, Ok, Err}
 use Rattle.std.specs.Option.{option_and_then}
 use Rattle.std.specs.List.{take_while}
 use Rattle.std.specs.Char.{is_ascii_digit}
-use Rattle.std.specs.Str.{is_utf8}
+use Rattle.std.specs.Str.{bytes_eq, is_utf8}
+use Rattle.itv_base.specs.Characters.{is_name, is_name_byte}
 use Rattle.itv_base.specs.Cuts.{after_while, stripped}
-use Rattle.itv_base.specs.Numerals.{number_text}
 use Rattle.itv_base.specs.Range.{Ends, has_wide, is_reversed}
 use Rattle.itv_base.specs.Reading.{◌>>=◌}
 use Rattle.itv_base.specs.declared.range.RangeFault.TheVariants as ranges
@@ -15,29 +15,29 @@ use Rattle.label_grammar.specs.Reading.{ends_of}
 use Rattle.label_grammar.specs.declared.label.LabelFault.{LabelFault}
 use Rattle.label_grammar.specs.declared.label.LabelFault.TheVariants as labels
 use Rattle.line_words.specs.Numbers.{number_in}
-use Rattle.event_graph.specs.Network.{Net, cause_at}
+use Rattle.line_words.specs.Words.{or_else, when}
+use Rattle.drawn.specs.Drawn.{Drawn}
+use Rattle.numbers.specs.declared.drawn_number.DrawnNumber.TheVariants as numbers
 use Rattle.edits.specs.declared.edit.RangeEdit.{RangeEdit}
+use Rattle.edits.specs.declared.edit.Subject.{Subject}
+use Rattle.edits.specs.declared.edit.Subject.TheVariants.{Cause, Number}
 use Rattle.edits.specs.declared.fault.EditsFault.{EditsFault}
 use Rattle.edits.specs.declared.fault.EditsFault.TheVariants.{Line, NoSuch, Range}
-
--- the cause of an edit is there
-abbrev pub IsThere : Net → RangeEdit → Type 0
-IsThere net e = IsSome (cause_at net e.constraint e.cause)
+use Rattle.edits.specs.Subject.{HasSubjectForm, IsThere, is_there, subject_text}
 
 -- ---- its text
 
 -- the text of an edit, without a line end
 abbrev pub edit_line : RangeEdit → List ℕ
-edit_line e = codes "set " ++ (number_text e.constraint ++ (codes "." ++ (number_text e.cause ++ ends_text e.range)))
+edit_line e = codes "set " ++ (subject_text e.subject ++ ends_text e.range)
 
--- the line spells the edit; its numbers fit 32 bits, its ends make a range, and its cause is there
-pub record IsEditOf (net : Net) (line : List ℕ) (e : RangeEdit) : Type 0 where
+-- the line spells the edit; its subject has a text, its ends make a range, and what it names is there
+pub record IsEditOf (drawn : Drawn) (line : List ℕ) (e : RangeEdit) : Type 0 where
   pub text : line ≡ edit_line e
-  pub constraint : e.constraint < 2 ^ 32
-  pub cause : e.cause < 2 ^ 32
+  pub subject : HasSubjectForm e.subject
   pub narrow : has_wide e.range ≡ false
   pub ordered : is_reversed e.range ≡ false
-  pub there : IsThere net e
+  pub there : IsThere drawn e
 
 -- ---- its reading
 
@@ -46,12 +46,35 @@ infixl 10 ◌>>◌
 abbrev pub ◌>>◌ : {A B : Type 0} → Option A → (A → Option B) → Option B
 o >> f = option_and_then f o
 
--- the cause of a constraint that a line names, and the text behind it
-unfoldable pub cause_of : List ℕ → Option (ℕ × ℕ × List ℕ)
-cause_of text =
-    stripped (codes "set ") text >> λ named. number_in (2 ^ 32 - 1) (take_while is_ascii_digit named) >> λ constraint.
-    stripped (codes ".") (after_while is_ascii_digit named) >> λ dotted. number_in (2 ^ 32 - 1) (take_while is_ascii_digit dotted) >> λ cause.
-    Some (constraint, cause, after_while is_ascii_digit dotted)
+-- the number that a text begins with, and the text behind it
+abbrev pub number_of : List ℕ → Option (ℕ × List ℕ)
+number_of text = option_map (λ n. (n, after_while is_ascii_digit text)) (number_in (2 ^ 32 - 1) (take_while is_ascii_digit text))
+
+-- a net, by the word `net` and the text behind it
+abbrev pub net_named : List ℕ → List ℕ → Option (Subject × List ℕ)
+net_named word behind = when (bytes_eq word (codes "net")) (stripped (codes " ") behind >> λ rest. number_of rest >> λ x. Some (Number (numbers.Net x.0), x.1))
+
+-- an edge of the netlist, by the word `wire`
+abbrev pub wire_named : List ℕ → List ℕ → Option (Subject × List ℕ)
+wire_named word behind = when (bytes_eq word (codes "wire")) (stripped (codes " ") behind >> λ rest. number_of rest >> λ x. Some (Number (numbers.Wire x.0), x.1))
+
+-- an edge of a part, by the name of the part
+abbrev pub part_edge_named : List ℕ → List ℕ → Option (Subject × List ℕ)
+part_edge_named word behind = when (is_name word) (stripped (codes " edge ") behind >> λ rest. number_of rest >> λ x. Some (Number (numbers.Edge word x.0), x.1))
+
+-- a cause of a constraint, by the number of the constraint
+abbrev pub cause_named : List ℕ → List ℕ → Option (Subject × List ℕ)
+cause_named word behind =
+    number_in (2 ^ 32 - 1) word >> λ constraint. stripped (codes ".") behind >> λ dotted. number_of dotted >> λ x.
+    Some (Cause (record { constraint = constraint; cause = x.0 }), x.1)
+
+-- what a text names, by its first word and the text behind the word; a part may be called as the word before a number is
+abbrev pub subject_named : List ℕ → List ℕ → Option (Subject × List ℕ)
+subject_named word behind = or_else (net_named word behind) (or_else (wire_named word behind) (or_else (part_edge_named word behind) (cause_named word behind)))
+
+-- the subject that a line names, and the text behind it; the first word ends at a character that no name has
+unfoldable pub subject_of : List ℕ → Option (Subject × List ℕ)
+subject_of text = stripped (codes "set ") text >> λ named. subject_named (take_while is_name_byte named) (after_while is_name_byte named)
 
 -- the range on the line of a number, as it was judged
 abbrev pub range_judged : ℕ → Result Ends LabelFault → Result Ends EditsFault
@@ -60,16 +83,15 @@ range_judged n (Err labels.BadLabel) = Err (Line n)
 range_judged n (Err labels.TooWide) = Err (Range n ranges.TooWide)
 range_judged n (Err labels.EmptyRange) = Err (Range n ranges.EmptyRange)
 
--- the edit, where the network has its cause, or else the fault of the line
-abbrev pub edit_there : Net → ℕ → RangeEdit → Result RangeEdit EditsFault
-edit_there net n e = if is_some (cause_at net e.constraint e.cause) then Ok e else Err (NoSuch n)
+-- the edit, where what it names is there, or else the fault of the line
+abbrev pub edit_there : Drawn → ℕ → RangeEdit → Result RangeEdit EditsFault
+edit_there drawn n e = if is_there drawn e.subject then Ok e else Err (NoSuch n)
 
--- the edit of the line of a number, by the cause that it names: the form is judged before the range, and the range before the cause
-abbrev pub edit_named : Net → ℕ → Option (ℕ × ℕ × List ℕ) → Result RangeEdit EditsFault
-edit_named net n None = Err (Line n)
-edit_named net n (Some x) =
-    range_judged n (judged_alone (only_ends (ends_of x.2))) >>= λ range. edit_there net n (record { constraint = x.0; cause = x.1; range = range })
+-- the edit of the line of a number, by the subject that it names: the form is judged before the range, and the range before the subject
+abbrev pub edit_named : Drawn → ℕ → Option (Subject × List ℕ) → Result RangeEdit EditsFault
+edit_named drawn n None = Err (Line n)
+edit_named drawn n (Some x) = range_judged n (judged_alone (only_ends (ends_of x.1))) >>= λ range. edit_there drawn n (record { subject = x.0; range = range })
 
 -- the edit of the line of a number, counted from 1; a line that is no text is not of the form
-abbrev pub edit_at : Net → ℕ → List ℕ → Result RangeEdit EditsFault
-edit_at net n line = if is_utf8 line then edit_named net n (cause_of line) else Err (Line n)
+abbrev pub edit_at : Drawn → ℕ → List ℕ → Result RangeEdit EditsFault
+edit_at drawn n line = if is_utf8 line then edit_named drawn n (subject_of line) else Err (Line n)

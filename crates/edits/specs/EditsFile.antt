@@ -4,7 +4,7 @@ use Rattle.std.specs.Option.{option_map_or}
 use Rattle.std.specs.List.{slice_split}
 use Rattle.itv_base.specs.Reading.{◌>>=◌}
 use Rattle.line_words.specs.Lines.{is_feed}
-use Rattle.event_graph.specs.Network.{Net}
+use Rattle.drawn.specs.Drawn.{Drawn}
 use Rattle.edits.specs.EditLine.{edit_at}
 use Rattle.edits.specs.declared.edit.RangeEdit.{RangeEdit}
 use Rattle.edits.specs.declared.fault.EditsFault.{EditsFault}
@@ -12,11 +12,11 @@ use Rattle.edits.specs.declared.fault.EditsFault.TheVariants.{Line, NoMemory, No
 use Rattle.edits.specs.declared.file.TheConstants.{MAX_EDITS, MAX_EDITS_BYTES}
 
 -- the edits of a file that was cut at its line ends, from the line of a number on; bytes behind the last line end are a line that is not of the form
-abbrev pub edits_from : Net → ℕ → List (List ℕ) → Result (List RangeEdit) EditsFault
-edits_from net n [] = Ok []
-edits_from net n (rest ∷ []) = if length rest == 0 then Ok [] else Err (Line n)
-edits_from net n (line ∷ next ∷ lines) =
-    edit_at net n line >>= λ first. edits_from net (n + 1) (next ∷ lines) >>= λ others. Ok (first ∷ others)
+abbrev pub edits_from : Drawn → ℕ → List (List ℕ) → Result (List RangeEdit) EditsFault
+edits_from drawn n [] = Ok []
+edits_from drawn n (rest ∷ []) = if length rest == 0 then Ok [] else Err (Line n)
+edits_from drawn n (line ∷ next ∷ lines) =
+    edit_at drawn n line >>= λ first. edits_from drawn (n + 1) (next ∷ lines) >>= λ others. Ok (first ∷ others)
 
 -- nothing stands behind the last line end
 abbrev pub is_ended : List ℕ → Bool
@@ -27,10 +27,10 @@ abbrev pub line_count : List ℕ → ℕ
 line_count bytes = count_by is_feed bytes + (if is_ended bytes then 0 else 1)
 
 -- the edits of a file, or its first fault
-abbrev pub edits_of : Net → List ℕ → Result (List RangeEdit) EditsFault
-edits_of net bytes =
+abbrev pub edits_of : Drawn → List ℕ → Result (List RangeEdit) EditsFault
+edits_of drawn bytes =
     if nat_lt MAX_EDITS_BYTES (length bytes) then Err TooLong
-    else (if nat_lt MAX_EDITS (line_count bytes) then Err (TooMany (line_count bytes)) else edits_from net 1 (slice_split is_feed bytes))
+    else (if nat_lt MAX_EDITS (line_count bytes) then Err (TooMany (line_count bytes)) else edits_from drawn 1 (slice_split is_feed bytes))
 
 -- memory ran out, which is no fault of the file
 abbrev pub is_memory : EditsFault → Bool

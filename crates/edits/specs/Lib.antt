@@ -1,4 +1,5 @@
 -- The modules of definitions of this crate.
+pub mod Subject
 pub mod EditLine
 pub mod EditsFile
 pub mod Laws

@@ -3,7 +3,7 @@
 ghost use Rattle.std.specs.Prelude.{◌≡◌};
 ghost use Rattle.edits.specs.declared.fault.EditsFault.TheVariants.{NoMemory};
 
-use itv_base::RangeFault;
+use itv_base::{NoMemory as OutOfMemory, RangeFault};
 use std::alloc::AllocFailed;
 use thiserror::Error;
 
@@ -22,7 +22,7 @@ pub enum EditsFault {
     /// The ends on the line make no range.
     #[error("the ends of line {0} make no range")]
     Range(u64, RangeFault),
-    /// The network does not have the cause that the line names.
+    /// The network does not have the cause that the line names, or no cause is drawn by the number that it names.
     #[error("the cause of line {0} is not there")]
     NoSuch(u64),
     /// Memory ran out.
@@ -34,6 +34,14 @@ impl<T: Drop> From<AllocFailed<T>> for EditsFault {
     ghost from_gives = { λ _ e. e ≡ NoMemory };
 
     fn from(_: AllocFailed<T>) -> EditsFault {
+        EditsFault::NoMemory
+    }
+}
+
+impl From<OutOfMemory> for EditsFault {
+    ghost from_gives = { λ _ e. e ≡ NoMemory };
+
+    fn from(_: OutOfMemory) -> EditsFault {
         EditsFault::NoMemory
     }
 }

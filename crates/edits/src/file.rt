@@ -4,7 +4,7 @@ ghost use Rattle.std.specs.Prelude.{◌≡◌, ◌≤◌, List, All, IfOk, count
 ghost use Rattle.std.specs.List.{position_or_len, slice_split};
 ghost use Rattle.itv_base.specs.Reading.{AgreesWith};
 ghost use Rattle.line_words.specs.Lines.{is_feed};
-ghost use Rattle.edits.specs.EditLine.{IsThere};
+ghost use Rattle.edits.specs.Subject.{IsThere};
 ghost use Rattle.edits.specs.EditsFile.{edits_from, edits_of, is_ended, is_memory, line_count};
 ghost use Rattle.edits.specs.Step.EditsFile.{Cuts};
 ghost use Rattle.edits.specs.declared.edit.RangeEdit.{RangeEdit};
@@ -12,7 +12,7 @@ ghost use Rattle.edits.specs.declared.edit.RangeEdit.{RangeEdit};
 use crate::edit::{Edits, RangeEdit};
 use crate::fault::EditsFault;
 use crate::line::read_edit;
-use event_graph::Network;
+use drawn::DrawnNetwork;
 use std::alloc::Global;
 
 /// The most bytes of a file of edits.
@@ -21,13 +21,15 @@ pub const MAX_EDITS_BYTES: usize = 1_048_576;
 /// The most lines of a file of edits.
 pub const MAX_EDITS: u64 = 1_000;
 
-/// Reads a file of edits of a network. Each edit is a line `set C.I [l,u]` with a line end. C is the number of a constraint and I the number of
-/// one of its causes, both from 0. `[l,u]` is the range that this cause is to have, in picoseconds, `*` where open. The first of these faults is
-/// reported: the file is too long, it has too many lines, or a line has a fault, and then the first such line. Within a line the form is judged
-/// first, then its range, and then whether the network has the cause. Bytes behind the last line end are a line that is not of the form.
-pub fn read_edits(alloc: Global, net: &Network, bytes: &[u8]) -> Result<Edits, EditsFault>
-    ensures read { AgreesWith is_memory (λ (edits : List RangeEdit). edits) result (edits_of net.now bytes.now) }
-    ensures there { IfOk result (All (IsThere net.now)) }
+/// Reads a file of edits of a drawn network. Each edit is a line `set SUBJECT [l,u]` with a line end. SUBJECT is `C.I`, the numbers of a
+/// constraint and of one of its causes; or `PART edge N`, `net N` or `wire N`: each cause that this edge of the part's sheet, this net, or this
+/// edge of the netlist draws. All numbers count from 0. `[l,u]` is the range that the causes are to have, in picoseconds, `*` where open. The
+/// first of these faults is reported: the file is too long, it has too many lines, or a line has a fault, and then the first such line. Within a
+/// line the form is judged first, then its range, and then whether there is such a cause. Bytes behind the last line end are a line that is not
+/// of the form.
+pub fn read_edits(alloc: Global, drawn: &DrawnNetwork, bytes: &[u8]) -> Result<Edits, EditsFault>
+    ensures read { AgreesWith is_memory (λ (edits : List RangeEdit). edits) result (edits_of drawn.now bytes.now) }
+    ensures there { IfOk result (All (IsThere drawn.now)) }
 {
     if MAX_EDITS_BYTES < bytes.len() {
         return Err(EditsFault::TooLong);
@@ -36,7 +38,7 @@ pub fn read_edits(alloc: Global, net: &Network, bytes: &[u8]) -> Result<Edits, E
     if MAX_EDITS < count {
         return Err(EditsFault::TooMany(count));
     }
-    read_lines(alloc, net, bytes)
+    read_lines(alloc, drawn, bytes)
 }
 
 // How many lines there are.
@@ -65,13 +67,13 @@ fn is_ended(bytes: &[u8]) -> bool
 }
 
 // The edits of any number of bytes, in any number of lines.
-fn read_lines(alloc: Global, net: &Network, bytes: &[u8]) -> Result<Edits, EditsFault>
-    ensures { AgreesWith is_memory (λ (edits : List RangeEdit). edits) result (edits_from net.now 1 (slice_split is_feed bytes.now)) }
+fn read_lines(alloc: Global, drawn: &DrawnNetwork, bytes: &[u8]) -> Result<Edits, EditsFault>
+    ensures { AgreesWith is_memory (λ (edits : List RangeEdit). edits) result (edits_from drawn.now 1 (slice_split is_feed bytes.now)) }
 {
     let mut edits: Vec<RangeEdit> = Vec::new(alloc);
     let mut rest = bytes;
     while let Some((line, behind)) = cut_line(rest) {
-        let edit = read_edit(net, edits.len() as u64 + 1, line)?;
+        let edit = read_edit(alloc, drawn, edits.len() as u64 + 1, line)?;
         edits.push(edit)?;
         rest = behind;
     }

@@ -1,43 +1,46 @@
 //! Reading a line of a file of edits.
 
-ghost use Rattle.std.specs.Prelude.{◌≡◌, option_map};
+ghost use Rattle.std.specs.Prelude.{◌≡◌};
+ghost use Rattle.itv_base.specs.Reading.{AgreesWith};
 ghost use Rattle.label_grammar.specs.Ends.{judged_alone, only_ends};
 ghost use Rattle.label_grammar.specs.Reading.{ends_of};
-ghost use Rattle.edits.specs.EditLine.{cause_of, edit_at, edit_named, range_judged};
+ghost use Rattle.edits.specs.EditLine.{edit_at, edit_named, edit_there, range_judged, subject_of};
+ghost use Rattle.edits.specs.EditsFile.{is_memory};
+ghost use Rattle.edits.specs.Step.Named.{subject_view};
+ghost use Rattle.edits.specs.declared.edit.RangeEdit.{RangeEdit};
 
 use crate::edit::RangeEdit;
 use crate::fault::EditsFault;
-use event_graph::Network;
-use itv_base::{Range, RangeFault, split_digits, strip};
+use crate::named::{Named, named_in, owned_subject};
+use drawn::DrawnNetwork;
+use itv_base::{Range, RangeFault};
 use label_grammar::{LabelFault, read_range};
-use line_words::short_in;
+use std::alloc::Global;
 
 /// The edit of the line with a number, counted from 1. Bytes that are no text are refused as a line that is not of the form.
-pub fn read_edit(net: &Network, n: u64, line: &[u8]) -> Result<RangeEdit, EditsFault>
-    ensures { result ≡ edit_at net.now n line.now }
+pub fn read_edit(
+    alloc: Global,
+    drawn: &DrawnNetwork,
+    n: u64,
+    line: &[u8],
+) -> Result<RangeEdit, EditsFault>
+    ensures { AgreesWith is_memory (λ (edit : RangeEdit). edit) result (edit_at drawn.now n line.now) }
 {
     match str::from_utf8(line) {
-        Ok(text) => edit_in(net, n, text),
+        Ok(text) => edit_in(alloc, drawn, n, text),
         Err(_) => Err(EditsFault::Line(n)),
     }
 }
 
 // The edit of a line that is a text.
-fn edit_in(net: &Network, n: u64, text: &str) -> Result<RangeEdit, EditsFault>
-    ensures { result ≡ edit_named net.now n (cause_of text.now) }
+fn edit_in(alloc: Global, drawn: &DrawnNetwork, n: u64, text: &str) -> Result<RangeEdit, EditsFault>
+    ensures { AgreesWith is_memory (λ (edit : RangeEdit). edit) result (edit_named drawn.now n (subject_of text.now)) }
 {
-    let Some((constraint, cause, behind)) = cause_in(text) else {
+    let Some((named, behind)) = named_in(text) else {
         return Err(EditsFault::Line(n));
     };
     let range = range_in(n, behind)?;
-    if !net.has_cause(constraint, cause) {
-        return Err(EditsFault::NoSuch(n));
-    }
-    Ok(RangeEdit {
-        constraint,
-        cause,
-        range,
-    })
+    edit_there(alloc, drawn, n, named, range)
 }
 
 // The range that stands alone on a line.
@@ -52,16 +55,20 @@ fn range_in(n: u64, text: &str) -> Result<Range, EditsFault>
     }
 }
 
-// The constraint and the cause that a line names, and the text behind them.
-#[tactic(auto, unfolding(crate::specs::EditLine::cause_of))]
-fn cause_in(text: &str) -> Option<(u32, u32, &str)>
-    ensures { option_map (λ x. (x.0, x.1, x.2.now)) result ≡ cause_of text.now }
+// The edit of what a line names, if it is there.
+fn edit_there(
+    alloc: Global,
+    drawn: &DrawnNetwork,
+    n: u64,
+    named: Named<'_>,
+    range: Range,
+) -> Result<RangeEdit, EditsFault>
+    ensures { AgreesWith is_memory (λ (edit : RangeEdit). edit) result
+        (edit_there drawn.now n (record { subject = subject_view named.entry; range = range })) }
 {
-    let named = strip(text, "set ")?;
-    let (digits, behind) = split_digits(named);
-    let constraint = short_in(digits)?;
-    let dotted = strip(behind, ".")?;
-    let (digits, behind) = split_digits(dotted);
-    let cause = short_in(digits)?;
-    Some((constraint, cause, behind))
+    let subject = owned_subject(alloc, named)?;
+    if !subject.is_there(alloc, drawn)? {
+        return Err(EditsFault::NoSuch(n));
+    }
+    Ok(RangeEdit { subject, range })
 }

@@ -17,14 +17,14 @@ use Rattle.itv_cli.specs.Job.{edits_in}
 
 module _ (standing : ShelfState) (drawn : Drawn) (budget : ℕ) (bytes : List ℕ) where
   -- the edits were read
-  pub edits_read : (edits : List RangeEdit) → edits_of drawn.net bytes ≡ Ok edits → Opens (λ (given : Ready). given) standing standing (edits_in budget drawn bytes) (Ok (Whatif drawn edits budget))
+  pub edits_read : (edits : List RangeEdit) → edits_of drawn bytes ≡ Ok edits → Opens (λ (given : Ready). given) standing standing (edits_in budget drawn bytes) (Ok (Whatif drawn edits budget))
   edits_read edits is =
-      opens_then (λ (e : List RangeEdit). e) (λ (given : Ready). given) (at Edits refusals.Edits (edits_of drawn.net bytes)) (λ es. gives (Whatif drawn es budget)) standing standing standing edits
-      (Ok (Whatif drawn edits budget)) (at_ok standing Edits refusals.Edits (edits_of drawn.net bytes) edits is, refl) (refl, refl)
+      opens_then (λ (e : List RangeEdit). e) (λ (given : Ready). given) (at Edits refusals.Edits (edits_of drawn bytes)) (λ es. gives (Whatif drawn es budget)) standing standing standing edits
+      (Ok (Whatif drawn edits budget)) (at_ok standing Edits refusals.Edits (edits_of drawn bytes) edits is, refl) (refl, refl)
 
   -- the edits have a fault
-  pub edits_refused : (fault : EditsFault) → IsReadingFault is_memory (edits_of drawn.net bytes) fault
+  pub edits_refused : (fault : EditsFault) → IsReadingFault is_memory (edits_of drawn bytes) fault
       → Opens (λ (given : Ready). given) standing standing (edits_in budget drawn bytes) (Err (stop_of is_memory refusals.Edits Edits fault))
   edits_refused fault h =
-      opens_stop (λ (e : List RangeEdit). e) (λ (given : Ready). given) (at Edits refusals.Edits (edits_of drawn.net bytes)) (λ es. gives (Whatif drawn es budget)) standing standing
-      (stop_of is_memory refusals.Edits Edits fault) (at_err is_memory (λ (e : List RangeEdit). e) standing Edits refusals.Edits (edits_of drawn.net bytes) fault h)
+      opens_stop (λ (e : List RangeEdit). e) (λ (given : Ready). given) (at Edits refusals.Edits (edits_of drawn bytes)) (λ es. gives (Whatif drawn es budget)) standing standing
+      (stop_of is_memory refusals.Edits Edits fault) (at_err is_memory (λ (e : List RangeEdit). e) standing Edits refusals.Edits (edits_of drawn bytes) fault h)

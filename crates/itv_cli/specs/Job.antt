@@ -10,7 +10,7 @@ use Rattle.unroll.specs.declared.limit.Limit.TheVariants.{MatrixEvents, SessionR
 use Rattle.unroll.specs.declared.limit.TheConstants.{MAX_SESSION_ROWS}
 use Rattle.reading.specs.declared.refusal_place.RefusalPlace.TheVariants.{Design, Edits, Report}
 use Rattle.reading.specs.declared.refusal.Refusal.TheVariants as refusals
-use Rattle.plan.specs.Notes.{plan_note}
+use Rattle.plan.specs.Notes.{plan_notes}
 use Rattle.plan.specs.Plan.{Planned}
 use Rattle.reading.specs.Design.{design_at, drawn_at, plan_at}
 use Rattle.reading.specs.FileReading.{FileReading, gives, refuses, ◌>>=◌, at, file_at}
@@ -54,7 +54,7 @@ fall_at budget cert drawn = fall_in budget cert drawn (view_of drawn.net)
 -- a drawn network with the edits in the bytes of a file
 abbrev pub edits_in : ℕ → Drawn → List ℕ → FileReading Ready
 edits_in budget drawn bytes = do
-  edits ← at Edits refusals.Edits (edits_of drawn.net bytes)
+  edits ← at Edits refusals.Edits (edits_of drawn bytes)
   gives (ready.Whatif drawn edits budget)
 
 -- a drawn network with the edits of a file, which is fetched
@@ -131,8 +131,8 @@ Answers (ready.Bounds drawn budget cert) answer text = AnswersBounds drawn budge
 Answers (ready.Fall drawn view budget cert) answer text = AnswersFall drawn budget cert answer text
 Answers (ready.Settle drawn budget cert) answer text = AnswersSettle drawn (turns_for budget) cert answer text
 Answers (ready.Redraw drawn budget) answer text = AnswersRedraw drawn budget answer text × DecidesWithin drawn budget answer
-Answers (ready.Why plan drawn budget) answer text = AnswersWhy (plan_note plan) drawn budget answer text
-Answers (ready.Brief plan drawn budget) answer text = AnswersBrief (plan_note plan) drawn budget answer text
+Answers (ready.Why plan drawn budget) answer text = AnswersWhy (plan_notes plan) drawn budget answer text
+Answers (ready.Brief plan drawn budget) answer text = AnswersBrief (plan_notes plan) drawn budget answer text
 Answers (ready.Lint plan drawn budget) answer text = AnswersLint plan drawn budget answer text
 Answers (ready.Matrix drawn) answer text = AnswersMatrix drawn answer text
 Answers (ready.Check drawn report) answer text = AnswersCheck drawn report answer text

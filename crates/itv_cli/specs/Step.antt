@@ -8,7 +8,7 @@ use Rattle.falling.specs.View.{IsViewOf}
 use Rattle.slack_report.specs.Entry.{IsName}
 use Rattle.bounds_report.specs.Reports.{HasRowRanges}
 use Rattle.unroll.specs.declared.limit.TheConstants.{MAX_SESSION_ROWS}
-use Rattle.edits.specs.EditLine.{IsThere}
+use Rattle.edits.specs.Subject.{IsThere}
 use Rattle.jobs.specs.declared.answer.Answer.{Answer}
 use Rattle.jobs.specs.declared.unanswered.Unanswered.{Unanswered}
 use Rattle.jobs.specs.declared.unanswered.Unanswered.TheVariants as unanswered
@@ -43,7 +43,7 @@ IsAllowed (given.Matrix drawn) = drawn.net.events ≤ MAX_MATRIX_EVENTS
 IsAllowed (given.Check drawn report) = Unit {0}
 IsAllowed (given.Confirm drawn report) = Unit {0}
 IsAllowed (given.Generated drawn size budget) = IsBudget budget
-IsAllowed (given.Whatif drawn edits budget) = (length drawn.rows ≤ MAX_SESSION_ROWS) × IsBudget budget × All (IsThere drawn.net) edits
+IsAllowed (given.Whatif drawn edits budget) = (length drawn.rows ≤ MAX_SESSION_ROWS) × IsBudget budget × All (IsThere drawn) edits
 
 -- what the reading for a task answers over files that are made for it; nothing is said if memory was missing
 abbrev pub OpensMade : Files → Task → Result Ready Stop → Type 0

@@ -346,7 +346,7 @@ fn for_edits(alloc: Global, drawn: DrawnNetwork, budget: u64, bytes: &[u8]) -> R
     ensures reads { ReadsAs (λ given. given) (edits_in budget drawn bytes.now) result }
     ensures allowed { IfOk result IsAllowed }
 {
-    match read_edits(alloc, drawn.network(), bytes) {
+    match read_edits(alloc, &drawn, bytes) {
         Ok(edits) => Ok(Ready::Whatif {
             drawn,
             edits,

@@ -1,3 +1,7 @@
 pub mod Putting
+pub mod Keeping
+pub mod Searching
 pub mod Lining
+pub mod Texting
 pub mod Whole
+pub mod Cleaning

@@ -1,64 +1,72 @@
--- The words of warnings, and the lines one after another.
-use Rattle.std.proofs.Common.{◌≡◌, ℕ, ◌+◌, ◌<◌, Bool, List, [], ◌∷◌, ◌++◌, length, get_or, drop, refl, sym, ap, ◌∙◌, append_assoc, append-nil}
-use Rattle.std.specs.Prelude.{if◌then◌else◌, codes}
+-- Lists of lines, piece by piece.
+use Rattle.std.proofs.Common.{◌≡◌, ℕ, zero, suc, ◌+◌, ◌<◌, ◌≤◌, Bool, true, false, List, [], ◌∷◌, ◌++◌, length, get_or, take, drop, refl, sym, ap, ◌∙◌, append_assoc, append-nil, add-one, drop-cons, arith}
 use Rattle.std.specs.List.{flat_map}
-use Rattle.std.proofs.lemmas.List.{at_drop_more}
-use Rattle.std.proofs.lemmas.List.Concat.{flat_map-append}
-use Rattle.itv_base.specs.Numerals.{number_text}
-use Rattle.line_words.specs.Lines.{ended, spaced}
-use Rattle.line_words.specs.Words.{Word}
-use Rattle.compose.specs.Design.{Composed}
+use Rattle.std.proofs.lemmas.List.{at_drop_more, drop_all, flat_map_more, take_more}
 use Rattle.drawn.specs.Drawn.{Drawn}
-use Rattle.plan.specs.Plan.{Planned}
-use Rattle.explained.specs.declared.row.RowFound.{RowFound}
-use Rattle.warnings.specs.declared.warning.Warning.{Warning}
-use Rattle.lint_report.specs.Text.{end_text, is_clean, is_over, lint_text, order_text, orders_text, warning_text}
+use Rattle.drawn.specs.declared.row.Row.{Row}
+use Rattle.lint_report.specs.declared.line.Line.{Line}
+use Rattle.lint_report.specs.declared.row_seen.RowSeen.{RowSeen}
+use Rattle.lint_report.specs.Lines.{row_line, row_lines}
 
--- ---- words
+-- nothing is added
+pub none_more : (items : List Line) → items ≡ items ++ []
+none_more items = sym (append-nil items)
 
--- one word behind a space
-pub one_spaced : (word : Word) → (32 ∷ []) ++ word ≡ flat_map spaced (word ∷ [])
-one_spaced word = ap (λ rest. 32 ∷ rest) (sym (append-nil word))
+-- what one element more gives is added
+pub pieces_more : {X A : Type 0} (f : X → List A) (xs : List X) (k : ℕ) (x : X) (items next : List A) → k < length xs → x ≡ get_or xs k x → items ≡ flat_map f (take k xs)
+    → next ≡ items ++ f x → next ≡ flat_map f (take (k + 1) xs)
+pieces_more f xs k x items next within at before pushed =
+    pushed ∙ (ap (λ ys. ys ++ f x) before ∙ (flat_map_more f [] (take k xs) x
+    ∙ ap (flat_map f) (sym (take_more xs k x within ∙ ap (λ y. take k xs ++ y ∷ []) (sym at)))))
 
--- the words of two lists behind a word
-pub both_spaced : (key : Word) (words more : List Word) → flat_map spaced (key ∷ words) ++ flat_map spaced more ≡ flat_map spaced (key ∷ (words ++ more))
-both_spaced key words more =
-    append_assoc (spaced key) (flat_map spaced words) (flat_map spaced more) ∙ ap (λ rest. spaced key ++ rest) (sym (flat_map-append spaced words more))
+pub pieces_at : {X A : Type 0} (f : X → List A) (xs : List X) (k : ℕ) (d : X) (items next : List A) → k < length xs → items ≡ flat_map f (take k xs)
+    → next ≡ items ++ f (get_or xs k d) → next ≡ flat_map f (take (k + 1) xs)
+pieces_at f xs k d items next within before pushed =
+    pushed ∙ (ap (λ ys. ys ++ f (get_or xs k d)) before ∙ (flat_map_more f [] (take k xs) (get_or xs k d) ∙ ap (flat_map f) (sym (take_more xs k d within))))
 
--- four words
-pub four_spaced : (key mark first other : Word) → spaced key ++ (spaced mark ++ (flat_map spaced (first ∷ []) ++ flat_map spaced (other ∷ []))) ≡ flat_map spaced (key ∷ mark ∷ first ∷ other ∷ [])
-four_spaced key mark first other =
-    ap (λ rest. spaced key ++ (spaced mark ++ (rest ++ flat_map spaced (other ∷ [])))) (append-nil (spaced first))
+-- one line more is copied
+pub line_at : (lines : List Line) (k : ℕ) (d : Line) (first items next : List Line) → k < length lines → items ≡ first ++ take k lines
+    → next ≡ items ++ get_or lines k d ∷ [] → next ≡ first ++ take (k + 1) lines
+line_at lines k d first items next within before pushed =
+    pushed ∙ (ap (λ ys. ys ++ get_or lines k d ∷ []) before ∙ (append_assoc first (take k lines) (get_or lines k d ∷ []) ∙ ap (λ ys. first ++ ys) (sym (take_more lines k d within))))
 
--- a key of a sheet by its pieces
-pub sheet_key_is : (name key part word : List ℕ) → name ≡ part → key ≡ word
-    → codes " key " ++ (name ++ (codes " " ++ (key ++ []))) ≡ flat_map spaced (codes "key" ∷ part ∷ word ∷ [])
-sheet_key_is name key part word named is =
-    ap (λ (ws : List ℕ). codes " key " ++ (ws ++ (codes " " ++ (key ++ [])))) named ∙ ap (λ (ws : List ℕ). codes " key " ++ (part ++ (codes " " ++ (ws ++ [])))) is
+-- ---- rows
 
--- a key of the netlist
-pub netlist_key_is : (key word : List ℕ) → key ≡ word → codes " key " ++ (key ++ []) ≡ flat_map spaced (codes "key" ∷ word ∷ [])
-netlist_key_is key word is = ap (λ (ws : List ℕ). codes " key " ++ (ws ++ [])) is
+-- the lines of the rows from a number on
+abbrev pub rows_left : Drawn → ℕ → List Row → List RowSeen → List Line
+rows_left network k rows found = row_lines network k (drop k rows) (drop k found)
 
--- ---- lines
+-- the lines so far, and the lines of the rows that are left
+abbrev pub AreLinesSoFar : Drawn → ℕ → List Row → List RowSeen → List Line → List Line → Type 0
+AreLinesSoFar network k rows found first items = items ++ rows_left network k rows found ≡ first ++ row_lines network 0 rows found
 
--- the line of a row by the digits of its number
-pub order_is : (number : ℕ) (digits : List ℕ) → digits ≡ number_text number → codes "warning order row " ++ (digits ++ (10 ∷ [])) ≡ order_text number
-order_is number digits is = ap (λ (ds : List ℕ). codes "warning order row " ++ (ds ++ (10 ∷ []))) is
+rows_step : (network : Drawn) (k : ℕ) (rows : List Row) (found : List RowSeen) (row : Row) (seen : RowSeen) → k < length rows → k < length found → row ≡ get_or rows k row
+    → seen ≡ get_or found k seen → rows_left network k rows found ≡ row_line network k row seen ++ rows_left network (k + 1) rows found
+rows_step network k rows found row seen within among at there =
+    let first : drop k rows ≡ row ∷ drop (k + 1) rows = at_drop_more (λ (rs : List Row). rs) rows k row within ∙ ap (λ (r : Row). r ∷ drop (k + 1) rows) (sym at) in
+    let second : drop k found ≡ seen ∷ drop (k + 1) found =
+    at_drop_more (λ (fs : List RowSeen). fs) found k seen among ∙ ap (λ (f : RowSeen). f ∷ drop (k + 1) found) (sym there) in
+    ap (λ rs. row_lines network k rs (drop k found)) first ∙ ap (λ fs. row_lines network k (row ∷ drop (k + 1) rows) fs) second
 
--- one more warning
-pub warnings_more : (plan : Planned) (d : Composed) (warnings : List Warning) (k : ℕ) (other : Warning) → k < length warnings
-    → flat_map (warning_text plan d) (drop k warnings) ≡ warning_text plan d (get_or warnings k other) ++ flat_map (warning_text plan d) (drop (k + 1) warnings)
-warnings_more plan d warnings k other within = at_drop_more (flat_map (warning_text plan d)) warnings k other within
+pub lines_more : (network : Drawn) (k : ℕ) (rows : List Row) (found : List RowSeen) (row : Row) (seen : RowSeen) (first items next : List Line) → k < length rows
+    → k < length found → row ≡ get_or rows k row → seen ≡ get_or found k seen → AreLinesSoFar network k rows found first items
+    → next ≡ items ++ row_line network k row seen → AreLinesSoFar network (k + 1) rows found first next
+lines_more network k rows found row seen first items next within among at there so_far pushed =
+    ap (λ ys. ys ++ rows_left network (k + 1) rows found) pushed ∙ (append_assoc items (row_line network k row seen) (rows_left network (k + 1) rows found)
+    ∙ (ap (λ ys. items ++ ys) (sym (rows_step network k rows found row seen within among at there)) ∙ so_far))
 
--- one more row
-pub orders_more : (network : Drawn) (found : List RowFound) (k : ℕ) (row : RowFound) (over : Bool) → k < length found → row ≡ get_or found k row → over ≡ is_over network row
-    → orders_text network k (drop k found) ≡ (if over then order_text k else []) ++ orders_text network (k + 1) (drop (k + 1) found)
-orders_more network found k row over within is findings =
-    at_drop_more (orders_text network k) found k row within ∙ ap (λ (r : RowFound). orders_text network k (r ∷ drop (k + 1) found)) (sym is)
-    ∙ ap (λ (o : Bool). (if o then order_text k else []) ++ orders_text network (k + 1) (drop (k + 1) found)) (sym findings)
+no_rows : (network : Drawn) (number : ℕ) (rows : List Row) → row_lines network number rows [] ≡ []
+no_rows network number [] = refl
+no_rows network number (row ∷ rows) = refl
 
--- the whole text
-pub lint_is : (plan : Planned) (d : Composed) (network : Drawn) (warnings shown : List Warning) (found findings : List RowFound) (clean : Bool) → shown ≡ warnings → findings ≡ found → clean ≡ is_clean network warnings found
-    → ended (codes "itv lint 1") ++ (flat_map (warning_text plan d) shown ++ (orders_text network 0 findings ++ end_text clean)) ≡ lint_text plan d network warnings found
-lint_is plan d network warnings shown found findings clean is_shown is_told is = rw (is_shown, is_told, is) refl
+-- no row is left, or nothing is found of those that are left
+pub lines_done : (network : Drawn) (k : ℕ) (rows : List Row) (found : List RowSeen) (first items : List Line) → length rows ≤ k → AreLinesSoFar network k rows found first items
+    → items ≡ first ++ row_lines network 0 rows found
+lines_done network k rows found first items all so_far =
+    sym (append-nil items) ∙ (ap (λ ys. items ++ ys) (sym (ap (λ rs. row_lines network k rs (drop k found)) (drop_all k rows all))) ∙ so_far)
+
+pub lines_cut : (network : Drawn) (k : ℕ) (rows : List Row) (found : List RowSeen) (first items : List Line) → length found ≤ k → AreLinesSoFar network k rows found first items
+    → items ≡ first ++ row_lines network 0 rows found
+lines_cut network k rows found first items all so_far =
+    sym (append-nil items)
+    ∙ (ap (λ ys. items ++ ys) (sym (ap (λ fs. row_lines network k (drop k rows) fs) (drop_all k found all) ∙ no_rows network k (drop k rows))) ∙ so_far)

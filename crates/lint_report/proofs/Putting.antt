@@ -13,16 +13,12 @@ cut_one old new a rest whole e cut = subst (CutShort old new) e (cut_more old ne
 pub cut_two : (old m new : SinkState) (a b rest whole : List ℕ) → a ++ (b ++ rest) ≡ whole → m ≡ grown old a → CutShort m new b → CutShort old new whole
 cut_two old m new a b rest whole e put cut = subst (CutShort old new) e (cut_then old m new a (b ++ rest) put (cut_more m new b rest cut))
 
-pub cut_three : (old m n new : SinkState) (a b c rest whole : List ℕ) → a ++ (b ++ (c ++ rest)) ≡ whole → m ≡ grown old a → n ≡ grown m b → CutShort n new c → CutShort old new whole
-cut_three old m n new a b c rest whole e put more cut =
-    subst (CutShort old new) e (cut_then old m new a (b ++ (c ++ rest)) put (cut_then m n new b (c ++ rest) more (cut_more n new c rest cut)))
-
 -- ---- all are put, or the last one fails
 
 pub put_two : {E : Type 0} (old m new : SinkState) (a b whole : List ℕ) (r : Result ⊤ E) → a ++ b ≡ whole → m ≡ grown old a → Puts m new b r → Puts old new whole r
 put_two old m new a b whole r e put last = puts_same old new _ whole r e (puts_then old m new a b r put last)
 
-pub put_four : {E : Type 0} (old m n o new : SinkState) (a b c d whole : List ℕ) (r : Result ⊤ E) → a ++ (b ++ (c ++ d)) ≡ whole → m ≡ grown old a → n ≡ grown m b → o ≡ grown n c
-    → Puts o new d r → Puts old new whole r
-put_four old m n o new a b c d whole r e put more third last =
-    puts_same old new _ whole r e (puts_then old m new a (b ++ (c ++ d)) r put (puts_then m n new b (c ++ d) r more (puts_then n o new c d r third last)))
+pub put_three : {E : Type 0} (old m n new : SinkState) (a b c whole : List ℕ) (r : Result ⊤ E) → a ++ (b ++ c) ≡ whole → m ≡ grown old a → n ≡ grown m b → Puts n new c r
+    → Puts old new whole r
+put_three old m n new a b c whole r e put more last =
+    puts_same old new _ whole r e (puts_then old m new a (b ++ c) r put (puts_then m n new b c r more last))

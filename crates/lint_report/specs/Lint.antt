@@ -6,26 +6,24 @@ use Rattle.drawn.specs.Drawn.{Drawn}
 use Rattle.jobs.specs.declared.answer.Answer.{Answer}
 use Rattle.jobs.specs.declared.answer.Answer.TheVariants.{AllPass, SomeFail}
 use Rattle.plan.specs.Plan.{Planned, sheets_on}
-use Rattle.explained.specs.declared.finding.Finding.{Finding}
-use Rattle.explained.specs.declared.row.RowFound.{RowFound}
-use Rattle.explained.specs.Answers.{AreFound, IsFindingFound, SettlesWithin}
 use Rattle.warnings.specs.Warnings.{warnings_of}
-use Rattle.lint_report.specs.Text.{is_clean, lint_text}
+use Rattle.lint_report.specs.declared.lint_found.LintFound.{LintFound}
+use Rattle.lint_report.specs.Found.{IsLintFound, LeavesNothingOpen}
+use Rattle.lint_report.specs.Lines.{is_clean, lines_of}
+use Rattle.lint_report.specs.Text.{lint_text}
 
--- the answer: a design without warnings passes, and a design with some does not
+-- the answer: a design without a line to print passes, and a design with some does not
 abbrev pub answer_by : Bool → Answer
 answer_by true = AllPass
 answer_by false = SomeFail
 
--- The text has just the warnings of the design that was read, and the warnings by what is found of its rows. All that was found is right. The
--- answer says whether there are any warnings.
+-- The text has just the lines of the warnings of the design that was read, and of what is found of it, but for those that are meant. All that was found
+-- is right. The answer says whether there are any lines.
 pub record AnswersLint (plan : Planned) (network : Drawn) (budget : ℕ) (answer : Answer) (text : List ℕ) : Type 0 where
   pub design : Composed
   pub is_design : composed_on plan.netlist (sheets_on plan.sheets plan.netlist.parts) ≡ Ok design
-  pub finding : Finding
-  pub found : List RowFound
-  pub is_finding : IsFindingFound network.net budget finding
-  pub are_found : AreFound network budget finding found
-  pub settles : SettlesWithin network.net budget finding found
-  pub is_text : text ≡ lint_text plan design network (warnings_of plan design) found
-  pub is_answer : answer ≡ answer_by (is_clean network (warnings_of plan design) found)
+  pub found : LintFound
+  pub is_found : IsLintFound network found
+  pub settles : LeavesNothingOpen network budget found
+  pub is_text : text ≡ lint_text plan design network (lines_of design network (warnings_of plan design) found)
+  pub is_answer : answer ≡ answer_by (is_clean plan design network (lines_of design network (warnings_of plan design) found))

@@ -1,14 +1,19 @@
 -- The text of job lint.
-use Rattle.std.specs.Prelude.{ℕ, ◌+◌, ◌==◌, ◌||◌, ◌&&◌, not, Bool, true, false, if◌then◌else◌, List, [], ◌∷◌, ◌++◌, length, is_some, option_and_then, unwrap_or, slice_get, codes}
-use Rattle.std.specs.List.{flat_map, list_any}
+use Rattle.std.specs.Prelude.{ℕ, ℤ, neg_ℤ, ◌==◌, ◌||◌, Bool, true, false, if◌then◌else◌, List, [], ◌∷◌, ◌++◌, option_and_then, Option, Some, None, unwrap_or, slice_get, codes}
+use Rattle.std.specs.List.{filter, flat_map}
 use Rattle.std.specs.Option.{option_map_or}
-use Rattle.itv_base.specs.Numerals.{number_text}
-use Rattle.itv_base.specs.declared.names.EdgeName.{EdgeName}
+use Rattle.itv_base.specs.Numerals.{number_text, signed_text}
+use Rattle.itv_base.specs.declared.names.Side.{Side}
+use Rattle.itv_base.specs.declared.names.Side.TheVariants.{Lower, Upper}
 use Rattle.line_words.specs.Lines.{ended, line_of}
 use Rattle.line_words.specs.Words.{Word}
 use Rattle.origin.specs.Text.{origin_text}
 use Rattle.origin.specs.declared.origin.Origin.{Origin}
 use Rattle.origin.specs.declared.origin.Origin.TheVariants as drawn
+use Rattle.near_keys.specs.declared.key_place.KeyPlace.{KeyPlace}
+use Rattle.near_keys.specs.declared.key_place.KeyPlace.TheVariants as places
+use Rattle.near_keys.specs.declared.stray_key.StrayKey.{StrayKey}
+use Rattle.plan.specs.Notes.{edge_named, is_printed_byte, plan_note}
 use Rattle.plan.specs.Plan.{Planned}
 use Rattle.sheet.specs.declared.mark.Mark.{Mark}
 use Rattle.sheet.specs.SheetContents.{SheetContents}
@@ -16,28 +21,28 @@ use Rattle.compose.specs.declared.mark.DesignMark.{DesignMark}
 use Rattle.compose.specs.Design.{Composed}
 use Rattle.compose.specs.Nets.{marks_at}
 use Rattle.drawn.specs.Drawn.{Drawn}
-use Rattle.origin.specs.Order.{is_lane}
-use Rattle.explained.specs.declared.bound.BoundFound.{BoundFound}
-use Rattle.explained.specs.declared.bound.BoundFound.TheVariants.{Closed, Unbounded, Within}
-use Rattle.explained.specs.declared.row.RowFound.{RowFound}
 use Rattle.warnings.specs.declared.warning.DrawnPlace.{DrawnPlace}
 use Rattle.warnings.specs.declared.warning.Warning.{Warning}
-use Rattle.warnings.specs.declared.warning.Warning.TheVariants.{Rows, Comment, Note, SheetKey, NetlistKey, Both, Single, Never, Drivers, Own}
+use Rattle.warnings.specs.declared.warning.Warning.TheVariants as said
+use Rattle.lint_report.specs.declared.drawn_at.DrawnAt.{DrawnAt}
+use Rattle.lint_report.specs.declared.line.Line.{Line}
+use Rattle.lint_report.specs.declared.line.Line.TheVariants.{Drawing, Narrow, Order, OpenRow, Contradiction, Open, OpenEnds}
+use Rattle.lint_report.specs.Lines.{event_part, is_clean, is_silenced, meant_count, part_word}
 
--- ---- what a warning is about
+-- ---- places
 
-abbrev pub part_word : Composed → ℕ → Word
-part_word d part = unwrap_or (slice_get d.parts part) []
+-- an edge or a lane of a part has the name of the part before it; a pin or a wire stands by itself
+abbrev pub place_word : List ℕ → Origin → Word
+place_word part (drawn.Lane n) = part ++ (32 ∷ origin_text (drawn.Lane n))
+place_word part (drawn.Edge n) = part ++ (32 ∷ origin_text (drawn.Edge n))
+place_word part (drawn.Pin net pin) = origin_text (drawn.Pin net pin)
+place_word part (drawn.Wire n) = origin_text (drawn.Wire n)
 
--- an edge or a lane of a part stands behind the name of the part; a pin or a wire stands by itself
-abbrev pub place_words : Composed → ℕ → Origin → List Word
-place_words d part (drawn.Lane n) = part_word d part ∷ origin_text (drawn.Lane n) ∷ []
-place_words d part (drawn.Edge n) = part_word d part ∷ origin_text (drawn.Edge n) ∷ []
-place_words d part (drawn.Pin net pin) = origin_text (drawn.Pin net pin) ∷ []
-place_words d part (drawn.Wire n) = origin_text (drawn.Wire n) ∷ []
+abbrev pub spot_word : Composed → DrawnPlace → Word
+spot_word d spot = place_word (part_word d spot.part) spot.origin
 
-abbrev pub spot_words : Composed → DrawnPlace → List Word
-spot_words d spot = place_words d spot.part spot.origin
+abbrev pub at_word : Drawn → DrawnAt → Word
+at_word network at = place_word (event_part network at.event) at.origin
 
 -- the name of a mark of a part
 abbrev pub mark_byte : Composed → DesignMark → List ℕ
@@ -47,69 +52,157 @@ mark_byte d mark = option_map_or (λ (m : Mark). m.name ∷ []) (slice_get (mark
 abbrev pub mark_word : Composed → DesignMark → Word
 mark_word d mark = part_word d mark.part ++ (46 ∷ mark_byte d mark)
 
--- ---- near keys
+-- ---- what a reader knows a place by
+
+-- the whole text of an edge of a sheet or of the netlist
+abbrev pub whole_text : Planned → List ℕ → Origin → List ℕ
+whole_text plan part (drawn.Edge n) = unwrap_or (edge_named plan part n) []
+whole_text plan part (drawn.Wire n) = unwrap_or (slice_get plan.netlist.edges n) []
+whole_text plan part (drawn.Lane n) = []
+whole_text plan part (drawn.Pin net pin) = []
+
+-- the first text, or where it is empty the other
+abbrev pub first_text : List ℕ → List ℕ → List ℕ
+first_text [] other = other
+first_text (c ∷ cs) other = c ∷ cs
+
+-- the note of a place, or where there is none its whole text
+abbrev pub source_text : Planned → List ℕ → Origin → List ℕ
+source_text plan part origin = first_text (plan_note plan part origin) (whole_text plan part origin)
+
+-- what a place is known by, without the characters that can't be printed
+abbrev pub told : Planned → List ℕ → Origin → List ℕ
+told plan part origin = filter is_printed_byte (source_text plan part origin)
+
+-- a word, if it is not empty
+abbrev pub word_if_any : Word → List Word
+word_if_any [] = []
+word_if_any (c ∷ cs) = (c ∷ cs) ∷ []
+
+-- a stroke between two texts, if neither is empty
+abbrev pub stroke_between : List ℕ → List ℕ → List Word
+stroke_between [] other = []
+stroke_between (c ∷ cs) [] = []
+stroke_between (c ∷ cs) (e ∷ es) = codes "/" ∷ []
+
+abbrev pub both_words : List ℕ → List ℕ → List Word
+both_words first other = word_if_any first ++ (stroke_between first other ++ word_if_any other)
+
+abbrev pub told_words : Planned → List ℕ → Origin → List Word
+told_words plan part origin = word_if_any (told plan part origin)
+
+abbrev pub spot_told : Planned → Composed → DrawnPlace → List Word
+spot_told plan d spot = told_words plan (part_word d spot.part) spot.origin
+
+abbrev pub at_told : Planned → Drawn → DrawnAt → List Word
+at_told plan network at = told_words plan (event_part network at.event) at.origin
+
+-- ---- keys that are passed over
 
 -- a near key of the sheet of a part
 abbrev pub sheet_key_word : Composed → ℕ → ℕ → Word
 sheet_key_word d part key = unwrap_or (option_and_then (λ (sheet : SheetContents). slice_get sheet.near key) (slice_get d.sheets part)) []
 
--- a near key of the netlist
-abbrev pub netlist_key_word : Planned → ℕ → Word
-netlist_key_word plan key = unwrap_or (slice_get plan.netlist.near key) []
+-- the name of a net, if it has one
+abbrev pub net_told : Planned → ℕ → List Word
+net_told plan net = told_words plan [] (drawn.Pin net 0)
+
+-- a key that is not known, without the characters that can't be printed, with the part or the net that has it
+abbrev pub stray_words : Planned → Composed → KeyPlace → List ℕ → List Word
+stray_words plan d places.Netlist key = codes "key" ∷ filter is_printed_byte key ∷ []
+stray_words plan d (places.Part part) key = codes "key" ∷ codes "part" ∷ number_text part ∷ filter is_printed_byte key ∷ part_word d part ∷ []
+stray_words plan d (places.Net net) key = codes "key" ∷ codes "net" ∷ number_text net ∷ filter is_printed_byte key ∷ net_told plan net
+
+-- the key of this number of the netlist
+abbrev pub netlist_key_words : Planned → Composed → Option StrayKey → List Word
+netlist_key_words plan d None = codes "key" ∷ []
+netlist_key_words plan d (Some stray) = stray_words plan d stray.place stray.key
 
 -- ---- lines
 
+-- a word, a place, and what the place is known by
+abbrev pub spot_words : Planned → Composed → Word → DrawnPlace → List Word
+spot_words plan d key spot = key ∷ spot_word d spot ∷ spot_told plan d spot
+
+-- a word, two places, and what they are known by
+abbrev pub pair_words : Planned → Composed → Word → DrawnPlace → DrawnPlace → List Word
+pair_words plan d key first other =
+    key ∷ spot_word d first ∷ spot_word d other
+    ∷ both_words (told plan (part_word d first.part) first.origin) (told plan (part_word d other.part) other.origin)
+
+-- a word, a mark that follows something, what draws that, and an edge of the sheet of the mark
+abbrev pub driven_words : Planned → Composed → Word → DesignMark → Origin → Origin → List Word
+driven_words plan d key mark by edge = key ∷ mark_word d mark ∷ origin_text by ∷ origin_text edge ∷ told_words plan (part_word d mark.part) edge
+
+-- a mark that follows two drivers
+abbrev pub drivers_words : Planned → Composed → DesignMark → Origin → Origin → List Word
+drivers_words plan d mark first other =
+    codes "drivers" ∷ mark_word d mark ∷ origin_text first ∷ origin_text other
+    ∷ both_words (told plan (part_word d mark.part) first) (told plan (part_word d mark.part) other)
+
 abbrev pub warning_words : Planned → Composed → Warning → List Word
-warning_words plan d Rows = codes "rows" ∷ []
-warning_words plan d (Comment spot) = codes "comment" ∷ spot_words d spot
-warning_words plan d (Note spot) = codes "note" ∷ spot_words d spot
-warning_words plan d (SheetKey part key) = codes "key" ∷ part_word d part ∷ sheet_key_word d part key ∷ []
-warning_words plan d (NetlistKey key) = codes "key" ∷ netlist_key_word plan key ∷ []
-warning_words plan d (Both first other) = codes "both" ∷ (spot_words d first ++ spot_words d other)
-warning_words plan d (Single spot) = codes "single" ∷ spot_words d spot
-warning_words plan d (Never spot) = codes "never" ∷ spot_words d spot
-warning_words plan d (Drivers mark first other) = codes "drivers" ∷ mark_word d mark ∷ origin_text first ∷ origin_text other ∷ []
-warning_words plan d (Own mark pin edge) = codes "own" ∷ mark_word d mark ∷ origin_text pin ∷ origin_text edge ∷ []
+warning_words plan d said.Rows = codes "rows" ∷ []
+warning_words plan d (said.Comment spot) = spot_words plan d (codes "comment") spot
+warning_words plan d (said.Word spot) = spot_words plan d (codes "word") spot
+warning_words plan d (said.Note spot) = spot_words plan d (codes "note") spot
+warning_words plan d (said.SheetKey part key) = codes "key" ∷ part_word d part ∷ sheet_key_word d part key ∷ []
+warning_words plan d (said.NetlistKey key) = netlist_key_words plan d (slice_get plan.netlist.stray key)
+warning_words plan d (said.Unit spot) = spot_words plan d (codes "unit") spot
+warning_words plan d (said.NetUnit net) = codes "unit" ∷ codes "net" ∷ number_text net ∷ net_told plan net
+warning_words plan d (said.Both first other) = pair_words plan d (codes "both") first other
+warning_words plan d (said.Single spot) = spot_words plan d (codes "single") spot
+warning_words plan d (said.Never spot) = spot_words plan d (codes "never") spot
+warning_words plan d (said.Periods first other) = pair_words plan d (codes "period") first other
+warning_words plan d (said.Period mark follows) = codes "period" ∷ mark_word d mark ∷ spot_word d follows ∷ spot_told plan d follows
+warning_words plan d (said.Drivers mark first other) = drivers_words plan d mark first other
+warning_words plan d (said.Own mark pin edge) = driven_words plan d (codes "own") mark pin edge
+warning_words plan d (said.Held mark by edge) = driven_words plan d (codes "held") mark by edge
 
-abbrev pub warning_text : Planned → Composed → Warning → List ℕ
-warning_text plan d warning = ended (line_of (codes "warning" ∷ warning_words plan d warning))
+-- the end of a range; on the low side it is minus what is kept
+abbrev pub end_word : Side → Word
+end_word Upper = codes "high"
+end_word Lower = codes "low"
 
--- ---- rows whose answer rests on the order of a lane
+abbrev pub end_number : Side → ℤ → ℤ
+end_number Upper value = value
+end_number Lower value = neg_ℤ value
 
--- the order of a lane draws an edge
-abbrev pub is_lane_edge : Drawn → EdgeName → Bool
-is_lane_edge network name = option_map_or is_lane (option_and_then (λ origins. slice_get origins name.cause) (slice_get network.origins name.constraint)) false
+-- the end of a range that no times attain, and how far they come
+abbrev pub narrow_words : Planned → Drawn → DrawnAt → Side → ℤ → ℤ → List Word
+narrow_words plan network at side weight only =
+    codes "narrow" ∷ at_word network at ∷ end_word side ∷ signed_text (end_number side weight) ∷ codes "only" ∷ signed_text (end_number side only)
+    ∷ at_told plan network at
 
--- a bound goes over the order of a lane
-abbrev pub goes_over : Drawn → BoundFound → Bool
-goes_over network (Closed value chain) = list_any (is_lane_edge network) chain.items
-goes_over network (Unbounded set) = false
-goes_over network (Within limit attained) = false
+-- the words of a line, behind its first word
+abbrev pub line_words : Planned → Composed → Drawn → Line → List Word
+line_words plan d network (Drawing warning) = warning_words plan d warning
+line_words plan d network (Narrow at side weight only) = narrow_words plan network at side weight only
+line_words plan d network (Order number at) = codes "order" ∷ codes "row" ∷ number_text number ∷ at_told plan network at
+line_words plan d network (OpenRow number at) = codes "open" ∷ codes "row" ∷ number_text number ∷ at_told plan network at
+line_words plan d network Contradiction = codes "order" ∷ []
+line_words plan d network Open = codes "open" ∷ []
+line_words plan d network (OpenEnds count) = codes "open" ∷ codes "ends" ∷ number_text count ∷ []
 
--- a bound of the row goes over the order of a lane, or its requirement passes by that order alone
-abbrev pub is_over : Drawn → RowFound → Bool
-is_over network found = goes_over network found.greatest || (goes_over network found.least || is_some found.apart)
+abbrev pub line_text : Planned → Composed → Drawn → Line → List ℕ
+line_text plan d network line = ended (line_of (codes "warning" ∷ line_words plan d network line))
 
--- the line of a row whose answer rests on the order of a lane
-abbrev pub order_text : ℕ → List ℕ
-order_text number = ended (line_of (codes "warning" ∷ codes "order" ∷ codes "row" ∷ number_text number ∷ []))
-
--- the lines of rows whose answer rests on the order of a lane; the first row has this number
-abbrev pub orders_text : Drawn → ℕ → List RowFound → List ℕ
-orders_text network number [] = []
-orders_text network number (found ∷ others) =
-    (if is_over network found then order_text number else []) ++ orders_text network (number + 1) others
+-- a line that is silenced is left out
+abbrev pub shown_text : Planned → Composed → Drawn → Line → List ℕ
+shown_text plan d network line = if is_silenced plan d network line then [] else line_text plan d network line
 
 -- ---- the whole
 
--- there is no warning
-abbrev pub is_clean : Drawn → List Warning → List RowFound → Bool
-is_clean network warnings found = length warnings == 0 && not (list_any (is_over network) found)
+abbrev pub clean_word : Bool → Word
+clean_word true = codes "clean"
+clean_word false = codes "noted"
 
-abbrev pub end_text : Bool → List ℕ
-end_text true = ended (codes "end clean")
-end_text false = ended (codes "end noted")
+abbrev pub meant_words : ℕ → List Word
+meant_words count = if count == 0 then [] else number_text count ∷ codes "meant" ∷ []
 
-abbrev pub lint_text : Planned → Composed → Drawn → List Warning → List RowFound → List ℕ
-lint_text plan d network warnings found =
-    ended (codes "itv lint 1") ++ (flat_map (warning_text plan d) warnings ++ (orders_text network 0 found ++ end_text (is_clean network warnings found)))
+-- the last line, and how many lines are silenced, if some are
+abbrev pub end_text : Bool → ℕ → List ℕ
+end_text clean count = ended (line_of (codes "end" ∷ clean_word clean ∷ meant_words count))
+
+abbrev pub lint_text : Planned → Composed → Drawn → List Line → List ℕ
+lint_text plan d network lines =
+    ended (codes "itv lint 1") ++ (flat_map (shown_text plan d network) lines ++ end_text (is_clean plan d network lines) (meant_count plan d network lines))

@@ -1,13 +1,32 @@
-//! Job lint: what in a design may say something else than was meant. The contract of the crate: `write_lint` writes just the
-//! warnings of the definitions. If a put failed, it wrote a front of such a text.
+//! Job lint: what in a design may say something else than was meant. The contract of the crate: `write_lint` writes just the lines of the
+//! warnings of the definitions, and of what is found of the design, but for those that are meant. If a put failed, it wrote a front of such a text.
 #![tactic(auto)]
 
-mod about;
+mod apart;
+mod by_order;
 mod designing;
+mod drawn_at;
+mod ends;
+mod finding;
+mod kept;
+pub mod laws;
 mod line;
-mod over;
-mod put_found;
+mod lines;
+mod lint_found;
+mod meant;
+mod pair_seen;
+mod parts;
+mod piece;
+mod printed;
 mod put_line;
+mod put_piece;
+mod put_text;
+mod put_told;
+mod resting;
+mod row_seen;
+mod rows;
+mod said;
+mod turns;
 mod write;
 
 pub use write::write_lint;

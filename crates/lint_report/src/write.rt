@@ -7,15 +7,16 @@ ghost use Rattle.compose.specs.Compose.{composed_on};
 ghost use Rattle.jobs.specs.JobWrote.{Answered, JobWrote};
 ghost use Rattle.plan.specs.Plan.{sheets_on};
 ghost use Rattle.lint_report.specs.Lint.{AnswersLint, answer_by};
-ghost use Rattle.lint_report.specs.Text.{is_clean};
-ghost use Rattle.lint_report.specs.Step.{AreLintFindings};
+ghost use Rattle.lint_report.specs.Step.Put.{AreLintLines};
 
 use crate::designing::design_of;
-use crate::over::is_clean;
-use crate::put_found::{LintFindings, put_text};
+use crate::finding::find_all;
+use crate::line::Line;
+use crate::lines::lines_of;
+use crate::meant::is_clean;
+use crate::put_text::put_text;
 use compose::Design;
 use drawn::DrawnNetwork;
-use explained::explain;
 use itv_base::{NoMemory, PutFailed, Sink};
 use jobs::{Answer, Unanswered};
 use line_words::LineBuffer;
@@ -26,8 +27,10 @@ use warnings::warnings_of;
 // Room for most lines. A longer line is put piece by piece.
 const LINE_ROOM: u32 = 256;
 
-/// Writes what in a design may say something else than was meant: a line for each warning of the drawing, and then for each row
-/// whose answer rests on the order of a lane. Each search closes at most `budget` cases. All is found before the first put.
+/// Writes what in a design may say something else than was meant: a line for each warning of the drawing, for each end of a range that no times attain,
+/// and for each row whose answer rests on the order of a lane or was left open; or that the order of lanes contradicts the other rules, or that the search
+/// for times was left open. A line about an edge that is meant is left out and counted. Each search closes at most `budget` cases, and takes at most a
+/// thousand turns for each. All is found before the first put.
 pub fn write_lint<K: Sink>(
     alloc: Global,
     plan: &Plan,
@@ -41,53 +44,48 @@ pub fn write_lint<K: Sink>(
     ensures works { JobWrote (AnswersLint plan.now drawn.now budget) (Answered (AnswersLint plan.now drawn.now budget)) (K.state sink.old) (K.state sink.new) result }
 {
     let design = design_of(alloc, plan)?;
-    let findings = find_all(alloc, plan, &design, drawn, budget)?;
+    let lines = find_lines(alloc, plan, &design, drawn, budget)?;
     let mut buffer = LineBuffer::new(alloc, LINE_ROOM)?;
-    Ok(put_findings(plan, &design, drawn, &findings, &mut buffer, sink)?)
+    Ok(put_found(plan, &design, drawn, &lines, &mut buffer, sink)?)
 }
 
-// Finds all that the lines say.
-fn find_all(
+// All lines, with those that are meant.
+fn find_lines(
     alloc: Global,
     plan: &Plan,
     design: &Design<'_>,
     drawn: &DrawnNetwork,
     budget: u64,
-) -> Result<LintFindings, NoMemory>
+) -> Result<Vec<Line>, NoMemory>
     requires design { composed_on plan.now.netlist (sheets_on plan.now.sheets plan.now.netlist.parts) ≡ Ok design.now }
     requires least { 1 ≤ budget }
     requires most { budget ≤ MAX_BUDGET }
-    ensures findings { IfOk result (AreLintFindings plan.now design.now drawn.now budget) }
+    ensures lines { IfOk result (λ lines. AreLintLines plan.now design.now drawn.now budget lines.items) }
 {
     let warnings = warnings_of(alloc, plan, design)?;
-    let found = explain(alloc, drawn, budget)?.rows;
-    let clean = is_clean(drawn, &warnings, &found);
-    Ok(LintFindings {
-        warnings,
-        found,
-        clean,
-    })
+    let found = find_all(alloc, drawn, budget)?;
+    lines_of(alloc, design, drawn, &warnings, &found)
 }
 
-// Puts the whole text. The answer says whether there is nothing to warn of.
-fn put_findings<K: Sink>(
+// Puts the whole text. The answer says whether there is no line to print.
+fn put_found<K: Sink>(
     plan: &Plan,
     design: &Design<'_>,
     drawn: &DrawnNetwork,
-    findings: &LintFindings,
+    lines: &[Line],
     buffer: &mut LineBuffer,
     sink: &mut K,
 ) -> Result<Answer, PutFailed>
-    requires clean { findings.now.clean ≡ is_clean drawn.now findings.now.warnings.items findings.now.found.items }
-    ensures answers { (budget : ℕ) → AreLintFindings plan.now design.now drawn.now budget findings.now
+    ensures answers { (budget : ℕ) → AreLintLines plan.now design.now drawn.now budget lines.now
         → IfOk result (λ answer. (text : List ℕ) × AnswersLint plan.now drawn.now budget answer text
         × (K.state sink.new ≡ grown (K.state sink.old) text)) }
-    ensures begins { (budget : ℕ) → AreLintFindings plan.now design.now drawn.now budget findings.now
+    ensures begins { (budget : ℕ) → AreLintLines plan.now design.now drawn.now budget lines.now
         → OnErr result ((text : List ℕ) × Answered (AnswersLint plan.now drawn.now budget) text
         × CutShort (K.state sink.old) (K.state sink.new) text) }
 {
-    put_text(plan, design, drawn, findings, buffer, sink)?;
-    Ok(answer_by(findings.clean))
+    let clean = is_clean(plan, design, drawn, lines);
+    put_text(plan, design, drawn, lines, clean, buffer, sink)?;
+    Ok(answer_by(clean))
 }
 
 // What the job answers: all is clean, or there is something to warn of.

@@ -1,7 +1,7 @@
--- Known keys and near keys, and the keys of members read one by one.
+-- Known keys, near keys and stray keys, and the keys of members read one by one.
 use Rattle.std.proofs.Common.{◌≡◌, ℕ, ◌-◌, ◌≤◌, ◌<◌, ◌||◌, Bool, true, false, List, [], ◌∷◌, ◌++◌, length, map, filter, take, get_or, String, string_bytes, Bor, refl, ap, sym, ◌∙◌, arith}
 use Rattle.std.specs.Prelude.{◌==◌}
-use Rattle.std.specs.List.{list_any}
+use Rattle.std.specs.List.{flat_map, list_any}
 use Rattle.std.specs.Str.{bytes_eq}
 use Rattle.std.specs.declared.alloc.Global.{Global}
 use Rattle.std.proofs.lemmas.List.{append_assoc, length-map, take-map}
@@ -10,7 +10,10 @@ use Rattle.std.proofs.lemmas.Option.{slice_get-get_or, slice_get-map}
 use Rattle.serde_json.specs.View.{members_view}
 use Rattle.serde_json.specs.declared.value.Value.{Value}
 use Rattle.json_tree.specs.Words.{members}
-use Rattle.near_keys.specs.NearKeys.{small, ends_in_s, without_s, stem, is_near}
+use Rattle.near_keys.specs.NearKeys.{small, ends_in_s, without_s, stem, is_known, is_near}
+use Rattle.near_keys.specs.StrayKeys.{stray_if}
+use Rattle.near_keys.specs.declared.key_place.KeyPlace.{KeyPlace}
+use Rattle.near_keys.specs.declared.stray_key.StrayKey.{StrayKey}
 
 -- ---- one final `s`
 
@@ -35,13 +38,17 @@ list_any-map p f [] = refl
 list_any-map p f (x ∷ xs) = ap (λ b. p (f x) || b) (list_any-map p f xs)
 
 module _ (known : List (Bor (List ℕ))) (key : List ℕ) where
+  -- a key is known if it is one of the known keys
+  pub is_known-any : list_any (λ k. bytes_eq key k.now) known ≡ is_known (map (λ k. k.now) known) key
+  is_known-any = sym (list_any-map (bytes_eq key) (λ k. k.now) known)
+
   -- a known key is not near
-  pub is_near-known : list_any (λ k. bytes_eq key k.now) known ≡ true → false ≡ is_near (map (λ k. k.now) known) key
-  is_near-known is = rw (list_any-map (bytes_eq key) (λ k. k.now) known, is) refl
+  pub is_near-known : is_known (map (λ k. k.now) known) key ≡ true → false ≡ is_near (map (λ k. k.now) known) key
+  is_near-known is = rw is refl
 
   -- any other key is near if and only if its stem is the stem of a known key
-  pub is_near-other : list_any (λ k. bytes_eq key k.now) known ≡ false → list_any (λ k. bytes_eq (stem key) (stem k.now)) known ≡ is_near (map (λ k. k.now) known) key
-  is_near-other is = rw (list_any-map (bytes_eq key) (λ k. k.now) known, is, list_any-map (λ other. bytes_eq (stem key) (stem other)) (λ k. k.now) known) refl
+  pub is_near-other : is_known (map (λ k. k.now) known) key ≡ false → list_any (λ k. bytes_eq (stem key) (stem k.now)) known ≡ is_near (map (λ k. k.now) known) key
+  is_near-other is = rw (is, list_any-map (λ other. bytes_eq (stem key) (stem other)) (λ k. k.now) known) refl
 
 -- ---- members
 
@@ -58,3 +65,16 @@ key_more known entries rest key value text done new all next named grew so_far =
     ∙ ap (λ keys. done ++ keys) (sym (filter-append (is_near known) (text ∷ []) (map (λ at. at.0) (members (members_view rest)))))
     ∙ ap (λ t. done ++ filter (is_near known) (t ∷ map (λ at. at.0) (members (members_view rest)))) named
     ∙ ap (λ es. done ++ near_of_members known es) (sym next) ∙ so_far
+
+-- the stray keys of the object at a place among the keys of its members
+abbrev pub stray_of_members : List (List ℕ) → KeyPlace → List (String Global × Value) → List StrayKey
+stray_of_members known place entries = flat_map (stray_if known place) (map (λ at. at.0) (members (members_view entries)))
+
+-- the key of the next member was put at the end if it is not known
+pub stray_more : (known : List (List ℕ)) (place : KeyPlace) (entries rest : List (String Global × Value)) (key : String Global) (value : Value) (text : List ℕ) (done new all : List StrayKey)
+    → entries ≡ (key, value) ∷ rest → text ≡ string_bytes key → new ≡ done ++ stray_if known place text
+    → done ++ stray_of_members known place entries ≡ all → new ++ stray_of_members known place rest ≡ all
+stray_more known place entries rest key value text done new all next named grew so_far =
+    ap (λ keys. keys ++ stray_of_members known place rest) grew ∙ append_assoc done (stray_if known place text) (stray_of_members known place rest)
+    ∙ ap (λ t. done ++ (stray_if known place t ++ stray_of_members known place rest)) named
+    ∙ ap (λ es. done ++ stray_of_members known place es) (sym next) ∙ so_far

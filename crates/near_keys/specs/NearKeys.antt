@@ -1,11 +1,11 @@
 -- Near keys: keys of objects that are passed over, and that nearly are keys that are read.
-use Rattle.std.specs.Prelude.{ℕ, ◌+◌, ◌-◌, ◌==◌, ◌&&◌, nat_le, Bool, false, not, if◌then◌else◌, List, [], ◌∷◌, ◌++◌, length, map, filter, take, codes, Option, option_and_then, slice_get}
-use Rattle.std.specs.List.{flat_map, list_any}
+use Rattle.std.specs.Prelude.{ℕ, ◌+◌, ◌-◌, ◌==◌, ◌&&◌, nat_le, Bool, false, not, if◌then◌else◌, List, [], ◌∷◌, ◌++◌, length, map, filter, take, codes, option_and_then, slice_get}
+use Rattle.std.specs.List.{list_any}
 use Rattle.std.specs.Option.{option_map_or}
 use Rattle.std.specs.Str.{bytes_eq}
-use Rattle.serde_json.specs.Data.{Data, null, boolean, number, string, array, object, Items, no_items, item}
+use Rattle.serde_json.specs.Data.{Data, array, object, Items, no_items, item}
 use Rattle.serde_json.specs.Find.{as_array, get}
-use Rattle.json_tree.specs.Words.{list_of, members_of}
+use Rattle.json_tree.specs.Words.{members_of}
 
 -- ---- one key
 
@@ -25,9 +25,13 @@ without_s text = if ends_in_s text then take (length text - 1) text else text
 abbrev pub stem : List ℕ → List ℕ
 stem key = without_s (map small key)
 
+-- a key is known
+abbrev pub is_known : List (List ℕ) → List ℕ → Bool
+is_known known key = list_any (bytes_eq key) known
+
 -- a key that is not known, but differs from a known key only by capitals or by one final `s`
 abbrev pub is_near : List (List ℕ) → List ℕ → Bool
-is_near known key = not (list_any (bytes_eq key) known) && list_any (λ other. bytes_eq (stem key) (stem other)) known
+is_near known key = not (is_known known key) && list_any (λ other. bytes_eq (stem key) (stem other)) known
 
 -- ---- objects
 
@@ -38,10 +42,6 @@ keys_of d = option_map_or (map (λ at. at.0)) (members_of d) []
 -- the near keys of an object
 abbrev pub near_keys : List (List ℕ) → Data → List (List ℕ)
 near_keys known d = filter (is_near known) (keys_of d)
-
--- the near keys of the objects of a list under a key
-abbrev pub near_below : List (List ℕ) → Option Data → List (List ℕ)
-near_below known listed = option_map_or (flat_map (near_keys known)) (option_and_then list_of listed) []
 
 -- ---- sheets
 
@@ -65,18 +65,3 @@ abbrev mutual
 -- the near keys of a sheet: its own near keys, and then the near keys of its lanes in order
 abbrev pub near_in_sheet : Data → List (List ℕ)
 near_in_sheet tree = near_keys sheet_keys tree ++ option_map_or near_within (option_and_then as_array (get (codes "signal") tree)) []
-
--- ---- netlists
-
-abbrev pub netlist_keys : List (List ℕ)
-netlist_keys = codes "itv" ∷ codes "cycles" ∷ codes "parts" ∷ codes "nets" ∷ codes "edges" ∷ []
-
-abbrev pub part_keys : List (List ℕ)
-part_keys = codes "name" ∷ codes "sheet" ∷ codes "grade" ∷ []
-
-abbrev pub net_keys : List (List ℕ)
-net_keys = codes "pins" ∷ codes "delay" ∷ []
-
--- the near keys of a netlist: its own near keys, then the near keys of its parts, and then the near keys of its nets, in order
-abbrev pub near_in_netlist : Data → List (List ℕ)
-near_in_netlist tree = near_keys netlist_keys tree ++ (near_below part_keys (get (codes "parts") tree) ++ near_below net_keys (get (codes "nets") tree))

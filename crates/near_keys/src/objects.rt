@@ -1,7 +1,6 @@
 //! The keys of objects.
 
 ghost use Rattle.std.specs.Prelude.{◌≡◌, [], ◌∷◌, ◌++◌, filter, map, OnOk};
-ghost use Rattle.std.specs.List.{flat_map};
 ghost use Rattle.serde_json.specs.View.{view, members_view};
 ghost use Rattle.json_tree.specs.Words.{members};
 ghost use Rattle.near_keys.specs.NearKeys.{is_near, near_keys};
@@ -48,21 +47,6 @@ fn push_if_near(alloc: Global, near: &mut Texts, known: &[&str], key: &str) -> R
 {
     if is_near(known, key) {
         near.push(alloc, key)?;
-    }
-    Ok(())
-}
-
-/// Puts the near keys of the objects of a list at the end. Where memory is not found, some of them may be there.
-pub(crate) fn push_near_of_each(
-    alloc: Global,
-    near: &mut Texts,
-    known: &[&str],
-    list: &[Value],
-) -> Result<(), NoMemory>
-    ensures { OnOk result (near.new ≡ near.old ++ flat_map (near_keys (map (λ k. k.now) known.now)) (map view list.now)) }
-{
-    for value in list {
-        push_near(alloc, near, known, value)?;
     }
     Ok(())
 }

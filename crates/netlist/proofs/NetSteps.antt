@@ -1,8 +1,9 @@
 -- The net of an element, step by step.
-use Rattle.std.proofs.Common.{◌≡◌, ℕ, List, Some, None, Ok, Err, refl}
+use Rattle.std.proofs.Common.{◌≡◌, ℕ, List, Option, Some, None, Ok, Err, refl}
 use Rattle.std.specs.Prelude.{ok_or, codes}
 use Rattle.serde_json.specs.Data.{Data}
 use Rattle.serde_json.specs.Find.{get}
+use Rattle.json_tree.specs.Words.{text_at}
 use Rattle.itv_base.specs.Range.{Ends}
 use Rattle.netlist.specs.declared.fault.NetlistFault.{NetlistFault}
 use Rattle.netlist.specs.declared.fault.NetlistFault.TheVariants.{Net}
@@ -27,6 +28,6 @@ module _ (n : ℕ) (d : Data) where
       unfolding net_of
       net-delay fault h = rw (read, found) (IsReadingFault-first is_memory (range_of n ends) _ fault h)
 
-      pub net-ok : (delay : Ends) → range_of n ends ≡ Ok delay → net_of n d ≡ Ok (record { pins = pins; delay = delay })
+      pub net-ok : (delay : Ends) → range_of n ends ≡ Ok delay → (name : Option (List ℕ)) → name ≡ text_at (codes "name") d → net_of n d ≡ Ok (record { name = name; pins = pins; delay = delay })
       unfolding net_of
-      net-ok delay is = rw (read, found, is) refl
+      net-ok delay is name called = rw (read, found, is, called) refl

@@ -12,7 +12,8 @@ use Rattle.netlist.specs.declared.wire.Wire.{Wire}
 use Rattle.netlist.specs.NetlistContents.{JoinedPins}
 use Rattle.netlist.specs.Fault.{is_memory}
 use Rattle.json_tree.specs.Words.{list_at}
-use Rattle.near_keys.specs.NearKeys.{near_in_netlist}
+use Rattle.near_keys.specs.StrayKeys.{stray_in_netlist}
+use Rattle.near_keys.specs.declared.stray_key.StrayKey.{StrayKey}
 use Rattle.netlist.specs.Netlist.{cycles_of, edges_of, list_if, parts_of, nets_of, wires_of, netlist_of, sheet_names, with_part, with_net, with_wire, version_of}
 use Rattle.itv_base.specs.Reading.{walk, UnlessTrue, IsReadingFault}
 use Rattle.itv_base.proofs.Faults.{IsReadingFault-first}
@@ -106,7 +107,7 @@ module _ (tree : Data) where
             unfolding netlist_of
             all_edges-fault fault h = rw (shown, counted, are, joined, wired) (IsReadingFault-first is_memory (edges_of tree) _ fault h)
 
-            pub netlist-ok : (edges : List (List ℕ)) → edges_of tree ≡ Ok edges → (near : List (List ℕ)) → near ≡ near_in_netlist tree
-                → netlist_of tree ≡ Ok (record { version = version; cycles = cycles; parts = parts; nets = nets; wires = wires; edges = edges; near = near })
+            pub netlist-ok : (edges : List (List ℕ)) → edges_of tree ≡ Ok edges → (stray : List StrayKey) → stray ≡ stray_in_netlist tree
+                → netlist_of tree ≡ Ok (record { version = version; cycles = cycles; parts = parts; nets = nets; wires = wires; edges = edges; stray = stray })
             unfolding netlist_of
-            netlist-ok edges is near same = rw (shown, counted, are, joined, wired, is, same) refl
+            netlist-ok edges is stray same = rw (shown, counted, are, joined, wired, is, same) refl

@@ -4,7 +4,7 @@ use Rattle.std.specs.List.{filter_map, list_any, before_first, after_first}
 use Rattle.std.specs.Str.{bytes_eq}
 use Rattle.serde_json.specs.Data.{Data}
 use Rattle.serde_json.specs.Find.{get, as_object, as_str}
-use Rattle.near_keys.specs.NearKeys.{near_in_netlist}
+use Rattle.near_keys.specs.StrayKeys.{stray_in_netlist}
 use Rattle.json_tree.specs.Words.{all_of, ends_by, list_at, list_of, name_of, text_at, whole_at}
 use Rattle.itv_base.specs.Range.{Ends, has_wide, is_reversed}
 use Rattle.itv_base.specs.declared.range.RangeFault.TheVariants.{TooWide, EmptyRange}
@@ -133,13 +133,13 @@ delay_of (Some d) = option_and_then ends_by (list_of d)
 abbrev pub range_of : ℕ → Ends → Result Ends NetlistFault
 range_of n ends = if has_wide ends then Err (Delay n TooWide) else (if is_reversed ends then Err (Delay n EmptyRange) else Ok ends)
 
--- the pins and the delay of net n
+-- the name, the pins and the delay of net n; a name that is no text counts as missing
 unfoldable pub net_of : ℕ → Data → Result JoinedPins NetlistFault
 net_of n d = do
   pins ← ok_or (pins_of d) (Net n)
   ends ← ok_or (delay_of (get (codes "delay") d)) (Net n)
   delay ← range_of n ends
-  Ok (record { pins = pins; delay = delay })
+  Ok (record { name = text_at (codes "name") d; pins = pins; delay = delay })
 
 abbrev pub with_net : ℕ → List JoinedPins → Data → Result (List JoinedPins) NetlistFault
 with_net n done d = net_of n d >>= λ net. Ok (done ++ net ∷ [])
@@ -183,7 +183,7 @@ edges_of tree = list_if (get (codes "edges") tree) EdgesNotList >>= λ listed. O
 
 -- ---- the whole
 
--- The netlist of a tree, or its first fault. No other key of the tree, of a part or of a net is read, and of the others only the near keys are kept.
+-- The netlist of a tree, or its first fault. What stands under any other key of the tree, of a part or of a net is not read. Such keys are kept.
 unfoldable pub netlist_of : Data → Result NetlistContents NetlistFault
 netlist_of tree = do
   version ← version_of tree
@@ -192,7 +192,7 @@ netlist_of tree = do
   nets ← nets_of tree
   wires ← wires_of tree
   edges ← edges_of tree
-  Ok (record { version = version; cycles = cycles; parts = parts; nets = nets; wires = wires; edges = edges; near = near_in_netlist tree })
+  Ok (record { version = version; cycles = cycles; parts = parts; nets = nets; wires = wires; edges = edges; stray = stray_in_netlist tree })
 
 -- the netlist that stands for the sheet of a name: one part in one cycle, of version 1; it has no keys
 abbrev pub lone_netlist : List ℕ → NetlistContents
@@ -203,5 +203,5 @@ lone_netlist sheet = record {
   nets = [];
   wires = [];
   edges = [];
-  near = [];
+  stray = [];
 }

@@ -8,10 +8,11 @@ use crate::part::{Part, Parts};
 use crate::pin_net::Nets;
 use crate::wire::Wires;
 use itv_base::{NoMemory, Text, Texts};
+use near_keys::StrayKeys;
 use std::alloc::Global;
 use std::marker::Model;
 
-/// The version, the number of cycles, and the parts, nets and wires of a netlist, the texts of its wires, and its near keys.
+/// The version, the number of cycles, and the parts, nets and wires of a netlist, the texts of its wires, and its stray keys.
 #[derive(Drop)]
 pub struct Netlist {
     pub(crate) version: u32,
@@ -21,7 +22,7 @@ pub struct Netlist {
     pub(crate) nets: Nets,
     pub(crate) wires: Wires,
     pub(crate) edges: Texts,
-    pub(crate) near: Texts,
+    pub(crate) stray: StrayKeys,
 }
 
 impl Model for Netlist {
@@ -32,9 +33,9 @@ impl Model for Netlist {
 
     ghost Value = { NetlistContents };
 
-    ghost view = { λ n. record { version = n.version; cycles = n.cycles; parts = n.parts; nets = n.nets; wires = n.wires; edges = n.edges; near = n.near } };
+    ghost view = { λ n. record { version = n.version; cycles = n.cycles; parts = n.parts; nets = n.nets; wires = n.wires; edges = n.edges; stray = n.stray } };
 
-    ghost invariant = { λ n. IsNetlist (record { version = n.version; cycles = n.cycles; parts = n.parts; nets = n.nets; wires = n.wires; edges = n.edges; near = n.near })
+    ghost invariant = { λ n. IsNetlist (record { version = n.version; cycles = n.cycles; parts = n.parts; nets = n.nets; wires = n.wires; edges = n.edges; stray = n.stray })
         × (n.sheet_names ≡ names_of n.parts) };
 }
 
@@ -59,7 +60,7 @@ impl Netlist {
             nets: Nets::new(alloc),
             wires: Wires::new(alloc),
             edges: Texts::new(alloc)?,
-            near: Texts::new(alloc)?,
+            stray: StrayKeys::new(alloc),
         })
     }
 
@@ -113,11 +114,11 @@ impl Netlist {
         &self.edges
     }
 
-    /// The keys that are passed over and nearly are keys that are read: keys of the tree itself, then keys of its parts, and then keys of its
-    /// nets, in order. A lone netlist has none.
-    pub fn near(&self) -> &Texts
-        ensures near { result.now ≡ self.now.near }
+    /// The keys that are not known: keys of the tree itself, then keys of its parts, and then keys of its nets, in order. A lone netlist has
+    /// none.
+    pub fn stray(&self) -> &StrayKeys
+        ensures stray { result.now ≡ self.now.stray }
     {
-        &self.near
+        &self.stray
     }
 }

@@ -11,8 +11,9 @@ ghost use Rattle.itv_base.specs.Reading.{AgreesWith, walk};
 use crate::fault::NetlistFault;
 use crate::pin_net::{Nets, PinNet};
 use crate::pins::read_pins;
+use crate::tree::owned;
 use itv_base::{Range, RangeFault};
-use json_tree::{EndPair, ends_by, list_of};
+use json_tree::{EndPair, ends_by, list_of, text_at};
 use serde_json::Value;
 use std::alloc::Global;
 
@@ -35,7 +36,7 @@ fn push_net(alloc: Global, nets: &mut Nets, n: u64, element: &Value) -> Result<(
     Ok(())
 }
 
-// The pins and the delay of net n.
+// The name, the pins and the delay of net n.
 fn read_net(alloc: Global, n: u64, element: &Value) -> Result<PinNet, NetlistFault>
     ensures { AgreesWith is_memory (λ net. net) result (net_of n (view element.now)) }
 {
@@ -44,7 +45,8 @@ fn read_net(alloc: Global, n: u64, element: &Value) -> Result<PinNet, NetlistFau
         return Err(NetlistFault::Net(n));
     };
     let delay = range_of(n, ends)?;
-    Ok(PinNet { pins, delay })
+    let name = owned(alloc, text_at(element, "name"))?;
+    Ok(PinNet { name, pins, delay })
 }
 
 // The two ends of a delay. A missing delay is 0.

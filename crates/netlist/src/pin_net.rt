@@ -1,14 +1,16 @@
 //! The nets of a netlist.
 
 ghost use Rattle.std.specs.Prelude.{◌≡◌};
+ghost use Rattle.std.specs.Option.{option_copied};
 
 use crate::pin::PinTexts;
-use itv_base::{Listing, Range};
+use itv_base::{Listing, Range, Text};
 use std::marker::Model;
 
-/// A net: its first pin drives each of the others, with a delay in picoseconds.
+/// A net: its first pin drives each of the others, with a delay in picoseconds. It may have a name.
 #[derive(Drop)]
 pub struct PinNet {
+    pub(crate) name: Option<Text>,
     pub(crate) pins: PinTexts,
     pub(crate) delay: Range,
 }
@@ -18,10 +20,20 @@ impl Model for PinNet {
 
     ghost Value = { JoinedPins };
 
-    ghost view = { λ n. record { pins = n.pins; delay = n.delay } };
+    ghost view = { λ n. record { name = n.name; pins = n.pins; delay = n.delay } };
 }
 
 impl PinNet {
+    /// The name as it is written, if the net has one. It may be any text.
+    pub fn name(&self) -> Option<&str>
+        ensures name { option_copied result ≡ self.now.name }
+    {
+        match &self.name {
+            Some(name) => Some(name.as_text()),
+            None => None,
+        }
+    }
+
     /// The pins in order, at least one.
     pub fn pins(&self) -> &PinTexts
         ensures pins { result.now ≡ self.now.pins }

@@ -18,7 +18,7 @@ use crate::wires::read_wires;
 use crate::{Nets, Wires};
 use itv_base::{MAX_PARTS, MAX_SHEET_NAMES, Texts};
 use json_tree::list_at;
-use near_keys::near_in_netlist;
+use near_keys::stray_in_netlist;
 use serde_json::Value;
 use std::alloc::Global;
 
@@ -26,10 +26,10 @@ use std::alloc::Global;
 ///
 /// A netlist is an object. `itv` is its version, 1 or 2, and `cycles` a whole number from 1 on. `parts` is a list of objects. Each has a `name`
 /// and a `sheet`, and in version 2 may have a `grade`. `nets` may be missing. It is a list of objects. Each has `pins`, a list of texts as
-/// `U1.ADDR`, and may have a `delay`, two ends in picoseconds (null is open). A missing `delay` is 0. `edges` may be missing. It is a list of
-/// wires as `U1.a U2.b @lin [0,250]`. A text without two spaces, or without a label that begins with `@`, is a comment. Every other key is
-/// passed over unread, in version 1 the `grade` of a part too. Of these keys only the near keys are kept: [`near_in_netlist`] says which keys
-/// are near.
+/// `U1.ADDR`, and may have a `delay`, two ends in picoseconds (null is open). A missing `delay` is 0. It may also have a `name`. A name that is
+/// no text counts as missing. `edges` may be missing. It is a list of wires as `U1.a U2.b @lin [0,250]`. A text without two spaces, or without
+/// a label that begins with `@`, is a comment. What stands under any other key is not read, nor, in version 1, the `grade` of a part. The keys
+/// that are not known in any version are kept: [`stray_in_netlist`] says which they are.
 ///
 /// `NoMemory` may come in place of a netlist or a fault. After any fault no netlist was made.
 pub fn read_netlist(alloc: Global, tree: &Value) -> Result<Netlist, NetlistFault>
@@ -41,7 +41,7 @@ pub fn read_netlist(alloc: Global, tree: &Value) -> Result<Netlist, NetlistFault
     let nets = nets_of(alloc, tree)?;
     let wires = wires_of(alloc, tree)?;
     let edges = edges_of(alloc, tree)?;
-    let near = near_in_netlist(alloc, tree)?;
+    let stray = stray_in_netlist(alloc, tree)?;
     Ok(Netlist {
         version,
         cycles,
@@ -50,7 +50,7 @@ pub fn read_netlist(alloc: Global, tree: &Value) -> Result<Netlist, NetlistFault
         nets,
         wires,
         edges,
-        near,
+        stray,
     })
 }
 

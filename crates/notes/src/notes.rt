@@ -1,19 +1,24 @@
 //! Keepers of the notes of a design.
 
-ghost use Rattle.std.specs.Prelude.{◌≡◌, ℕ, List};
-ghost use Rattle.origin.specs.declared.origin.Origin.{Origin as From};
+ghost use Rattle.std.specs.Prelude.{◌≡◌};
+ghost use Rattle.notes.specs.NotesKept.{NotesKept};
 
 use origin::Origin;
 
 /// Keeps the notes of a design.
 pub trait Notes {
-    /// The note of what draws a cause or a row, by the name of the part; empty if there is none.
-    ghost noted: { Self → List ℕ → From → List ℕ };
+    /// The notes, and the speed grades of parts.
+    ghost noted: { Self → NotesKept };
 
     /// The note of what draws a cause of a constraint, or a row. The part is the part of the constraint's target, or of the row's events; it
     /// is not used if the netlist draws the cause or the row. The note is empty if there is none.
     fn note(&self, part: &str, origin: Origin) -> &str
-        ensures note { result.now ≡ noted self.now part.now origin };
+        ensures note { result.now ≡ (noted self.now).note part.now origin };
+
+    /// The speed grade at which the part of a row is drawn, by the name of the part. It is empty if the part has none, or if the netlist draws
+    /// the row.
+    fn grade(&self, part: &str, origin: Origin) -> &str
+        ensures grade { result.now ≡ (noted self.now).grade part.now origin };
 }
 
 /// Keeps no notes.
@@ -23,9 +28,14 @@ pub struct NoNotes;
 impl Notes for NoNotes {
     ghost use Rattle.std.specs.Prelude.{[]};
 
-    ghost noted = { λ _ _ _. [] };
+    ghost noted = { λ _. record { note = λ _ _. []; grade = λ _ _. [] } };
 
     fn note(&self, _part: &str, _origin: Origin) -> &str {
         ""
+    }
+
+    // A grade is kept as little as a note.
+    fn grade(&self, part: &str, origin: Origin) -> &str {
+        self.note(part, origin)
     }
 }

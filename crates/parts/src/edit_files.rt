@@ -2,20 +2,20 @@
 
 use crate::unfit::Unfit;
 use crate::writing::{bytes_of, put_range};
-use edits::{EditsFault, RangeEdit, read_edits};
-use event_graph::Network;
+use drawn::DrawnNetwork;
+use edits::{EditsFault, RangeEdit, Subject, read_edits};
+use itv_base::ShelfMem;
+use numbers::DrawnNumber;
+use reading::open_design;
 use std::alloc::{AllocError, Global};
 use std::fmt::Write;
 
-/// Writes the edits of a file, or its fault. The row has a number and a text: the file has this text so many times.
-pub fn edits(alloc: Global, net: &Network, row: &str, out: &mut String) -> Result<(), Unfit> {
-    let (count, text) = row.split_once(' ').ok_or(())?;
-    let text = bytes_of(alloc, text)?;
-    let mut bytes = Vec::new(alloc);
-    for _ in 0..count.parse::<u32>()? {
-        bytes.extend_from_slice(&text)?;
-    }
-    match read_edits(alloc, net, &bytes) {
+/// Writes the edits of a file, or its fault. The row has a number and a text: the file has this text so many times. Each line of the subject is a
+/// file of the design: its name, a space and its text. The design is the file `d`.
+pub fn edits(alloc: Global, subject: &str, row: &str, out: &mut String) -> Result<(), Unfit> {
+    let drawn = drawn_of(alloc, subject)?;
+    let bytes = repeated(alloc, row)?;
+    match read_edits(alloc, &drawn, &bytes) {
         Ok(edits) => put_edits(edits.as_slice(), out)?,
         Err(EditsFault::Range(line, fault)) => write!(out, "line {line}: {fault}")?,
         Err(fault) => write!(out, "{fault}")?,
@@ -23,11 +23,44 @@ pub fn edits(alloc: Global, net: &Network, row: &str, out: &mut String) -> Resul
     Ok(())
 }
 
+// The drawn network of a subject.
+fn drawn_of(alloc: Global, subject: &str) -> Result<DrawnNetwork, Unfit> {
+    let mut shelf = ShelfMem::new(alloc)?;
+    for line in subject.lines() {
+        let (name, text) = line.split_once(' ').ok_or(())?;
+        shelf.add(alloc, name, text.as_bytes())?;
+    }
+    Ok(open_design(alloc, "d", &mut shelf)?)
+}
+
+// The bytes of a file, as in `2 set 0.0 [0,1]\n`.
+fn repeated(alloc: Global, row: &str) -> Result<Vec<u8>, Unfit> {
+    let (count, text) = row.split_once(' ').ok_or(())?;
+    let text = bytes_of(alloc, text)?;
+    let mut bytes = Vec::new(alloc);
+    for _ in 0..count.parse::<u32>()? {
+        bytes.extend_from_slice(&text)?;
+    }
+    Ok(bytes)
+}
+
 fn put_edits(edits: &[RangeEdit], out: &mut String) -> Result<(), AllocError> {
     out.push_str("edits")?;
     for edit in edits {
-        write!(out, " {}.{} ", edit.constraint, edit.cause)?;
+        put_subject(&edit.subject, out)?;
+        out.push_str(" ")?;
         put_range(edit.range, out)?;
     }
     Ok(())
+}
+
+fn put_subject(subject: &Subject, out: &mut String) -> Result<(), AllocError> {
+    match subject {
+        Subject::Cause(name) => write!(out, " {}.{}", name.constraint, name.cause),
+        Subject::Number(DrawnNumber::Edge { part, edge }) => {
+            write!(out, " {} edge {edge}", part.as_text())
+        }
+        Subject::Number(DrawnNumber::Net(net)) => write!(out, " net {net}"),
+        Subject::Number(DrawnNumber::Wire(wire)) => write!(out, " wire {wire}"),
+    }
 }

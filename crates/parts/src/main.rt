@@ -116,7 +116,7 @@ fn answer_each(
     Ok(())
 }
 
-// Answers a row of a verb that needs no network.
+// Answers a row of a verb that needs no network of a subject.
 fn answer_row(
     alloc: Global,
     verb: &str,
@@ -142,6 +142,7 @@ fn answer_row(
         "verdict" => verdicts::verdict(row, out),
         "raise" => verdicts::raise(row, out),
         "lanes" => closures::lanes(alloc, row, out),
+        "edits" => edit_files::edits(alloc, subject, row, out),
         "no memory" => networks::no_memory(out),
         _ => answer_over(alloc, &network(alloc, subject, out)?, verb, row, out),
     }
@@ -164,9 +165,9 @@ fn answer_over(
         "fall" => falls::fall(alloc, net, row, out),
         "search" => searches::search(alloc, net, row, out),
         "settle" => searches::settle(alloc, net, row, out),
+        "extremes" => searches::extremes(alloc, net, row, out),
         "chain" => explaining::chain(alloc, net, row, out),
         "along" => bounds::along(alloc, net, row, out),
-        "edits" => edit_files::edits(alloc, net, row, out),
         _ => Err(Unfit),
     }
 }

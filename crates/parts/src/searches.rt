@@ -1,4 +1,4 @@
-//! Greatest separations by searches over choices of causes, and whatever the choices.
+//! Greatest separations by searches over choices of causes, whatever the choices, and by both searches.
 
 ghost use Rattle.branch.specs.Work.{IsMadeFor};
 
@@ -8,6 +8,7 @@ use crate::writing::{PairQuestion, asked_of, put_end};
 use branch::{GreatestAnswer, SearchFinding, Work, find, greatest};
 use certificate::TreeScribe;
 use event_graph::{Line, Network};
+use extremes::{Consistency, Extremes, Greatest};
 use settle::{Settled, Settler};
 use std::alloc::{AllocError, Global};
 use std::fmt::Write;
@@ -106,5 +107,34 @@ fn put_settled(answer: Settled, out: &mut String) -> Result<(), AllocError> {
         Settled::Unbounded => out.push_str("unbounded"),
         Settled::Inconsistent => out.push_str("inconsistent"),
         Settled::Spent => out.push_str("spent"),
+    }
+}
+
+/// Writes the greatest separation of a pair by both searches. The word of the row is how many cases the first one may close, and its number how many
+/// turns the second one may take.
+pub fn extremes(alloc: Global, net: &Network, row: &str, out: &mut String) -> Result<(), Unfit> {
+    let asked = asked_of(row)?;
+    let budget = asked.word.parse::<u64>()?;
+    let turns = u64::try_from(asked.number)?;
+    if net.events() <= asked.from.0 || net.events() <= asked.to.0 || budget == 0 {
+        return Err(Unfit);
+    }
+    let mut extremes = Extremes::new(alloc, net, budget, turns)?;
+    match extremes.find(alloc, net)? {
+        Consistency::Consistent => {
+            let found = extremes.greatest(alloc, net, asked.from, asked.to)?;
+            put_greatest(&found, out)?
+        }
+        Consistency::Inconsistent => out.push_str("inconsistent")?,
+        Consistency::Open => out.push_str("open")?,
+    }
+    Ok(())
+}
+
+fn put_greatest(found: &Greatest, out: &mut String) -> Result<(), AllocError> {
+    match found {
+        Greatest::Closed { value, .. } => write!(out, "closed {value}"),
+        Greatest::Unbounded => out.push_str("unbounded"),
+        Greatest::Open => out.push_str("open"),
     }
 }

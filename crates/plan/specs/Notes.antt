@@ -1,20 +1,22 @@
--- The notes of edges and of wires, as they are printed. A note is what a label says in plain words behind everything else. Parts, edges and
--- wires are numbered from 0.
-use Rattle.std.specs.Prelude.{ℕ, Bool, ◌&&◌, ◌==◌, nat_le, if◌then◌else◌, List, [], Option, Some, find, option_and_then, unwrap_or, slice_get, Result, Ok, Err}
+-- The notes of edges and of wires, and the names of nets, as they are printed. A note is what a label says in plain words behind everything
+-- else. Parts, edges, wires and nets are numbered from 0.
+use Rattle.std.specs.Prelude.{ℕ, Bool, ◌&&◌, ◌==◌, nat_le, if◌then◌else◌, List, [], ◌∷◌, Option, Some, None, find, option_and_then, unwrap_or, slice_get, Result, Ok, Err}
 use Rattle.std.specs.List.{list_all}
 use Rattle.std.specs.Option.{option_map_or}
 use Rattle.std.specs.Str.{bytes_eq}
 use Rattle.label_grammar.specs.declared.label.LabelFault.{LabelFault}
-use Rattle.label_grammar.specs.Label.{LooseLabel, fixed_ends}
+use Rattle.label_grammar.specs.Label.{LooseLabel, Span, fixed, named, fixed_ends}
 use Rattle.label_grammar.specs.Reading.{ends_of, span_of, label_of}
 use Rattle.label_grammar.specs.Answer.{judged_label}
 use Rattle.label_grammar.specs.Edge.{EdgeSeen, edge_of}
 use Rattle.label_grammar.specs.Edge as edges
 use Rattle.label_grammar.specs.Wire.{WireSeen, wire_of}
 use Rattle.label_grammar.specs.Wire as wires
+use Rattle.notes.specs.NotesKept.{NotesKept}
 use Rattle.origin.specs.declared.origin.Origin.{Origin}
 use Rattle.origin.specs.declared.origin.Origin.TheVariants.{Lane, Edge, Pin, Wire}
 use Rattle.netlist.specs.declared.part.Part.{Part}
+use Rattle.netlist.specs.NetlistContents.{JoinedPins}
 use Rattle.sheet.specs.SheetContents.{SheetContents}
 use Rattle.compose.specs.Sheets.{key_of}
 use Rattle.plan.specs.Plan.{Planned, sheet_among}
@@ -42,6 +44,27 @@ note_by (Err fault) = []
 abbrev pub label_note : ℕ → List ℕ → List ℕ
 label_note version label = if version == 2 then note_by (judged_label fixed_ends (label_of span_of label)) else note_by (judged_label (λ ends. Some ends) (label_of ends_of label))
 
+-- a text, or another one where it is empty
+abbrev pub text_or : List ℕ → List ℕ → List ℕ
+text_or [] other = other
+text_or (b ∷ text) other = b ∷ text
+
+-- a note as it is printed, or where that is empty the name of the parameter that stands for the ends, if one does
+abbrev pub titled : List ℕ → Option Span → List ℕ
+titled note None = note
+titled note (Some (fixed ends)) = note
+titled note (Some (named name)) = text_or note (printed_note (Some name))
+
+-- the note of a label of version 2 that was read, or the name of its parameter where the note is empty or can't be printed
+abbrev pub title_by : Result (LooseLabel Span) LabelFault → List ℕ
+title_by (Ok label) = titled (printed_note label.note) label.ends
+title_by (Err fault) = []
+
+-- what a label is called, in the version of the netlist: its note or, where that is empty, the name of its parameter
+abbrev pub label_title : ℕ → List ℕ → List ℕ
+label_title version label =
+    if version == 2 then title_by (judged_label fixed_ends (label_of span_of label)) else note_by (judged_label (λ ends. Some ends) (label_of ends_of label))
+
 -- ---- edges and wires
 
 abbrev pub edge_seen_note : ℕ → EdgeSeen → List ℕ
@@ -51,6 +74,14 @@ edge_seen_note version edge = []
 -- the note of the text of an edge of a sheet; a comment has none
 abbrev pub edge_note : ℕ → List ℕ → List ℕ
 edge_note version text = edge_seen_note version (edge_of text)
+
+abbrev pub edge_seen_title : ℕ → EdgeSeen → List ℕ
+edge_seen_title version (edges.timing from to label) = label_title version label
+edge_seen_title version edge = []
+
+-- what the text of an edge of a sheet is called: its note or, where that is empty, the name of its parameter; a comment has neither
+abbrev pub edge_title : ℕ → List ℕ → List ℕ
+edge_title version text = edge_seen_title version (edge_of text)
 
 abbrev pub wire_seen_note : WireSeen → List ℕ
 wire_seen_note (wires.timing from to label) = label_note 1 label
@@ -70,13 +101,33 @@ edge_on plan part n = option_and_then (λ (sheet : SheetContents). slice_get she
 abbrev pub edge_named : Planned → List ℕ → ℕ → Option (List ℕ)
 edge_named plan name n = option_and_then (λ (part : Part). edge_on plan part n) (find (λ (part : Part). bytes_eq name part.name) plan.netlist.parts)
 
--- the note of an edge of a part, by the name of the part; empty if there is no such part or edge
+-- what an edge of a part is called, by the name of the part; empty if there is no such part or edge
 abbrev pub part_note : Planned → List ℕ → ℕ → List ℕ
-part_note plan name n = option_map_or (edge_note plan.netlist.version) (edge_named plan name n) []
+part_note plan name n = option_map_or (edge_title plan.netlist.version) (edge_named plan name n) []
 
--- The note of what draws a cause or a row, by the name of the part: the note of an edge of its sheet, or the note of a wire. Lanes and
--- pins have no note.
+-- the name of a net, or an empty text; a name that can't be printed is left out
+abbrev pub net_note : JoinedPins → List ℕ
+net_note net = printed_note net.name
+
+-- The note of what draws a cause or a row, by the name of the part. An edge of its sheet without a note has the name of its parameter in place
+-- of one, and a pin the name of its net. Lanes have no note.
 abbrev pub plan_note : Planned → List ℕ → Origin → List ℕ
 plan_note plan part (Edge n) = part_note plan part n
 plan_note plan part (Wire n) = option_map_or wire_note (slice_get plan.netlist.edges n) []
-plan_note plan part origin = []
+plan_note plan part (Pin net pin) = option_map_or net_note (slice_get plan.netlist.nets net) []
+plan_note plan part (Lane n) = []
+
+-- the speed grade of the first part with a name, or an empty text
+abbrev pub part_grade : Planned → List ℕ → List ℕ
+part_grade plan name = unwrap_or (option_and_then (λ (part : Part). part.grade) (find (λ (part : Part). bytes_eq name part.name) plan.netlist.parts)) []
+
+-- the speed grade that an edge is drawn at, by the name of its part; what is drawn by the order of a lane or by the netlist has none
+abbrev pub plan_grade : Planned → List ℕ → Origin → List ℕ
+plan_grade plan part (Edge n) = part_grade plan part
+plan_grade plan part (Wire n) = []
+plan_grade plan part (Pin net pin) = []
+plan_grade plan part (Lane n) = []
+
+-- the notes of a plan, and the speed grades of its parts
+abbrev pub plan_notes : Planned → NotesKept
+plan_notes plan = record { note = plan_note plan; grade = plan_grade plan }

@@ -1,18 +1,19 @@
 //! A plan.
 
-ghost use Rattle.std.specs.Prelude.{◌≡◌, ◌<◌, [], Some, IfOk, IfSome, length, option_and_then, slice_get};
+ghost use Rattle.std.specs.Prelude.{◌≡◌, ◌<◌, [], Some, IfOk, IfSome, find, length, option_and_then, slice_get, unwrap_or};
 ghost use Rattle.std.specs.Option.{option_copied, option_map_or};
+ghost use Rattle.std.specs.Str.{bytes_eq};
 ghost use Rattle.compose.specs.Nets.{part_named};
 ghost use Rattle.compose.specs.Sheets.{key_of};
 ghost use Rattle.netlist.specs.declared.part.Part.{Part as PartSeen};
-ghost use Rattle.plan.specs.Notes.{edge_named, part_note, plan_note, wire_note};
+ghost use Rattle.plan.specs.Notes.{edge_named, net_note, part_grade, part_note, plan_note, wire_note};
 ghost use Rattle.plan.specs.Plan.{IsPlan, sheet_among};
 
-use crate::label_note::{edge_note, wire_note};
+use crate::label_note::{edge_title, net_note, wire_note};
 use crate::places::places_of;
 use compose::Sheets;
 use itv_base::{NoMemory, Texts};
-use netlist::{Netlist, Part};
+use netlist::{Netlist, Nets, Part};
 use notes::Notes;
 use origin::Origin;
 use sheet::Sheet;
@@ -69,23 +70,33 @@ impl Plan {
         &self.sheets
     }
 
-    // The note of an edge of the sheet of a part, by the name of the part.
+    // What an edge of the sheet of a part is called, by the name of the part.
     fn part_note(&self, name: &str, n: u64) -> &str
         ensures { result.now ≡ part_note self.now name.now n }
     {
         match self.edge_named(name, n) {
-            Some(edge) => edge_note(self.netlist.version(), edge),
+            Some(edge) => edge_title(self.netlist.version(), edge),
             None => "",
         }
     }
 
-    // The text of an edge of the sheet of a part, if it is there.
-    fn edge_named(&self, name: &str, n: u64) -> Option<&str>
-        ensures { option_copied result ≡ edge_named self.now name.now n }
+    /// The text of an edge of the sheet of the first part with a name, if it is there. Edges are counted from 0.
+    pub fn edge_named(&self, name: &str, n: u64) -> Option<&str>
+        ensures text { option_copied result ≡ edge_named self.now name.now n }
     {
         match part_named(self.netlist.parts().as_slice(), name) {
             Some(part) => text_at(self.sheet_of(part).edges(), n),
             None => None,
+        }
+    }
+
+    // The speed grade of the part with a name, or an empty text.
+    fn part_grade(&self, name: &str) -> &str
+        ensures { result.now ≡ part_grade self.now name.now }
+    {
+        match part_called(self.netlist.parts().as_slice(), name) {
+            Some(part) => grade_of(part),
+            None => "",
         }
     }
 
@@ -109,6 +120,23 @@ fn part_named(parts: &[Part], name: &str) -> Option<usize>
     parts.iter().position(|part| name == part.name.as_text())
 }
 
+// The first part with a name.
+fn part_called<'a>(parts: &'a [Part], name: &str) -> Option<&'a Part>
+    ensures { option_copied result ≡ find (λ (part : PartSeen). bytes_eq name.now part.name) parts.now }
+{
+    parts.iter().find(|part| name == part.name.as_text())
+}
+
+// The speed grade of a part, or an empty text.
+fn grade_of(part: &Part) -> &str
+    ensures { result.now ≡ unwrap_or part.now.grade [] }
+{
+    match &part.grade {
+        Some(grade) => grade.as_text(),
+        None => "",
+    }
+}
+
 // The text of a number, if it is there.
 fn text_at(texts: &Texts, n: u64) -> Option<&str>
     ensures { option_copied result ≡ slice_get texts.now n }
@@ -120,10 +148,21 @@ fn text_at(texts: &Texts, n: u64) -> Option<&str>
     }
 }
 
-impl Notes for Plan {
-    ghost use Rattle.plan.specs.Notes.{plan_note};
+// The name of the net of a number, or an empty text where there is no such net or it has no name that can be printed.
+fn net_name(nets: &Nets, n: u64) -> &str
+    ensures { result.now ≡ option_map_or net_note (slice_get nets.now n) [] }
+{
+    if n < nets.len() {
+        net_note(nets.get(n))
+    } else {
+        ""
+    }
+}
 
-    ghost noted = { plan_note };
+impl Notes for Plan {
+    ghost use Rattle.plan.specs.Notes.{plan_notes};
+
+    ghost noted = { plan_notes };
 
     fn note(&self, part: &str, origin: Origin) -> &str {
         match origin {
@@ -132,7 +171,15 @@ impl Notes for Plan {
                 Some(wire) => wire_note(wire),
                 None => "",
             },
-            Origin::Lane(_) | Origin::Pin { .. } => "",
+            Origin::Pin { net, .. } => net_name(self.netlist.nets(), net),
+            Origin::Lane(_) => "",
+        }
+    }
+
+    fn grade(&self, part: &str, origin: Origin) -> &str {
+        match origin {
+            Origin::Edge(_) => self.part_grade(part),
+            Origin::Wire(_) | Origin::Pin { .. } | Origin::Lane(_) => "",
         }
     }
 }

@@ -1,3 +1,5 @@
 pub mod EachLists
 pub mod RowLists
 pub mod PinLists
+pub mod LeadLists
+pub mod Middle

@@ -3,5 +3,12 @@ pub use Rattle.plan.specs.Notes
 pub use Rattle.plan.specs.Plan
 pub use Rattle.compose.specs.Compose
 pub use Rattle.compose.specs.Joins
+pub mod Lists
+pub mod Texts
+pub mod Leads
+pub mod Rules
+pub mod Periods
+pub mod Driven
+pub mod Units
 pub mod Warnings
 pub mod Step

@@ -1,5 +1,5 @@
 -- Words of the contracts by which the functions of this crate find warnings.
-use Rattle.std.specs.Prelude.{ℕ, Bool, ◌-◌, ◌==◌, ◌&&◌, ◌||◌, nat_le, nat_lt, List, [], ◌∷◌, Option, Some, None, find, option_map, All}
+use Rattle.std.specs.Prelude.{◌≡◌, ℕ, Bool, ◌+◌, ◌-◌, ◌*◌, ◌==◌, ◌&&◌, not, nat_le, nat_lt, List, [], ◌∷◌, length, Option, Some, None, find, option_map, count_by, All}
 use Rattle.origin.specs.declared.origin.Origin.{Origin}
 use Rattle.compose.specs.declared.joins.Join.{Join}
 use Rattle.compose.specs.declared.joins.PinJoins.{PinJoins}
@@ -8,13 +8,7 @@ use Rattle.compose.specs.Design.{Composed, IsDesign, IsJoinOf}
 use Rattle.compose.specs.Joins.{pin_joins}
 use Rattle.warnings.specs.declared.warning.Warning.{Warning}
 use Rattle.warnings.specs.declared.warning.Warning.TheVariants.{Drivers}
-use Rattle.warnings.specs.Warnings.{is_into}
-
--- ---- units
-
--- a letter that makes a smaller unit in front of the `s` of a second: f, p, n, u or m
-abbrev pub is_scale : ℕ → Bool
-is_scale letter = letter == 102 || (letter == 112 || (letter == 110 || (letter == 117 || letter == 109)))
+use Rattle.warnings.specs.Driven.{drives_too}
 
 -- ---- joins
 
@@ -22,9 +16,17 @@ is_scale letter = letter == 102 || (letter == 112 || (letter == 110 || (letter =
 abbrev pub goes_into : PinJoins → DesignMark → ℕ → Bool
 goes_into pin mark count = pin.driven.part == mark.part && (nat_le pin.driven.mark mark.mark && nat_lt (mark.mark - pin.driven.mark) count)
 
--- what draws the first of some joins that goes into a mark
-abbrev pub drew_into : DesignMark → List Join → Option Origin
-drew_into mark joins = option_map (λ (join : Join). join.origin) (find (is_into mark) joins)
+-- the join of a pin into the mark of a join comes from the mark that this join comes from
+abbrev pub shares_from : PinJoins → Join → Bool
+shares_from pin join = pin.driver.part == join.from.part && pin.driver.mark + join.to.mark == join.from.mark + pin.driven.mark
+
+-- one of the first joins of a pin, so many of them, goes into the mark of a join, from another mark
+abbrev pub goes_along : PinJoins → Join → ℕ → Bool
+goes_along pin join count = goes_into pin join.to count && not (shares_from pin join)
+
+-- what draws the first of some joins that goes into the mark of a join, from another mark
+abbrev pub drew_too : Join → List Join → Option Origin
+drew_too join joins = option_map (λ (other : Join). other.origin) (find (drives_too join) joins)
 
 -- the warning of a mark that follows a second driver, by what draws both joins; none where there is no first join
 abbrev pub drivers_by : DesignMark → Origin → Option Origin → List Warning
@@ -35,3 +37,17 @@ drivers_by mark other (Some first) = Drivers mark first other ∷ []
 pub record IsPinOf (d : Composed) (pin : PinJoins) : Type 0 where
   pub design : IsDesign d
   pub joins : All (IsJoinOf d.sheets) (pin_joins pin)
+
+-- ---- the middle of sizes
+
+-- more than half of some sizes are above a number
+abbrev pub has_most_above : List ℕ → ℕ → Bool
+has_most_above sizes number = nat_lt (length sizes) (2 * count_by (nat_lt number) sizes)
+
+-- more than half of the sizes are above all lower numbers, and above no other number
+abbrev pub IsMiddle : List ℕ → ℕ → Type 0
+IsMiddle sizes middle = (number : ℕ) → has_most_above sizes number ≡ nat_lt number middle
+
+-- 200 times a size is below the middle
+abbrev pub is_below : ℕ → ℕ → Bool
+is_below middle size = nat_lt (200 * size) middle

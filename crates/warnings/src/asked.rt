@@ -1,14 +1,16 @@
 //! Whether a design asks anything.
 
-ghost use Rattle.std.specs.Prelude.{◌≡◌, ◌++◌, ◌==◌, OnOk, length};
+ghost use Rattle.std.specs.Prelude.{◌≡◌, ◌++◌, ◌==◌, OnOk, length, slice_get};
+ghost use Rattle.std.specs.Option.{option_copied};
 ghost use Rattle.compose.specs.Design.{IsDesign};
 ghost use Rattle.unroll.specs.Cycle.{rows_of};
-ghost use Rattle.warnings.specs.Warnings.{row_warnings};
+ghost use Rattle.warnings.specs.Rules.{row_warnings};
 
 use crate::push::push_where;
 use crate::warning::Warning;
 use compose::Design;
 use itv_base::NoMemory;
+use sheet::Sheet;
 
 /// Puts the warning of a design without rows at the end.
 pub fn push_asked(warnings: &mut Vec<Warning>, design: &Design<'_>) -> Result<(), NoMemory>
@@ -36,4 +38,15 @@ pub fn part_count(design: &Design<'_>) -> u32
     // There are few parts, and each has a sheet.
     let _cycles = design.cycles();
     design.parts().len() as u32
+}
+
+/// The sheet of a part, if there is such a part.
+pub fn sheet_at<'a>(design: &'a Design<'_>, part: u32) -> Option<&'a Sheet>
+    ensures sheet { option_copied result ≡ slice_get design.now.sheets part }
+{
+    if part < part_count(design) {
+        Some(design.sheet_of(part))
+    } else {
+        None
+    }
 }

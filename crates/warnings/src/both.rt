@@ -2,21 +2,36 @@
 
 ghost use Rattle.std.specs.Prelude.{◌≡◌, ◌++◌, OnOk, find};
 ghost use Rattle.std.specs.Option.{option_copied};
-ghost use Rattle.warnings.specs.Warnings.{both_in, both_warnings, each_from, meet, of_two, rule_both, same_mark, sheet_both};
+ghost use Rattle.warnings.specs.Leads.{leads_of};
+ghost use Rattle.warnings.specs.Lists.{each_from};
+ghost use Rattle.warnings.specs.Rules.{both_in, both_warnings, meet, of_two, rule_both, same_mark, sheet_both};
 
+use crate::across::push_across;
 use crate::asked::part_count;
-use crate::rule::{drawn_by, from_mark, is_upper};
+use crate::lead::Lead;
+use crate::rule::{drawn_by, from_mark};
+use crate::skew::is_cap;
 use crate::warning::{DrawnPlace, Warning};
 use compose::Design;
-use itv_base::NoMemory;
+use itv_base::{NoMemory, Texts};
+use plan::Plan;
 use sheet::Rule;
 
-/// Puts the warnings of two rules for one mark at the end, first for the sheets, and then for the wires.
-pub fn push_both(warnings: &mut Vec<Warning>, design: &Design<'_>) -> Result<(), NoMemory>
-    ensures pushed { OnOk result (warnings.new.items ≡ warnings.old.items ++ both_warnings design.now) }
+/// Puts the warnings of two rules for one mark at the end: first within each sheet, then within the netlist, and then between a sheet and the netlist.
+/// The leads are those of the design.
+pub fn push_both(
+    warnings: &mut Vec<Warning>,
+    leads: &[Lead],
+    plan: &Plan,
+    design: &Design<'_>,
+) -> Result<(), NoMemory>
+    requires leads { leads.now ≡ leads_of design.now }
+    ensures pushed { OnOk result (warnings.new.items ≡ warnings.old.items ++ both_warnings plan.now design.now) }
 {
+    let texts = plan.netlist().edges();
     push_sheets(warnings, design)?;
-    push_rules(warnings, 0, design.wire_rules().as_slice())
+    push_rules(warnings, 0, texts, design.wire_rules().as_slice())?;
+    push_across(warnings, texts, leads, design)
 }
 
 // Puts the warnings of the sheets at the end.
@@ -24,17 +39,23 @@ fn push_sheets(warnings: &mut Vec<Warning>, design: &Design<'_>) -> Result<(), N
     ensures pushed { OnOk result (warnings.new.items ≡ warnings.old.items ++ each_from sheet_both 0 design.now.sheets) }
 {
     for part in 0..part_count(design) {
-        push_rules(warnings, part, design.sheet_of(part).rules().as_slice())?;
+        let sheet = design.sheet_of(part);
+        push_rules(warnings, part, sheet.edges(), sheet.rules().as_slice())?;
     }
     Ok(())
 }
 
-// Puts the warnings of some rules at the end.
-fn push_rules(warnings: &mut Vec<Warning>, part: u32, rules: &[Rule]) -> Result<(), NoMemory>
-    ensures pushed { OnOk result (warnings.new.items ≡ warnings.old.items ++ both_in part rules.now) }
+// Puts the warnings of some rules, whose edges have these texts, at the end.
+fn push_rules(
+    warnings: &mut Vec<Warning>,
+    part: u32,
+    texts: &Texts,
+    rules: &[Rule],
+) -> Result<(), NoMemory>
+    ensures pushed { OnOk result (warnings.new.items ≡ warnings.old.items ++ both_in part texts.now rules.now) }
 {
     for n in 0..rules.len() {
-        push_rule(warnings, part, &rules[n], &rules[..n])?;
+        push_rule(warnings, part, texts, &rules[n], &rules[..n])?;
     }
     Ok(())
 }
@@ -43,12 +64,13 @@ fn push_rules(warnings: &mut Vec<Warning>, part: u32, rules: &[Rule]) -> Result<
 fn push_rule(
     warnings: &mut Vec<Warning>,
     part: u32,
+    texts: &Texts,
     rule: &Rule,
     before: &[Rule],
 ) -> Result<(), NoMemory>
-    ensures pushed { OnOk result (warnings.new.items ≡ warnings.old.items ++ rule_both part before.now rule.now) }
+    ensures pushed { OnOk result (warnings.new.items ≡ warnings.old.items ++ rule_both part texts.now before.now rule.now) }
 {
-    push_two(warnings, part, rule, first_met(rule, before))
+    push_two(warnings, part, rule, first_met(texts, rule, before))
 }
 
 // Puts the warning of a rule and an earlier rule that it meets at the end, if there is an earlier rule.
@@ -80,20 +102,24 @@ fn push_two(
 }
 
 // The first of some rules that a rule meets.
-fn first_met<'a>(rule: &Rule, before: &'a [Rule]) -> Option<&'a Rule>
-    ensures { option_copied result ≡ find (meet rule.now) before.now }
+fn first_met<'a>(texts: &Texts, rule: &Rule, before: &'a [Rule]) -> Option<&'a Rule>
+    ensures { option_copied result ≡ find (meet texts.now rule.now) before.now }
 {
-    before.iter().find(|earlier| meet(rule, earlier))
+    before.iter().find(|earlier| meet(texts, rule, earlier))
 }
 
-// Whether two linear rules from different marks hold one mark from above.
-fn meet(a: &Rule, b: &Rule) -> bool
-    ensures { result ≡ meet a.now b.now }
+// Whether two linear rules from different marks hold one mark from above, and neither is a skew.
+fn meet(texts: &Texts, a: &Rule, b: &Rule) -> bool
+    ensures { result ≡ meet texts.now a.now b.now }
 {
-    is_upper(a) && is_upper(b) && a.target() == b.target() && !same_mark(from_mark(a), from_mark(b))
+    a.target() == b.target()
+        && !same_mark(from_mark(a), from_mark(b))
+        && is_cap(texts, a)
+        && is_cap(texts, b)
 }
 
-fn same_mark(a: Option<u32>, b: Option<u32>) -> bool
+/// Whether two marks of one sheet are one mark. A mark that is not known may be any.
+pub fn same_mark(a: Option<u32>, b: Option<u32>) -> bool
     ensures { result ≡ same_mark a b }
 {
     match (a, b) {

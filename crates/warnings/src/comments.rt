@@ -4,7 +4,8 @@ ghost use Rattle.std.specs.Prelude.{◌≡◌, ◌++◌, OnOk};
 ghost use Rattle.std.specs.List.{list_any};
 ghost use Rattle.label_grammar.specs.Edge.{edge_of};
 ghost use Rattle.label_grammar.specs.Wire.{wire_of};
-ghost use Rattle.warnings.specs.Warnings.{comment_warnings, each_from, edge_comment, is_edge_comment, is_sign, is_wire_comment, netlist_part, sheet_comments, wire_comment};
+ghost use Rattle.warnings.specs.Lists.{each_from};
+ghost use Rattle.warnings.specs.Texts.{comment_warnings, edge_comment, is_edge_comment, is_sign, is_wire_comment, sheet_comments, wire_comment};
 
 use crate::asked::part_count;
 use crate::push::push_where;
@@ -78,7 +79,8 @@ fn push_wire(warnings: &mut Vec<Warning>, n: u64, text: &str) -> Result<(), NoMe
     push_where(given, Warning::Comment(DrawnPlace::wire(n)), warnings)
 }
 
-fn is_edge_comment(text: &str) -> bool
+/// Whether the text of an edge of a sheet is a comment.
+pub fn is_edge_comment(text: &str) -> bool
     ensures { result ≡ is_edge_comment (edge_of text.now) }
 {
     match read_edge(text) {
@@ -87,7 +89,8 @@ fn is_edge_comment(text: &str) -> bool
     }
 }
 
-fn is_wire_comment(text: &str) -> bool
+/// Whether the text of an edge of the netlist is a comment.
+pub fn is_wire_comment(text: &str) -> bool
     ensures { result ≡ is_wire_comment (wire_of text.now) }
 {
     match read_wire(text) {
@@ -96,8 +99,8 @@ fn is_wire_comment(text: &str) -> bool
     }
 }
 
-// Whether a text has `@` or an opening bracket.
-fn has_sign(text: &[u8]) -> bool
+/// Whether a text has `@` or an opening bracket.
+pub fn has_sign(text: &[u8]) -> bool
     ensures { result ≡ list_any is_sign text.now }
 {
     text.iter().any(|byte| is_sign(*byte))

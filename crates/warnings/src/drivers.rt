@@ -2,12 +2,13 @@
 
 ghost use Rattle.std.specs.Prelude.{◌≡◌, ◌++◌, OnOk};
 ghost use Rattle.compose.specs.Joins.{joins_of_pins, pin_joins};
+ghost use Rattle.warnings.specs.Driven.{driver_warnings, join_drivers};
+ghost use Rattle.warnings.specs.Lists.{each_behind};
 ghost use Rattle.warnings.specs.Step.{IsPinOf, drivers_by};
-ghost use Rattle.warnings.specs.Warnings.{driver_warnings, each_behind, join_drivers};
 
-use crate::pins::{drew_into, driven_mark};
+use crate::pins::{drew_too, join_of};
 use crate::warning::Warning;
-use compose::{Design, DesignMark, PinJoins};
+use compose::{Design, DesignMark, Join, PinJoins};
 use itv_base::NoMemory;
 use origin::Origin;
 
@@ -35,10 +36,16 @@ fn push_pin(
     ensures pushed { OnOk result (warnings.new.items ≡ warnings.old.items ++ each_behind join_drivers (joins_of_pins before.now) (pin_joins pin.now)) }
 {
     for k in 0..pin.marks {
-        let mark = driven_mark(pin, k, design);
-        push_mark(warnings, mark, drew_into(mark, before), pin.origin)?;
+        push_join(warnings, &join_of(pin, k, design), before)?;
     }
     Ok(())
+}
+
+// Puts the warning of a join, behind other pins, at the end, if the join has one.
+fn push_join(warnings: &mut Vec<Warning>, join: &Join, before: &[PinJoins]) -> Result<(), NoMemory>
+    ensures pushed { OnOk result (warnings.new.items ≡ warnings.old.items ++ join_drivers (joins_of_pins before.now) join.now) }
+{
+    push_mark(warnings, join.to, drew_too(join, before), join.origin)
 }
 
 // Puts the warning of a mark at the end, by what draws the first join into it and another. Without a first join there is none.

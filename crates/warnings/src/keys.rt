@@ -1,15 +1,17 @@
-//! Keys that are passed over, and nearly are keys that are read.
+//! Keys of sheets that nearly are keys which are read, and keys of the netlist that are not known.
 
 ghost use Rattle.std.specs.Prelude.{◌≡◌, ◌++◌, OnOk};
-ghost use Rattle.warnings.specs.Warnings.{each_from, key_warnings, netlist_key, sheet_key, sheet_key_warnings};
+ghost use Rattle.warnings.specs.Lists.{each_from};
+ghost use Rattle.warnings.specs.Texts.{key_warnings, netlist_key, sheet_key, sheet_key_warnings};
 
 use crate::asked::part_count;
 use crate::warning::Warning;
 use compose::Design;
 use itv_base::{NoMemory, Texts};
+use near_keys::StrayKeys;
 use plan::Plan;
 
-/// Puts the warnings of near keys at the end, first for the sheets, and then for the netlist.
+/// Puts the warnings of keys at the end: of near keys of the sheets, and then of stray keys of the netlist.
 pub fn push_keys(
     warnings: &mut Vec<Warning>,
     plan: &Plan,
@@ -18,7 +20,7 @@ pub fn push_keys(
     ensures pushed { OnOk result (warnings.new.items ≡ warnings.old.items ++ key_warnings plan.now design.now) }
 {
     push_sheets(warnings, design)?;
-    push_netlist(warnings, plan.netlist().near())
+    push_netlist(warnings, plan.netlist().stray())
 }
 
 // Puts the warnings of the sheets at the end.
@@ -42,10 +44,10 @@ fn push_sheet(warnings: &mut Vec<Warning>, part: u32, near: &Texts) -> Result<()
 }
 
 // Puts the warnings of the keys of the netlist at the end.
-fn push_netlist(warnings: &mut Vec<Warning>, near: &Texts) -> Result<(), NoMemory>
-    ensures pushed { OnOk result (warnings.new.items ≡ warnings.old.items ++ each_from netlist_key 0 near.now) }
+fn push_netlist(warnings: &mut Vec<Warning>, stray: &StrayKeys) -> Result<(), NoMemory>
+    ensures pushed { OnOk result (warnings.new.items ≡ warnings.old.items ++ each_from netlist_key 0 stray.now) }
 {
-    for key in 0..near.len() {
+    for key in 0..stray.len() {
         warnings.push(Warning::NetlistKey(key))?;
     }
     Ok(())

@@ -1,18 +1,20 @@
 //! Notes that look like what belongs in front of them.
 
-ghost use Rattle.std.specs.Prelude.{◌≡◌, ◌++◌, OnOk};
-ghost use Rattle.std.specs.List.{before_first};
-ghost use Rattle.itv_base.specs.Cuts.{is_space};
-ghost use Rattle.warnings.specs.Step.{is_scale};
-ghost use Rattle.warnings.specs.Warnings.{each_from, edge_note_warning, is_misplaced, is_unit, note_warnings, sheet_notes, small, wire_note_warning};
+ghost use Rattle.std.specs.Prelude.{◌≡◌, ◌≤◌, ◌==◌, ◌++◌, OnOk, length, slice_index};
+ghost use Rattle.std.specs.List.{before_first, list_any, prefix_len, position_or_len};
+ghost use Rattle.itv_base.specs.Cuts.{after_while};
+ghost use Rattle.warnings.specs.Lists.{each_from};
+ghost use Rattle.warnings.specs.Texts.{edge_note_warning, is_before_word, is_misplaced, is_unit, is_word_end, note_warnings, same_letters, sheet_notes, wire_note_warning};
 
 use crate::asked::part_count;
+use crate::letters::same_letters;
 use crate::push::push_where;
 use crate::warning::{DrawnPlace, Warning};
+use crate::written::{edge_written, wire_written};
 use compose::Design;
 use itv_base::{NoMemory, Texts};
 use origin::Origin;
-use plan::{Plan, edge_note, wire_note};
+use plan::Plan;
 
 /// Puts the warnings of notes at the end, first for the sheets, and then for the netlist.
 pub fn push_notes(
@@ -65,7 +67,7 @@ fn push_edge(
 ) -> Result<(), NoMemory>
     ensures pushed { OnOk result (warnings.new.items ≡ warnings.old.items ++ edge_note_warning version part n text.now) }
 {
-    let given = is_misplaced(edge_note(version, text));
+    let given = is_misplaced(from_first_word(edge_written(version, text).as_bytes()));
     let origin = Origin::Edge(n);
     push_where(given, Warning::Note(DrawnPlace { part, origin }), warnings)
 }
@@ -84,52 +86,98 @@ fn push_wires(warnings: &mut Vec<Warning>, edges: &Texts) -> Result<(), NoMemory
 fn push_wire(warnings: &mut Vec<Warning>, n: u64, text: &str) -> Result<(), NoMemory>
     ensures pushed { OnOk result (warnings.new.items ≡ warnings.old.items ++ wire_note_warning n text.now) }
 {
-    let given = is_misplaced(wire_note(text));
+    let given = is_misplaced(from_first_word(wire_written(text).as_bytes()));
     push_where(given, Warning::Note(DrawnPlace::wire(n)), warnings)
 }
 
-// Whether a note begins with a unit of time or with an opening bracket.
-fn is_misplaced(note: &str) -> bool
-    ensures { result ≡ is_misplaced note.now }
+// A note from its first word on: spaces and opening round brackets may stand before the word.
+fn from_first_word(note: &[u8]) -> &[u8]
+    ensures { result.now ≡ after_while is_before_word note.now }
 {
-    is_unit(first_word(note).as_bytes()) || note.starts_with('[')
+    &note[front_len(note)..]
 }
 
-// The text before the first space.
-fn first_word(text: &str) -> &str
-    ensures { result.now ≡ before_first is_space text.now }
+fn front_len(note: &[u8]) -> usize
+    ensures count { result ≡ prefix_len is_before_word note.now }
+    ensures within { result ≤ length note.now }
 {
-    match text.split_once(' ') {
-        Some((word, _)) => word,
-        None => text,
+    note.iter()
+        .take_while(|byte| is_before_word(**byte))
+        .count()
+}
+
+fn is_before_word(byte: u8) -> bool
+    ensures { result ≡ is_before_word byte }
+{
+    byte == b' ' || byte == b'('
+}
+
+// Whether a note from its first word on begins with a unit of time or with an opening bracket.
+fn is_misplaced(note: &[u8]) -> bool
+    ensures { result ≡ is_misplaced note.now }
+{
+    is_unit(first_word(note)) || begins_with_bracket(note)
+}
+
+fn begins_with_bracket(note: &[u8]) -> bool
+    ensures { result ≡ (slice_index note.now 0 == 91) }
+{
+    match note {
+        [first, ..] => *first == b'[',
+        [] => false,
     }
 }
 
-// Whether a word is a unit of time, in any letters.
+// The bytes before the first byte that ends a word.
+fn first_word(note: &[u8]) -> &[u8]
+    ensures { result.now ≡ before_first is_word_end note.now }
+{
+    &note[..word_len(note)]
+}
+
+fn word_len(note: &[u8]) -> usize
+    ensures count { result ≡ position_or_len is_word_end note.now }
+    ensures within { result ≤ length note.now }
+{
+    note.iter().take_while(|byte| !is_word_end(**byte)).count()
+}
+
+fn is_word_end(byte: u8) -> bool
+    ensures { result ≡ is_word_end byte }
+{
+    matches!(byte, b' ' | b',' | b'.' | b';' | b':' | b')')
+}
+
+// Whether a word is a unit of time, in any letters. The micro sign and the Greek letter mu have two bytes each.
 fn is_unit(word: &[u8]) -> bool
     ensures { result ≡ is_unit word.now }
 {
-    match word {
-        [last] => small(*last) == b's',
-        [scale, last] => is_scale(small(*scale)) && small(*last) == b's',
-        _ => false,
-    }
+    is_one_of(
+        word,
+        &[
+            b"fs",
+            b"ps",
+            b"ns",
+            b"us",
+            b"ms",
+            b"s",
+            b"\xC2\xB5s",
+            b"\xCE\xBCs",
+            b"fsec",
+            b"psec",
+            b"nsec",
+            b"usec",
+            b"msec",
+            b"sec",
+            b"\xC2\xB5sec",
+            b"\xCE\xBCsec",
+        ],
+    )
 }
 
-// Whether a letter makes a smaller unit in front of the `s` of a second.
-fn is_scale(letter: u8) -> bool
-    ensures { result ≡ is_scale letter }
+// Whether a word differs from one of some words at most by capitals.
+fn is_one_of(word: &[u8], words: &[&[u8]]) -> bool
+    ensures { result ≡ list_any (λ w. same_letters word.now w.now) words.now }
 {
-    matches!(letter, b'f' | b'p' | b'n' | b'u' | b'm')
-}
-
-// A small letter for a capital letter of ASCII. Any other byte stays.
-fn small(byte: u8) -> u8
-    ensures { result ≡ small byte }
-{
-    if b'A' <= byte && byte <= b'Z' {
-        byte + 32
-    } else {
-        byte
-    }
+    words.iter().any(|other| same_letters(word, other))
 }

@@ -2,11 +2,12 @@
 
 ghost use Rattle.std.specs.Prelude.{◌≡◌, ◌++◌, OnOk};
 ghost use Rattle.unroll.specs.Cycles.{rule_exists};
-ghost use Rattle.warnings.specs.Warnings.{each_from, keeps_order, never_rows, never_rules, never_warnings, row_never, rule_never, sheet_never};
+ghost use Rattle.warnings.specs.Lists.{each_from};
+ghost use Rattle.warnings.specs.Rules.{never_rows, never_rules, never_warnings, row_never, rule_never, sheet_never};
 
 use crate::asked::part_count;
 use crate::push::push_where;
-use crate::rule::{drawn_by, spot_of};
+use crate::rule::{keeps_order, spot_of};
 use crate::warning::{DrawnPlace, Warning};
 use compose::Design;
 use itv_base::NoMemory;
@@ -71,16 +72,6 @@ fn push_rule(warnings: &mut Vec<Warning>, last: u32, part: u32, rule: &Rule) -> 
         }
     }
     Ok(())
-}
-
-// Whether the order of a lane draws a rule.
-fn keeps_order(rule: &Rule) -> bool
-    ensures { result ≡ keeps_order rule.now }
-{
-    match drawn_by(rule) {
-        Some(origin) => origin.is_lane(),
-        None => false,
-    }
 }
 
 // Whether a rule is in a cycle: no shift of its causes reaches before cycle 0.

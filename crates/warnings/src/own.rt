@@ -1,16 +1,16 @@
 //! Marks that follow a driver, and that an edge of their own sheet holds from above.
 
-ghost use Rattle.std.specs.Prelude.{◌≡◌, ◌<◌, ◌++◌, OnOk, find};
+ghost use Rattle.std.specs.Prelude.{◌≡◌, ◌<◌, ◌++◌, OnOk, find, length};
 ghost use Rattle.std.specs.List.{flat_map};
 ghost use Rattle.std.specs.Option.{option_copied};
-ghost use Rattle.compose.specs.Joins.{join_at, pin_joins};
+ghost use Rattle.compose.specs.Joins.{pin_joins};
+ghost use Rattle.warnings.specs.Driven.{holds, own_join, own_warnings};
 ghost use Rattle.warnings.specs.Step.{IsPinOf};
-ghost use Rattle.warnings.specs.Warnings.{holds, own_join, own_warnings};
 
-use crate::pins::driven_mark;
+use crate::pins::join_of;
 use crate::rule::{drawn_by, holds_above};
 use crate::warning::Warning;
-use compose::{Design, PinJoins};
+use compose::{Design, Join, PinJoins};
 use itv_base::NoMemory;
 use sheet::Rule;
 
@@ -36,31 +36,25 @@ fn push_pin(
     ensures pushed { OnOk result (warnings.new.items ≡ warnings.old.items ++ flat_map (own_join design.now.sheets) (pin_joins pin.now)) }
 {
     for k in 0..pin.marks {
-        push_mark(warnings, pin, k, design)?;
+        push_join(warnings, &join_of(pin, k, design), design)?;
     }
     Ok(())
 }
 
-// Puts the warning of mark k of a pin at the end, if the mark has one.
-fn push_mark(
-    warnings: &mut Vec<Warning>,
-    pin: &PinJoins,
-    k: u32,
-    design: &Design<'_>,
-) -> Result<(), NoMemory>
-    requires pin { IsPinOf design.now pin.now }
-    requires there { k < pin.now.marks }
-    ensures pushed { OnOk result (warnings.new.items ≡ warnings.old.items ++ own_join design.now.sheets (join_at pin.now k)) }
+// Puts the warning of a join at the end, if the join has one.
+fn push_join(warnings: &mut Vec<Warning>, join: &Join, design: &Design<'_>) -> Result<(), NoMemory>
+    requires part { join.now.to.part < length design.now.sheets }
+    ensures pushed { OnOk result (warnings.new.items ≡ warnings.old.items ++ own_join design.now.sheets join.now) }
 {
-    let mark = driven_mark(pin, k, design);
-    let rules = design.sheet_of(mark.part).rules().as_slice();
-    let Some(rule) = first_holding(mark.mark, rules) else {
+    let rules = design.sheet_of(join.to.part).rules().as_slice();
+    let Some(rule) = first_holding(join.to.mark, rules) else {
         return Ok(());
     };
     let Some(edge) = drawn_by(rule) else {
         return Ok(());
     };
-    let pin = pin.origin;
+    let mark = join.to;
+    let pin = join.origin;
     warnings.push(Warning::Own { mark, pin, edge })?;
     Ok(())
 }

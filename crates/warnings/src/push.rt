@@ -1,7 +1,7 @@
 //! Putting a warning at the end.
 
 ghost use Rattle.std.specs.Prelude.{◌≡◌, ◌++◌, OnOk};
-ghost use Rattle.warnings.specs.Warnings.{warned};
+ghost use Rattle.warnings.specs.Lists.{warned};
 
 use crate::warning::Warning;
 use itv_base::NoMemory;

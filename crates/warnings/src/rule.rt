@@ -2,7 +2,8 @@
 
 ghost use Rattle.std.specs.Prelude.{◌≡◌, option_map, slice_get};
 ghost use Rattle.std.specs.List.{list_any};
-ghost use Rattle.warnings.specs.Warnings.{drawn_by, from_mark, is_high, is_linear, is_upper, spot};
+ghost use Rattle.warnings.specs.Lists.{spot};
+ghost use Rattle.warnings.specs.Rules.{drawn_by, from_mark, is_high, is_linear, is_upper, keeps_order};
 
 use crate::warning::DrawnPlace;
 use itv_base::RuleKind;
@@ -62,11 +63,22 @@ fn is_high(cause: &Source) -> bool
     cause.range.high().is_some()
 }
 
+/// Whether rules of a kind are linear.
 pub fn is_linear(kind: RuleKind) -> bool
     ensures { result ≡ is_linear kind }
 {
     match kind {
         RuleKind::Lin => true,
         RuleKind::Late | RuleKind::Early => false,
+    }
+}
+
+/// Whether the order of a lane draws a rule.
+pub fn keeps_order(rule: &Rule) -> bool
+    ensures { result ≡ keeps_order rule.now }
+{
+    match drawn_by(rule) {
+        Some(origin) => origin.is_lane(),
+        None => false,
     }
 }

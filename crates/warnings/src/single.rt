@@ -1,7 +1,8 @@
 //! Latest and earliest rules with one cause.
 
 ghost use Rattle.std.specs.Prelude.{◌≡◌, ◌++◌, OnOk};
-ghost use Rattle.warnings.specs.Warnings.{each_from, is_single, rule_single, sheet_single, single_in, single_warnings};
+ghost use Rattle.warnings.specs.Lists.{each_from};
+ghost use Rattle.warnings.specs.Rules.{is_single, rule_single, sheet_single, single_in, single_warnings};
 
 use crate::asked::part_count;
 use crate::rule::{is_linear, spot_of};

@@ -4,6 +4,8 @@ use Rattle.std.proofs.lemmas.List.{length-map, length-set, map-append, take_more
 use Rattle.std.proofs.lemmas.List.Elements.{All-append, All-cons, All-head, All-tail}
 use Rattle.itv_base.specs.Range.{Ends}
 use Rattle.event_graph.specs.Network.{Constraint, IsNet, Net, causes_with, constraints_with, with_range}
+use Rattle.numbers.specs.Numbers.{with_ranges}
+use Rattle.numbers.specs.declared.cause_name.CauseName.{CauseName}
 use Rattle.event_graph.specs.Satisfying.{Satisfies}
 use Rattle.event_graph.specs.Times.{separation}
 use Rattle.branch.specs.declared.answer.GreatestAnswer.{GreatestAnswer}
@@ -25,6 +27,17 @@ length_with constraints number cause range (Some c) =
 
 length-with_range : (net : Net) (number cause : ℕ) (range : Ends) → length (with_range net number cause range).constraints ≡ length net.constraints
 length-with_range net number cause range = length_with net.constraints number cause range (slice_get net.constraints number)
+
+-- an edit leaves the number of constraints
+pub length-with_ranges : (net : Net) (causes : List CauseName) (range : Ends) → length (with_ranges net causes range).constraints ≡ length net.constraints
+length-with_ranges net [] range = refl
+length-with_ranges net (name ∷ causes) range =
+    length-with_ranges (with_range net name.constraint name.cause range) causes range ∙ length-with_range net name.constraint name.cause range
+
+-- an edit leaves the number of events
+pub events-with_ranges : (net : Net) (causes : List CauseName) (range : Ends) → (with_ranges net causes range).events ≡ net.events
+events-with_ranges net [] range = refl
+events-with_ranges net (name ∷ causes) range = events-with_ranges (with_range net name.constraint name.cause range) causes range
 
 -- ---- pairs
 
@@ -165,13 +178,13 @@ two_more events pairs k bounds more a b d same places within is_a is_b places_a 
 -- ---- sessions that are edited
 
 -- a session that was edited is sound; the bounds before and behind the edit have other names
-pub sound_behind : (old : SessionView) (constraint cause : ℕ) (range : Ends) (net : Net) (found : SearchFinding) (before now shown : List KeptBound) (change : Change) (room room_now : ℕ) → IsSoundSession old room
-    → net ≡ with_range old.net constraint cause range → IsNet net → IsRightFinding net old.budget found → AreBoundsUpdated net old.budget old.found found before now change
+pub sound_behind : (old : SessionView) (causes : List CauseName) (range : Ends) (net : Net) (found : SearchFinding) (before now shown : List KeptBound) (change : Change) (room room_now : ℕ) → IsSoundSession old room
+    → net ≡ with_ranges old.net causes range → IsNet net → IsRightFinding net old.budget found → AreBoundsUpdated net old.budget old.found found before now change
     → room_now ≡ room → All (HasPlaces net.events) now → before ≡ old.bounds → shown ≡ now
     → IsSoundSession (record { net = net; budget = old.budget; pairs = old.pairs; found = found; bounds = shown }) room_now
-sound_behind old constraint cause range net found before now shown change room room_now sound is is_net finding settled same_room places is_before is_shown =
-    let events : net.events ≡ old.net.events = ap (λ (n : Net). n.events) is in
-    let count : length net.constraints ≡ length old.net.constraints = ap (λ (n : Net). length n.constraints) is ∙ length-with_range old.net constraint cause range in
+sound_behind old causes range net found before now shown change room room_now sound is is_net finding settled same_room places is_before is_shown =
+    let events : net.events ≡ old.net.events = ap (λ (n : Net). n.events) is ∙ events-with_ranges old.net causes range in
+    let count : length net.constraints ≡ length old.net.constraints = ap (λ (n : Net). length n.constraints) is ∙ length-with_ranges old.net causes range in
     let was_right : old.found ≡ Consistent → All (IsRightBound old.net old.budget) before =
     λ consistent. subst (All (IsRightBound old.net old.budget)) (sym is_before) (sound.right.bounds consistent) in
     let pairs_now : map (λ (b : KeptBound). b.pair) shown ≡ both_ways old.pairs =

@@ -1,9 +1,12 @@
 -- Sessions that are edited again and again.
 use Rattle.std.specs.Prelude.{◌≡◌, List, [], ◌∷◌, map}
-use Rattle.event_graph.specs.Network.{Net, with_range}
+use Rattle.event_graph.specs.Network.{Net}
 use Rattle.branch.specs.declared.answer.GreatestAnswer.{GreatestAnswer}
 use Rattle.branch.specs.declared.answer.SearchFinding.{SearchFinding}
 use Rattle.whatif.specs.declared.change.Change.{Change}
+use Rattle.drawn.specs.Drawn.{Drawn}
+use Rattle.numbers.specs.Numbers.{with_ranges}
+use Rattle.edits.specs.Subject.{causes_at}
 use Rattle.edits.specs.declared.edit.RangeEdit.{RangeEdit}
 use Rattle.whatif.specs.Session.{IsEdited, IsRight, SessionView, answers_of}
 
@@ -12,22 +15,23 @@ pub record EditedSession : Type 0 where
   pub session : SessionView
   pub change : Change
 
--- edits lead from a session through these sessions, one behind each edit, and each of them is right
-abbrev pub Runs : SessionView → List RangeEdit → List EditedSession → Type 0
-Runs s [] [] = Unit {0}
-Runs s [] (t ∷ later) = ⊥
-Runs s (e ∷ edits) [] = ⊥
-Runs s (e ∷ edits) (t ∷ later) = IsEdited s e.constraint e.cause e.range t.session t.change × IsRight t.session × Runs t.session edits later
+-- edits lead from a session through these sessions, one behind each edit, and each of them is right; an edit of a number sets the causes that the
+-- number draws in the drawn network
+abbrev pub Runs : Drawn → SessionView → List RangeEdit → List EditedSession → Type 0
+Runs drawn s [] [] = Unit {0}
+Runs drawn s [] (t ∷ later) = ⊥
+Runs drawn s (e ∷ edits) [] = ⊥
+Runs drawn s (e ∷ edits) (t ∷ later) = IsEdited s (causes_at drawn e.subject) e.range t.session t.change × IsRight t.session × Runs drawn t.session edits later
 
 -- the session behind all edits
 abbrev pub last_of : SessionView → List EditedSession → SessionView
 last_of s [] = s
 last_of s (t ∷ later) = last_of t.session later
 
--- the network with edits applied in order
-abbrev pub edited : Net → List RangeEdit → Net
-edited net [] = net
-edited net (e ∷ edits) = edited (with_range net e.constraint e.cause e.range) edits
+-- a network with edits of a drawn network applied in order
+abbrev pub edited : Drawn → Net → List RangeEdit → Net
+edited drawn net [] = net
+edited drawn net (e ∷ edits) = edited drawn (with_ranges net (causes_at drawn e.subject) e.range) edits
 
 -- ---- what is noted of a session
 
@@ -44,9 +48,9 @@ abbrev pub notes_of : List EditedSession → List Note
 notes_of later = map (λ (t : EditedSession). note_of t.change t.session) later
 
 -- the notes are of the sessions that edits lead through, and `last` is the last of these sessions
-pub record IsRun (first : SessionView) (edits : List RangeEdit) (last : SessionView) (notes : List Note) : Type 0 where
+pub record IsRun (drawn : Drawn) (first : SessionView) (edits : List RangeEdit) (last : SessionView) (notes : List Note) : Type 0 where
   pub later : List EditedSession
-  pub runs : Runs first edits later
+  pub runs : Runs drawn first edits later
   pub is_last : last ≡ last_of first later
-  pub net : last.net ≡ edited first.net edits
+  pub net : last.net ≡ edited drawn first.net edits
   pub noted : notes ≡ notes_of later

@@ -1,8 +1,8 @@
--- Sessions: bounds of pairs of events that are kept from one edit of a range to the next.
-use Rattle.std.specs.Prelude.{◌≡◌, ◌+◌, ◌<◌, ◌≤◌, ◌≤ℤ◌, ◌⊎◌, ℕ, ℤ, Bool, List, [], ◌∷◌, length, map, All, Option, Some, None, IsSomeAnd, IsSome, IsNone, option_copied, option_map, slice_get}
+-- Sessions: bounds of pairs of events that are kept from one edit of ranges to the next.
+use Rattle.std.specs.Prelude.{◌≡◌, ◌+◌, ◌<◌, ◌≤◌, ◌≤ℤ◌, ◌⊎◌, ℕ, ℤ, Bool, List, [], ◌∷◌, length, map, All, Option, Some, None, IsSomeAnd, option_copied, option_map, slice_get}
 use Rattle.itv_base.specs.Range.{Ends}
 use Rattle.event_graph.specs.Bounds.{IsRay}
-use Rattle.event_graph.specs.Network.{IsNet, Net, cause_at, with_range}
+use Rattle.event_graph.specs.Network.{IsNet, Net}
 use Rattle.event_graph.specs.Proof.{Bound, IsProof, ProofLine}
 use Rattle.event_graph.specs.Reading.{AtEachSplit}
 use Rattle.event_graph.specs.Satisfying.{Satisfies}
@@ -16,6 +16,8 @@ use Rattle.branch.specs.declared.answer.GreatestAnswer.TheVariants.{Closed, Unbo
 use Rattle.branch.specs.declared.answer.SearchFinding.{SearchFinding}
 use Rattle.branch.specs.declared.answer.SearchFinding.TheVariants.{Consistent, Inconsistent, Unsettled}
 use Rattle.certificate.specs.Scribing.{FitsTree, Tree}
+use Rattle.numbers.specs.Numbers.{IsCauseOf, with_ranges}
+use Rattle.numbers.specs.declared.cause_name.CauseName.{CauseName}
 use Rattle.whatif.specs.declared.pair.Pair.{Pair}
 use Rattle.whatif.specs.declared.bound.Kept.{Kept}
 use Rattle.whatif.specs.declared.change.Change.{Change}
@@ -177,9 +179,9 @@ AreBoundsUpdated net budget was Consistent before now change =
 AreBoundsUpdated net budget was Inconsistent before now change = (now ≡ before) × (change.kept ≡ 0) × (change.searched ≡ 0)
 AreBoundsUpdated net budget was Unsettled before now change = (now ≡ before) × (change.kept ≡ 0) × (change.searched ≡ 0)
 
--- an edit of the range of one cause
-pub record IsEdited (old : SessionView) (constraint cause : ℕ) (range : Ends) (new : SessionView) (change : Change) : Type 0 where
-  pub net : new.net ≡ with_range old.net constraint cause range
+-- an edit of the ranges of causes: all of them get this range, and then the bounds are kept or searched once
+pub record IsEdited (old : SessionView) (causes : List CauseName) (range : Ends) (new : SessionView) (change : Change) : Type 0 where
+  pub net : new.net ≡ with_ranges old.net causes range
   pub budget : new.budget ≡ old.budget
   pub pairs : new.pairs ≡ old.pairs
   pub bounds : AreBoundsUpdated new.net new.budget old.found new.found old.bounds new.bounds change
@@ -191,10 +193,10 @@ abbrev pub IsSessionFault : ℕ → SessionFault → Type 0
 IsSessionFault count (TooManyPairs n) = (n ≡ count) × (MAX_PAIRS < count)
 IsSessionFault count sessions.NoMemory = count ≤ MAX_PAIRS
 
--- why a cause of a network was not edited
-abbrev pub IsEditFault : Net → ℕ → ℕ → EditFault → Type 0
-IsEditFault net constraint cause NoSuch = IsNone (cause_at net constraint cause)
-IsEditFault net constraint cause edits.NoMemory = IsSome (cause_at net constraint cause)
+-- why causes of a network were not edited
+abbrev pub IsEditFault : Net → List CauseName → EditFault → Type 0
+IsEditFault net causes NoSuch = All (IsCauseOf net) causes → ⊥
+IsEditFault net causes edits.NoMemory = All (IsCauseOf net) causes
 
 -- ---- new sessions
 

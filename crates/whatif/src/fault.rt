@@ -21,7 +21,7 @@ pub enum SessionFault {
 /// Why a session was not edited.
 #[derive(Clone, Copy, Debug, Error)]
 pub enum EditFault {
-    /// The constraint or the cause is not there.
+    /// A constraint or a cause is not there.
     #[error("there is no such cause")]
     NoSuch,
     /// Memory was wanted and not found.
@@ -42,5 +42,15 @@ impl From<OutOfMemory> for SessionFault {
 
     fn from(_: OutOfMemory) -> SessionFault {
         SessionFault::NoMemory
+    }
+}
+
+impl From<OutOfMemory> for EditFault {
+    ghost use Rattle.whatif.specs.declared.fault.EditFault.TheVariants.{NoMemory};
+
+    ghost from_gives = { λ _ e. e ≡ NoMemory };
+
+    fn from(_: OutOfMemory) -> EditFault {
+        EditFault::NoMemory
     }
 }

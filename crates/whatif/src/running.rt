@@ -1,13 +1,17 @@
 //! A session along a list of edits.
 
-ghost use Rattle.std.specs.Prelude.{◌≡◌, All, IfOk};
-ghost use Rattle.edits.specs.EditLine.{IsThere};
+ghost use Rattle.std.specs.Prelude.{◌≡◌, All, IfOk, OnOk};
+ghost use Rattle.numbers.specs.Numbers.{IsCauseOf};
+ghost use Rattle.numbers.specs.declared.cause_name.CauseName.{CauseName};
+ghost use Rattle.edits.specs.Subject.{IsThere, causes_at};
 ghost use Rattle.whatif.specs.Runs.{IsRun, note_of};
+ghost use Rattle.whatif.specs.Session.{IsEdited, IsRight};
 
 use crate::change::Change;
 use crate::fault::EditFault;
 use crate::session::Session;
 use branch::{GreatestAnswer, SearchFinding};
+use drawn::DrawnNetwork;
 use edits::RangeEdit;
 use itv_base::NoMemory;
 use std::alloc::Global;
@@ -41,30 +45,46 @@ pub fn note_session(alloc: Global, session: &Session, change: Change) -> Result<
     })
 }
 
-/// Makes the edits one after another, and notes the session behind each. The cause of each edit is there.
+/// Makes the edits of a drawn network one after another, and notes the session behind each. The session is of the network as it is drawn, and
+/// what each edit names is there.
 pub fn run_edits(
     alloc: Global,
+    drawn: &DrawnNetwork,
     session: &mut Session,
     edits: &[RangeEdit],
 ) -> Result<Vec<Note>, NoMemory>
-    requires there { All (IsThere session.old.net) edits.now }
-    ensures run { IfOk result (λ notes. IsRun session.old edits.now session.new notes.items) }
+    requires net { session.old.net ≡ drawn.now.net }
+    requires there { All (IsThere drawn.now) edits.now }
+    ensures run { IfOk result (λ notes. IsRun drawn.now session.old edits.now session.new notes.items) }
 {
     let mut notes = Vec::new(alloc);
     for k in 0..edits.len() {
-        let RangeEdit {
-            constraint,
-            cause,
-            range,
-        } = edits[k];
-        match session.edit(constraint, cause, range) {
-            Ok(change) => notes.push(note_session(alloc, session, change)?)?,
-            Err(EditFault::NoMemory) => return Err(NoMemory),
-            Err(EditFault::NoSuch) => {
-                // Each cause is there, and no edit takes one away.
-                unreachable!()
-            }
-        }
+        let note = note_edit(alloc, drawn, session, &edits[k])?;
+        notes.push(note)?;
     }
     Ok(notes)
+}
+
+// Makes an edit of a drawn network, and notes the session behind it. The session has each cause of the drawn network.
+fn note_edit(
+    alloc: Global,
+    drawn: &DrawnNetwork,
+    session: &mut Session,
+    edit: &RangeEdit,
+) -> Result<Note, NoMemory>
+    requires stays { (name : CauseName) → IsCauseOf drawn.now.net name → IsCauseOf session.old.net name }
+    requires there { IsThere drawn.now edit.now }
+    ensures edited { IfOk result (λ n. IsEdited session.old (causes_at drawn.now edit.now.subject) edit.now.range session.new n.change) }
+    ensures right { OnOk result (IsRight session.new) }
+    ensures noted { IfOk result (λ n. n ≡ note_of n.change session.new) }
+{
+    let causes = edit.subject.causes(alloc, drawn)?;
+    match session.edit(&causes, edit.range) {
+        Ok(change) => note_session(alloc, session, change),
+        Err(EditFault::NoMemory) => Err(NoMemory),
+        Err(EditFault::NoSuch) => {
+            // Each cause is there, and no edit takes one away.
+            unreachable!()
+        }
+    }
 }

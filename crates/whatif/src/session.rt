@@ -1,8 +1,9 @@
 //! Sessions of edits.
 
-ghost use Rattle.std.specs.Prelude.{◌≡◌, ◌+◌, ◌<◌, ◌≤◌, All, IfErr, IfOk, IsSome, OnErr, OnOk, length, map, option_map};
+ghost use Rattle.std.specs.Prelude.{◌≡◌, ◌+◌, ◌<◌, ◌≤◌, ◌↔◌, All, IfErr, IfOk, IsTrue, OnErr, OnOk, length, map, option_map};
 ghost use Rattle.std.specs.Option.{option_copied};
-ghost use Rattle.event_graph.specs.Network.{IsNet, cause_at, with_range};
+ghost use Rattle.event_graph.specs.Network.{IsNet};
+ghost use Rattle.numbers.specs.Numbers.{IsCauseOf, with_ranges};
 ghost use Rattle.branch.specs.Work.{IsMadeFor};
 ghost use Rattle.branch.specs.declared.answer.SearchFinding.TheVariants as findings;
 ghost use Rattle.whatif.specs.Session.{AttainsKnown, HasPlaces, IsEditFault, IsEdited, IsKeptOf, IsPairOf, IsRight, IsRightFinding, IsSessionFault, AreBoundsUpdated, KeptBound, answers_of, both_ways, bound_at};
@@ -20,6 +21,7 @@ use branch::{GreatestAnswer, SearchFinding, Work};
 use cert_checker::Checker;
 use event_graph::Network;
 use itv_base::{NoMemory, Range};
+use numbers::{CauseName, set_ranges};
 use std::alloc::Global;
 use std::marker::Model;
 
@@ -52,7 +54,8 @@ impl Model for Session {
 
 impl Session {
     /// A session of at most [`MAX_PAIRS`] pairs of events of a network. Each search closes at most `budget` cases. The
-    /// session takes all the memory that it ever needs, except the working memory for the searches of an edit.
+    /// session takes all the memory that it ever needs, except the edited network and the working memory for the
+    /// searches of an edit.
     pub fn new(
         alloc: Global,
         net: &Network,
@@ -88,17 +91,16 @@ impl Session {
         })
     }
 
-    /// Sets the range of a cause of a constraint, keeps each bound that is still right, and searches the others anew.
-    /// Returns `NoSuch` if and only if the constraint or the cause is not there. After a refusal the session is
-    /// unchanged.
-    pub fn edit(&mut self, constraint: u32, cause: u32, range: Range) -> Result<Change, EditFault>
-        ensures edited { IfOk result (IsEdited self.old constraint cause range self.new) }
-        ensures there { OnOk result (IsSome (cause_at self.old.net constraint cause)) }
+    /// Sets the range of each of these causes, keeps each bound that is still right, and searches the others anew.
+    /// Returns `NoSuch` if and only if a cause is not there. After a refusal the session is unchanged.
+    pub fn edit(&mut self, causes: &[CauseName], range: Range) -> Result<Change, EditFault>
+        ensures edited { IfOk result (IsEdited self.old causes.now range self.new) }
+        ensures there { OnOk result (All (IsCauseOf self.old.net) causes.now) }
         ensures right { IsRight self.new }
-        ensures fault { IfErr result (IsEditFault self.old.net constraint cause) }
+        ensures fault { IfErr result (IsEditFault self.old.net causes.now) }
         ensures unchanged { OnErr result (self.new ≡ self.old) }
     {
-        let work = work_for(self.alloc, &mut self.net, constraint, cause, range)?;
+        let work = work_for(self.alloc, &mut self.net, causes, range)?;
         Ok(settle_by(
             &self.net,
             work,
@@ -233,31 +235,40 @@ fn begin(
     Ok(found)
 }
 
-// Sets a range, and takes the memory for searches of the network with this range. If memory runs out, the range is set
-// back.
+// Sets ranges, and takes the memory for searches of the network with these ranges. If memory runs out, the network is
+// as it was.
 fn work_for(
     alloc: Global,
     net: &mut Network,
-    constraint: u32,
-    cause: u32,
+    causes: &[CauseName],
     range: Range,
 ) -> Result<Work, EditFault>
     ensures made { IfOk result (IsMadeFor net.new) }
-    ensures set { OnOk result (net.new ≡ with_range net.old constraint cause range) }
-    ensures there { OnOk result (IsSome (cause_at net.old constraint cause)) }
-    ensures fault { IfErr result (IsEditFault net.old constraint cause) }
+    ensures set { OnOk result (net.new ≡ with_ranges net.old causes.now range) }
+    ensures there { OnOk result (All (IsCauseOf net.old) causes.now) }
+    ensures fault { IfErr result (IsEditFault net.old causes.now) }
     ensures unchanged { OnErr result (net.new ≡ net.old) }
 {
-    if !net.has_cause(constraint, cause) {
+    if !are_there(net, causes) {
         return Err(EditFault::NoSuch);
     }
-    let old = net.cause(constraint, cause).range;
-    net.set_range(constraint, cause, range);
-    match Work::new(alloc, net) {
-        Ok(work) => Ok(work),
-        Err(_) => {
-            net.set_range(constraint, cause, old);
-            Err(EditFault::NoMemory)
-        }
-    }
+    let mut edited = copied(alloc, net)?;
+    set_ranges(&mut edited, causes, range);
+    let work = Work::new(alloc, &edited)?;
+    *net = edited;
+    Ok(work)
+}
+
+// Whether all these causes are there.
+fn are_there(net: &Network, causes: &[CauseName]) -> bool
+    ensures { IsTrue result ↔ All (IsCauseOf net.now) causes.now }
+{
+    causes.iter().all(|name| is_there(net, *name))
+}
+
+// Whether a cause is there.
+fn is_there(net: &Network, name: CauseName) -> bool
+    ensures { IsTrue result ↔ IsCauseOf net.now name }
+{
+    net.has_cause(name.constraint, name.cause)
 }

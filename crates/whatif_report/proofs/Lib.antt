@@ -1,2 +1,3 @@
 mod Noted
 mod Texts
+pub mod Passing

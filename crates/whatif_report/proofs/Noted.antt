@@ -20,7 +20,7 @@ use Rattle.whatif.specs.declared.change.Change.{Change}
 use Rattle.whatif.specs.Runs.{IsRun, Note, Runs, EditedSession, note_of, notes_of}
 use Rattle.whatif.specs.Session.{IsRight, IsRightBound, KeptBound, SessionView, answers_of, left_by, pair_search}
 use Rattle.whatif.proofs.Sessions.{count_bounds}
-use Rattle.drawn.specs.Drawn.{IsRowOf}
+use Rattle.drawn.specs.Drawn.{Drawn, IsRowOf}
 use Rattle.drawn.specs.declared.row.Row.{Row}
 use Rattle.whatif.specs.Session.{IsPairOf}
 use Rattle.whatif.specs.declared.pair.Pair.{Pair}
@@ -73,23 +73,23 @@ note_by kinds s change Unsettled is right same = record { timed = λ k d within.
 pub note_is : (kinds : List RowKind) (s : SessionView) (change : Change) → IsRight s → length kinds ≡ length s.pairs → IsNoteOf kinds (note_of change s)
 note_is kinds s change right same = note_by kinds s change s.found refl right same
 
-notes_by : (kinds : List RowKind) (s : SessionView) (edits : List RangeEdit) (later : List EditedSession) → Runs s edits later → length kinds ≡ length s.pairs
+notes_by : (drawn : Drawn) (kinds : List RowKind) (s : SessionView) (edits : List RangeEdit) (later : List EditedSession) → Runs drawn s edits later → length kinds ≡ length s.pairs
     → All (IsNoteOf kinds) (notes_of later) × (length (notes_of later) ≡ length edits)
-notes_by kinds s [] [] runs same = ((λ k d within. absurd (omega arith)), refl)
-notes_by kinds s [] (t ∷ later) runs same = absurd runs
-notes_by kinds s (e ∷ edits) [] runs same = absurd runs
-notes_by kinds s (e ∷ edits) (t ∷ later) runs same =
+notes_by drawn kinds s [] [] runs same = ((λ k d within. absurd (omega arith)), refl)
+notes_by drawn kinds s [] (t ∷ later) runs same = absurd runs
+notes_by drawn kinds s (e ∷ edits) [] runs same = absurd runs
+notes_by drawn kinds s (e ∷ edits) (t ∷ later) runs same =
     let same_now : length kinds ≡ length t.session.pairs = same ∙ ap length (sym runs.0.pairs) in
-    let others = notes_by kinds t.session edits later runs.2 same_now in (
+    let others = notes_by drawn kinds t.session edits later runs.2 same_now in (
       All-cons (IsNoteOf kinds) (note_of t.change t.session) (notes_of later) (note_is kinds t.session t.change runs.1 same_now) others.0,
       ap suc others.1,
     )
 
 -- the notes of a run fit the session's rows, and there is one note for each edit
-pub notes_are : (kinds : List RowKind) (first last : SessionView) (edits : List RangeEdit) (notes : List Note) → IsRun first edits last notes → length kinds ≡ length first.pairs
+pub notes_are : (drawn : Drawn) (kinds : List RowKind) (first last : SessionView) (edits : List RangeEdit) (notes : List Note) → IsRun drawn first edits last notes → length kinds ≡ length first.pairs
     → All (IsNoteOf kinds) notes × (length notes ≡ length edits)
-notes_are kinds first last edits notes run same =
-    subst (λ (ns : List Note). All (IsNoteOf kinds) ns × (length ns ≡ length edits)) (sym run.noted) (notes_by kinds first edits run.later run.runs same)
+notes_are drawn kinds first last edits notes run same =
+    subst (λ (ns : List Note). All (IsNoteOf kinds) ns × (length ns ≡ length edits)) (sym run.noted) (notes_by drawn kinds first edits run.later run.runs same)
 
 -- the last note fits the rows
 pub last_is_note : (kinds : List RowKind) (first : Note) (notes : List Note) → IsNoteOf kinds first → All (IsNoteOf kinds) notes → IsNoteOf kinds (last_note first notes)

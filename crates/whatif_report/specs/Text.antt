@@ -19,6 +19,7 @@ use Rattle.slack_report.specs.declared.words.EndWord.{EndWord}
 use Rattle.slack_report.specs.declared.words.FindingWord.{FindingWord}
 use Rattle.slack_report.specs.declared.words.FindingWord.TheVariants as findings
 use Rattle.right_report.specs.Right.ReportState.{ReportTally, tally_of, end_word, with_bounds, with_verdict}
+use Rattle.edits.specs.Subject.{subject_text}
 use Rattle.edits.specs.declared.edit.RangeEdit.{RangeEdit}
 use Rattle.whatif.specs.Runs.{Note}
 
@@ -63,14 +64,10 @@ found_word founds.Unsettled = findings.Unsettled
 abbrev pub found_text : List RowKind → SearchFinding → List GreatestAnswer → List ℕ
 found_text rows found list = entry_text (finding (found_word found)) ++ rows_text 0 rows list
 
--- a constraint, a full stop and one of its causes
-abbrev pub cause_word : ℕ → ℕ → Word
-cause_word constraint cause = number_text constraint ++ (46 ∷ number_text cause)
-
--- the line that begins a state behind an edit
+-- the line that begins a state behind an edit; the edit is named as in its file
 abbrev pub state_words : ℕ → RangeEdit → Note → List Word
 state_words number e note =
-    codes "state" ∷ number_text number ∷ cause_word e.constraint e.cause ∷ range_word e.range ∷ codes "kept" ∷ number_text note.change.kept
+    codes "state" ∷ number_text number ∷ subject_text e.subject ∷ range_word e.range ∷ codes "kept" ∷ number_text note.change.kept
     ∷ codes "searched" ∷ number_text note.change.searched ∷ []
 
 -- the states behind edits, where the first of these states has this number

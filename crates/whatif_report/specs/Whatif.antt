@@ -36,20 +36,21 @@ pub record IsFirst (net : Net) (pairs : List Pair) (budget : ℕ) (s : SessionVi
 abbrev pub no_change : Change
 no_change = record { kept = 0; searched = 0 }
 
--- The edits lead from a session through other sessions, each of which is right. The text is of all these sessions, and the answer is by the last one.
-pub record AnswersFrom (first : SessionView) (kinds : List RowKind) (edits : List RangeEdit) (answer : Answer) (text : List ℕ) : Type 0 where
+-- The edits of a drawn network lead from a session through other sessions, each of which is right. The text is of all these sessions, and the answer
+-- is by the last one.
+pub record AnswersFrom (drawn : Drawn) (first : SessionView) (kinds : List RowKind) (edits : List RangeEdit) (answer : Answer) (text : List ℕ) : Type 0 where
   pub last : SessionView
   pub notes : List Note
-  pub run : IsRun first edits last notes
+  pub run : IsRun drawn first edits last notes
   pub note : Note
   pub noted : note ≡ note_of no_change first
   pub is_text : text ≡ whatif_text kinds note edits notes
   pub is_answer : answer ≡ answer_of (ending_of kinds (last_note note notes).found (last_note note notes).answers)
 
--- the answer and the text from a new session
-abbrev pub AnswersFor : Net → List Pair → List RowKind → ℕ → List RangeEdit → Answer → List ℕ → Type 0
-AnswersFor net pairs kinds budget edits answer text = (first : SessionView) × IsFirst net pairs budget first × AnswersFrom first kinds edits answer text
+-- the answer and the text from a new session of the drawn network
+abbrev pub AnswersFor : Drawn → List Pair → List RowKind → ℕ → List RangeEdit → Answer → List ℕ → Type 0
+AnswersFor drawn pairs kinds budget edits answer text = (first : SessionView) × IsFirst drawn.net pairs budget first × AnswersFrom drawn first kinds edits answer text
 
 -- what the job answers and writes for a drawn network
 abbrev pub AnswersWhatif : Drawn → ℕ → List RangeEdit → Answer → List ℕ → Type 0
-AnswersWhatif drawn budget edits answer text = AnswersFor drawn.net (pairs_of drawn.rows) (kinds_of drawn.rows) budget edits answer text
+AnswersWhatif drawn budget edits answer text = AnswersFor drawn (pairs_of drawn.rows) (kinds_of drawn.rows) budget edits answer text

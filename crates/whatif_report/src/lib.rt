@@ -6,9 +6,11 @@
 
 mod asked;
 mod ending;
+mod laws;
 mod rows;
 mod states;
 mod words;
 mod write;
 
+pub use laws::passed_edits_are_met;
 pub use write::write_whatif;

@@ -5,16 +5,19 @@ ghost use Rattle.itv_base.specs.Numerals.{end_text, number_text};
 ghost use Rattle.line_words.specs.Lines.{ended, line_of, spaced};
 ghost use Rattle.slack_report.specs.Entry.{finding};
 ghost use Rattle.slack_report.specs.Text.{entry_text, range_word};
+ghost use Rattle.numbers.specs.Numbers.{drawn_number_text};
+ghost use Rattle.edits.specs.Subject.{subject_text};
 ghost use Rattle.whatif.specs.declared.session.TheConstants.{MAX_PAIRS};
 ghost use Rattle.whatif_report.specs.Step.{IsNoteOf};
-ghost use Rattle.whatif_report.specs.Text.{cause_word, found_text, found_word, state_words, states_text};
+ghost use Rattle.whatif_report.specs.Text.{found_text, found_word, state_words, states_text};
 
 use crate::rows::add_rows;
 use crate::words::{add, add_number, add_spaced};
 use branch::SearchFinding;
-use edits::RangeEdit;
+use edits::{RangeEdit, Subject};
 use itoa::Buffer;
 use itv_base::{NoMemory, Range, RowKind, end_text, number_text};
+use numbers::{CauseName, DrawnNumber};
 use whatif::{Change, Note};
 
 /// Adds the states behind edits, by their notes. The first of these states has number 1.
@@ -30,7 +33,7 @@ pub fn add_states(
     ensures added { OnOk result (text.new.items ≡ text.old.items ++ states_text 1 kinds.now edits.now notes.now) }
 {
     for k in 0..edits.len() {
-        add_state(text, k as u64 + 1, edits[k], &notes[k])?;
+        add_state(text, k as u64 + 1, &edits[k], &notes[k])?;
         add_found(text, kinds, &notes[k])?;
     }
     Ok(())
@@ -60,24 +63,56 @@ fn add_finding(text: &mut Vec<u8>, found: SearchFinding) -> Result<(), NoMemory>
 
 // ---- the line that begins a state behind an edit
 
-fn add_state(text: &mut Vec<u8>, number: u64, edit: RangeEdit, note: &Note) -> Result<(), NoMemory>
-    ensures { OnOk result (text.new.items ≡ text.old.items ++ ended (line_of (state_words number edit note.now))) }
+fn add_state(text: &mut Vec<u8>, number: u64, edit: &RangeEdit, note: &Note) -> Result<(), NoMemory>
+    ensures { OnOk result (text.new.items ≡ text.old.items ++ ended (line_of (state_words number edit.now note.now))) }
 {
     add(text, b"state")?;
     add_number(text, number)?;
-    add_cause(text, edit.constraint, edit.cause)?;
+    add_subject(text, &edit.subject)?;
     add_range(text, edit.range)?;
     add_change(text, note.change)?;
     add(text, b"\n")
 }
 
-// Adds a space, a constraint and its cause.
-fn add_cause(text: &mut Vec<u8>, constraint: u32, cause: u32) -> Result<(), NoMemory>
-    ensures { OnOk result (text.new.items ≡ text.old.items ++ spaced (cause_word constraint cause)) }
+// Adds a space and what an edit names.
+fn add_subject(text: &mut Vec<u8>, subject: &Subject) -> Result<(), NoMemory>
+    ensures { OnOk result (text.new.items ≡ text.old.items ++ spaced (subject_text subject.now)) }
 {
-    add_number(text, u64::from(constraint))?;
+    match subject {
+        Subject::Cause(name) => add_cause(text, *name),
+        Subject::Number(number) => add_drawn(text, number),
+    }
+}
+
+// Adds a space, a constraint and its cause.
+fn add_cause(text: &mut Vec<u8>, name: CauseName) -> Result<(), NoMemory>
+    ensures { OnOk result (text.new.items ≡ text.old.items ++ spaced (number_text name.constraint ++ (codes "." ++ number_text name.cause))) }
+{
+    add_number(text, u64::from(name.constraint))?;
     add(text, b".")?;
-    add_digits(text, u64::from(cause))
+    add_digits(text, u64::from(name.cause))
+}
+
+// Adds a space and what a number is called.
+fn add_drawn(text: &mut Vec<u8>, number: &DrawnNumber) -> Result<(), NoMemory>
+    ensures { OnOk result (text.new.items ≡ text.old.items ++ spaced (drawn_number_text number.now)) }
+{
+    match number {
+        DrawnNumber::Edge { part, edge } => {
+            add_spaced(text, part.as_text().as_bytes())?;
+            add_called(text, b"edge", *edge)
+        }
+        DrawnNumber::Net(net) => add_called(text, b"net", *net),
+        DrawnNumber::Wire(wire) => add_called(text, b"wire", *wire),
+    }
+}
+
+// Adds a space, a word and a number behind it.
+fn add_called(text: &mut Vec<u8>, word: &[u8], number: u64) -> Result<(), NoMemory>
+    ensures { OnOk result (text.new.items ≡ text.old.items ++ (spaced word.now ++ spaced (number_text number))) }
+{
+    add_spaced(text, word)?;
+    add_number(text, number)
 }
 
 // Adds a space and a range.

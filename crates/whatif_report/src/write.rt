@@ -1,7 +1,7 @@
 //! Writing the states of a session.
 
 ghost use Rattle.std.specs.Prelude.{◌≡◌, ◌<◌, ◌≤◌, All, IfOk, length};
-ghost use Rattle.edits.specs.EditLine.{IsThere};
+ghost use Rattle.edits.specs.Subject.{IsThere};
 ghost use Rattle.jobs.specs.JobWrote.{Answered, JobWrote};
 ghost use Rattle.whatif.specs.Session.{IsPairOf};
 ghost use Rattle.whatif.specs.declared.session.TheConstants.{MAX_PAIRS};
@@ -15,14 +15,13 @@ use crate::states::{add_found, add_states};
 use crate::words::add;
 use drawn::DrawnNetwork;
 use edits::{Edits, RangeEdit};
-use event_graph::Network;
 use itv_base::{NoMemory, RowKind, Sink};
 use jobs::{Answer, Unanswered, answer_of};
 use std::alloc::Global;
 use whatif::{Change, Note, Pair, Session, SessionFault, note_session, run_edits};
 
 /// Writes the bounds of the rows of a drawn network before any edit and behind each edit of a list. There may be at
-/// most [`MAX_PAIRS`](whatif::MAX_PAIRS) rows. The cause of each edit must be in the network. Each search closes at
+/// most [`MAX_PAIRS`](whatif::MAX_PAIRS) rows. What each edit names must be there. Each search closes at
 /// most `budget` cases. All states are computed before the one put.
 pub fn write_whatif<K: Sink>(
     alloc: Global,
@@ -33,22 +32,14 @@ pub fn write_whatif<K: Sink>(
 ) -> Result<Answer, Unanswered>
     requires rows { length drawn.now.rows ≤ MAX_PAIRS }
     requires budget { 0 < budget }
-    requires there { All (IsThere drawn.now.net) edits.now }
+    requires there { All (IsThere drawn.now) edits.now }
     ensures works { JobWrote (AnswersWhatif drawn.now budget edits.now) (Answered (AnswersWhatif drawn.now budget edits.now))
         (K.state sink.old) (K.state sink.new) result }
 {
     let rows = drawn.rows().as_slice();
     let pairs = pairs_of(alloc, rows)?;
     let kinds = kinds_of(alloc, rows)?;
-    write_states(
-        alloc,
-        drawn.network(),
-        &pairs,
-        &kinds,
-        edits.as_slice(),
-        budget,
-        sink,
-    )
+    write_states(alloc, drawn, &pairs, &kinds, edits.as_slice(), budget, sink)
 }
 
 // The text of all states, and the answer of the job.
@@ -61,22 +52,22 @@ struct Decided {
 // Writes the states of a new session along edits.
 fn write_states<K: Sink>(
     alloc: Global,
-    net: &Network,
+    drawn: &DrawnNetwork,
     pairs: &[Pair],
     kinds: &[RowKind],
     edits: &[RangeEdit],
     budget: u64,
     sink: &mut K,
 ) -> Result<Answer, Unanswered>
-    requires within { All (IsPairOf net.now.events) pairs.now }
+    requires within { All (IsPairOf drawn.now.net.events) pairs.now }
     requires count { length kinds.now ≡ length pairs.now }
     requires few { length kinds.now ≤ MAX_PAIRS }
     requires budget { 0 < budget }
-    requires there { All (IsThere net.now) edits.now }
-    ensures works { JobWrote (AnswersFor net.now pairs.now kinds.now budget edits.now) (Answered (AnswersFor net.now pairs.now kinds.now budget edits.now))
+    requires there { All (IsThere drawn.now) edits.now }
+    ensures works { JobWrote (AnswersFor drawn.now pairs.now kinds.now budget edits.now) (Answered (AnswersFor drawn.now pairs.now kinds.now budget edits.now))
         (K.state sink.old) (K.state sink.new) result }
 {
-    let decided = text_and_answer(alloc, net, pairs, kinds, edits, budget)?;
+    let decided = text_and_answer(alloc, drawn, pairs, kinds, edits, budget)?;
     sink.put(&decided.text)?;
     Ok(decided.answer)
 }
@@ -84,21 +75,21 @@ fn write_states<K: Sink>(
 // The text and the answer for a new session along edits.
 fn text_and_answer(
     alloc: Global,
-    net: &Network,
+    drawn: &DrawnNetwork,
     pairs: &[Pair],
     kinds: &[RowKind],
     edits: &[RangeEdit],
     budget: u64,
 ) -> Result<Decided, NoMemory>
-    requires within { All (IsPairOf net.now.events) pairs.now }
+    requires within { All (IsPairOf drawn.now.net.events) pairs.now }
     requires count { length kinds.now ≡ length pairs.now }
     requires few { length kinds.now ≤ MAX_PAIRS }
     requires budget { 0 < budget }
-    requires there { All (IsThere net.now) edits.now }
-    ensures { IfOk result (λ t. AnswersFor net.now pairs.now kinds.now budget edits.now t.answer t.text.items) }
+    requires there { All (IsThere drawn.now) edits.now }
+    ensures { IfOk result (λ t. AnswersFor drawn.now pairs.now kinds.now budget edits.now t.answer t.text.items) }
 {
-    match Session::new(alloc, net, pairs, budget) {
-        Ok(mut session) => states_of(alloc, &mut session, kinds, edits),
+    match Session::new(alloc, drawn.network(), pairs, budget) {
+        Ok(mut session) => states_of(alloc, drawn, &mut session, kinds, edits),
         Err(SessionFault::NoMemory) => Err(NoMemory),
         Err(SessionFault::TooManyPairs(_)) => unreachable!(),
     }
@@ -107,14 +98,16 @@ fn text_and_answer(
 // The text and the answer for a session along edits.
 fn states_of(
     alloc: Global,
+    drawn: &DrawnNetwork,
     session: &mut Session,
     kinds: &[RowKind],
     edits: &[RangeEdit],
 ) -> Result<Decided, NoMemory>
     requires count { length kinds.now ≡ length session.old.pairs }
     requires few { length kinds.now ≤ MAX_PAIRS }
-    requires there { All (IsThere session.old.net) edits.now }
-    ensures { IfOk result (λ t. AnswersFrom session.old kinds.now edits.now t.answer t.text.items) }
+    requires net { session.old.net ≡ drawn.now.net }
+    requires there { All (IsThere drawn.now) edits.now }
+    ensures { IfOk result (λ t. AnswersFrom drawn.now session.old kinds.now edits.now t.answer t.text.items) }
 {
     let none = Change {
         kept: 0,
@@ -123,7 +116,7 @@ fn states_of(
     // The session is right.
     let _finding = session.finding();
     let first = note_session(alloc, session, none)?;
-    let notes = run_edits(alloc, session, edits)?;
+    let notes = run_edits(alloc, drawn, session, edits)?;
     let text = text_of(alloc, kinds, &first, edits, &notes)?;
     let word = end_word(kinds, last_of(&first, &notes));
     Ok(Decided {

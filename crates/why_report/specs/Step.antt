@@ -17,13 +17,13 @@ use Rattle.why_report.specs.declared.drawn_by.DrawnBy.{DrawnBy}
 use Rattle.why_report.specs.declared.line.Line.{Line}
 use Rattle.why_report.specs.declared.line.Line.TheVariants as lines
 use Rattle.why_report.specs.declared.drawn_cause.DrawnCause.{DrawnCause}
-use Rattle.why_report.specs.Text.{Noted, cause_words, causes_text, rule_word, some_word}
+use Rattle.why_report.specs.Text.{Noted, cause_words, causes_text, grade_word, rule_word, some_word}
 
 -- ---- lines
 
--- the words of what draws a cause or a row, and of its note
+-- the words of what draws a cause or a row, of its note, and of the speed grade
 abbrev pub by_words : DrawnBy → List Word
-by_words by = origin_text by.origin ∷ some_word by.note.now
+by_words by = origin_text by.origin ∷ (some_word by.note.now ++ grade_word by.grade.now)
 
 -- the words of a line
 abbrev pub line_words : Line → List Word

@@ -16,6 +16,7 @@ use Rattle.event_graph.specs.Network.{Constraint}
 use Rattle.event_graph.specs.declared.cause.Cause.{Cause}
 use Rattle.event_graph.specs.declared.edge.Edge.{Edge}
 use Rattle.origin.specs.Text.{origin_text}
+use Rattle.notes.specs.NotesKept.{NotesKept}
 use Rattle.origin.specs.declared.origin.Origin.{Origin}
 use Rattle.requirements.specs.Slacks.{slack_of}
 use Rattle.requirements.specs.declared.bound.BothBounds.{BothBounds}
@@ -37,9 +38,9 @@ use Rattle.explained.specs.Answers.{bound_of, verdict_by, verdict_in, word_of}
 
 -- ---- origins
 
--- the note of what draws a cause or a row, by the name of its part; the note is empty if there is none
+-- the notes of what draws causes and rows, by the names of parts, and the speed grades of the parts
 abbrev pub Noted : Type 0
-Noted = List ℕ → Origin → List ℕ
+Noted = NotesKept
 
 -- a word, if it is not empty
 abbrev pub some_word : Word → List Word
@@ -48,7 +49,16 @@ some_word (c ∷ cs) = (c ∷ cs) ∷ []
 
 -- what draws a cause or a row of a part, and its note, if there is one
 abbrev pub origin_words : Noted → List ℕ → Origin → List Word
-origin_words noted part origin = origin_text origin ∷ some_word (noted part origin)
+origin_words noted part origin = origin_text origin ∷ some_word (noted.note part origin)
+
+-- a speed grade in brackets, if it is not empty
+abbrev pub grade_word : Word → List Word
+grade_word [] = []
+grade_word (c ∷ grade) = (codes "(" ++ ((c ∷ grade) ++ codes ")")) ∷ []
+
+-- what draws a row of a part, its note and the speed grade of the part, if they are there
+abbrev pub row_origin_words : Noted → List ℕ → Origin → List Word
+row_origin_words noted part origin = origin_words noted part origin ++ grade_word (noted.grade part origin)
 
 -- the name of the part of an event
 abbrev pub part_of : Drawn → EventId → List ℕ
@@ -127,7 +137,7 @@ judged_text (kinds.Req range) found =
 -- the line of the row with this number, with what draws it; its part is the part of its from-event
 abbrev pub asked_words : Noted → Drawn → ℕ → Row → List Word
 asked_words noted drawn number row =
-    codes "row" ∷ number_text number ∷ (row_words row.kind (name_of drawn row.from) (name_of drawn row.to) ++ origin_words noted (part_of drawn row.from) row.origin)
+    codes "row" ∷ number_text number ∷ (row_words row.kind (name_of drawn row.from) (name_of drawn row.to) ++ row_origin_words noted (part_of drawn row.from) row.origin)
 
 abbrev pub row_text : Noted → Drawn → ℕ → Row → RowFound → List ℕ
 row_text noted drawn number row found =

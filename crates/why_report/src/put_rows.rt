@@ -82,7 +82,7 @@ fn put_asked<N: Notes, K: Sink>(
         kind: row.kind,
         from,
         to: drawn.name(row.to),
-        by: DrawnBy::of(notes, from.part, row.origin),
+        by: DrawnBy::of_row(notes, from.part, row.origin),
     };
     put_line(&line, buffer, sink)
 }

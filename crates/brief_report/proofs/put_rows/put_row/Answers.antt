@@ -1,7 +1,7 @@
 use Rattle.std.proofs.Common.{ap, ◌∙◌, refl}
 use Rattle.itv_base.proofs.Written.{puts_same}
 use Rattle.line_words.specs.Lines.{ended, line_of}
-use Rattle.why_report.specs.Text.{origin_words}
+use Rattle.why_report.specs.Text.{row_origin_words}
 use Rattle.brief_report.proofs.RowLines.{told_is}
 use Rattle.brief_report.proofs.put_rows.put_row.Goals as goal
 
@@ -19,10 +19,10 @@ returns g c =
             to = c.name.result;
             both = c.both_of.result;
             judged = c.judged_of.result;
-            by = c.of.result;
+            by = c.of_row.result;
             rests_on_order = c.is_some.result;
           }) refl refl c.name-from.ensures.name
           c.name.ensures.name c.both_of.ensures.least c.both_of.ensures.greatest c.judged_of.ensures.judged
-          (c.of.ensures.words ∙ ap (λ name. origin_words noted name.part row.origin) c.name-from.ensures.name) c.is_some.ensures))
+          (c.of_row.ensures.words ∙ ap (λ name. row_origin_words noted name.part row.origin) c.name-from.ensures.name) c.is_some.ensures))
           c.put_line.ensures.puts;
     }

@@ -7,7 +7,7 @@ use Rattle.edits.proofs.file.read_lines.Given as goal
 
 -- the edits so far, and the text that is left
 abbrev pub invariant-loop-line : goal.invariant-loop-line
-invariant-loop-line l = EditsSoFar l.net l.edits.items l.rest (edits_from l.net 1 (slice_split is_feed l.bytes))
+invariant-loop-line l = EditsSoFar l.drawn l.edits.items l.rest (edits_from l.drawn 1 (slice_split is_feed l.bytes))
 
 abbrev pub decreases-loop-line : goal.decreases-loop-line
 decreases-loop-line l = length l.rest

@@ -19,4 +19,5 @@ returns-in_err-delay c =
     rw (p.1, p.2) (net-delay c.args.n (view c.args.element.now) _ c.in_ok-pins.ensures _ (sym (c.in-Some.ensures ∙ ap delay_of c.get.ensures)) c.in_err-delay.field-0.0 c.in_err-delay.ensures)
 
 pub returns : goal.returns
-returns c = net-ok c.args.n (view c.args.element.now) _ c.in_ok-pins.ensures _ (sym (c.in-Some.ensures ∙ ap delay_of c.get.ensures)) _ c.in_ok-delay.ensures
+returns c =
+    net-ok c.args.n (view c.args.element.now) _ c.in_ok-pins.ensures _ (sym (c.in-Some.ensures ∙ ap delay_of c.get.ensures)) _ c.in_ok-delay.ensures _ (c.in_ok-name.ensures ∙ c.text_at.ensures)

@@ -37,7 +37,7 @@ returns-in_err-edges c =
 
 pub invariant_of-result : goal.invariant_of-result
 invariant_of-result c =
-    (netlist_whole (view c.args.tree.now) _ (netlist-ok (view c.args.tree.now) _ c.in_ok-version.ensures _ c.in_ok-cycles.ensures _ c.in_ok-parts.ensures.parts _ c.in_ok-nets.ensures _ c.in_ok-wires.ensures _ c.in_ok-edges.ensures _ c.in_ok-near.ensures), c.in_ok-parts.ensures.names)
+    (netlist_whole (view c.args.tree.now) _ (netlist-ok (view c.args.tree.now) _ c.in_ok-version.ensures _ c.in_ok-cycles.ensures _ c.in_ok-parts.ensures.parts _ c.in_ok-nets.ensures _ c.in_ok-wires.ensures _ c.in_ok-edges.ensures _ c.in_ok-stray.ensures), c.in_ok-parts.ensures.names)
 
 pub returns : goal.returns
-returns c = record { answer = netlist-ok (view c.args.tree.now) _ c.in_ok-version.ensures _ c.in_ok-cycles.ensures _ c.in_ok-parts.ensures.parts _ c.in_ok-nets.ensures _ c.in_ok-wires.ensures _ c.in_ok-edges.ensures _ c.in_ok-near.ensures }
+returns c = record { answer = netlist-ok (view c.args.tree.now) _ c.in_ok-version.ensures _ c.in_ok-cycles.ensures _ c.in_ok-parts.ensures.parts _ c.in_ok-nets.ensures _ c.in_ok-wires.ensures _ c.in_ok-edges.ensures _ c.in_ok-stray.ensures }

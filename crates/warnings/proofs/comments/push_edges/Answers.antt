@@ -1,4 +1,4 @@
-use Rattle.warnings.specs.Warnings.{edge_comment}
+use Rattle.warnings.specs.Texts.{edge_comment}
 use Rattle.warnings.proofs.EachLists.{each_more}
 use Rattle.warnings.proofs.comments.push_edges.Goals as goal
 

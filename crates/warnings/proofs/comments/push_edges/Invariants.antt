@@ -1,5 +1,6 @@
 use Rattle.std.proofs.Common.{◌≡◌, ◌++◌, take}
-use Rattle.warnings.specs.Warnings.{each_from, edge_comment}
+use Rattle.warnings.specs.Lists.{each_from}
+use Rattle.warnings.specs.Texts.{edge_comment}
 use Rattle.warnings.proofs.comments.push_edges.Given as goal
 
 abbrev pub invariant-loop-n : goal.invariant-loop-n

@@ -1,4 +1,4 @@
-use Rattle.warnings.specs.Warnings.{sheet_comments}
+use Rattle.warnings.specs.Texts.{sheet_comments}
 use Rattle.warnings.proofs.EachLists.{each_more}
 use Rattle.warnings.proofs.comments.push_sheets.Goals as goal
 

@@ -1,4 +1,4 @@
-use Rattle.warnings.specs.Warnings.{wire_comment}
+use Rattle.warnings.specs.Texts.{wire_comment}
 use Rattle.warnings.proofs.EachLists.{each_more}
 use Rattle.warnings.proofs.comments.push_wires.Goals as goal
 

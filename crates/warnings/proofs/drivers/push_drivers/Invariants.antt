@@ -1,6 +1,7 @@
 use Rattle.std.proofs.Common.{◌≡◌, ◌++◌, [], take}
 use Rattle.compose.specs.Joins.{joins_of_pins}
-use Rattle.warnings.specs.Warnings.{each_behind, join_drivers}
+use Rattle.warnings.specs.Driven.{join_drivers}
+use Rattle.warnings.specs.Lists.{each_behind}
 use Rattle.warnings.proofs.drivers.push_drivers.Given as goal
 
 abbrev pub invariant-loop-n : goal.invariant-loop-n

@@ -4,5 +4,5 @@ use Rattle.warnings.proofs.drivers.push_pin.Goals as goal
 
 pub loop-k-preserved : goal.loop-k-preserved
 loop-k-preserved c =
-    drivers_more c.args.pin.now (joins_of_pins c.args.before.now) c.loop-k.k c.args.warnings.now.items c.loop-k.warnings.items c.push_mark.new.warnings.items c.loop-k.invariant
-    (rw (c.drew_into.ensures, c.driven_mark-mark.ensures.mark) at c.in_ok-push_mark.ensures.pushed)
+    drivers_more c.args.pin.now (joins_of_pins c.args.before.now) c.loop-k.k c.args.warnings.now.items c.loop-k.warnings.items c.push_join.new.warnings.items c.loop-k.invariant
+    (rw c.join_of.ensures.join at c.in_ok-push_join.ensures.pushed)

@@ -1,5 +1,5 @@
 use Rattle.std.proofs.Common.{arith}
-use Rattle.warnings.specs.Warnings.{sheet_key}
+use Rattle.warnings.specs.Texts.{sheet_key}
 use Rattle.warnings.proofs.EachLists.{each_there}
 use Rattle.warnings.proofs.keys.push_sheet.Goals as goal
 

@@ -1,5 +1,6 @@
 use Rattle.std.proofs.Common.{◌≡◌, ◌++◌, take}
-use Rattle.warnings.specs.Warnings.{each_from, sheet_key}
+use Rattle.warnings.specs.Lists.{each_from}
+use Rattle.warnings.specs.Texts.{sheet_key}
 use Rattle.warnings.proofs.keys.push_sheet.Given as goal
 
 abbrev pub invariant-loop-key : goal.invariant-loop-key

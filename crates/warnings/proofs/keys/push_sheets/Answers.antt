@@ -1,4 +1,4 @@
-use Rattle.warnings.specs.Warnings.{sheet_key_warnings}
+use Rattle.warnings.specs.Texts.{sheet_key_warnings}
 use Rattle.warnings.proofs.EachLists.{each_more}
 use Rattle.warnings.proofs.keys.push_sheets.Goals as goal
 

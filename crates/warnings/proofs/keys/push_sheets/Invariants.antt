@@ -1,5 +1,6 @@
 use Rattle.std.proofs.Common.{◌≡◌, ◌++◌, take}
-use Rattle.warnings.specs.Warnings.{each_from, sheet_key_warnings}
+use Rattle.warnings.specs.Lists.{each_from}
+use Rattle.warnings.specs.Texts.{sheet_key_warnings}
 use Rattle.warnings.proofs.keys.push_sheets.Given as goal
 
 abbrev pub invariant-loop-part : goal.invariant-loop-part

@@ -1,4 +1,4 @@
-use Rattle.warnings.specs.Warnings.{edge_note_warning}
+use Rattle.warnings.specs.Texts.{edge_note_warning}
 use Rattle.warnings.proofs.EachLists.{each_more}
 use Rattle.warnings.proofs.misplaced.push_edges.Goals as goal
 

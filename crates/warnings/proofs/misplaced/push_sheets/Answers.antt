@@ -1,4 +1,4 @@
-use Rattle.warnings.specs.Warnings.{sheet_notes}
+use Rattle.warnings.specs.Texts.{sheet_notes}
 use Rattle.warnings.proofs.EachLists.{each_more}
 use Rattle.warnings.proofs.misplaced.push_sheets.Goals as goal
 

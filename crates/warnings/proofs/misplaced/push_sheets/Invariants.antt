@@ -1,5 +1,6 @@
 use Rattle.std.proofs.Common.{◌≡◌, ◌++◌, take}
-use Rattle.warnings.specs.Warnings.{each_from, sheet_notes}
+use Rattle.warnings.specs.Lists.{each_from}
+use Rattle.warnings.specs.Texts.{sheet_notes}
 use Rattle.warnings.proofs.misplaced.push_sheets.Given as goal
 
 abbrev pub invariant-loop-part : goal.invariant-loop-part

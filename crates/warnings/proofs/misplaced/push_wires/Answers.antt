@@ -1,4 +1,4 @@
-use Rattle.warnings.specs.Warnings.{wire_note_warning}
+use Rattle.warnings.specs.Texts.{wire_note_warning}
 use Rattle.warnings.proofs.EachLists.{each_more}
 use Rattle.warnings.proofs.misplaced.push_wires.Goals as goal
 

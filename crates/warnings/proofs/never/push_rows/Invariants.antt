@@ -1,6 +1,6 @@
 use Rattle.std.proofs.Common.{◌≡◌, ◌++◌, take}
 use Rattle.std.specs.List.{flat_map}
-use Rattle.warnings.specs.Warnings.{row_never}
+use Rattle.warnings.specs.Rules.{row_never}
 use Rattle.warnings.proofs.never.push_rows.Given as goal
 
 abbrev pub invariant-loop-row : goal.invariant-loop-row

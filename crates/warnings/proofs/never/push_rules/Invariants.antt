@@ -1,6 +1,6 @@
 use Rattle.std.proofs.Common.{◌≡◌, ◌++◌, take}
 use Rattle.std.specs.List.{flat_map}
-use Rattle.warnings.specs.Warnings.{rule_never}
+use Rattle.warnings.specs.Rules.{rule_never}
 use Rattle.warnings.proofs.never.push_rules.Given as goal
 
 abbrev pub invariant-loop-rule : goal.invariant-loop-rule

@@ -1,4 +1,4 @@
-use Rattle.warnings.specs.Warnings.{sheet_never}
+use Rattle.warnings.specs.Rules.{sheet_never}
 use Rattle.warnings.proofs.EachLists.{each_more}
 use Rattle.warnings.proofs.never.push_sheets.Goals as goal
 

@@ -1,5 +1,6 @@
 use Rattle.std.proofs.Common.{◌∙◌}
-use Rattle.warnings.proofs.PinLists.{own_pins_more, pin_of}
+use Rattle.warnings.specs.Driven.{own_join}
+use Rattle.warnings.proofs.PinLists.{pin_of, pins_given}
 use Rattle.warnings.proofs.own.push_own.Goals as goal
 
 pub push_pin-requires : goal.push_pin-requires
@@ -10,5 +11,5 @@ push_pin-requires c = record {
 
 pub loop-pin-preserved : goal.loop-pin-preserved
 loop-pin-preserved c =
-    own_pins_more c.args.design.now.sheets c.pins-pin-items.result.now c.loop-pin.pin-index c.pin-item.result c.args.warnings.now.items c.loop-pin.warnings.items c.push_pin.new.warnings.items
+    pins_given (own_join c.args.design.now.sheets) c.pins-pin-items.result.now c.loop-pin.pin-index c.pin-item.result c.args.warnings.now.items c.loop-pin.warnings.items c.push_pin.new.warnings.items
     c.loop-pin-test.true c.pin-item.is c.loop-pin.invariant c.in_ok-push_pin.ensures.pushed

@@ -1,7 +1,7 @@
 use Rattle.std.proofs.Common.{◌≡◌, ◌++◌, take}
 use Rattle.std.specs.List.{flat_map}
 use Rattle.compose.specs.Joins.{joins_of_pins}
-use Rattle.warnings.specs.Warnings.{own_join}
+use Rattle.warnings.specs.Driven.{own_join}
 use Rattle.warnings.proofs.own.push_own.Given as goal
 
 abbrev pub invariant-loop-pin : goal.invariant-loop-pin

@@ -1,7 +1,7 @@
 use Rattle.std.proofs.Common.{◌≡◌, ◌++◌}
 use Rattle.std.specs.List.{flat_map}
 use Rattle.compose.specs.Joins.{first_joins}
-use Rattle.warnings.specs.Warnings.{own_join}
+use Rattle.warnings.specs.Driven.{own_join}
 use Rattle.warnings.proofs.own.push_pin.Given as goal
 
 abbrev pub invariant-loop-k : goal.invariant-loop-k

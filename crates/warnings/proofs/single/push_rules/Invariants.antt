@@ -1,6 +1,6 @@
 use Rattle.std.proofs.Common.{◌≡◌, ◌++◌, take}
 use Rattle.std.specs.List.{flat_map}
-use Rattle.warnings.specs.Warnings.{rule_single}
+use Rattle.warnings.specs.Rules.{rule_single}
 use Rattle.warnings.proofs.single.push_rules.Given as goal
 
 abbrev pub invariant-loop-rule : goal.invariant-loop-rule

@@ -1,4 +1,4 @@
-use Rattle.warnings.specs.Warnings.{sheet_single}
+use Rattle.warnings.specs.Rules.{sheet_single}
 use Rattle.warnings.proofs.EachLists.{each_more}
 use Rattle.warnings.proofs.single.push_sheets.Goals as goal
 

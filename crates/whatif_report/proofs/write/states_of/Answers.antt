@@ -11,7 +11,7 @@ text_of-requires-clause-first c =
 pub text_of-requires-clause-each : goal.text_of-requires-clause-each
 text_of-requires-clause-each c =
     subst (All (IsNoteOf c.args.kinds.now)) (sym c.deref.ensures.value)
-    (notes_are c.args.kinds.now c.args.session.now c.run_edits.new.session c.args.edits.now c.in_ok-notes.notes.items c.in_ok-notes.ensures.run c.requires.count).0
+    (notes_are c.args.drawn.now c.args.kinds.now c.args.session.now c.run_edits.new.session c.args.edits.now c.in_ok-notes.notes.items c.in_ok-notes.ensures.run c.requires.count).0
 
 pub text_of-requires-clause-last : goal.text_of-requires-clause-last
 text_of-requires-clause-last c =
@@ -20,7 +20,7 @@ text_of-requires-clause-last c =
 pub text_of-requires-clause-count : goal.text_of-requires-clause-count
 text_of-requires-clause-count c =
     ap length c.deref.ensures.value
-    ∙ (notes_are c.args.kinds.now c.args.session.now c.run_edits.new.session c.args.edits.now c.in_ok-notes.notes.items c.in_ok-notes.ensures.run c.requires.count).1
+    ∙ (notes_are c.args.drawn.now c.args.kinds.now c.args.session.now c.run_edits.new.session c.args.edits.now c.in_ok-notes.notes.items c.in_ok-notes.ensures.run c.requires.count).1
 
 pub end_word-word-requires-clause-of : goal.end_word-word-requires-clause-of
 end_word-word-requires-clause-of c =
@@ -29,5 +29,5 @@ end_word-word-requires-clause-of c =
     (note_is c.args.kinds.now c.args.session.now (record { kept = 0; searched = 0 }) c.finding-finding.ensures.right c.requires.count) in
     let each : All (IsNoteOf c.args.kinds.now) c.deref-2.result.now =
     subst (All (IsNoteOf c.args.kinds.now)) (sym c.deref-2.ensures.value)
-    (notes_are c.args.kinds.now c.args.session.now c.run_edits.new.session c.args.edits.now c.in_ok-notes.notes.items c.in_ok-notes.ensures.run c.requires.count).0 in
+    (notes_are c.args.drawn.now c.args.kinds.now c.args.session.now c.run_edits.new.session c.args.edits.now c.in_ok-notes.notes.items c.in_ok-notes.ensures.run c.requires.count).0 in
     subst (IsNoteOf c.args.kinds.now) (sym c.last_of.ensures.last) (last_is_note c.args.kinds.now c.in_ok-first.first c.deref-2.result.now first each)

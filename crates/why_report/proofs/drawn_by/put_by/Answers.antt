@@ -14,4 +14,4 @@ returns-in_err-put_origin g c =
     record { puts = rw p.1 (cut_two _ _ _ _ _ _ _ refl c.in_ok-put.ensures.puts c.in_err-put_origin.ensures.puts) }
 
 pub returns : goal.returns
-returns g c = record { puts = put_three _ _ _ _ _ _ _ _ c.put_note.result refl c.in_ok-put.ensures.puts c.in_ok-put_origin.ensures.puts c.put_note.ensures }
+returns g c = record { puts = put_three _ _ _ _ _ _ _ _ c.put_told.result refl c.in_ok-put.ensures.puts c.in_ok-put_origin.ensures.puts c.put_told.ensures }

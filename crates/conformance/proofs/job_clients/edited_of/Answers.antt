@@ -1,0 +1,10 @@
+use Rattle.std.proofs.Common.{refl}
+use Rattle.itv_base.specs.Memory.{shelf_state, sink_state}
+use Rattle.itv_cli.specs.Run.{Call, call_of}
+use Rattle.conformance.proofs.JobEnds.{whatif_met}
+use Rattle.conformance.proofs.job_clients.edited_of.Goals as goal
+
+pub returns : goal.returns
+returns c =
+    let call : Call = call_of c.args.words.now (shelf_state c.args.shelf.now) (shelf_state c.run.new.shelf) (sink_state c.args.sink.now) (sink_state c.run.new.sink) in
+    record { met = λ budget drawn edits asks e. whatif_met call c.args.shelf.now.files budget drawn edits refl asks c.run.result c.run.ensures.means e }

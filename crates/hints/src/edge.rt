@@ -1,0 +1,96 @@
+//! The texts of edges, and places in them.
+
+use crate::label_fault::misfit_in;
+use crate::tree::value_text;
+use crate::written::Quoted;
+use itv_base::NoMemory;
+use json_tree::list_at;
+use label_grammar::LabelFault;
+use serde_json::Value;
+use std::alloc::Global;
+
+/// The text of element n of the list of edges under a key, or an empty text if there is none.
+pub fn edge_text<'v>(tree: &'v Value, key: &str, n: u64) -> &'v str {
+    match list_at(tree, key) {
+        Some(list) => list.get(n as usize).and_then(Value::as_str).unwrap_or(""),
+        None => "",
+    }
+}
+
+/// The label of the text of an edge, which stands behind so many spaces.
+pub fn label_in(text: &str, spaces: u32) -> &str {
+    let mut label = text;
+    for _ in 0..spaces {
+        label = match label.split_once(' ') {
+            Some((_, behind)) => behind,
+            None => "",
+        };
+    }
+    label
+}
+
+/// The column in the text of an edge, from 1, at which the rest of the text stands.
+fn column_of(text: &str, rest: &str) -> usize {
+    let before = text.chars().count().saturating_sub(rest.chars().count());
+    before.saturating_add(1)
+}
+
+/// Element n of the list of edges under a key is no text.
+pub fn no_text(alloc: Global, tree: &Value, key: &str, n: u64) -> Result<String, NoMemory> {
+    let Some(element) = list_at(tree, key).and_then(|list| list.get(n as usize)) else {
+        return Ok(String::new(alloc));
+    };
+    let has = value_text(alloc, element)?;
+    let has = has.as_str();
+    Ok(format!(in alloc; "edge {n} is {has}: a text in double quotes is wanted")?)
+}
+
+/// What is wrong with an edge.
+pub fn about_edge(alloc: Global, n: u64, text: &str, says: &str) -> Result<String, NoMemory> {
+    let edge = Quoted(text);
+    Ok(format!(in alloc; "edge {n} {edge}: {says}")?)
+}
+
+/// Why the label of an edge is refused: the label stands behind so many spaces, and is of this version.
+pub fn label_refused(
+    alloc: Global,
+    n: u64,
+    text: &str,
+    spaces: u32,
+    version: u32,
+    fault: LabelFault,
+) -> Result<String, NoMemory> {
+    match fault {
+        LabelFault::BadLabel => bad_label(alloc, n, text, label_in(text, spaces), version),
+        LabelFault::TooWide => about_edge(alloc, n, text, TOO_WIDE),
+        LabelFault::EmptyRange => about_edge(alloc, n, text, EMPTY_RANGE),
+    }
+}
+
+/// What is said of an end of a label that is too wide.
+pub const TOO_WIDE: &str = "an end is beyond 10,000,000,000,000 ps: an open end is *";
+
+/// What is said of ends that are the wrong way round.
+pub const EMPTY_RANGE: &str = "the low end is above the high end";
+
+// Why a label has not the form of a label of its version.
+fn bad_label(
+    alloc: Global,
+    n: u64,
+    text: &str,
+    label: &str,
+    version: u32,
+) -> Result<String, NoMemory> {
+    let edge = Quoted(text);
+    let said = match misfit_in(label, version) {
+        Some(misfit) => {
+            let column = column_of(text, misfit.rest);
+            let why = misfit.why;
+            format!(in alloc; "edge {n} {edge}, column {column}: {why}")?
+        }
+        None => format!(in alloc;
+            "edge {n} {edge}: the label is not of the form @kind [LOW,HIGH] note"
+        )?,
+    };
+    Ok(said)
+}

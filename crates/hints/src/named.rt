@@ -1,0 +1,43 @@
+//! The files that a task names.
+
+use words::Task;
+
+/// The names of the files of a task. A generated design has none.
+#[derive(Clone, Copy)]
+pub struct NamedFiles<'a> {
+    pub design: Option<&'a str>,
+    pub report: Option<&'a str>,
+    pub edits: Option<&'a str>,
+}
+
+/// The names of the files of a task.
+pub fn files_of<'a>(task: Task<'a>) -> NamedFiles<'a> {
+    match task {
+        Task::Bounds { design, .. }
+        | Task::Fall { design, .. }
+        | Task::Settle { design, .. }
+        | Task::Redraw { design, .. }
+        | Task::Why { design, .. }
+        | Task::Brief { design, .. }
+        | Task::Lint { design, .. }
+        | Task::Matrix { design } => only(Some(design)),
+        Task::Check { design, report } | Task::Confirm { design, report } => NamedFiles {
+            report: Some(report),
+            ..only(Some(design))
+        },
+        Task::Whatif { design, edits, .. } => NamedFiles {
+            edits: Some(edits),
+            ..only(Some(design))
+        },
+        Task::Generated { .. } => only(None),
+    }
+}
+
+// A design alone.
+fn only<'a>(design: Option<&'a str>) -> NamedFiles<'a> {
+    NamedFiles {
+        design,
+        report: None,
+        edits: None,
+    }
+}

@@ -1,0 +1,13 @@
+use Rattle.std.proofs.Common.{◌≤◌, ℕ, subst, sym}
+use Rattle.std.proofs.lemmas.Result.{IfOk-weaker}
+use Rattle.event_graph.specs.Edges.{cause_choices}
+use Rattle.lint_report.proofs.rows.see_rows.Goals as goal
+
+pub returns-clause-settles : goal.returns-clause-settles
+returns-clause-settles c =
+    IfOk-weaker c.see_each.result _ _
+    (λ rows settles. λ enough. settles (record {
+      whole = subst (λ (b : ℕ). cause_choices c.args.drawn.now.net.constraints ≤ b) (sym c.requires.same) enough;
+      apart = c.in_ok-apart.ensures.enough enough;
+    }))
+    c.see_each.ensures.settles

@@ -1,0 +1,3 @@
+pub mod DrawnCauses
+pub mod RangesSet
+pub mod There
