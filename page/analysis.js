@@ -1,11 +1,11 @@
-// What is found of a design behind a key: the runs of the program, one job after another, and what they say together.
+// What is found of a design after a key press: the runs of the program, one job after another, and what they say together.
 
 import { entriesOf, unitOf } from "./answer.js";
 import { Design } from "./design.js";
 import { Matrix, Report, Why, warningsOf } from "./printed.js";
 import { refusalOf } from "./refusals.js";
 
-// The cases that each search may close behind a key. Where they do not suffice job settle goes on.
+// The cases that each search may close after a key press. Where they do not suffice job settle goes on.
 export const BUDGET = 100;
 // A matrix of more events is worked out only where its tab is chosen: it has a number for each pair.
 const MOST_EVENTS_OF_WINDOWS = 256;

@@ -88,7 +88,7 @@ export class Editor {
     if (below) this.putReason(line, says, below);
   }
 
-  /** Puts the reason of a refusal below its line, with the program's line behind it. */
+  /** Puts the reason of a refusal below its line, with the program's line after it. */
   putReason(line, says, printed) {
     const element = document.createElement("div");
     element.className = "reason";

@@ -40,7 +40,7 @@ export function inScript(value) {
   return JSON.stringify(value).replace(/</g, "\\u003c");
 }
 
-/** The first digits of the SHA-256 of texts one behind another; null where the browser has no checksums, as on a server without https. */
+/** The first digits of the SHA-256 of texts one after another; null where the browser has no checksums, as on a server without https. */
 export async function checksumOf(texts) {
   if (!globalThis.crypto || !crypto.subtle) return null;
   const digest = new Uint8Array(await crypto.subtle.digest("SHA-256", new TextEncoder().encode(texts.join(""))));

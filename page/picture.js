@@ -115,7 +115,7 @@ export class Picture {
 
   // The scale.
 
-  /** The step of the scale, 1, 2 or 5 with zeros behind it, so wide that its numbers have room. */
+  /** The step of the scale, 1, 2 or 5 with zeros after it, so wide that its numbers have room. */
   tickStep() {
     const widest = Math.max(80, ...[this.canvas.low, this.canvas.high].map((time) => room(tickText(Math.round(time), this.unit)) + 16));
     const least = (widest * (this.canvas.high - this.canvas.low)) / (this.canvas.right - this.canvas.left);

@@ -66,7 +66,7 @@ export function guideOf(points) {
 
 /** The bricks of a wave over all cycles: a character, whether it begins anew, and whether it has a gap, for each.
  *
- * Behind its last brick a wave stays as it is, and a clock stands still. */
+ * After its last brick a wave stays as it is, and a clock stands still. */
 function bricksOf(wave, bricks, cycles) {
   const drawn = [];
   let now = "x";
@@ -111,7 +111,7 @@ function runBefore(kind, start) {
   return { kind: { rise: "low", fall: "high" }[kind] || "none", char: "", start: null, end: start, marked: false, text: "" };
 }
 
-/** Puts the level behind a clock that goes on to the end. */
+/** Puts the level after a clock that goes on to the end. */
 function endClock(runs, end) {
   const last = runs[runs.length - 1];
   if (!last || !isClock(last.kind)) return;

@@ -1,4 +1,4 @@
-//! Writing the bounds of a row behind an unsettled finding: the root bounds.
+//! Writing the bounds of a row after an unsettled finding: the root bounds.
 
 ghost use Rattle.std.specs.Prelude.{◌≡◌, ◌<◌, ℕ, ℤ, Bool, [], List, IfOk, OnOk};
 ghost use Rattle.branch.specs.Work.{IsMadeFor};

@@ -311,7 +311,7 @@ fn lesser(so_far: Option<u32>, number: u32) -> Option<u32>
     }
 }
 
-// Puts an event behind those that were reached, unless it is there already. Returns how many there are.
+// Puts an event after those that were reached, unless it is there already. Returns how many there are.
 fn put(reached: &mut [bool], queue: &mut [EventId], count: usize, event: EventId) -> usize
     requires { count ≤ length queue.old }
     ensures { result ≤ length queue.new }

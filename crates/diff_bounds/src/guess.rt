@@ -140,7 +140,7 @@ fn place_first(net: &Network, due: &[u32], order: &mut [EventId]) -> usize
     count
 }
 
-// Puts an event into the order behind `count` others, if there is room. The answer is how many events are in the order now.
+// Puts an event into the order after `count` others, if there is room. The answer is how many events are in the order now.
 fn place(event: EventId, order: &mut [EventId], count: usize) -> usize
     requires count { count ≤ length order.old }
     requires event { event.0 < length order.old }

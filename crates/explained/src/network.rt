@@ -17,7 +17,7 @@ use itv_base::NoMemory;
 use slack_report::FindingWord;
 use std::alloc::Global;
 
-/// What is found of a network and of each of its rows, in order. Behind an inconsistent finding `rows` is empty.
+/// What is found of a network and of each of its rows, in order. After an inconsistent finding `rows` is empty.
 #[derive(Drop)]
 pub struct NetworkFound {
     pub finding: Finding,

@@ -11,7 +11,7 @@ pub record Gathered : Type 0 where
 abbrev pub buffer_state : Gathered → SinkState
 buffer_state b = record { written = Some b.bytes; faults = b.faults }
 
--- a piece fits behind the bytes
+-- a piece fits after the bytes
 abbrev pub fits : Gathered → List ℕ → Bool
 fits b piece = nat_le (length b.bytes + length piece) b.room
 

@@ -88,7 +88,7 @@ pub record AreEndsFound (network : Drawn) (ends : List RangeEnd) : Type 0 where
   pub all : map (λ (end : RangeEnd). end.name) ends ≡ ends_of network
   pub right : All (IsEndFound network) ends
 
--- what is found behind a consistent finding
+-- what is found after a consistent finding
 pub record IsConsistentFound (network : Drawn) (found : List RangeEnd) (seen : List RowSeen) : Type 0 where
   pub consistent : IsConsistency network.net consistency.Consistent
   pub ends : AreEndsFound network found

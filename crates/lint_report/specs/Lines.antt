@@ -123,7 +123,7 @@ contradiction_lines by_order.Yes = Contradiction ∷ []
 contradiction_lines by_order.No = []
 contradiction_lines by_order.Open = Open ∷ []
 
--- the lines behind the lines of ends
+-- the lines after the lines of ends
 abbrev pub other_lines : Drawn → LintFound → List Line
 other_lines network (found.Consistent ends rows) = row_lines network 0 network.rows rows.items ++ open_ends_line (count_by is_end_open ends.items)
 other_lines network (found.Inconsistent by) = contradiction_lines by

@@ -70,7 +70,7 @@ fn push_drawing(
     Ok(lines.push(Line::Drawing(*warning))?)
 }
 
-// Lines behind others.
+// Lines after others.
 fn push_all(more: &[Line], lines: &mut Vec<Line>) -> Result<(), NoMemory>
     ensures lines { IfOk result (λ _. lines.new.items ≡ lines.old.items ++ more.now) }
 {
@@ -116,7 +116,7 @@ fn push_end(drawn: &DrawnNetwork, end: &RangeEnd, lines: &mut Vec<Line>) -> Resu
     }
 }
 
-// The lines behind the lines of ends.
+// The lines after the lines of ends.
 fn push_others(
     drawn: &DrawnNetwork,
     found: &LintFound,

@@ -58,7 +58,7 @@ fn put_whole<K: Sink>(
     sink.put(b"\n")
 }
 
-// Puts a space and a word for each word of a line behind its first word.
+// Puts a space and a word for each word of a line after its first word.
 fn put_line_words<K: Sink>(
     plan: &Plan,
     design: &Design<'_>,

@@ -194,7 +194,7 @@ eight_by_bits weight place old other lanes small within lengths held other_held 
     ap (λ l. map (to_z w64) (map (of_z w64) l)) read ∙ improved_by_bits weight _ _ small entries others in
     eight_put weight place old other _ within lengths stored
 
--- the eight entries behind a part are as they were
+-- the eight entries after a part are as they were
 pub chunk_behind : (weight : ℤ) (first place : ℕ) (old other now : List ℤ) → ImprovesPart weight first place old other now → place + 8 ≤ length old → All IsEntry old → All IsEntry (chunk place 8 now)
 chunk_behind weight first place old other now part within held =
     all_of (chunk place 8 now)

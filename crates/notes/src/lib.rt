@@ -1,4 +1,4 @@
-//! Notes: what the label of an edge says in plain words behind everything else.
+//! Notes: what the label of an edge says in plain words after everything else.
 //! The contract: a keeper of notes gives the note of what draws a cause or a row, by the name of its part, and the speed grade of the part.
 //! If there is none, it gives an empty text.
 #![tactic(auto)]

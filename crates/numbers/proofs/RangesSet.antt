@@ -141,7 +141,7 @@ module _ (range : Ends) where
   either_by now net p name (inr e) (inl f) = inr (e ∙ (ap (option_map ranged) f.1 ∙ twice (cause_at net name.constraint name.cause)))
   either_by now net p name (inr e) (inr f) = inr (e ∙ ap (option_map ranged) f.1)
 
-  -- behind other ranges a cause has the range or is as it was
+  -- after other ranges a cause has the range or is as it was
   either : (net : Net) (names : List CauseName) (name : CauseName) → Either (with_ranges net names range) net name
   either net [] name = inl refl
   either net (p ∷ names) name =

@@ -1,4 +1,4 @@
--- The notes of edges and of wires, and the names of nets, as they are printed. A note is what a label says in plain words behind everything
+-- The notes of edges and of wires, and the names of nets, as they are printed. A note is what a label says in plain words after everything
 -- else. Parts, edges, wires and nets are numbered from 0.
 use Rattle.std.specs.Prelude.{ℕ, Bool, ◌&&◌, ◌==◌, nat_le, if◌then◌else◌, List, [], ◌∷◌, Option, Some, None, find, option_and_then, unwrap_or, slice_get, Result, Ok, Err}
 use Rattle.std.specs.List.{list_all}

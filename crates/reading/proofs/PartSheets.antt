@@ -78,7 +78,7 @@ both_of true b is none = none
 both_of false b is none = absurd (cc is)
 
 module _ (shelf : ShelfState) (place : RefusalPlace) (name : List ℕ) (grades : Option (List Grade)) (drawing : Drawing) where
-  -- a part that is drawn on the file has its sheet behind it
+  -- a part that is drawn on the file has its sheet after it
   part_brings : (n : ℕ) (sheets more : NamedSheets) (part : Part) → RunsTo shelf (with_part place name grades drawing n sheets part) (ready more) → part.sheet ≡ name → IsThere (key_of part) more
   part_brings n sheets more part comes named = by (is_unread sheets name part) refl comes
     where

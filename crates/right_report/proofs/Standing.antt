@@ -41,7 +41,7 @@ next_row rows later number r is =
 
 -- ---- states
 
--- the current row is a row of the design, and the later rows are the rows behind it
+-- the current row is a row of the design, and the later rows are the rows after it
 pub record IsTold (drawn : Drawn) (current : CurrentRow) : Type 0 where
   pub is_row : slice_get drawn.rows current.number ≡ Some current.row
   pub are_later : current.later ≡ drop (current.number + 1) drawn.rows

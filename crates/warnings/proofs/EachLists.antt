@@ -55,7 +55,7 @@ each_behind_append gives before (x ∷ xs) ys =
     ap (λ rest. gives before x ++ rest) (each_behind_append gives (before ++ x ∷ []) xs ys ∙ ap (λ front. each_behind gives (before ++ x ∷ []) xs ++ each_behind gives front ys) (append_assoc before (x ∷ []) xs))
     ∙ sym (append_assoc (gives before x) (each_behind gives (before ++ x ∷ []) xs) (each_behind gives (before ++ x ∷ xs) ys))
 
--- one more element behind some, and all behind others
+-- one more element after some, and all after others
 pub behind_push : {X Y : Type 0} (gives : List X → X → List Y) (before xs : List X) (x : X) (old now new : List Y) → now ≡ old ++ each_behind gives before xs
     → new ≡ now ++ gives (before ++ xs) x → new ≡ old ++ each_behind gives before (xs ++ x ∷ [])
 behind_push gives before xs x old now new held grown =
@@ -63,7 +63,7 @@ behind_push gives before xs x old now new held grown =
     each_behind_append gives before xs (x ∷ []) ∙ ap (λ ys. each_behind gives before xs ++ ys) (append-nil (gives (before ++ xs) x)) in
     grown ∙ ap (λ ys. ys ++ gives (before ++ xs) x) held ∙ append_assoc old (each_behind gives before xs) (gives (before ++ xs) x) ∙ ap (λ ys. old ++ ys) (sym more)
 
--- one list behind another, and both behind others
+-- one list after another, and both after others
 pub behind_lists : {X Y : Type 0} (gives : List X → X → List Y) (xs ys : List X) (old now new : List Y) → now ≡ old ++ each_behind gives [] xs
     → new ≡ now ++ each_behind gives xs ys → new ≡ old ++ each_behind gives [] (xs ++ ys)
 behind_lists gives xs ys old now new held grown =

@@ -166,7 +166,7 @@ AreUpdated May Searched (a ∷ before) (b ∷ now) kept searched =
     ((fewer : ℕ) × (kept ≡ fewer + 1) × May a × (b ≡ a) × AreUpdated May Searched before now fewer searched)
     ⊎ ((fewer : ℕ) × (searched ≡ fewer + 1) × (May a → ⊥) × Searched a b × AreUpdated May Searched before now kept fewer)
 
--- which bounds an edit may keep: if the finding before it was consistent, all that may be kept for the network behind it, and else none
+-- which bounds an edit may keep: if the finding before it was consistent, all that may be kept for the network after it, and else none
 abbrev pub MayKeepFrom : SearchFinding → Net → KeptBound → Type 0
 MayKeepFrom Consistent net b = MayKeep net b
 MayKeepFrom Inconsistent net b = ⊥
