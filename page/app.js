@@ -310,7 +310,7 @@ export class App {
     );
   }
 
-  /** Where an edge stands in the text of a file. */
+  /** Where an edge is in the text of a file. */
   edgePlace(read, number) {
     const { start, end } = read.value.at(Object.hasOwn(read.tree, "itv") ? "edges" : "edge", number);
     return { start, end };

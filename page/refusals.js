@@ -113,7 +113,7 @@ const OF_FILE = {
 
 const NET = (file, [net, pin]) => file.value.at("nets", Number(net), "pins", Number(pin));
 
-// For each fault of the joins and limits, which stand in the design's own file.
+// For each fault of the joins and limits, which are in the design's own file.
 const OF_DESIGN = {
   NoPart: [NET, () => "No part has this name."],
   NoPin: [NET, () => "The sheet of this part has no lane of this name with a mark."],

@@ -24,7 +24,7 @@ pub struct Search {
     pub budget: u64,
 }
 
-/// How a search comes to its next case.
+/// How a search reaches its next case.
 #[derive(Clone, Copy)]
 pub enum NextCase {
     /// The bounds stand on it.

@@ -1,4 +1,4 @@
--- The files of the generated design, as trees. The members of an object stand in the order of their keys.
+-- The files of the generated design, as trees. The members of an object are in the order of their keys.
 use Rattle.std.specs.Prelude.{ℕ, List, [], ◌∷◌, ◌++◌, map, codes, decimal}
 use Rattle.std.specs.List.{range_with_len}
 use Rattle.serde_json.specs.Data.{Data, array, member, no_members, number, object, string, unsigned}

@@ -138,8 +138,7 @@ fn settle_at_once(
     }
 }
 
-// Lets all events wait. Each starts with the number by which 0 is above its guess. The falls of its label are added later, so the number stays how
-// far the label is above the guess.
+// Queues all events. An event's priority is its label minus its guess; at the start the label is 0. Each later fall of the label is added to it.
 fn push_all(events: u32, guess: &Guess, pending: &mut Pending)
     requires guess { length guess.now ≡ events }
     requires marks { length pending.old.marks ≡ events }

@@ -12,7 +12,7 @@ use Rattle.label_grammar.specs.declared.label2.Label2.{Label2}
 use Rattle.label_grammar.specs.declared.label2.Span as code
 use Rattle.label_grammar.specs.declared.label2.Span.TheVariants.{Fixed, Named}
 
--- A label. In version 1 the two ends stand in it, and in version 2 a span does. Ends are whole numbers of any size, and are not yet known to be a range.
+-- A label. In version 1 the two ends are in it, and in version 2 a span is. Ends are whole numbers of any size, and are not yet known to be a range.
 -- An end that is `None` is open.
 pub record LooseLabel (E : Type 0) : Type 0 where
   pub kind : Kind
@@ -49,14 +49,14 @@ is_ask kind = false
 
 -- ---- versions
 
--- How the labels of a version give their ends, by what stands in them of type `E`: whether it can be spelled, how it is spelled, and the ends, if they are
+-- How the labels of a version give their ends, by what is in them of type `E`: whether it can be spelled, how it is spelled, and the ends, if they are
 -- known from the label itself.
 pub record Version (E : Type 0) : Type 0 where
   pub has_form : E → Bool
   pub text : E → List ℕ
   pub outright : E → Option Ends
 
--- the ends stand in brackets, after a space
+-- the ends are in brackets, after a space
 abbrev pub ends_text : Ends → List ℕ
 ends_text ends = codes " [" ++ (end_text ends.low ++ (codes "," ++ (end_text ends.high ++ codes "]")))
 

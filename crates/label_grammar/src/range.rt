@@ -22,7 +22,7 @@ fn read_judged(text: &str) -> Result<Range, LabelFault>
     range_of(ends)
 }
 
-/// Reads the two ends of a range as they stand in a label: a space and `[low,high]`, in picoseconds, `*` where open, and nothing else. It
+/// Reads the two ends of a range as they are written in a label: a space and `[low,high]`, in picoseconds, `*` where open, and nothing else. It
 /// reports the first of these faults: the text does not have this form, an end is too wide, the ends are the wrong way round.
 /// [`read_label`](crate::read_label) has the same faults in the same order.
 pub fn read_range(text: &str) -> Result<Range, LabelFault>

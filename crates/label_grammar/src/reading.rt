@@ -64,7 +64,7 @@ fn read_judged(text: &str) -> Result<Label<'_>, LabelFault>
 /// a zero in front. It reports the first of these faults: the text does not have this form, an end is too wide, the ends are the wrong way
 /// round.
 pub fn read_label<'a>(text: &'a str) -> Result<Label<'a>, LabelFault>
-    // The label that is read is proper, and the text is its spelling: so its tag and its note stand in the text.
+    // The label that is read is proper, and the text is its spelling: so its tag and its note are in the text.
     ensures ok { IfOk result (λ l. IsProper version_1 (label_view l) × (text.now ≡ spelling version_1 (label_view l))) }
     // A proper label that the text spells is read.
     ensures only { (l : LooseLabel Ends) → IsProper version_1 l → text.now ≡ spelling version_1 l

@@ -64,7 +64,7 @@ fn read_judged2(text: &str) -> Result<Label2<'_>, LabelFault>
 /// faults: the text has neither form, an end is too wide, the ends are the wrong way round. The reader does not ask whether there is such a
 /// parameter.
 pub fn read_label2<'a>(text: &'a str) -> Result<Label2<'a>, LabelFault>
-    // The label that is read is proper, and the text is its spelling: so its tag, its parameter and its note stand in the text.
+    // The label that is read is proper, and the text is its spelling: so its tag, its parameter and its note are in the text.
     ensures ok { IfOk result (λ l. IsProper version_2 (label2_view l) × (text.now ≡ spelling version_2 (label2_view l))) }
     // A proper label that the text spells is read.
     ensures only { (l : LooseLabel SpanSeen) → IsProper version_2 l → text.now ≡ spelling version_2 l

@@ -31,7 +31,7 @@ use Rattle.lint_report.specs.Lines.{event_part, is_clean, is_silenced, meant_cou
 
 -- ---- places
 
--- an edge or a lane of a part has the name of the part before it; a pin or a wire stands by itself
+-- an edge or a lane of a part has the name of the part before it; a pin or a wire is by itself
 abbrev pub place_word : List ℕ → Origin → Word
 place_word part (drawn.Lane n) = part ++ (32 ∷ origin_text (drawn.Lane n))
 place_word part (drawn.Edge n) = part ++ (32 ∷ origin_text (drawn.Edge n))

@@ -1,4 +1,4 @@
--- Matrices of path lengths, row by row: the entry from one event to another stands in the row of the first at the place of the second.
+-- Matrices of path lengths, row by row: the entry from one event to another is in the row of the first at the place of the second.
 use Rattle.std.specs.Prelude.{◌≡◌, ◌<◌, ◌≤◌, ℕ, ℤ, List, [], length, Option, Some, None, int_lt, slice_index_or, if◌then◌else◌}
 use Rattle.itv_base.specs.declared.limits.TheConstants.{MAX_MATRIX_EVENTS}
 use Rattle.itv_base.specs.declared.names.EventId.{EventId}

@@ -202,7 +202,7 @@ module _ (claims : LineClaims) (drawn : Drawn) (number : ℕ) (kind : RowKind) (
   begins (at_end word) h = absurd (cc h.0)
   begins at_last h = absurd h
 
--- a claim on what the lines of a row say first holds, wherever the row stands in the report
+-- a claim on what the lines of a row say first holds, wherever the row is in the report
 module _ {X : Type 0} (drawn : Drawn) (last : ReportState) (first : List Entry → Option X) (Claim : Row → X → Type 0)
     (empty : first [] ≡ None)
     (in_row : (current : CurrentRow) (lines : List Entry) (x : X) → IsTold drawn current → LinesLead (right drawn.net) drawn (at_bound current greatest []) lines last → first lines ≡ Some x → Claim current.row x) where

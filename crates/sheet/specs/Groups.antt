@@ -75,7 +75,7 @@ pub record RepresentsRules (front : List SheetRule) (links : List Link) (all : L
   pub stand : all ≡ front ++ link_rules links
   pub found : (group : Group) → place_of places group ≡ position_from (joins (group_link group)) (length front) (openers links)
 
--- The fault of edge n is that its group is full. Memory may be wanted at any time.
+-- The fault of edge n is that its group is full. Memory may run out at any time.
 abbrev pub IsFullFault : ℕ → Bool → GroupFault → Type 0
 IsFullFault n full (TooManyCauses m) = (m ≡ n) × (full ≡ true)
 IsFullFault n full NoMemory = Unit {0}

@@ -34,7 +34,7 @@ with_distinct same key fault done more = unless (first_repeated same key (map ke
 abbrev pub with_marks : List Mark → List Mark → Result (List Mark) SheetFault
 with_marks = with_distinct nat_eq (λ mark. mark.name) (λ mark. DoubleMark mark.name)
 
--- no mark stands twice, and each is a character that may be a mark
+-- no mark occurs twice, and each is a character that may be a mark
 pub record AreMarks (marks : List Mark) : Type 0 where
   pub distinct : IsDistinct nat_eq (map (λ mark. mark.name) marks)
   pub named : All (λ mark. is_mark mark.name ≡ true) marks
