@@ -5,9 +5,9 @@ import { Design } from "./design.js";
 import { Matrix, Report, Why, warningsOf } from "./printed.js";
 import { refusalOf } from "./refusals.js";
 
-// The cases that each search may close after a key press. Where they do not suffice job settle goes on.
+// The cases that each search may close after a key press. Where they do not suffice job settle continues.
 export const BUDGET = 100;
-// A matrix of more events is worked out only where its tab is chosen: it has a number for each pair.
+// A matrix of more events is computed only where its tab is chosen: it has a number for each pair.
 const MOST_EVENTS_OF_WINDOWS = 256;
 
 /** The words of a job on a design. */

@@ -120,7 +120,7 @@ pub nothing_after : (lines : List ProofLine) → lines ++ [] ≡ lines
 nothing_after [] = refl
 nothing_after (line ∷ lines) = ap (λ ls. line ∷ ls) (nothing_after lines)
 
--- a needed split goes on from what was searched
+-- a needed split continues from what was searched
 pub searched_splits : (net : Net) (goal : ProofGoal) (IsNeeded : List ProofLine → Case → ℕ → Type 0) (lines : List ProofLine) (chosen : Case) (number closed : ℕ)
     → IsSearchedSoFar net goal IsNeeded lines (open_cases net chosen) closed → MaySplit net chosen number → IsNeeded lines chosen number
     → 0 < count_causes (slice_get net.constraints number)

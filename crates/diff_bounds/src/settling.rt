@@ -33,7 +33,7 @@ const ZERO: Stamp = Stamp {
     parent: None,
 };
 
-/// Makes the first graph the current one, and works out its feasible times where they have not settled yet. The answer is an edge that closes a loop
+/// Makes the first graph the current one, and computes its feasible times where they have not settled yet. The answer is an edge that closes a loop
 /// of negative sum, if there is one.
 ///
 /// Where a guess of times meets all always-edges, the feasible times settle over all of them at once. Else they settle event by event, which finds a
@@ -214,7 +214,7 @@ fn settle_feasible(
     fall_from(net, out, chosen, run, from, trail, pending)
 }
 
-/// Works out the labels from a source anew, in a first graph whose feasible times have settled. Without a source there are no labels.
+/// Computes the labels from a source anew, in a first graph whose feasible times have settled. Without a source there are no labels.
 pub fn reach(
     net: &Network,
     out: &ByEvent<Arc>,
@@ -284,7 +284,7 @@ fn settle_uppers(
     }
 }
 
-// Lets labels fall from an event on. All edges are followed already, save for the edges that start there. The answer is an edge that would lower the
+// Lets labels fall from an event on. All edges are followed already, except for the edges that start there. The answer is an edge that would lower the
 // label at the stop, if there is one.
 fn fall_from(
     net: &Network,

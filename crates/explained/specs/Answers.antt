@@ -111,8 +111,8 @@ verdict_in range found = verdict_of range (bound_of found.least) (bound_of found
 abbrev pub verdict_by : Ends → BothBounds → Verdict
 verdict_by range both = verdict_of range both.least both.greatest
 
--- What the searches find of whether times satisfy the network apart, by the finding of the drawn network. After a consistent one a search of its own
--- within the budget makes the finding. After an unsettled one nothing is searched, and the network apart is unsettled too.
+-- What the searches find of whether times satisfy the network apart, according to the finding of the drawn network. After a consistent one
+-- a search of its own within the budget makes the finding. After an unsettled one nothing is searched, and the network apart is unsettled too.
 abbrev pub IsShownApart : Net → ℕ → FindingWord → FindingWord → Type 0
 IsShownApart apart budget findings.Consistent word = IsFindingShown apart budget word
 IsShownApart apart budget findings.Inconsistent word = ⊥

@@ -42,7 +42,7 @@ fn judged_span<'a>(written: Option<WrittenSpan<'a>>) -> Result<Option<Span<'a>>,
     }
 }
 
-// What `read_label2` gives, by the definitions of reading. The other clauses of `read_label2` follow from this clause.
+// What `read_label2` gives, according to the definitions of reading. The other clauses of `read_label2` follow from this clause.
 fn read_judged2(text: &str) -> Result<Label2<'_>, LabelFault>
     ensures { LabelAgrees label2_view result (judged_label fixed_ends (label_of span_of text.now)) }
 {
@@ -72,7 +72,7 @@ pub fn read_label2<'a>(text: &'a str) -> Result<Label2<'a>, LabelFault>
     ensures bad { IsErrOf result LabelFault.BadLabel ↔ IsUnspelled version_2 text.now }
     ensures wide { IsErrOf result LabelFault.TooWide ↔ SpellsWideEnd version_2 text.now }
     ensures empty { IsErrOf result LabelFault.EmptyRange ↔ SpellsReversedEnds version_2 text.now }
-    // The same by the definitions of reading, for the definitions of crates above this one.
+    // The same according to the definitions of reading, for the definitions of crates above this one.
     ensures exact { LabelAgrees label2_view result (judged_label fixed_ends (label_of span_of text.now)) }
 {
     read_judged2(text)

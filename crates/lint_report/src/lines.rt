@@ -20,7 +20,7 @@ use narrow::RangeEnd;
 use std::alloc::Global;
 use warnings::Warning;
 
-/// All lines in order, by the warnings of the drawing and by what is found.
+/// All lines in order, according to the warnings of the drawing and to what is found.
 pub fn lines_of(
     alloc: Global,
     design: &Design<'_>,
@@ -37,7 +37,7 @@ pub fn lines_of(
     Ok(lines)
 }
 
-// The lines of the warnings of the drawing, but for those that lines of ends say too.
+// The lines of the warnings of the drawing, except for those that lines of ends say too.
 fn drawing_lines(
     alloc: Global,
     design: &Design<'_>,

@@ -41,7 +41,7 @@ module _ {A B X Y : Type 0} (va : X → A) (vb : Y → B) (o : FileReading A) (f
   then_on old new x (Err (ReadFault place)) c h = (h.0, (comes_then old o f (va x) (unread place h.0) c h.1.0, h.1.1))
   then_on old new x (Err NoMemory) c h = h
 
-  -- a step gave something, and the next goes on with it
+  -- a step gave something, and the next continues with it
   pub opens_then : (old mid new : ShelfState) (x : X) (r : Result Y Stop) → Opens va old mid o (Ok x) → Opens vb mid new (f (va x)) r → Opens vb old new (o >>= f) r
   opens_then old mid new x r h next = then_on old new x r h.0 (subst (λ state. Opens vb state new (f (va x)) r) h.1 next)
 
@@ -51,7 +51,7 @@ module _ {A B X Y : Type 0} (va : X → A) (vb : Y → B) (o : FileReading A) (f
   opens_stop old new (ReadFault place) h = (h.0, (comes_unread old o f place h.0 h.1.0, h.1.1))
   opens_stop old new NoMemory h = h
 
-  -- a step failed, and its fault is handed on
+  -- a step failed, and its fault is passed on
   pub opens_up : (old new : ShelfState) (s : Stop) (r : Result Y Stop) → IsErrAnd r (λ e. e ≡ s) → Opens va old new o (Err s) → Opens vb old new (o >>= f) r
   opens_up old new s (Ok y) is h = absurd is
   opens_up old new s (Err e) is h = rw is (opens_stop old new s h)

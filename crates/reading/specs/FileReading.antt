@@ -6,13 +6,13 @@ use Rattle.reading.specs.declared.refusal_place.RefusalPlace.{RefusalPlace}
 use Rattle.reading.specs.declared.refusal.Refusal.{Refusal}
 use Rattle.reading.specs.declared.refusal.Refusal.TheVariants.{TooLong}
 
--- A reading gives something, or refuses it at a place, or asks for the front of a file by its name and goes on with the bytes.
+-- A reading gives something, or refuses it at a place, or asks for the front of a file by its name and continues with the bytes.
 pub data FileReading (A : Type 0) : Type 0 where
   gives : A → FileReading A
   refuses : RefusalPlace → Refusal → FileReading A
   fetches : RefusalPlace → List ℕ → ℕ → (List ℕ → FileReading A) → FileReading A
 
--- one reading, and then another that goes on with what the first gives
+-- one reading, and then another that continues with what the first gives
 infixl 10 ◌>>=◌
 abbrev pub ◌>>=◌ : {A B : Type 0} → FileReading A → (A → FileReading B) → FileReading B
 (gives x) >>= f = f x

@@ -92,7 +92,7 @@ module _ (items : List OwnedItem) (place : Place) (text : List ℕ) (total : Rea
   whole_is h end =
       sym (last_part h) ∙ rw end (ap (λ es. Ok es) (append-nil (views items)))
 
-  -- the text is cut short, or goes on after its end
+  -- the text is cut short, or continues after its end
   pub cut_short : (count : ℕ) → position_or_len is_feed text ≡ length text → (is_nothing place && eqb (length text) 0) ≡ false → count ≡ length items → IsBehind (count + 1) total
   cut_short count h end many =
       let none : Err 0 ≡ last_in place text = rw end refl in

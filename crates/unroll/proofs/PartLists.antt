@@ -121,7 +121,7 @@ first_read sheets firsts part read stand within is =
 pub exists_behind : (cycle first : ℕ) (rule : SheetRule) → rule_exists cycle (rule_behind first rule) ≡ rule_exists cycle rule
 exists_behind cycle first rule = list_all-map (λ (source : Source). nat_le source.shift cycle) (source_behind first) rule.causes
 
--- whether a moved rule is kept, by whether it exists before the move
+-- whether a moved rule is kept, according to whether it exists before the move
 pub one_kept : (cycles first : ℕ) (rule : SheetRule) (exists : Bool) → exists ≡ rule_exists (cycles - 1) rule → kept_rules cycles (rule_behind first rule ∷ []) ≡ cond exists (rule_behind first rule ∷ []) []
 one_kept cycles first rule exists is = rw (exists_behind (cycles - 1) first rule, is) refl
 

@@ -40,7 +40,7 @@ greatest_of (answers.Closed value) = bounds.Closed value
 greatest_of answers.Unbounded = bounds.Unbounded
 greatest_of (answers.Enclosed upper attained) = bounds.Within upper (Some attained)
 
--- the bound of a pair by the answer of the search on its searched pair
+-- the bound of a pair from the answer of the search on its searched pair
 abbrev pub bound_of : Which → GreatestAnswer → Bound
 bound_of sorts.Max answer = greatest_of answer
 bound_of sorts.Min answer = reversed (greatest_of answer)
