@@ -1,6 +1,6 @@
 // Draws one bound of a row as a timing diagram to scale, in SVG.
 //
-// All texts are set in a font of one width, so that their room is known: no text stands over another or past the edge.
+// All texts are set in a font of one width, so that their room is known: no text overlaps another or passes the edge.
 
 import { Canvas, PAD, WIDTH, point } from "./canvas.js";
 import { Strip, WAVE } from "./strip.js";

@@ -31,7 +31,7 @@ use std::marker::Model;
 /// Finds greatest separations over one network whose choices are all of one kind.
 ///
 /// It is made for a network, and every later call gets the same network. A network that is not plain is solved by its negation: the pair is
-/// turned round, and the times are negated. No call but `new` takes memory.
+/// reversed, and the times are negated. No call but `new` takes memory.
 #[derive(Drop)]
 pub struct Falling {
     negation: Option<Network>,
@@ -210,7 +210,7 @@ fn solve<N: FallScribe>(
     }
 }
 
-// The greatest separation of a pair of a network by its negation, where the pair is turned round.
+// The greatest separation of a pair of a network by its negation, where the pair is reversed.
 fn greatest_by_negation<N: FallScribe>(
     net: &Network,
     negation: &Network,
