@@ -1,6 +1,6 @@
 //! A guess of times that meet all always-edges of a network.
 //!
-//! No proof says how the guess comes about. The code checks that its times meet the edges, and uses it only then.
+//! No proof says how the guess is made. The code checks that its times meet the edges, and uses it only then.
 
 ghost use Rattle.std.specs.Prelude.{◌≡◌, ◌<◌, ◌≤◌, All, IfOk, IsTrue, length, pos, slice_index_or};
 ghost use Rattle.event_graph.specs.Edges.{Meets};

@@ -36,8 +36,8 @@ const ZERO: Stamp = Stamp {
 /// Makes the first graph the current one, and computes its feasible times where they have not settled yet. The answer is an edge that closes a loop
 /// of negative sum, if there is one.
 ///
-/// Where a guess of times meets all always-edges, the feasible times settle over all of them at once. Else they settle event by event, which finds a
-/// loop if there is one. Both ways give the same feasible times.
+/// Where a guess of times meets all always-edges, the feasible times settle over all of them at once. Otherwise they settle event by event, which
+/// finds a loop if there is one. Both ways give the same feasible times.
 pub fn settle_root(
     settled: bool,
     net: &Network,

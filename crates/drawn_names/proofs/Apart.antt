@@ -55,7 +55,7 @@ apart_at (x ∷ xs) i zero d h less within e = absurd (omega arith)
 apart_at (x ∷ xs) zero (suc j) d h less within e = at_other x xs j d h.0 (omega arith) e
 apart_at (x ∷ xs) (suc i) (suc j) d h less within e = apart_at xs i j d h.1 (omega arith) (omega arith) e
 
--- ---- what was looked for and not found
+-- ---- what was searched for and not found
 
 not_same : {K : Type 0} (same : K → K → Bool) → ((a b : K) → a ≡ b → same a b ≡ true) → (a b : K) → same a b ≡ false → a ≡ b → ⊥
 not_same same self a b is e = cc (is, self a b e)

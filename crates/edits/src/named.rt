@@ -10,7 +10,7 @@ use line_words::short_in;
 use numbers::{CauseName, DrawnNumber};
 use std::alloc::Global;
 
-/// What a line names, with the name of a part as it stands on the line.
+/// What a line names, with the name of a part as it is written on the line.
 #[derive(Clone, Copy)]
 pub enum Named<'a> {
     /// A constraint and one of its causes.

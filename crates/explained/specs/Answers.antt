@@ -1,4 +1,4 @@
--- What is found of a network and of its rows, with what makes it so.
+-- What is found of a network and of its rows, with the reasons.
 use Rattle.std.specs.Prelude.{◌≡◌, ◌≤◌, ℕ, ℤ, neg_ℤ, Bool, List, [], ◌∷◌, length, All, Option, Some, None}
 use Rattle.itv_base.specs.Range.{Ends}
 use Rattle.itv_base.specs.declared.names.EdgeName.{EdgeName}
@@ -80,7 +80,7 @@ IsBehind net row greatest (Unbounded set) = CanRise net row.from row.to set.item
 IsBehind net row (least_by most) (Unbounded set) = CanRise net row.to row.from set.items
 IsBehind net row side (Within limit attained) = Unit {0}
 
--- the bound alone, without what makes it so
+-- the bound alone, without its reason
 abbrev pub bound_of : BoundFound → Bound
 bound_of (Closed value chain) = bounds.Closed value
 bound_of (Unbounded set) = bounds.Unbounded

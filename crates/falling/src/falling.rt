@@ -79,7 +79,7 @@ impl Falling {
     }
 
     /// The greatest separation of a pair of events, in picoseconds, by a derivation of at most so many lines, which are noted. Over a plain
-    /// network it is a derivation from the from-event. Else it is a derivation in the negation from the to-event.
+    /// network it is a derivation from the from-event. Otherwise it is a derivation in the negation from the to-event.
     pub fn greatest<N: FallScribe>(
         &mut self,
         net: &Network,

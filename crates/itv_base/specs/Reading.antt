@@ -7,7 +7,7 @@ abbrev pub ◌>>=◌ : {A B F : Type 0} → Result A F → (A → Result B F) �
 (Ok x) >>= f = f x
 (Err fault) >>= f = Err fault
 
--- a value if nothing is wrong with it, and else the fault of what is wrong
+-- a value if nothing is wrong with it, and otherwise the fault of what is wrong
 abbrev pub unless : {A X F : Type 0} → Option X → (X → F) → A → Result A F
 unless None fault value = Ok value
 unless (Some x) fault value = Err (fault x)

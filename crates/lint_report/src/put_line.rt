@@ -25,7 +25,7 @@ use origin::Origin;
 use plan::Plan;
 use warnings::{DrawnPlace, Warning};
 
-/// Puts a line and its end, by one put if it fits the buffer, and else piece by piece. What the buffer held before is forgotten.
+/// Puts a line and its end, by one put if it fits the buffer, and otherwise piece by piece. What the buffer held before is forgotten.
 pub fn put_line<K: Sink>(
     plan: &Plan,
     design: &Design<'_>,

@@ -31,7 +31,7 @@ abbrev pub list_if : Option Data → NetlistFault → Result (List Data) Netlist
 list_if None fault = Ok []
 list_if (Some d) fault = ok_or (list_of d) fault
 
--- no fault where a test is met, and else this fault
+-- no fault where a test is met, and otherwise this fault
 abbrev pub demand : Bool → NetlistFault → Result ⊤ NetlistFault
 demand true fault = Ok tt
 demand false fault = Err fault

@@ -51,7 +51,7 @@ RunsTo shelf (refuses place why) end = end ≡ refused place why
 RunsTo shelf (fetches place name most next) end =
     (end ≡ unread place name) ⊎ ((bytes : List ℕ) × HasFront shelf.files name most bytes × RunsTo shelf (next bytes) end)
 
--- what an end leaves of the shelf: a failed fetch is counted and its name kept, and else nothing changes
+-- what an end leaves of the shelf: a failed fetch is counted and its name kept, and otherwise nothing changes
 abbrev pub LeavesShelf : {A : Type 0} → ShelfState → ShelfState → End A → Type 0
 LeavesShelf old new (ready x) = new ≡ old
 LeavesShelf old new (refused place why) = new ≡ old

@@ -8,7 +8,7 @@ use Rattle.line_words.proofs.Looping.{in_front, texts_more, texts_none}
 use Rattle.slack_report.specs.Reading.{flags_in}
 use Rattle.slack_report.specs.Step.Cuts.{stands_first}
 
--- the words after the first one if the first one was the number's text, and else all words
+-- the words after the first one if the first one was the number's text, and otherwise all words
 abbrev passed : Bool → List Word → List Word
 passed flag words = cond flag (drop 1 words) words
 

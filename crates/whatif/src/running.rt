@@ -34,7 +34,7 @@ impl Model for Note {
     ghost view = { λ n. record { change = n.change; found = n.found; answers = n.answers.items } };
 }
 
-/// A note of a session as it stands.
+/// A note of a session in its present state.
 pub fn note_session(alloc: Global, session: &Session, change: Change) -> Result<Note, NoMemory>
     ensures { IfOk result (λ n. n ≡ note_of change session.now) }
 {
