@@ -119,7 +119,7 @@ export class Analysis {
     return read ? read.name : this.name;
   }
 
-  /** For each file the words of its edges, by their numbers: the worst verdict of a row, `ask`, or `contradicts`. */
+  /** For each file the words of its edges, given by their numbers: the worst verdict of a row, `ask`, or `contradicts`. */
   verdicts() {
     const worst = ["contradicts", "fail", "undecided", "ask", "pass"];
     const verdicts = new Map();
@@ -135,7 +135,7 @@ export class Analysis {
     return verdicts;
   }
 
-  /** The name of the file in which the edges of a part stand, by its number; of the netlist where that is null. */
+  /** The name of the file in which the edges of a part stand, given by its number; of the netlist where that is null. */
   fileOf(part) {
     return part === null || this.design.alone ? this.name : this.design.parts[part].file;
   }

@@ -116,7 +116,7 @@ Report.READERS = {
   end: (report, words) => (report.end = words[0]),
 };
 
-/** The greatest separations that the rules without a choice allow, by the numbers of two events; null where they allow any. */
+/** The greatest separations that the rules without a choice allow, given by the numbers of two events; null where they allow any. */
 export class Matrix {
   constructor(text) {
     const lines = text.split("\n");

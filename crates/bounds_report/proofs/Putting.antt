@@ -130,7 +130,7 @@ bound_fact net most cert basis current coming pair which searched value found of
     let each : AreNeededFor net basis (searched_pair (which_of coming) (record { from = current.row.from; to = current.row.to })) searched = rw (of.sort, of.from, of.to) needed in
     ((h, subst (λ (word : FindingWord). IsBoundOf net word current.row coming value) (sym found) s.0, (searched, refl, (s.1, needed_is net basis current.row coming searched each))), bound_times value h)
 
--- a bound after a search, by the answer on the searched pair
+-- a bound after a search, from the answer on the searched pair
 pub answer_fact : (net : Net) (most : ℕ) (cert : Bool) (basis : List ℤ) (current : CurrentRow) (coming : NextBound) (pair : Pair) (which : Which) (left : Evidence)
     (answer : GreatestAnswer) (value : Bound) (searched : Pair) → current.tally.found ≡ findings.Consistent → IsOf current coming pair which → searched ≡ searched_pair which pair
     → IsGreatestAnswer (search_of net searched most) left answer → AreNeededFor net basis searched left.lines → left.leaves ≤ most → value ≡ bound_of which answer → All IsClose left.times

@@ -42,7 +42,7 @@ merge = sheet (clock_lane ∷ lane (codes "done") (codes "01") (codes ".d") ∷ 
 
 -- ---- the netlist
 
--- the name of a slave, by its number from 0
+-- the name of a slave, given by its number from 0
 abbrev pub slave_name : ℕ → List ℕ
 slave_name i = codes "S" ++ decimal i
 

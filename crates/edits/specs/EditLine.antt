@@ -58,7 +58,7 @@ net_named word behind = when (bytes_eq word (codes "net")) (stripped (codes " ")
 abbrev pub wire_named : List ℕ → List ℕ → Option (Subject × List ℕ)
 wire_named word behind = when (bytes_eq word (codes "wire")) (stripped (codes " ") behind >> λ rest. number_of rest >> λ x. Some (Number (numbers.Wire x.0), x.1))
 
--- an edge of a part, by the name of the part
+-- an edge of a part, given the name of the part
 abbrev pub part_edge_named : List ℕ → List ℕ → Option (Subject × List ℕ)
 part_edge_named word behind = when (is_name word) (stripped (codes " edge ") behind >> λ rest. number_of rest >> λ x. Some (Number (numbers.Edge word x.0), x.1))
 

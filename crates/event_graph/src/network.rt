@@ -137,7 +137,7 @@ impl Network {
         self.push(alloc, RuleKind::Early, target, causes)
     }
 
-    /// Adds a copy of a constraint that is there in `net`, by its number. Both networks have as many events, and there
+    /// Adds a copy of a constraint that is there in `net`, given by its number. Both networks have as many events, and there
     /// is room for one more constraint. After a refusal the network is unchanged.
     pub fn push_copy(&mut self, alloc: Global, net: &Network, number: u32) -> Result<(), NoMemory>
         requires there { number < length net.now.constraints }

@@ -121,7 +121,7 @@ greatest_of net word row (bounds.Closed value) times set is = (is.found, is.grea
 greatest_of net word row bounds.Unbounded times set is = is.found
 greatest_of net word row (bounds.Within limit attained) times set is = (is.root, is.rests)
 
--- a least bound of a row, by the reversed pair
+-- a least bound of a row, from the reversed pair
 pub least_of : (net : Net) (word : FindingWord) (row : Row) (most value : Bound) (times : List ℤ) (set : List Bool)
     → IsGreatestBy net word (record { from = row.to; to = row.from }) value times set → IsBoundOf net word row (least_by most) (reversed value)
 least_of net word row most (bounds.Closed value) times set is =

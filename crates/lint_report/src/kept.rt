@@ -49,7 +49,7 @@ pub fn extent_by(found: &Greatest) -> Extent
     }
 }
 
-/// Whether all satisfying times keep a range, by the greatest separation of the pair and of the reversed pair.
+/// Whether all satisfying times keep a range, according to the greatest separation of the pair and of the reversed pair.
 pub fn kept_in(range: Range, found: Extent, reversed: Extent) -> RangeKept
     ensures kept { result ≡ kept_in range found reversed }
 {

@@ -171,7 +171,7 @@ fn put_narrow<K: Sink>(
     }
 }
 
-// A place in a drawn network, by the name of its part.
+// A place in a drawn network, with the name of its part.
 fn place_at<'a>(drawn: &'a DrawnNetwork, at: DrawnAt) -> PartPlace<'a>
     ensures part { result.part.now ≡ event_part drawn.now at.event }
     ensures origin { result.origin ≡ at.origin }
@@ -283,7 +283,7 @@ fn put_period<K: Sink>(
     )
 }
 
-// A place in a design, by the name of its part.
+// A place in a design, with the name of its part.
 fn place_of<'a>(design: &'a Design<'_>, spot: &DrawnPlace) -> PartPlace<'a>
     ensures part { result.part.now ≡ part_word design.now spot.now.part }
     ensures origin { result.origin ≡ spot.now.origin }
@@ -294,7 +294,7 @@ fn place_of<'a>(design: &'a Design<'_>, spot: &DrawnPlace) -> PartPlace<'a>
     }
 }
 
-// Puts a mark that follows two drivers, by the pins.
+// Puts a mark that follows two drivers, through the pins.
 fn put_drivers<K: Sink>(
     plan: &Plan,
     design: &Design<'_>,

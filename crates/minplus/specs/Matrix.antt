@@ -9,7 +9,7 @@ use Rattle.minplus.specs.declared.fault.MatrixFault.{MatrixFault}
 use Rattle.minplus.specs.declared.fault.MatrixFault.TheVariants.{Loop, NoMemory, TooMany}
 use Rattle.minplus.specs.declared.rows.TheConstants.{ABSENT}
 
--- the entry of a matrix from one event to another, by their numbers
+-- the entry of a matrix from one event to another, given by their numbers
 abbrev pub cells : List (List ℤ) → ℕ → ℕ → ℤ
 cells rows from to = entry_at (slice_index_or rows from []) to
 

@@ -17,7 +17,7 @@ each_append gives n (x ∷ xs) ys =
     ap (λ front. gives n x ++ front) (each_append gives (n + 1) xs ys ∙ ap (λ k. each_from gives (n + 1) xs ++ each_from gives k ys) same)
     ∙ sym (append_assoc (gives n x) (each_from gives (n + 1) xs) (each_from gives (n + suc (length xs)) ys))
 
--- one more element, by its number
+-- one more element, given by its number
 pub each_more : {X Y : Type 0} (gives : ℕ → X → List Y) (xs : List X) (n : ℕ) (x : X) (old now new : List Y) → slice_get xs n ≡ Some x
     → now ≡ old ++ each_from gives 0 (take n xs) → new ≡ now ++ gives n x → new ≡ old ++ each_from gives 0 (take (n + 1) xs)
 each_more gives xs n x old now new read before grown =

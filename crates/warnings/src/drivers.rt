@@ -48,7 +48,7 @@ fn push_join(warnings: &mut Vec<Warning>, join: &Join, before: &[PinJoins]) -> R
     push_mark(warnings, join.to, drew_too(join, before), join.origin)
 }
 
-// Puts the warning of a mark at the end, by what draws the first join into it and another. Without a first join there is none.
+// Puts the warning of a mark at the end, with what draws the first join into it and another. Without a first join there is none.
 fn push_mark(
     warnings: &mut Vec<Warning>,
     mark: DesignMark,

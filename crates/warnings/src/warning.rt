@@ -16,7 +16,7 @@ pub struct DrawnPlace {
 }
 
 impl DrawnPlace {
-    /// An edge of the netlist, by its number from 0.
+    /// An edge of the netlist, given by its number from 0.
     pub(crate) fn wire(n: u64) -> DrawnPlace
         ensures { result ≡ spot netlist_part (Wire n) }
     {
@@ -64,7 +64,7 @@ pub enum Warning {
         mark: DesignMark,
         follows: DrawnPlace,
     },
-    /// A mark follows two drivers, by the pins `first` and `other`.
+    /// A mark follows two drivers, through the pins `first` and `other`.
     Drivers {
         mark: DesignMark,
         first: Origin,

@@ -31,7 +31,7 @@ greatest_bound (answers.Closed value) = bounds.Closed value
 greatest_bound answers.Unbounded = bounds.Unbounded
 greatest_bound (answers.Enclosed upper attained) = bounds.Within upper (Some attained)
 
--- the least bound of a pair, by the answer for the reversed pair
+-- the least bound of a pair, from the answer for the reversed pair
 abbrev pub least_bound : GreatestAnswer → Bound
 least_bound answer = reversed (greatest_bound answer)
 
@@ -90,7 +90,7 @@ judged_rows tally (kind ∷ others) [] = tally
 judged_rows tally (kind ∷ others) (most ∷ []) = tally
 judged_rows tally (kind ∷ others) (most ∷ least ∷ found) = judged_rows (judged_row tally kind (least_bound least) (greatest_bound most)) others found
 
--- the word at the end, by a finding and the answers for rows. A report of that state ends with the same word
+-- the word at the end, according to a finding and the answers for rows. A report of that state ends with the same word
 abbrev pub ending_of : List RowKind → SearchFinding → List GreatestAnswer → EndWord
 ending_of rows found list = end_word (judged_rows (tally_of (found_word found)) rows list)
 
@@ -101,7 +101,7 @@ last_note first (note ∷ notes) = last_note note notes
 
 -- ---- the whole
 
--- the heading, the state before any edit, the states after the edits, and the word at the end, by the last state
+-- the heading, the state before any edit, the states after the edits, and the word at the end, according to the last state
 abbrev pub whatif_text : List RowKind → Note → List RangeEdit → List Note → List ℕ
 whatif_text rows first edits notes =
     ended (codes "itv whatif 1") ++ (ended (codes "state 0") ++ (found_text rows first.found first.answers ++ (states_text 1 rows edits notes

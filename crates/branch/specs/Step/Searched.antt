@@ -120,7 +120,7 @@ pub record IsTrialFor (net : Net) (trial : Trial) : Type 0 where
   pub ray : length trial.ray.items ≡ net.events
   pub splits : AreSplits net trial.distances
 
--- what a look at a case finds, by the best separation so far and the separation that the search started from
+-- what a look at a case finds, from the best separation so far and the separation that the search started from
 abbrev pub Looks : Net → Aim → ℤ → Search → Trial → Look → Type 0
 Looks net aim best s trial Beaten = (value : ℤ) × HasUpper s.bounds aim.to value × (value ≤ℤ best)
 Looks net aim best s trial (Attained value) =
