@@ -92,8 +92,7 @@ is_by_order by_order.Yes = true
 is_by_order by_order.No = false
 is_by_order by_order.Open = false
 
--- the answer of a row rests on the order of a lane: a chain behind one of its bounds goes over it, or its requirement passes because of
--- that order alone
+-- the answer of a row rests on the order of a lane: a chain behind one of its bounds uses it, or its requirement passes because of that order alone
 abbrev pub rests_on_order : Drawn → RowSeen → Bool
 rests_on_order network found = goes_over network found.greatest || (goes_over network found.least || is_by_order found.passes)
 
