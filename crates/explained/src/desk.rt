@@ -40,8 +40,8 @@ impl Desk {
     {
         let net = drawn.network();
         Ok(Desk {
-            searches: Searches::new(alloc, net, budget)?,
             chains: Chains::new(alloc, net)?,
+            searches: Searches::new(alloc, net, budget)?,
             apart: new_apart(alloc, drawn, budget)?,
         })
     }

@@ -41,7 +41,9 @@ pub fn explain(alloc: Global, drawn: &DrawnNetwork, budget: u64) -> Result<Netwo
     let mut marking = Marking::new(alloc, net)?;
     let mut desk = Desk::new(alloc, drawn, budget)?;
     find_marking(net, &mut desk.searches, &mut marking);
-    found_behind(alloc, drawn, &marking, &mut desk)
+    let found = found_behind(alloc, drawn, &marking, &mut desk);
+    drop(desk);
+    found
 }
 
 // What is found after the search for times. `marking` has the constraints that contradict each other, if this search found so.
