@@ -11,7 +11,7 @@ use Rattle.drawn.specs.declared.row.Row.{Row}
 use Rattle.explained.specs.declared.row.RowFound.{RowFound}
 use Rattle.brief_report.specs.declared.row_counts.RowCounts.{RowCounts}
 use Rattle.brief_report.specs.declared.row_rank.RowRank.{RowRank}
-use Rattle.brief_report.specs.Rows.{NumberedRow, numbered_from, rank_of}
+use Rattle.brief_report.specs.Rows.{NumberedRow, rank_of}
 use Rattle.brief_report.specs.Step.{counts_words, judged_in, numbered_rows, place_by, place_count, place_of}
 use Rattle.brief_report.specs.Text.{count_words, rank_count}
 use Rattle.brief_report.proofs.Numbered.{Each, IsOf, each_numbered, take_told}

@@ -26,9 +26,9 @@ use Rattle.brief_report.specs.Lines.{cycle_of, cycle_words, judged_words, order_
 use Rattle.brief_report.specs.Rows.{NumberedRow, RowRun, ordered, runs_of}
 use Rattle.brief_report.specs.Step.{back_words, front_words, judged_in, judgement_cells, judgement_words, numbered_rows, order_word, row_line_cells, row_line_text, row_line_words, run_place, run_places}
 use Rattle.brief_report.specs.Table.{cells_text, in_quotes, judged_cells, kind_word, quoted, range_cells, run_cells}
-use Rattle.brief_report.specs.Text.{run_text, runs_text}
+use Rattle.brief_report.specs.Text.{run_text}
 use Rattle.brief_report.proofs.Folding.{HasRows}
-use Rattle.brief_report.proofs.Numbered.{Each, IsOf}
+use Rattle.brief_report.proofs.Numbered.{Each}
 use Rattle.brief_report.proofs.Ordering.{each_ordered}
 
 -- ---- the run of a place

@@ -9,7 +9,6 @@ use Rattle.line_words.specs.Words.{Word}
 use Rattle.origin.specs.Text.{origin_text}
 use Rattle.requirements.specs.Slacks.{slack_of}
 use Rattle.slack_report.specs.Text.{bound_words, name_word, row_words, verdict_words}
-use Rattle.slack_report.specs.declared.words.EndWord.{EndWord}
 use Rattle.drawn.specs.Drawn.{Drawn}
 use Rattle.explained.specs.Answers.{bound_of, verdict_in}
 use Rattle.explained.specs.declared.finding.Finding.{Finding}

@@ -14,9 +14,7 @@ ghost use Rattle.brief_report.specs.Table.{cells_end, doubled, in_quotes, kind_w
 use crate::judged::Judged;
 use crate::line::RowLine;
 use itoa::Buffer;
-use itv_base::{
-    EventName, PutFailed, RowKind, Sink, end_text, number_text, put_all, signed_text,
-};
+use itv_base::{EventName, PutFailed, RowKind, Sink, end_text, number_text, put_all, signed_text};
 use origin::{Origin, put_origin};
 use requirements::{Bound, Verdict};
 use why_report::DrawnBy;

@@ -39,7 +39,15 @@ pub fn put_rows<N: Notes, K: Sink>(
         let number = places[at].first.number;
         let row = row_at(drawn, number);
         let last = row_at(drawn, places[at].last);
-        let line = line_of(csv, number, row, last, notes, drawn, &found[number as usize]);
+        let line = line_of(
+            csv,
+            number,
+            row,
+            last,
+            notes,
+            drawn,
+            &found[number as usize],
+        );
         put_line(&Line::Row(line), buffer, sink)?;
     }
     Ok(())
@@ -59,8 +67,8 @@ fn line_of<'a, N: Notes>(
     requires last { IsRowOf drawn.now.net last.now }
     requires times { HasRowTimes found.now }
     ensures text { row_line_text result.csv result ≡ run_text csv (N.noted notes.now) drawn.now (record {
-        first = record { number = number; row = row.now; found = found.now };
-        last = record { number = number; row = last.now; found = found.now };
+      first = record { number = number; row = row.now; found = found.now };
+      last = record { number = number; row = last.now; found = found.now };
     }) }
 {
     let from = drawn.name(row.from);

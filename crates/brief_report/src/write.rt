@@ -135,7 +135,15 @@ fn put_counted<N: Notes, K: Sink>(
     ensures puts { Puts (K.state sink.old) (K.state sink.new)
         (rows_text (N.noted notes.now) drawn.now (numbered_rows drawn.now found.now.rows.items)) result }
 {
-    put_rows(false, notes, drawn, &found.rows, &outline.places, buffer, sink)?;
+    put_rows(
+        false,
+        notes,
+        drawn,
+        &found.rows,
+        &outline.places,
+        buffer,
+        sink,
+    )?;
     put_line(&Line::Counts(outline.counts), buffer, sink)
 }
 
@@ -155,12 +163,22 @@ fn put_table<N: Notes, K: Sink>(
         (brief_text true (N.noted notes.now) drawn.now found.now.finding found.now.rows.items) result }
 {
     put_header(sink)?;
-    put_rows(true, notes, drawn, &found.rows, &outline.places, buffer, sink)
+    put_rows(
+        true,
+        notes,
+        drawn,
+        &found.rows,
+        &outline.places,
+        buffer,
+        sink,
+    )
 }
 
 // Puts the first line of a table, with the names of its cells.
 fn put_header<K: Sink>(sink: &mut K) -> Result<(), PutFailed>
     ensures { Puts (K.state sink.old) (K.state sink.new) header_text result }
 {
-    sink.put(b"row,kind,from,to,low,high,least,greatest,verdict,low slack,high slack,drawn by,note,grade,order,first cycle,last cycle\r\n")
+    sink.put(
+        b"row,kind,from,to,low,high,least,greatest,verdict,low slack,high slack,drawn by,note,grade,order,first cycle,last cycle\r\n",
+    )
 }

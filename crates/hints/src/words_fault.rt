@@ -255,9 +255,7 @@ impl<'a> Given<'a> {
         value: &'a str,
     ) -> Result<(), WordsFault<'a>> {
         match WordsOption::of(name) {
-            None | Some(WordsOption::Cert | WordsOption::Csv) => {
-                Err(WordsFault::NoOption(word))
-            }
+            None | Some(WordsOption::Cert | WordsOption::Csv) => { Err(WordsFault::NoOption(word)) }
             Some(option) => {
                 self.note(option)?;
                 self.judge(option, value)

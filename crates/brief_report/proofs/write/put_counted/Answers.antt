@@ -1,9 +1,5 @@
 use Rattle.std.proofs.lemmas.Result.{err_from_is_err_and}
-use Rattle.std.proofs.Common.{◌++◌, ◌∙◌, ap, sym}
-use Rattle.line_words.specs.Lines.{ended, line_of}
 use Rattle.why_report.proofs.Putting.{cut_one, put_two}
-use Rattle.brief_report.specs.Step.{numbered_rows}
-use Rattle.brief_report.specs.Text.{runs_text}
 use Rattle.brief_report.proofs.Whole.{rows_are}
 use Rattle.brief_report.proofs.write.put_counted.Goals as goal
 
