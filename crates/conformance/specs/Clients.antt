@@ -151,9 +151,9 @@ pub record AsksPlanned (job : List ℕ → ℕ → Task) (given : List (List ℕ
 abbrev pub AsksWhy : List (List ℕ) → Files → ℕ → Planned → Drawn → Type 0
 AsksWhy given files budget plan drawn = AsksPlanned tasks.why given files budget plan drawn
 
--- the words ask for a line for each row of a design
-abbrev pub AsksBrief : List (List ℕ) → Files → ℕ → Planned → Drawn → Type 0
-AsksBrief given files budget plan drawn = AsksPlanned tasks.brief given files budget plan drawn
+-- the words ask for a line for each row of a design, in a table or not
+abbrev pub AsksBrief : List (List ℕ) → Files → ℕ → Bool → Planned → Drawn → Type 0
+AsksBrief given files budget csv plan drawn = AsksPlanned (λ design budget. tasks.brief design budget csv) given files budget plan drawn
 
 -- the words ask what in a design may say something else than was meant
 abbrev pub AsksLint : List (List ℕ) → Files → ℕ → Planned → Drawn → Type 0
