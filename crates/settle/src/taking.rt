@@ -3,7 +3,7 @@
 ghost use Rattle.std.specs.Prelude.{◌≡◌, IsTrue, IsFalse, IfOk};
 ghost use Rattle.clauses.specs.Checking.{IsChecking, TakesLine};
 ghost use Rattle.clauses.specs.Lines.{Assume, Close, Fall, Know, Loop};
-ghost use Rattle.settle.specs.Proofs.{line_of};
+ghost use Rattle.settle.specs.Proofs.{IsNoLine, line_of};
 
 use crate::line::StoredLine;
 use clauses::{
@@ -14,7 +14,8 @@ use event_graph::Network;
 use itv_base::{EventId, NoMemory};
 use std::alloc::Global;
 
-/// Gives a line to a checker, and returns whether the checker has taken it. If not, nothing has changed.
+/// Gives a line to a checker, and returns whether the checker has taken it. If not, nothing has changed, and the line leads
+/// to no state.
 pub fn take_line(
     alloc: Global,
     net: &Network,
@@ -23,6 +24,7 @@ pub fn take_line(
 ) -> Result<bool, NoMemory>
     requires checking { IsChecking net.now checker.old }
     ensures taken { IfOk result (λ taken. IsTrue taken → TakesLine net.now checker.old (line_of line.now) checker.new) }
+    ensures refused { IfOk result (λ taken. IsFalse taken → IsNoLine net.now checker.old (line_of line.now)) }
     ensures unchanged { IfOk result (λ taken. IsFalse taken → checker.new ≡ checker.old) }
 {
     match line {
@@ -38,6 +40,7 @@ pub fn take_line(
 fn take_fall(net: &Network, checker: &mut ClauseChecker, fall: EventFall) -> bool
     requires checking { IsChecking net.now checker.old }
     ensures taken { IsTrue result → TakesLine net.now checker.old (Fall fall.event fall.value fall.basis) checker.new }
+    ensures refused { IsFalse result → IsNoLine net.now checker.old (Fall fall.event fall.value fall.basis) }
     ensures unchanged { IsFalse result → checker.new ≡ checker.old }
 {
     if net.events() <= fall.event.0 {
@@ -55,6 +58,7 @@ fn take_know(
 ) -> Result<bool, NoMemory>
     requires checking { IsChecking net.now checker.old }
     ensures taken { IfOk result (λ taken. IsTrue taken → TakesLine net.now checker.old (Know literal basis) checker.new) }
+    ensures refused { IfOk result (λ taken. IsFalse taken → IsNoLine net.now checker.old (Know literal basis)) }
     ensures unchanged { IfOk result (λ taken. IsFalse taken → checker.new ≡ checker.old) }
 {
     match checker.take_know(net, literal, basis) {
@@ -74,6 +78,7 @@ fn keep_loop(
 ) -> Result<bool, NoMemory>
     requires checking { IsChecking net.now checker.old }
     ensures taken { IfOk result (λ taken. IsTrue taken → TakesLine net.now checker.old (Loop event steps.now.items) checker.new) }
+    ensures refused { IfOk result (λ taken. IsFalse taken → IsNoLine net.now checker.old (Loop event steps.now.items)) }
     ensures unchanged { IfOk result (λ taken. IsFalse taken → checker.new ≡ checker.old) }
 {
     match checker.keep_loop(alloc, net, event, steps) {
@@ -92,6 +97,7 @@ fn assume(
 ) -> Result<bool, NoMemory>
     requires checking { IsChecking net.now checker.old }
     ensures taken { IfOk result (λ taken. IsTrue taken → TakesLine net.now checker.old (Assume literals.now.items) checker.new) }
+    ensures refused { IfOk result (λ taken. IsFalse taken → IsNoLine net.now checker.old (Assume literals.now.items)) }
     ensures unchanged { IfOk result (λ taken. IsFalse taken → checker.new ≡ checker.old) }
 {
     match checker.assume(alloc, net, literals) {
@@ -105,6 +111,7 @@ fn assume(
 fn close(alloc: Global, net: &Network, checker: &mut ClauseChecker) -> Result<bool, NoMemory>
     requires checking { IsChecking net.now checker.old }
     ensures taken { IfOk result (λ taken. IsTrue taken → TakesLine net.now checker.old Close checker.new) }
+    ensures refused { IfOk result (λ taken. IsFalse taken → IsNoLine net.now checker.old Close) }
     ensures unchanged { IfOk result (λ taken. IsFalse taken → checker.new ≡ checker.old) }
 {
     match checker.close(alloc, net) {

@@ -1,5 +1,16 @@
-mod Proved
+mod Determined
+mod Few
+mod Forms
+mod Found
+mod Lines
+mod Near
 mod Passing
+mod Proved
 mod Reading
+mod Refusing
+mod Same
 mod Settled
+mod Taken
 mod Turns
+mod Ways
+mod Whole
