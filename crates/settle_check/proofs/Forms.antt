@@ -34,7 +34,7 @@ use Rattle.clauses.specs.Checking.{Checking, IsChecking, IsNearFrame, IsNearStat
 use Rattle.clauses.specs.Clauses.{Clause, IsClause, edge_as, high_way, literal_edge, opposite, side_literals}
 use Rattle.clauses.specs.Lines.{Assume, Block, ClauseLine, Close, Fall, Frame, Goal, IsClauseLoop, IsClauseProof, IsLine, Know, Loop, ProofLeads, State, StepsTo, Walk, Walks, frame_in, lowest, starting, starting_walk, with_frame_in}
 use Rattle.clauses.proofs.Checked.{near_frame_in, start_is_checking, taken_line_keeps_checking}
-use Rattle.settle_check.proofs.Refusing.{HasTargetIn, line_keeps_targets, literal_between, loop_in, target_in}
+use Rattle.settle.proofs.Refusing.{HasTargetIn, line_keeps_targets, literal_between, loop_in, target_in}
 use Rattle.settle_lines.specs.Text.{IsBasisName, IsClauseLine, IsLiteralName, IsStepName}
 use Rattle.settle_check.proofs.Ways.{AreApart, FromBelow, few_apart, others_apart}
 
@@ -153,7 +153,7 @@ start_named net event = record { literals = All-nil IsLiteralName; ways = record
 
 -- ---- values
 
-wide : (z : ℤ) → neg_ℤ (pos (2 ^ 62)) <ℤ z → z <ℤ pos (2 ^ 62) → IsLong z
+pub wide : (z : ℤ) → neg_ℤ (pos (2 ^ 62)) <ℤ z → z <ℤ pos (2 ^ 62) → IsLong z
 wide (pos n) low high = record { sfits = omega (arith, ints, low, high) }
 wide (negsuc n) low high = record { sfits = omega (arith, ints, low, high) }
 

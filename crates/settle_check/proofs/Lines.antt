@@ -64,7 +64,7 @@ words_stand text first others more plain text_is = record {
   is_text = line_is_text (first ∷ others) plain;
 }
 
-which_plain : (which : Which) → is_plain (which_word which) ≡ true
+pub which_plain : (which : Which) → is_plain (which_word which) ≡ true
 which_plain Max = refl
 which_plain Min = refl
 

@@ -1,5 +1,5 @@
 -- A right text is read part by part.
-use Rattle.std.proofs.Common.{◌≡◌, ◌+◌, ◌<◌, ◌≤◌, ℕ, zero, suc, true, List, [], ◌∷◌, ◌++◌, length, take, drop, Some, slice_get, refl, sym, ap, subst, ◌∙◌, append_assoc, append-nil, drop-drop, drop_at, arith, length-append}
+use Rattle.std.proofs.Common.{◌≡◌, ◌+◌, ◌-◌, ◌<◌, ◌≤◌, ℕ, zero, suc, true, List, [], ◌∷◌, ◌++◌, length, take, drop, Some, slice_get, refl, sym, ap, subst, ◌∙◌, append_assoc, append-nil, drop-drop, drop_at, arith, length-append, length-drop, take_all}
 use Rattle.std.specs.Prelude.{◌^◌, All, IsErrAnd, Result, Ok, Err}
 use Rattle.std.proofs.lemmas.List.Elements.{All-head, All-tail}
 use Rattle.std.proofs.lemmas.Option.{same_Some}
@@ -174,3 +174,43 @@ rows_done drawn found more number read rest past h =
       by_rows [] [] none all are stands = (subst (λ (fs : List RowFound). AreSameRows fs read) (sym (append-nil h.front) ∙ all) h.same, stands)
       by_rows [] (f ∷ left) none all are stands = absurd are
       by_rows (row ∷ rows) left none all are stands = absurd (cc none)
+
+-- a text begins alike with the whole of a piece that stands at a place
+pub piece_found : (text slice bytes other more : List ℕ) (place same : ℕ) → place ≤ length text → slice ≡ take (length text - place) (drop place text) → other ≡ bytes
+    → ((behind : List ℕ) → slice ≡ other ++ behind → same ≡ length other) → drop place text ≡ bytes ++ more → same ≡ length bytes
+piece_found text slice bytes other more place same within is is_bytes most stands =
+    let all : take (length text - place) (drop place text) ≡ drop place text = take_all (length text - place) (drop place text) (omega (arith, length-drop place text)) in
+    most more (is ∙ (all ∙ (stands ∙ ap (λ bs. bs ++ more) (sym is_bytes)))) ∙ ap length is_bytes
+
+row_there : (rows : List Row) (number : ℕ) → number < length rows → (row : Row) × (slice_get rows number ≡ Some row)
+row_there [] number within = absurd (omega arith)
+row_there (r ∷ rows) zero within = (r, refl)
+row_there (r ∷ rows) (suc number) within = row_there rows number (omega arith)
+
+-- what is read of each right row that stands next holds of the next row of right rows
+pub row_read : (drawn : Drawn) (text rest : List ℕ) (number : ℕ) (read : List RowFound) (P : RowFound → List ℕ → Type 0) → number < length drawn.rows → AreReading drawn text number read rest
+    → ((row : Row) (shown : RowFound) (more : List ℕ) → slice_get drawn.rows number ≡ Some row → IsShownRow drawn.net row shown
+    → rest ≡ row_text drawn true number row shown ++ more → P shown more)
+    → (found : List RowFound) (more : List ℕ) → AreShownRows drawn.net drawn.rows found → text ≡ rows_text drawn true 0 drawn.rows found ++ more
+    → (row : Row) × (h : RowNext drawn found more number read row rest) × P h.shown (rows_text drawn true (number + 1) h.rows h.others ++ more)
+row_read drawn text rest number read P within reading next found more shown stands =
+    let (row, at) = row_there drawn.rows number within in
+    let h = next_row drawn found more number read row rest at (reading found more shown stands) in
+    (row, (h, next row h.shown (rows_text drawn true (number + 1) h.rows h.others ++ more) at h.is_shown h.stands))
+
+-- memory ran out where a row was read
+pub row_wants : (drawn : Drawn) (text rest : List ℕ) (number : ℕ) (read : List RowFound) (e : CheckStop) → number < length drawn.rows → AreReading drawn text number read rest
+    → ((row : Row) (shown : RowFound) (more : List ℕ) → slice_get drawn.rows number ≡ Some row → IsShownRow drawn.net row shown
+    → rest ≡ row_text drawn true number row shown ++ more → IsWant e)
+    → (found : List RowFound) (more : List ℕ) → AreShownRows drawn.net drawn.rows found → text ≡ rows_text drawn true 0 drawn.rows found ++ more → IsWant e
+row_wants drawn text rest number read e within reading next found more shown stands =
+    let (row, h, want) = row_read drawn text rest number read (λ r behind. IsWant e) within reading next found more shown stands in want
+
+-- the rows are still being read after one row more
+pub reads_row : (drawn : Drawn) (text rest next : List ℕ) (number : ℕ) (read grown : List RowFound) (of_row : RowFound) → number < length drawn.rows → AreReading drawn text number read rest
+    → ((row : Row) (shown : RowFound) (more : List ℕ) → slice_get drawn.rows number ≡ Some row → IsShownRow drawn.net row shown
+    → rest ≡ row_text drawn true number row shown ++ more → IsSameRow shown of_row × (next ≡ more))
+    → grown ≡ read ++ of_row ∷ [] → AreReading drawn text (number + 1) grown next
+reads_row drawn text rest next number read grown of_row within reading takes grows found more shown stands =
+    let (row, h, is) = row_read drawn text rest number read (λ r behind. IsSameRow r of_row × (next ≡ behind)) within reading takes found more shown stands in
+    row_more drawn found more number read grown row of_row rest next h is.0 grows is.1

@@ -1,12 +1,12 @@
 -- What the steps of a check promise one another.
-use Rattle.std.specs.Prelude.{◌≡◌, ◌≤◌, ◌<◌, ◌++◌, ◌∷◌, ◌^◌, ℕ, ℤ, neg_ℤ, Bool, true, false, List, [], All, Option, Some, None, Result, Ok, Err, length, take}
+use Rattle.std.specs.Prelude.{◌≡◌, ◌≤◌, ◌<◌, ◌++◌, ◌∷◌, ◌^◌, ℕ, ℤ, neg_ℤ, true, false, List, [], All, Option, Some, None, Result, Ok, Err, length, take}
 use Rattle.std.specs.List.{AllByRecursion}
 use Rattle.std.specs.Str.{IsUtf8}
 use denote.Ref.{Bor}
 use Rattle.itv_base.specs.Outside.{SinkState}
 use Rattle.line_words.specs.Lines.{ended, is_feed, line_of}
 use Rattle.line_words.specs.Numbers.{IsLong}
-use Rattle.line_words.specs.Words.{Word, is_word, split_words}
+use Rattle.line_words.specs.Words.{Word, split_words}
 use Rattle.event_graph.specs.Limits.{IsPrintedTime}
 use Rattle.event_graph.specs.Network.{Net}
 use Rattle.event_graph.specs.Satisfying.{Satisfies}
@@ -156,13 +156,6 @@ AreSameRows [] [] = Unit {0}
 AreSameRows [] (other ∷ others) = ⊥
 AreSameRows (row ∷ rows) [] = ⊥
 AreSameRows (row ∷ rows) (other ∷ others) = IsSameRow row other × AreSameRows rows others
-
--- ---- words
-
--- the first word is this one
-abbrev pub stands_first : Word → List Word → Bool
-stands_first key [] = false
-stands_first key (word ∷ words) = is_word word key
 
 -- ---- proofs that stand next
 

@@ -117,6 +117,8 @@ fn number_next(
         → reader.old.rest.now ≡ shown_text true proof ++ (entry_text (entry_bound which (bounds.Closed value)) ++ (entry_text (entry_times times.items) ++ more))
         → Gives (IsSameBound (Closed value times proof)) result }
 {
+    // The network is within its limits.
+    let _events = net.events();
     let proof = proof_next(alloc, net, views, Pair::of(which, row), reader)?;
     let value = reader.number(alloc, which)?;
     if !is_claimed(which, value, proof.claim) {

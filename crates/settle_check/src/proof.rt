@@ -93,7 +93,7 @@ fn lines_next(
     let _events = net.events();
     let mut checker = ClauseChecker::new(alloc, net, pair.from, pair.to, claim)?;
     let mut lines = Vec::new(alloc);
-    for _ in 0..reader.left() {
+    for _number in 0..reader.left() {
         let Some(line) = reader.clause(alloc)? else {
             return ended(net, &checker, lines, reader);
         };

@@ -13,8 +13,9 @@ ghost use Rattle.clauses.specs.Lines.{ClauseLine};
 ghost use Rattle.settle.specs.Proofs.{line_of};
 ghost use Rattle.settle_lines.specs.Text.{SpellsClause, claim_text, view_text};
 ghost use Rattle.slack_report.specs.Reading.{flags_in};
+ghost use Rattle.slack_report.specs.Step.Cuts.{stands_first};
 ghost use Rattle.slack_report.specs.Text.{members_from, which_word};
-ghost use Rattle.settle_check.specs.Step.{Begins, BeginsWith, Gives, IsCutAs, stands_first};
+ghost use Rattle.settle_check.specs.Step.{Begins, BeginsWith, Gives, IsCutAs};
 
 use crate::check_stop::CheckStop;
 use certificate::LineFault;

@@ -1,5 +1,5 @@
 use Rattle.std.proofs.Common.{◌≡◌, ◌+◌, cond, sym, ap, ◌∙◌}
-use Rattle.slack_report.proofs.SetLoop.{flags_done, flags_goes, flags_left}
+use Rattle.settle_check.proofs.SetLoop.{flags_done, flags_goes, flags_left}
 use Rattle.settle_check.proofs.reader.flags_in.Goals as goal
 use Rattle.settle_check.proofs.reader.flags_in.Goals.{then-is_in, else-is_in}
 
