@@ -1,8 +1,9 @@
 -- A line that a checker does not take leads to no state.
 use Rattle.std.proofs.Common.{◌≡◌, ◌<◌, ◌≤◌, ℕ, Bool, true, false, List, [], ◌∷◌, ◌++◌, All, Option, Some, None, IsSomeAnd, option_map, slice_get, sym, ap, ◌∙◌, refl, subst, arith}
+use Rattle.std.proofs.lemmas.Bool.{both_ways}
 use Rattle.std.proofs.lemmas.Int.{ints}
 use Rattle.std.proofs.lemmas.List.Elements.{All-nil, All-push}
-use Rattle.std.specs.Prelude.{ℤ, pos, ◌<ℤ◌}
+use Rattle.std.specs.Prelude.{ℤ, pos, ◌<ℤ◌, IfErr, Result, Ok, Err, is_ok}
 use Rattle.itv_base.specs.declared.names.EventId.{EventId}
 use Rattle.itv_base.specs.declared.names.Side.TheVariants.{Lower}
 use Rattle.event_graph.specs.declared.edge.Edge.{Edge}
@@ -113,6 +114,12 @@ fall_past net check event value basis is_net checking past next ((c, is_c, lower
 pub fall_refused : (net : Net) (check : Checking) (event : EventId) (value : ℤ) (basis : Basis) (fault : FallLineFault)
     → IsFallLineFault net check.state.kept (frame_of check.state) event value basis fault → IsNoLine net check (Fall event value basis)
 fall_refused net check event value basis fault is_fault next is_line = fall_fault_forbids net check.goal check.state event value basis fault next is_fault is_line
+
+-- a fall that is not taken has a fault
+pub fall_not_taken : {A : Type 0} (net : Net) (check : Checking) (event : EventId) (value : ℤ) (basis : Basis) (r : Result A FallLineFault) (taken : Bool) → taken ≡ is_ok r
+    → IfErr r (IsFallLineFault net check.state.kept (frame_of check.state) event value basis) → taken ≡ false → IsNoLine net check (Fall event value basis)
+fall_not_taken net check event value basis (Ok x) taken is nothing untaken = absurd (both_ways taken is untaken)
+fall_not_taken net check event value basis (Err fault) taken is is_fault untaken = fall_refused net check event value basis fault is_fault
 
 pub know_refused : (net : Net) (check : Checking) (l : Literal) (basis : Basis) (fault : KnowFault) → (fault ≡ KnowWantsMemory → ⊥)
     → IsKnowFault net check.state.kept (frame_of check.state) l basis fault → IsNoLine net check (Know l basis)

@@ -1,6 +1,6 @@
 //! Stored lines, given to a checker.
 
-ghost use Rattle.std.specs.Prelude.{◌≡◌, IsTrue, IsFalse, IfOk};
+ghost use Rattle.std.specs.Prelude.{◌≡◌, ◌↔◌, IsTrue, IsFalse, IfOk};
 ghost use Rattle.clauses.specs.Checking.{IsChecking, TakesLine};
 ghost use Rattle.clauses.specs.Lines.{Assume, Close, Fall, Know, Loop};
 ghost use Rattle.settle.specs.Proofs.{IsNoLine, line_of};
@@ -63,9 +63,19 @@ fn take_know(
 {
     match checker.take_know(net, literal, basis) {
         Ok(()) => Ok(true),
-        Err(KnowFault::NoMemory) => Err(NoMemory),
-        Err(_) => Ok(false),
+        Err(fault) => {
+            if wants_memory_to_know(fault) {
+                return Err(NoMemory);
+            }
+            Ok(false)
+        }
     }
+}
+
+fn wants_memory_to_know(fault: KnowFault) -> bool
+    ensures { IsTrue result ↔ (fault ≡ KnowFault.NoMemory) }
+{
+    matches!(fault, KnowFault::NoMemory)
 }
 
 // Keeps the clause of a loop, if the steps are one.
@@ -83,9 +93,19 @@ fn keep_loop(
 {
     match checker.keep_loop(alloc, net, event, steps) {
         Ok(()) => Ok(true),
-        Err(LoopFault::NoMemory) => Err(NoMemory),
-        Err(_) => Ok(false),
+        Err(fault) => {
+            if wants_memory_for_loop(fault) {
+                return Err(NoMemory);
+            }
+            Ok(false)
+        }
     }
+}
+
+fn wants_memory_for_loop(fault: LoopFault) -> bool
+    ensures { IsTrue result ↔ (fault ≡ LoopFault.NoMemory) }
+{
+    matches!(fault, LoopFault::NoMemory)
 }
 
 // Opens a block, if its literals may be assumed.

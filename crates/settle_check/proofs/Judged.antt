@@ -57,10 +57,10 @@ judged_past net row kind range least greatest low high word rest r is_kind is_lo
 
 -- behind a verdict that is no fail there are no times
 pub no_fail : (net : Net) (row : Row) (range : Ends) (word : Verdict) (past : List ℤ) → is_fail word ≡ false → IsViolation net row range word past → past ≡ []
-no_fail net row range FailHigh past no is = absurd (cc no)
-no_fail net row range FailLow past no is = absurd (cc no)
-no_fail net row range Pass past no is = is
-no_fail net row range Undecided past no is = is
+no_fail net row range FailHigh past plain is = absurd (cc plain)
+no_fail net row range FailLow past plain is = absurd (cc plain)
+no_fail net row range Pass past plain is = is
+no_fail net row range Undecided past plain is = is
 
 -- the line of a fail stands next, and times that break the end stand behind it
 pub record IsBroken (net : Net) (row : Row) (range : Ends) (word : Verdict) (key : List ℕ) (past : List ℤ) (rest more : List ℕ) : Type 0 where

@@ -112,9 +112,12 @@ none_refuted net is_net none inconsistent =
 -- ---- sets that can be raised
 
 -- a set that can be raised has a flag for each event
+pub rise_count : (which : Which) (net : Net) (row : Row) (times : List ℤ) (set : List Bool) → CanRise which net row times set → length set ≡ net.events
+rise_count Max net row times set rises = rises.count
+rise_count Min net row times set rises = rises.count
+
 pub set_count : (net : Net) (which : Which) (row : Row) (times : List ℤ) (set : List Bool) (events : ℕ) → IsEndless net which row times set → events ≡ net.events → length set ≡ events
-set_count net Max row times set events endless is = endless.raised.count ∙ sym is
-set_count net Min row times set events endless is = endless.raised.count ∙ sym is
+set_count net which row times set events endless is = rise_count which net row times set endless.raised ∙ sym is
 
 pub can_rise_as : (which : Which) (net : Net) (row : Row) (times : List ℤ) (set : List Bool) (others : List ℤ) (also : List Bool) → others ≡ times → also ≡ set
     → CanRise which net row times set → CanRise which net row others also
