@@ -118,7 +118,7 @@ fall_refused net check event value basis fault is_fault next is_line = fall_faul
 -- a fall that is not taken has a fault
 pub fall_not_taken : {A : Type 0} (net : Net) (check : Checking) (event : EventId) (value : ℤ) (basis : Basis) (r : Result A FallLineFault) (taken : Bool) → taken ≡ is_ok r
     → IfErr r (IsFallLineFault net check.state.kept (frame_of check.state) event value basis) → taken ≡ false → IsNoLine net check (Fall event value basis)
-fall_not_taken net check event value basis (Ok x) taken is nothing untaken = absurd (both_ways taken is untaken)
+fall_not_taken net check event value basis (Ok x) taken is nothing untaken = absurd (both_ways taken untaken is)
 fall_not_taken net check event value basis (Err fault) taken is is_fault untaken = fall_refused net check event value basis fault is_fault
 
 pub know_refused : (net : Net) (check : Checking) (l : Literal) (basis : Basis) (fault : KnowFault) → (fault ≡ KnowWantsMemory → ⊥)
