@@ -34,9 +34,13 @@ few_lines (l ∷ lines) =
 
 few_proof : (proof : Proof) → length proof.lines.items ≤ length (shown_text true proof)
 few_proof proof =
-    omega (arith, few_lines (lines_of proof.lines.items), length-map proof.lines.items stored_line,
-    length-append (view_text proof.view) (claim_text proof.claim ++ flat_map clause_line_text (lines_of proof.lines.items)),
-    length-append (claim_text proof.claim) (flat_map clause_line_text (lines_of proof.lines.items)))
+    omega (
+      arith,
+      few_lines (lines_of proof.lines.items),
+      length-map proof.lines.items stored_line,
+      length-append (view_text proof.view) (claim_text proof.claim ++ flat_map clause_line_text (lines_of proof.lines.items)),
+      length-append (claim_text proof.claim) (flat_map clause_line_text (lines_of proof.lines.items)),
+    )
 
 few_finding : (finding : Finding) → length (finding_text true finding) < 2 ^ 32 → HasFewLines finding
 few_finding (Consistent times) short = tt
@@ -46,8 +50,12 @@ few_finding Spent short = tt
 
 few_bound : (which : Which) (found : SettledBound) → length (bound_text true which found) < 2 ^ 32 → HasFewLinesIn found
 few_bound which (settled.Closed value times proof) short =
-    omega (arith, short, few_proof proof,
-    length-append (shown_text true proof) (entry_text (line.bound which (bounds.Closed value)) ++ entry_text (line.times times.items)))
+    omega (
+      arith,
+      short,
+      few_proof proof,
+      length-append (shown_text true proof) (entry_text (line.bound which (bounds.Closed value)) ++ entry_text (line.times times.items)),
+    )
 few_bound which (settled.Unbounded times ray) short = tt
 few_bound which settled.Spent short = tt
 

@@ -36,9 +36,9 @@ gap_or_step width level [] = inl (λ i d within. absurd (omega arith))
 gap_or_step width level (value ∷ values) = elim (at_gap_or_not width level value) [
   | inr (up, most) ↦ inr (0, record { within = omega arith; up = up; most = most })
   | inl here ↦ elim (gap_or_step width level values) [
-      | inl all ↦ inl (in_front here all)
-      | inr (place, step) ↦ inr (suc place, record { within = omega (arith, step.within); up = step.up; most = step.most })
-    ]
+    | inl all ↦ inl (in_front here all)
+    | inr (place, step) ↦ inr (suc place, record { within = omega (arith, step.within); up = step.up; most = step.most })
+  ]
 ] where
   in_front : AtGap width level value → IsGapAt (pos width) level values → IsGapAt (pos width) level (value ∷ values)
   in_front here all zero d within = here
@@ -72,12 +72,14 @@ climb width (suc fuel) level values enough = elim (gap_or_step width level value
   | inl gap ↦ (level, record { gap = gap; low = omega (arith, ints); high = stays level (suc fuel * width) })
   | inr (place, step) ↦
       let fewer : above (get_or values place (pos 0)) values < above level values = above_lower values place level step.within step.up in
-      let (top, has) = climb width fuel (get_or values place (pos 0)) values (omega arith) in
-      (top, record {
-        gap = has.gap;
-        low = low_through level (get_or values place (pos 0)) top step.up has.low;
-        high = next_high width fuel level (get_or values place (pos 0)) top step.most has.high;
-      })
+      let (top, has) = climb width fuel (get_or values place (pos 0)) values (omega arith) in (
+        top,
+        record {
+          gap = has.gap;
+          low = low_through level (get_or values place (pos 0)) top step.up has.low;
+          high = next_high width fuel level (get_or values place (pos 0)) top step.most has.high;
+        },
+      )
 ]
 
 -- ---- the set of the events beyond a level
@@ -127,9 +129,9 @@ far_is_unbounded net from to times is_net in_from in_to h far =
     (flag_at top times to.0 (omega (arith, h.count)) ∙ ap Some (is_above top (time_of times to) beyond))
     (flag_at top times from.0 (omega (arith, h.count)) ∙ ap Some (not_above top (time_of times from) has.low))
     (λ low high at_low at_high.
-      let a = flagged top times low.0 false at_low in
-      let b = flagged top times high.0 true at_high in
-      apart (widest_end net) top (time_of times low) (time_of times high) a.1 b.1 (has.gap high.0 (pos 0) b.0)))
+    let a = flagged top times low.0 false at_low in
+    let b = flagged top times high.0 true at_high in
+    apart (widest_end net) top (time_of times low) (time_of times high) a.1 b.1 (has.gap high.0 (pos 0) b.0)))
 
 pub greatest_is_near : (net : Net) (from to : EventId) (value : ℤ) → IsNet net → from.0 < net.events → to.0 < net.events → IsGreatest net from to value → value <ℤ pos (far_line net)
 greatest_is_near net from to value is_net in_from in_to greatest =

@@ -55,7 +55,7 @@ proof_negated view net other from to claim lines is same proof =
 -- the parts of a right row
 pub record RowParts (drawn : Drawn) (net : Net) (text : List ℕ) (place number : ℕ) (row : Row) (shown : RowFound) (more : List ℕ) : Type 0 where
   pub stands : drop place text ≡ entry_text (line.row number row.kind (name_of drawn row.from) (name_of drawn row.to))
-    ++ (bound_text true Max shown.greatest ++ (bound_text true Min shown.least ++ (judged_text row.kind shown ++ more)))
+      ++ (bound_text true Max shown.greatest ++ (bound_text true Min shown.least ++ (judged_text row.kind shown ++ more)))
   pub greatest : IsBound true net Max row shown.greatest
   pub least : IsBound true net Min row shown.least
   pub past : IsPastOf net row row.kind shown
@@ -121,7 +121,7 @@ pub record TextParts (drawn : Drawn) (net : Net) (text : List ℕ) : Type 0 wher
   pub few_finding : HasFewLines finding
   pub few_rows : All HasFewRows found
   pub stands : text ≡ front_text drawn
-    ++ (finding_text true finding ++ (behind_text drawn true finding found ++ entry_text (line.ending (ending_of drawn.rows finding found))))
+      ++ (finding_text true finding ++ (behind_text drawn true finding found ++ entry_text (line.ending (ending_of drawn.rows finding found))))
 
 pub text_parts : (drawn : Drawn) (net : Net) (text : List ℕ) → net ≡ drawn.net → length text < 2 ^ 32 → IsSettleText drawn true text → TextParts drawn net text
 text_parts drawn net text same short (turns, (answer, answers)) =

@@ -125,7 +125,16 @@ fn row_next(
     let place = greatest.place;
     let least = bound_read(alloc, Which::Min, row, net, views, text, place, buffer)?;
     let place = least.place;
-    judged_read(alloc, net, row, greatest.found, least.found, text, place, buffer)
+    judged_read(
+        alloc,
+        net,
+        row,
+        greatest.found,
+        least.found,
+        text,
+        place,
+        buffer,
+    )
 }
 
 // The bound that was read, and the place behind it.

@@ -19,7 +19,7 @@ returns-then-not-can_rise-clause-read c times ray more endless stands =
     let next = c.pass.ensures.passed _ _ (times_stand _ times.items _ stands).begins in
     let same = c.in_ok-times.ensures.read times.items _ endless.are_times stands in
     let set = c.in_ok-set.ensures.read ray.items more (set_stands _ ray.items more next)
-        (set_count c.args.net.now c.args.which c.args.row.now times.items ray.items _ endless c.events.ensures.count) in
+    (set_count c.args.net.now c.args.which c.args.row.now times.items ray.items _ endless c.events.ensures.count) in
     absurd (cc (c.if-not-can_rise.ensures.raised.1
     (can_rise_as c.args.which c.args.net.now c.args.row.now times.items ray.items _ _ (c.deref.ensures.value ∙ same) (c.deref-2.ensures.value ∙ set) endless.raised)))
 
@@ -28,5 +28,5 @@ returns-clause-read c times ray more endless stands =
     let next = c.pass.ensures.passed _ _ (times_stand _ times.items _ stands).begins in (
       sym (c.in_ok-times.ensures.read times.items _ endless.are_times stands),
       sym (c.in_ok-set.ensures.read ray.items more (set_stands _ ray.items more next)
-      (set_count c.args.net.now c.args.which c.args.row.now times.items ray.items _ endless c.events.ensures.count)),
+          (set_count c.args.net.now c.args.which c.args.row.now times.items ray.items _ endless c.events.ensures.count)),
     )

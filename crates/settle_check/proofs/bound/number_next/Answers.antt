@@ -26,7 +26,7 @@ returns-then-not-is_claimed-clause-read c value times proof more number few stan
     let shown = number_shown c.args.net.now c.args.which c.args.row.now value times.items proof _ c.of.ensures.pair c.requires.row number few in
     let (same, next) = c.in_ok-proof.ensures.read proof _ shown (number_other c.args.which value _) stands in
     let found = c.in_ok-value.ensures.read value _ (number_stands _ c.args.which value _ next)
-        (number_long c.args.net.now c.args.which c.args.row.now value times.items proof c.requires.row number) in
+    (number_long c.args.net.now c.args.which c.args.row.now value times.items proof c.requires.row number) in
     absurd (cc (c.if-not-is_claimed.ensures.given
     (sym same.claim ∙ (number_claimed c.args.net.now c.args.which c.args.row.now value times.items proof number ∙ ap (claim_of c.args.which) (sym found)))))
 
@@ -51,7 +51,7 @@ returns-then-not-attain-clause-read c value times proof more number few stands =
     let shown = number_shown c.args.net.now c.args.which c.args.row.now value times.items proof _ c.of.ensures.pair c.requires.row number few in
     let (same, next) = c.in_ok-proof.ensures.read proof _ shown (number_other c.args.which value _) stands in
     let found = c.in_ok-value.ensures.read value _ (number_stands _ c.args.which value _ next)
-        (number_long c.args.net.now c.args.which c.args.row.now value times.items proof c.requires.row number) in
+    (number_long c.args.net.now c.args.which c.args.row.now value times.items proof c.requires.row number) in
     let behind = c.pass.ensures.passed _ _ (number_stands _ c.args.which value _ next).begins in
     let read = c.in_ok-times.ensures.read times.items more number.are_times behind in
     absurd (cc (c.if-not-attain.ensures.attained.1
@@ -62,6 +62,6 @@ returns-clause-read c value times proof more number few stands =
     let shown = number_shown c.args.net.now c.args.which c.args.row.now value times.items proof _ c.of.ensures.pair c.requires.row number few in
     let (same, next) = c.in_ok-proof.ensures.read proof _ shown (number_other c.args.which value _) stands in
     let found = c.in_ok-value.ensures.read value _ (number_stands _ c.args.which value _ next)
-        (number_long c.args.net.now c.args.which c.args.row.now value times.items proof c.requires.row number) in
+    (number_long c.args.net.now c.args.which c.args.row.now value times.items proof c.requires.row number) in
     let behind = c.pass.ensures.passed _ _ (number_stands _ c.args.which value _ next).begins in
     rw c.number_of.ensures.is (sym found, sym (c.in_ok-times.ensures.read times.items more number.are_times behind), same)

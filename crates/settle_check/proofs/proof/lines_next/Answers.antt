@@ -44,7 +44,7 @@ pub returns-in_default-clause-read : goal.returns-in_default-clause-read
 returns-in_default-clause-read c shown more proof few other stands =
     let (left, many) = c.loop-number.invariant.reading shown more proof few other stands in
     let (all, behind) = none_left (lines_of shown) more (lines_of c.loop-number.lines.items) c.loop-number.reader.rest.now left
-        (λ text after l b spells. subst (λ (o : Option StoredLine). IsSomeAnd o (λ r. line_of r ≡ l)) c.in_default.is (c.in_ok-line.ensures.read text after l b spells)) in
+    (λ text after l b spells. subst (λ (o : Option StoredLine). IsSomeAnd o (λ r. line_of r ≡ l)) c.in_default.is (c.in_ok-line.ensures.read text after l b spells)) in
     ended_reads shown c.loop-number.lines.items c.loop-number.reader.rest.now more c.ended.result all behind
     (c.ended.ensures.given (is_over c.args.net.now _ c.loop-number.checker c.loop-number.lines.items shown c.loop-number.invariant.proving c.loop-number.invariant.same_goal all proof))
 
