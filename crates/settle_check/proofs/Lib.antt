@@ -3,9 +3,9 @@ mod Few
 mod Forms
 mod Found
 mod Judged
-mod Kinds
 mod Lines
 mod Near
+mod Next
 mod Parts
 mod Passing
 mod Proved

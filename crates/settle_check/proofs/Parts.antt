@@ -1,6 +1,7 @@
 -- The parts of a right text, of its rows, and of the proofs in it, where they stand.
-use Rattle.std.proofs.Common.{◌≡◌, ◌+◌, ◌<◌, ◌≤◌, ℕ, zero, suc, ℤ, true, List, [], ◌∷◌, ◌++◌, length, drop, Some, slice_get, refl, sym, ap, subst, ◌∙◌, append_assoc, append-nil, arith}
+use Rattle.std.proofs.Common.{◌≡◌, ◌⊎◌, inl, inr, ◌+◌, ◌<◌, ◌≤◌, ℕ, zero, suc, ℤ, true, List, [], ◌∷◌, ◌++◌, length, drop, Some, slice_get, refl, sym, ap, subst, ◌∙◌, append_assoc, append-nil, arith}
 use Rattle.std.specs.Prelude.{◌^◌, All, Result}
+use Rattle.std.specs.Global.{Vec}
 use Rattle.std.specs.List.{flat_map}
 use Rattle.event_graph.specs.Network.{Net}
 use Rattle.falling.specs.declared.view.View.{View}
@@ -96,11 +97,15 @@ rows_stand drawn text place finding shown times found more is same are few stand
       by_shown (Inconsistent proof) same are stands = absurd same
       by_shown Spent same are stands = absurd same
 
+not_consistent : (times : Vec ℤ) → ((proof : Proof) × (Consistent times ≡ Inconsistent proof)) ⊎ (Consistent times ≡ Spent) → ⊥
+not_consistent times (inl (proof, e)) = absurd (cc e)
+not_consistent times (inr e) = absurd (cc e)
+
 -- nothing stands behind another finding
-pub none_stand : (drawn : Drawn) (text : List ℕ) (place : ℕ) (finding shown : Finding) (found read : List RowFound) (more : List ℕ) → ((times : _) → finding ≡ Consistent times → ⊥)
+pub none_stand : (drawn : Drawn) (text : List ℕ) (place : ℕ) (finding shown : Finding) (found read : List RowFound) (more : List ℕ) → ((proof : Proof) × (finding ≡ Inconsistent proof)) ⊎ (finding ≡ Spent)
     → IsSameFinding shown finding → AreFound true drawn.net drawn.rows shown found → drop place text ≡ behind_text drawn true shown found ++ more → read ≡ []
     → AreSameRows found read × (drop place text ≡ more)
-none_stand drawn text place (Consistent times) shown found read more other same are stands none = absurd (other times refl)
+none_stand drawn text place (Consistent times) shown found read more other same are stands none = absurd (not_consistent times other)
 none_stand drawn text place (Inconsistent proof) (Consistent times) found read more other same are stands none = absurd same
 none_stand drawn text place (Inconsistent proof) (Inconsistent also) found read more other same are stands none =
     (subst (λ (rows : List RowFound). AreSameRows rows read) (sym are) (subst (AreSameRows []) (sym none) tt), stands)

@@ -8,7 +8,7 @@ use Rattle.std.proofs.lemmas.Option.{none-some}
 use Rattle.itv_base.specs.Numerals.{signed_text}
 use Rattle.line_words.specs.Lines.{ended, line_of}
 use Rattle.line_words.specs.Words.{Word, split_words}
-use Rattle.line_words.proofs.Cutting.{IsLine}
+use Rattle.line_words.proofs.Cutting.{IsLine as IsTextLine}
 use Rattle.line_words.proofs.Plain.{ArePlain, join_line, map_plain, number_plain, signed_plain, split-join}
 use Rattle.slack_report.specs.declared.words.FindingWord.TheVariants.{Inconsistent}
 use Rattle.slack_report.specs.declared.words.Which.{Which}
@@ -52,7 +52,7 @@ steps_plain : (steps : List WalkStep) → ArePlain (step_words steps)
 steps_plain [] = tt
 steps_plain (step ∷ steps) = (basis_plain step.basis, (number_plain step.through, steps_plain steps))
 
-clause_is_line : (l : ClauseLine) → IsLine (line_of (clause_words l))
+clause_is_line : (l : ClauseLine) → IsTextLine (line_of (clause_words l))
 clause_is_line (Fall event value basis) = join_line (clause_words (Fall event value basis)) (refl, (number_plain event.0, (signed_plain value, (basis_plain basis, tt))))
 clause_is_line (Know l basis) = join_line (clause_words (Know l basis)) (refl, (literal_plain l, (basis_plain basis, tt)))
 clause_is_line (Loop event steps) = join_line (clause_words (Loop event steps)) (refl, (number_plain event.0, steps_plain steps))

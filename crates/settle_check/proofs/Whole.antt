@@ -98,7 +98,9 @@ drop_next : (rows : List Row) (number : ℕ) (row : Row) (others : List Row) →
 drop_next [] zero row others e = absurd (cc e)
 drop_next [] (suc number) row others e = absurd (cc e)
 drop_next (r ∷ rows) zero row others e = (cc e, cc e)
-drop_next (r ∷ rows) (suc number) row others e = drop_next rows number row others e
+drop_next (r ∷ rows) (suc number) row others e =
+    let next = drop_next rows number row others e in
+    let more : suc number + 1 ≡ suc (number + 1) = omega arith in (next.0, ap (λ n. drop n (r ∷ rows)) more ∙ next.1)
 
 drop_some : (rows : List Row) (number : ℕ) (row : Row) → slice_get rows number ≡ Some row → (others : List Row) × (drop number rows ≡ row ∷ others)
 drop_some [] number row e = absurd (cc e)
@@ -196,7 +198,7 @@ pub row_read : (drawn : Drawn) (text rest : List ℕ) (number : ℕ) (read : Lis
 row_read drawn text rest number read P within reading next found more shown stands =
     let (row, at) = row_there drawn.rows number within in
     let h = next_row drawn found more number read row rest at (reading found more shown stands) in
-    (row, (h, next row h.shown (rows_text drawn true (number + 1) h.rows h.others ++ more) at h.is_shown h.stands))
+    (row, h, next row h.shown (rows_text drawn true (number + 1) h.rows h.others ++ more) at h.is_shown h.stands)
 
 -- memory ran out where a row was read
 pub row_wants : (drawn : Drawn) (text rest : List ℕ) (number : ℕ) (read : List RowFound) (e : CheckStop) → number < length drawn.rows → AreReading drawn text number read rest

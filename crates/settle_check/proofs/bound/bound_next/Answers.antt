@@ -1,6 +1,6 @@
 use Rattle.std.proofs.Common.{List, ℕ, refl, sym, subst, ◌∙◌}
 use Rattle.settle_check.specs.Step.{Begins}
-use Rattle.settle_check.proofs.Kinds.{endless_read, number_read, spent_bound_read}
+use Rattle.settle_check.proofs.Next.{endless_read, number_read, spent_bound_read}
 use Rattle.settle_check.proofs.bound.bound_next.Goals as goal
 
 pub returns-then-passes-clause-read : goal.returns-then-passes-clause-read

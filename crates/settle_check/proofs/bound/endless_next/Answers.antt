@@ -6,12 +6,12 @@ use Rattle.settle_check.proofs.bound.endless_next.Goals as goal
 
 pub returns-in_err-times-clause-read : goal.returns-in_err-times-clause-read
 returns-in_err-times-clause-read c times ray more endless stands =
-    want_on _ c.from_residual.result c.in_err-times.field-0 c.from_residual.ensures.1 (c.in_err-times.ensures.read times.items _ endless.are_times stands)
+    want_on _ c.from_residual.result _ c.from_residual.ensures.1 (c.in_err-times.ensures.read times.items _ endless.are_times stands)
 
 pub returns-in_err-set-clause-read : goal.returns-in_err-set-clause-read
 returns-in_err-set-clause-read c times ray more endless stands =
     let next = c.pass.ensures.passed _ _ (times_stand _ times.items _ stands).begins in
-    want_on _ c.from_residual-in_err-set.result c.in_err-set.field-0 c.from_residual-in_err-set.ensures.1
+    want_on _ c.from_residual-in_err-set.result _ c.from_residual-in_err-set.ensures.1
     (c.in_err-set.ensures.read ray.items more (set_stands _ ray.items more next) (set_count c.args.net.now c.args.which c.args.row.now times.items ray.items _ endless c.events.ensures.count))
 
 pub returns-then-not-can_rise-clause-read : goal.returns-then-not-can_rise-clause-read

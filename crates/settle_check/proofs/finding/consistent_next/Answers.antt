@@ -7,7 +7,7 @@ use Rattle.settle_check.proofs.finding.consistent_next.Goals as goal
 
 pub returns-in_err-times-clause-read : goal.returns-in_err-times-clause-read
 returns-in_err-times-clause-read c shown more printed stands =
-    want_on _ c.from_residual.result c.in_err-times.field-0 c.from_residual.ensures.1
+    want_on _ c.from_residual.result _ c.from_residual.ensures.1
     (c.in_err-times.ensures.read shown.items more (times_stand _ shown.items more stands) (long_times shown.items printed.printed))
 
 pub returns-then-not-are_first-clause-read : goal.returns-then-not-are_first-clause-read

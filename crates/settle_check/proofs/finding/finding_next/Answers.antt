@@ -1,6 +1,6 @@
 use Rattle.std.proofs.Common.{List, ℕ, refl, sym, subst, ◌∙◌}
 use Rattle.settle_check.specs.Step.{Begins}
-use Rattle.settle_check.proofs.Kinds.{consistent_read, refuted_read, spent_read}
+use Rattle.settle_check.proofs.Next.{consistent_read, refuted_read, spent_read}
 use Rattle.settle_check.proofs.finding.finding_next.Goals as goal
 
 pub returns-then-passes-clause-read : goal.returns-then-passes-clause-read

@@ -18,7 +18,7 @@ pub returns-in_err-times-clause-read : goal.returns-in_err-times-clause-read
 returns-in_err-times-clause-read c past more is stands =
     let b = broken_stands c.args.net.now c.args.row.now c.args.range c.args.word c.fail_line.result.now past c.args.reader.now.rest.now more (sym c.if-not-is_fail.ensures) c.fail_line.ensures.low
     c.fail_line.ensures.high is stands in
-    want_on _ c.from_residual.result c.in_err-times.field-0 c.from_residual.ensures.1
+    want_on _ c.from_residual.result _ c.from_residual.ensures.1
     (c.in_err-times.ensures.read past more b.printed (c.if-not-passes.ensures.passed _ _ b.begins refl))
 
 pub returns-then-not-break_end-clause-read : goal.returns-then-not-break_end-clause-read

@@ -64,7 +64,7 @@ returns-clause-proof c =
 pub returns-clause-read : goal.returns-clause-read
 returns-clause-read c shown more proof few other stands =
     let (left, many) = c.loop-number.invariant.reading shown more proof few other stands in
-    let none : length c.loop-number.reader.rest.now ≡ 0 = omega (arith, many, c.loop-number-test.false, c.left.ensures.left) in
+    let none : length c.loop-number.reader.rest.now ≡ 0 = omega (arith, many, c.loop-number-test.false, c.left-number-end.ensures.left) in
     let (all, behind) = spent_left (lines_of shown) more (lines_of c.loop-number.lines.items) c.loop-number.reader.rest.now left none in
     ended_reads shown c.loop-number.lines.items c.loop-number.reader.rest.now more c.ended-2.result all behind
     (c.ended-2.ensures.given (is_over c.args.net.now _ c.loop-number.checker c.loop-number.lines.items shown c.loop-number.invariant.proving c.loop-number.invariant.same_goal all proof))

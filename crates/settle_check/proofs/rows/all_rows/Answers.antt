@@ -13,8 +13,8 @@ loop-number-init c = record {
 pub returns-in_err-read-clause-read : goal.returns-in_err-read-clause-read
 returns-in_err-read-clause-read c found more shown stands =
     let within : c.loop-number.number < length c.args.drawn.now.rows = grind arith in
-    want_on _ c.from_residual.result c.in_err-read.field-0 c.from_residual.ensures.1
-    (row_wants c.args.drawn.now _ (drop c.loop-number.place c.args.text.now) c.loop-number.number c.loop-number.found.items c.in_err-read.field-0 within c.loop-number.invariant.reading
+    want_on _ c.from_residual.result _ c.from_residual.ensures.1
+    (row_wants c.args.drawn.now _ (drop c.loop-number.place c.args.text.now) c.loop-number.number c.loop-number.found.items _ within c.loop-number.invariant.reading
     c.in_err-read.ensures.read found more shown stands)
 
 pub loop-number-preserved : goal.loop-number-preserved

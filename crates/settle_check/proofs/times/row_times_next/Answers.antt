@@ -7,7 +7,7 @@ use Rattle.settle_check.proofs.times.row_times_next.Goals as goal
 
 pub returns-in_err-times-clause-read : goal.returns-in_err-times-clause-read
 returns-in_err-times-clause-read c times more printed stands =
-    want_on _ c.from_residual.result c.in_err-times.field-0 c.from_residual.ensures.1
+    want_on _ c.from_residual.result _ c.from_residual.ensures.1
     (c.in_err-times.ensures.read times more (times_stand _ times more stands) (long_times times printed.printed))
 
 pub returns-then-not-are_row_times-clause-read : goal.returns-then-not-are_row_times-clause-read

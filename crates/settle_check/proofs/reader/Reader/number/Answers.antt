@@ -7,7 +7,7 @@ use Rattle.settle_check.proofs.Whole.{want_on}
 use Rattle.settle_check.proofs.reader.Reader.number.Goals as goal
 
 pub returns-in_err-words : goal.returns-in_err-words
-returns-in_err-words c = record { read = λ value more b long. want_on _ c.from_residual.result c.in_err-words.field-0 c.from_residual.ensures.1 (c.in_err-words.ensures.words _ more b) }
+returns-in_err-words c = record { read = λ value more b long. want_on _ c.from_residual.result _ c.from_residual.ensures.1 (c.in_err-words.ensures.words _ more b) }
 
 pub returns-in-Some : goal.returns-in-Some
 returns-in-Some c = record {

@@ -1,6 +1,6 @@
 use Rattle.std.proofs.Common.{refl, arith}
 use Rattle.settle_check.proofs.Whole.{piece_behind, piece_found}
-use Rattle.settle_check.proofs.draft.place_behind.Goals as goal
+use Rattle.settle_check.proofs.draft.Draft.place_behind.Goals as goal
 
 pub returns-then-same-len-clause-whole : goal.returns-then-same-len-clause-whole
 returns-then-same-len-clause-whole c more stands =
