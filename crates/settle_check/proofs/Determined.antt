@@ -1,5 +1,5 @@
 -- A line leads from a state to at most one state.
-use Rattle.std.proofs.Common.{◌≡◌, List, [], ◌∷◌, ◌++◌, None, sym, ap, ◌∙◌, refl, subst}
+use Rattle.std.proofs.Common.{◌≡◌, List, [], ◌∷◌, ◌++◌, None, sym, ap, ◌∙◌, subst}
 use Rattle.std.proofs.lemmas.Option.{same_Some}
 use Rattle.event_graph.specs.Network.{Net}
 use Rattle.falling.proofs.Bounding.{some_and}

@@ -1,5 +1,5 @@
 -- Each line of a proof by clauses has a text, if the proof has fewer than 2^32 lines.
-use Rattle.std.proofs.Common.{◌≡◌, ◌+◌, ◌<◌, ◌≤◌, ℕ, zero, suc, Bool, true, false, List, [], ◌∷◌, ◌++◌, map, length, All, Option, Some, None, IsSome, IfSome, IsSomeAnd, slice_get, sym, ap, ◌∙◌, refl, subst, arith}
+use Rattle.std.proofs.Common.{◌≡◌, ◌+◌, ◌<◌, ◌≤◌, ℕ, suc, List, [], ◌∷◌, ◌++◌, map, length, All, Option, Some, None, IsSome, IfSome, slice_get, sym, refl, subst, arith}
 use Rattle.std.specs.Prelude.{◌^◌, ℤ, pos, negsuc, neg_ℤ, ◌≤ℤ◌, ◌<ℤ◌}
 use Rattle.std.specs.List.{AllByRecursion}
 use Rattle.std.proofs.lemmas.Int.{ints}
@@ -16,25 +16,24 @@ use Rattle.certificate.specs.Text.{IsEdgeName}
 use Rattle.line_words.specs.Numbers.{IsLong}
 use Rattle.event_graph.specs.declared.cause.Cause.{Cause}
 use Rattle.event_graph.specs.declared.edge.Edge.{Edge}
-use Rattle.event_graph.specs.Edges.{edge, side_edge}
-use Rattle.event_graph.specs.Network.{Constraint, IsCauseCount, IsConstraint, IsNet, Net}
+use Rattle.event_graph.specs.Edges.{edge}
+use Rattle.event_graph.specs.Network.{IsCauseCount, IsConstraint, IsNet, Net}
 use Rattle.event_graph.specs.Times.{time_of}
 use Rattle.event_graph.proofs.EdgesMet.{All-found}
 use Rattle.falling.specs.declared.limits.Limits.{Limits}
 use Rattle.falling.specs.Cap.{cap, cap_limit}
 use Rattle.falling.specs.DerivationEnds.{AreLimits}
-use Rattle.falling.proofs.Between.{IsBetween, edge_between, mapped_some, then_some}
+use Rattle.falling.proofs.Between.{edge_between, mapped_some, then_some}
 use Rattle.falling.proofs.Bounding.{some_and}
 use Rattle.clauses.specs.declared.basis.Basis.{Basis}
 use Rattle.clauses.specs.declared.basis.Basis.TheVariants.{ByEdge, BySide, ByLatest, ByEarliest, ByKept}
 use Rattle.clauses.specs.declared.basis.WalkStep.{WalkStep}
 use Rattle.clauses.specs.declared.literal.Literal.{Literal}
-use Rattle.clauses.specs.declared.way.Way.{Way}
-use Rattle.clauses.specs.Checking.{Checking, IsChecking, IsNearFrame, IsNearState, TakesLine}
+use Rattle.clauses.specs.Checking.{Checking, IsChecking, IsNearFrame, IsNearState}
 use Rattle.clauses.specs.Clauses.{Clause, IsClause, edge_as, high_way, literal_edge, opposite, side_literals}
-use Rattle.clauses.specs.Lines.{Assume, Block, ClauseLine, Close, Fall, Frame, Goal, IsClauseLoop, IsClauseProof, IsLine, Know, Loop, ProofLeads, State, StepsTo, Walk, Walks, frame_in, lowest, starting, starting_walk, with_frame_in}
+use Rattle.clauses.specs.Lines.{Assume, Block, ClauseLine, Close, Fall, Frame, Goal, IsClauseProof, IsLine, Know, Loop, ProofLeads, State, StepsTo, Walk, Walks, frame_in, lowest, starting, starting_walk, with_frame_in}
 use Rattle.clauses.proofs.Checked.{near_frame_in, start_is_checking, taken_line_keeps_checking}
-use Rattle.settle.proofs.Refusing.{HasTargetIn, line_keeps_targets, literal_between, loop_in, target_in}
+use Rattle.settle.proofs.Refusing.{HasTargetIn, literal_between, loop_in, target_in}
 use Rattle.settle_lines.specs.Text.{IsBasisName, IsClauseLine, IsLiteralName, IsStepName}
 use Rattle.settle_check.proofs.Ways.{AreApart, FromBelow, few_apart, others_apart}
 

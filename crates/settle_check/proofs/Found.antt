@@ -1,5 +1,5 @@
 -- What the readers of words find in the lines of a text.
-use Rattle.std.proofs.Common.{◌≡◌, ℕ, ℤ, Bool, List, [], ◌∷◌, map, length, codes, Option, Some, None, option_map, refl, sym, ap, subst, ◌∙◌}
+use Rattle.std.proofs.Common.{◌≡◌, ℕ, ℤ, Bool, List, [], ◌∷◌, map, length, codes, Option, Some, ap, ◌∙◌}
 use Rattle.std.specs.Prelude.{All}
 use Rattle.itv_base.specs.Numerals.{signed_text}
 use Rattle.line_words.specs.Numbers.{IsLong, long_in}

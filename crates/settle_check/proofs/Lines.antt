@@ -1,5 +1,5 @@
 -- Lines at the front of a text.
-use Rattle.std.proofs.Common.{◌≡◌, ◌+◌, ◌<◌, ◌≤◌, ℕ, zero, suc, ℤ, Bool, true, false, cond, not, List, [], ◌∷◌, ◌++◌, map, length, take, drop, codes, refl, sym, ap, ◌∙◌, append_assoc, length-append, arith}
+use Rattle.std.proofs.Common.{◌≡◌, ◌+◌, ℕ, suc, ℤ, Bool, true, false, cond, not, List, [], ◌∷◌, ◌++◌, map, length, take, drop, codes, refl, sym, ap, ◌∙◌, length-append, arith}
 use Rattle.std.specs.List.{after_first, before_first, position_or_len}
 use Rattle.itv_base.specs.Numerals.{signed_text}
 use Rattle.line_words.specs.Lines.{ended, is_feed, line_of}

@@ -1,8 +1,7 @@
 -- The parts of a right text, of its rows, and of the proofs in it, where they stand.
-use Rattle.std.proofs.Common.{◌≡◌, ◌⊎◌, inl, inr, ◌+◌, ◌<◌, ◌≤◌, ℕ, zero, suc, ℤ, true, List, [], ◌∷◌, ◌++◌, length, drop, Some, slice_get, refl, sym, ap, subst, ◌∙◌, append_assoc, append-nil, arith}
-use Rattle.std.specs.Prelude.{◌^◌, All, Result}
+use Rattle.std.proofs.Common.{◌≡◌, ◌⊎◌, inl, inr, ◌<◌, ℕ, zero, suc, ℤ, true, List, [], ◌∷◌, ◌++◌, length, drop, Some, slice_get, sym, ap, subst, ◌∙◌, append_assoc, append-nil, arith}
+use Rattle.std.specs.Prelude.{◌^◌, All}
 use Rattle.std.specs.Global.{Vec}
-use Rattle.std.specs.List.{flat_map}
 use Rattle.event_graph.specs.Network.{Net}
 use Rattle.falling.specs.declared.view.View.{View}
 use Rattle.falling.specs.Kinds.{negated}
@@ -16,15 +15,14 @@ use Rattle.drawn.specs.Drawn.{Drawn, name_of}
 use Rattle.drawn.specs.declared.row.Row.{Row}
 use Rattle.settle.specs.declared.line.StoredLine.{StoredLine}
 use Rattle.settle.specs.Proofs.{IsProofAs, lines_of}
-use Rattle.settle_lines.specs.Text.{claim_text, clause_line_text}
 use Rattle.settle_report.specs.declared.finding.Finding.{Finding}
 use Rattle.settle_report.specs.declared.finding.Finding.TheVariants.{Consistent, Inconsistent, Spent}
 use Rattle.settle_report.specs.declared.proof.Proof.{Proof}
 use Rattle.settle_report.specs.declared.row.RowFound.{RowFound}
-use Rattle.settle_report.specs.Answers.{AreFound, AreRowsFound, IsBound, IsFinding, IsPastOf, IsRowFound}
+use Rattle.settle_report.specs.Answers.{AreFound, IsBound, IsFinding, IsPastOf}
 use Rattle.settle_report.specs.Settle.{IsSettleText}
 use Rattle.settle_report.specs.Text.{behind_text, bound_text, ending_of, finding_text, front_text, judged_text, row_text, rows_text}
-use Rattle.settle_check.specs.Step.{AreSameRows, AreShownRows, Gives, HasFewLines, HasFewLinesIn, HasFewRows, IsSameFinding, IsSameProof, IsShownProof, IsShownRow}
+use Rattle.settle_check.specs.Step.{AreSameRows, AreShownRows, HasFewLines, HasFewLinesIn, HasFewRows, IsSameFinding, IsShownRow}
 use Rattle.settle_check.proofs.Few.{few_in_text}
 use Rattle.settle_check.proofs.Same.{ending_same}
 use Rattle.settle_check.proofs.Settled.{row_same}

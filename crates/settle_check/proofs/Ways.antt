@@ -1,5 +1,5 @@
 -- The ways of a walk come from different events of the network. So there are no more of them than events.
-use Rattle.std.proofs.Common.{◌≡◌, ◌==◌, ◌+◌, ◌<◌, ◌≤◌, ◌⊎◌, inl, inr, ℕ, zero, suc, ℤ, int_le, Bool, true, false, if◌then◌else◌, List, [], ◌∷◌, length, sym, ap, ◌∙◌, refl, subst, arith}
+use Rattle.std.proofs.Common.{◌≡◌, ◌==◌, ◌+◌, ◌<◌, ◌≤◌, ◌⊎◌, inl, inr, ℕ, zero, suc, ℤ, int_le, Bool, true, false, if◌then◌else◌, List, [], ◌∷◌, length, sym, ap, refl, subst, arith}
 use Rattle.std.specs.List.{AllByRecursion}
 use Rattle.clauses.specs.declared.way.Way.{Way}
 use Rattle.clauses.specs.Lines.{way_after, wider, with_others, with_way}

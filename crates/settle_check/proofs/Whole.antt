@@ -1,20 +1,18 @@
 -- A right text is read part by part.
-use Rattle.std.proofs.Common.{◌≡◌, ◌+◌, ◌-◌, ◌<◌, ◌≤◌, ℕ, zero, suc, true, List, [], ◌∷◌, ◌++◌, length, take, drop, Some, slice_get, refl, sym, ap, subst, ◌∙◌, append_assoc, append-nil, drop-drop, drop_at, arith, length-append, length-drop, take_all}
-use Rattle.std.specs.Prelude.{◌^◌, All, IsErrAnd, Result, Ok, Err}
+use Rattle.std.proofs.Common.{◌≡◌, ◌+◌, ◌-◌, ◌<◌, ◌≤◌, ℕ, zero, suc, true, List, [], ◌∷◌, ◌++◌, length, take, drop, Some, slice_get, refl, sym, ap, subst, ◌∙◌, append_assoc, append-nil, drop-drop, drop_at, arith, length-drop, take_all}
+use Rattle.std.specs.Prelude.{All, IsErrAnd, Result, Ok, Err}
 use Rattle.std.proofs.lemmas.List.Elements.{All-head, All-tail}
 use Rattle.std.proofs.lemmas.Option.{same_Some}
 use Rattle.std.proofs.lemmas.Result.{err_from_is_err_and}
-use Rattle.event_graph.specs.Network.{Net}
 use Rattle.slack_report.specs.declared.words.Which.TheVariants.{Max, Min}
 use Rattle.slack_report.specs.Entry as line
 use Rattle.slack_report.specs.Text.{entry_text}
 use Rattle.drawn.specs.Drawn.{Drawn, name_of}
 use Rattle.drawn.specs.declared.row.Row.{Row}
 use Rattle.settle_report.specs.declared.row.RowFound.{RowFound}
-use Rattle.settle_report.specs.Answers.{AreRowsFound, IsRowFound}
+use Rattle.settle_report.specs.Answers.{AreRowsFound}
 use Rattle.settle_report.specs.Text.{bound_text, judged_text, row_text, rows_text}
 use Rattle.settle_check.specs.declared.check_stop.CheckStop.{CheckStop}
-use Rattle.settle_check.specs.declared.check_stop.CheckStop.TheVariants.{Refused, NoMemory}
 use Rattle.settle_check.specs.Step.{AreSameRows, AreShownRows, Gives, HasFewRows, IsSameRow, IsShownRow, IsWant}
 
 -- ---- results

@@ -1,11 +1,10 @@
-use Rattle.std.proofs.Common.{List, ℕ, [], true, sym, subst, ap, ◌∙◌, append-nil}
+use Rattle.std.proofs.Common.{List, [], true, subst}
 use Rattle.event_graph.specs.Network.{Net}
 use Rattle.slack_report.specs.Entry.{ending}
 use Rattle.slack_report.specs.Text.{entry_text}
 use Rattle.settle_report.specs.declared.row.RowFound.{RowFound}
 use Rattle.settle_report.specs.Answers.{IsFinding}
 use Rattle.settle_report.specs.Text.{ending_of}
-use Rattle.settle_check.specs.declared.check_stop.CheckStop.TheVariants.{NoMemory}
 use Rattle.settle_check.specs.Step.{IsPieceAt}
 use Rattle.settle_check.proofs.Parts.{ending_stands, none_left_over, text_parts}
 use Rattle.settle_check.proofs.Settled.{settled_text}

@@ -1,13 +1,11 @@
 use Rattle.std.proofs.Common.{◌≡◌, List, Option, arith, length, refl, ◌∙◌, sym, subst}
 use Rattle.std.specs.Prelude.{IfSome, IsSomeAnd}
-use Rattle.clauses.specs.Lines.{ClauseLine, Goal}
+use Rattle.clauses.specs.Lines.{Goal}
 use Rattle.settle.specs.declared.line.StoredLine.{StoredLine}
 use Rattle.settle.specs.Proofs.{IsProving, line_of, lines_of}
 use Rattle.settle.proofs.Leading.{start_proving, taken_proving}
 use Rattle.settle_lines.specs.Text.{SpellsClause}
-use Rattle.settle_check.specs.declared.check_stop.CheckStop.TheVariants.{NoMemory}
 use Rattle.settle_check.proofs.Taken.{ended_proves, ended_reads, is_over, none_left, reads_more, reads_taken, spent_left, starts_reading}
-use Rattle.settle_check.proofs.Whole.{want_on}
 use Rattle.settle_check.proofs.proof.lines_next.Goals as goal
 
 pub loop-number-init : goal.loop-number-init

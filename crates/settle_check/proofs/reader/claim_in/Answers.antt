@@ -1,4 +1,4 @@
-use Rattle.std.proofs.Common.{◌≡◌, List, ℕ, Option, Some, IsSomeAnd, refl, sym, subst, ap, ◌∙◌}
+use Rattle.std.proofs.Common.{◌≡◌, Option, Some, IsSomeAnd, refl, sym, subst, ap, ◌∙◌}
 use Rattle.line_words.specs.Lines.{ended}
 use Rattle.clauses.specs.declared.claim.Claim.{Claim}
 use Rattle.settle_check.proofs.reader.claim_in.Goals as goal

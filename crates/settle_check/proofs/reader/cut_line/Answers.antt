@@ -1,6 +1,4 @@
-use Rattle.std.proofs.Common.{◌≡◌, ◌+◌, ◌-◌, ◌≤◌, length, drop, take, take_all, ap, ◌∙◌, refl, sym, length-drop, arith}
-use Rattle.std.specs.List.{after_first, before_first}
-use Rattle.line_words.specs.Lines.{is_feed}
+use Rattle.std.proofs.Common.{◌+◌, ◌-◌, length, drop, take, take_all, ap, ◌∙◌, sym, length-drop, arith}
 use Rattle.settle_check.proofs.Lines.{cut_parts, is_cut}
 use Rattle.settle_check.proofs.reader.cut_line.Goals as goal
 

@@ -1,5 +1,4 @@
 use Rattle.std.proofs.Common.{◌<◌, ◌≤◌, drop, length, refl, arith}
-use Rattle.settle_check.specs.declared.check_stop.CheckStop.TheVariants.{NoMemory}
 use Rattle.settle_check.proofs.Reading.{read_row, start_read}
 use Rattle.settle_check.proofs.Whole.{reads_row, row_wants, rows_done, starts_rows, want_on}
 use Rattle.settle_check.proofs.rows.all_rows.Goals as goal

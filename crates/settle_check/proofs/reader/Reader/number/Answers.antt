@@ -1,4 +1,4 @@
-use Rattle.std.proofs.Common.{w64, ap, ◌∙◌, sym}
+use Rattle.std.proofs.Common.{w64, ap, ◌∙◌}
 use Rattle.std.proofs.lemmas.Int.{to_z-of_z}
 use Rattle.std.proofs.lemmas.Option.{none-some, same_Some}
 use Rattle.line_words.specs.Views.{texts}

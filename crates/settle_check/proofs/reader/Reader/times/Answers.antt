@@ -1,4 +1,4 @@
-use Rattle.std.proofs.Common.{ℤ, List, Option, ap, ◌∙◌, sym, option_map}
+use Rattle.std.proofs.Common.{ℤ, Option, ap, ◌∙◌, sym, option_map}
 use Rattle.std.proofs.lemmas.Option.{none-some, same_Some}
 use Rattle.std.specs.Global.{Vec}
 use Rattle.line_words.specs.Views.{texts}
