@@ -180,6 +180,11 @@ pub record IsSettledFile (files : Files) (report : List ℕ) (drawn : Drawn) : T
   pub is_file : file_of files report ≡ Some bytes
   pub is_settled : IsSettleText drawn true bytes
 
+-- the file with a name is what a run wrote into a sink that was empty
+pub record IsWritten (files : Files) (name : List ℕ) (old new : MemSink) : Type 0 where
+  pub empty : old.bytes ≡ []
+  pub is_file : file_of files name ≡ Some new.bytes
+
 -- the file with a name is there, and this line is its one wrong line
 pub record IsWrongFile (files : Files) (report : List ℕ) (drawn : Drawn) (line : ℕ) : Type 0 where
   pub bytes : List ℕ
