@@ -88,8 +88,8 @@ Gives P (Ok x) = P x
 Gives P (Err stop) = IsWant stop
 
 -- no line is refused
-abbrev pub IsAccepted : {A : Type 0} → Result A CheckStop → Type 0
-IsAccepted result = Gives (λ found. Unit {0}) result
+abbrev pub GivesSome : {A : Type 0} → Result A CheckStop → Type 0
+GivesSome result = Gives (λ found. Unit {0}) result
 
 -- ---- lines that stand next
 

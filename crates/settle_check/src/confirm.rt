@@ -5,7 +5,7 @@ ghost use Rattle.settle_report.specs.declared.finding.Finding.{Finding};
 ghost use Rattle.settle_report.specs.Answers.{IsFinding};
 ghost use Rattle.settle_report.specs.Settle.{IsSettleText};
 ghost use Rattle.settle_report.specs.Text.{finding_text};
-ghost use Rattle.settle_check.specs.Step.{AreViewsOf, Gives, HasFewLines, IsAccepted, IsPieceAt, IsSameFinding};
+ghost use Rattle.settle_check.specs.Step.{AreViewsOf, Gives, HasFewLines, GivesSome, IsPieceAt, IsSameFinding};
 
 use crate::check_stop::CheckStop;
 use crate::compare::{behind_ending, behind_finding, behind_front};
@@ -23,7 +23,7 @@ use std::alloc::Global;
 /// Checks a text against a drawn network, part by part. Each part is read, checked, written again and compared.
 pub fn confirm_text(alloc: Global, drawn: &DrawnNetwork, text: &[u8]) -> Result<(), CheckStop>
     ensures confirmed { OnOk result (IsSettleText drawn.now true text.now) }
-    ensures whole { length text.now < 2 ^ 32 → IsSettleText drawn.now true text.now → IsAccepted result }
+    ensures whole { length text.now < 2 ^ 32 → IsSettleText drawn.now true text.now → GivesSome result }
 {
     let net = drawn.network();
     let views = Views::new(alloc, net)?;
