@@ -1,6 +1,6 @@
 //! Why the speed grades of a sheet are refused, or are not what a part or a label wants.
 
-use crate::edge::EMPTY_RANGE;
+use crate::label_fault::EMPTY_RANGE;
 use crate::sheet_fault::RefusedSheet;
 use crate::tree::{ends_fault, value_text};
 use crate::written::{Quoted, what_there_is};

@@ -32,7 +32,7 @@ pub fn ends_fault(alloc: Global, value: &Value) -> Result<String, NoMemory> {
     let Some([low, high]) = list_of(value) else {
         let has = value_text(alloc, value)?;
         let has = has.as_str();
-        return Ok(format!(in alloc; "is {has}: a list of two ends is wanted, as [100,300]")?);
+        return Ok(format!(in alloc; "is {has}: a list of two ends is wanted, as [100,300], with null for an open end")?);
     };
     let end = if is_end(low) { high } else { low };
     let wanted = end_wanted(end);
