@@ -1,5 +1,6 @@
 pub mod Products
 pub mod Shifting
+pub mod Widening
 pub mod MovingOn
 pub mod Moving
 pub mod Rays

@@ -2,10 +2,16 @@
 
 ghost use Rattle.event_graph.specs.Trees.{ProofIsTree};
 ghost use Rattle.event_graph.specs.Laws.{HoldsByEdges, LeastIsReversedGreatest, NoRootIsInconsistent, ProofBounds, ProofIsWithinChoices, ProofOfNothing, RangeSetAgain, RayIsUnbounded, ReadingLeavesCases, RootBoundEncloses, SatisfyingIsMeetingAlways, SatisfyingMeetsAlways, ShiftKeepsSatisfying, SingleCauseIsLinear, StoppedProofIsBelowChoices};
+ghost use Rattle.event_graph.specs.Widening.{WiderKeepsSatisfying};
 
 /// Times satisfy a network if and only if they do so with one number added to all of them.
 pub fn shift_keeps_satisfying()
     ensures law { ShiftKeepsSatisfying }
+{}
+
+/// Times that satisfy a network satisfy each network whose ends are open or no narrower.
+pub fn wider_keeps_satisfying()
+    ensures law { WiderKeepsSatisfying }
 {}
 
 /// The least separation of a pair is minus the greatest separation of the reversed pair.

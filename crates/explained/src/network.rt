@@ -17,14 +17,14 @@ use itv_base::NoMemory;
 use slack_report::FindingWord;
 use std::alloc::Global;
 
-/// What is found of a network and of each of its rows, in order. Behind an inconsistent finding `rows` is empty.
+/// What is found of a network and of each of its rows, in order. After an inconsistent finding `rows` is empty.
 #[derive(Drop)]
 pub struct NetworkFound {
     pub finding: Finding,
     pub rows: Vec<RowFound>,
 }
 
-/// Finds whether some times satisfy a drawn network, and both bounds of each of its rows, with what makes it so. Each search closes at most `budget`
+/// Finds whether some times satisfy a drawn network, and both bounds of each of its rows, with their reasons. Each search closes at most `budget`
 /// cases; it leaves its finding or its bound open only if it closes just as many. If the budget is no less than the number of cause choices, neither the finding nor a bound is left open. Where some constraint keeps the
 /// order of a lane, a row that passes is searched once more without such orders.
 ///
