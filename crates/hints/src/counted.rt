@@ -1,13 +1,14 @@
 //! How many warnings job lint has of a design.
 
-use crate::lint_cost::cases_for;
+use crate::lint_cost::{cases_for, is_countable};
 use crate::lint_count::{LintCount, count_drawn, count_searched};
 use crate::written::Plain;
 use itv_base::{NoMemory, Shelf};
 use reading::{draw_plan, open_plan};
 use std::alloc::Global;
 
-/// How many warnings job lint has of a design, if it has any. Of a large design these are the warnings of the drawing.
+/// How many warnings job lint has of a design, if it has any. Of a large design these are the warnings of the drawing, and of a very large one nothing
+/// is said.
 pub fn warnings_said<H: Shelf>(
     alloc: Global,
     design: &str,
@@ -19,6 +20,9 @@ pub fn warnings_said<H: Shelf>(
     let Ok(drawn) = draw_plan(alloc, &plan) else {
         return Ok(String::new(alloc));
     };
+    if !is_countable(alloc, &plan)? {
+        return Ok(String::new(alloc));
+    }
     let count = match cases_for(&drawn) {
         Some(cases) => count_searched(alloc, &plan, &drawn, cases)?,
         None => count_drawn(alloc, &plan)?,

@@ -11,10 +11,15 @@ use std::alloc::Global;
 
 /// The text of element n of the list of edges under a key, or an empty text if there is none.
 pub fn edge_text<'v>(tree: &'v Value, key: &str, n: u64) -> &'v str {
-    match list_at(tree, key) {
-        Some(list) => list.get(n as usize).and_then(Value::as_str).unwrap_or(""),
+    match element_at(tree, key, n) {
+        Some(element) => element.as_str().unwrap_or(""),
         None => "",
     }
+}
+
+// Element n of the list under a key, if it is there.
+fn element_at<'v>(tree: &'v Value, key: &str, n: u64) -> Option<&'v Value> {
+    list_at(tree, key)?.get(n as usize)
 }
 
 /// The label of the text of an edge, which stands behind so many spaces.
@@ -37,7 +42,7 @@ pub fn column_of(text: &str, rest: &str) -> usize {
 
 /// Element n of the list of edges under a key is no text.
 pub fn no_text(alloc: Global, tree: &Value, key: &str, n: u64) -> Result<String, NoMemory> {
-    let Some(element) = list_at(tree, key).and_then(|list| list.get(n as usize)) else {
+    let Some(element) = element_at(tree, key, n) else {
         return Ok(String::new(alloc));
     };
     let has = value_text(alloc, element)?;

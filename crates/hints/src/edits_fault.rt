@@ -65,8 +65,7 @@ fn line_fault(
     }
 }
 
-const RETURN: &str =
-    "the line ends with a carriage return: save the file with line feeds alone";
+const RETURN: &str = "the line ends with a carriage return: save the file with line feeds alone";
 
 const FORM: &str =
     "an edit is set SUBJECT [LOW,HIGH], where SUBJECT is PART edge N, net N, wire N or C.I, as set RAM edge 0 [3000,15000]";

@@ -192,7 +192,9 @@ fn wire_text(plan: &Plan, n: u64) -> &str {
 fn wire_part_fault(alloc: Global, plan: &Plan, n: u64) -> Result<String, NoMemory> {
     let text = wire_text(plan, n);
     let WireText::Timing {
-        from_part, to_part, ..
+        from_part,
+        to_part,
+        ..
     } = read_wire(text)
     else {
         return Ok(String::new(alloc));

@@ -1,9 +1,16 @@
-//! What the searches of job lint cost.
+//! What job lint costs.
 
-ghost use Rattle.std.specs.Prelude.{◌×◌, ◌≤◌, IfSome};
+ghost use Rattle.std.specs.Prelude.{◌≤◌, IfSome};
 ghost use Rattle.itv_base.specs.declared.limits.TheConstants.{MAX_BUDGET};
 
+use compose::SheetKey;
 use drawn::DrawnNetwork;
+use itv_base::NoMemory;
+use plan::Plan;
+use std::alloc::Global;
+
+// The most edges and pins of a design whose drawing is looked at for a hint. The time of job lint grows with their square.
+const MOST_DRAWN: u64 = 2_000;
 
 // The most searches for a hint.
 const MOST_SEARCHES: u64 = 2_000;
@@ -13,6 +20,21 @@ const MOST_CELLS: u64 = 500_000;
 
 // The most cases that all searches for a hint may close together.
 const MOST_CASES: u64 = 2_000;
+
+/// Whether the drawing of a plan is small enough to be looked at for a hint.
+pub fn is_countable(alloc: Global, plan: &Plan) -> Result<bool, NoMemory> {
+    let mut drawn = plan.netlist().edges().len();
+    for net in plan.netlist().nets().as_slice() {
+        drawn = drawn.saturating_add(net.pins().len());
+    }
+    for part in plan.netlist().parts().as_slice() {
+        let key = SheetKey::of(alloc, part)?;
+        if let Some(sheet) = plan.sheets().get(&key) {
+            drawn = drawn.saturating_add(sheet.edges().len());
+        }
+    }
+    Ok(drawn <= MOST_DRAWN)
+}
 
 /// How many cases each search of job lint may close for a hint, so that a run does not take much longer for it, or `None` for a design that is too
 /// large to be searched.
