@@ -1,4 +1,4 @@
-use Rattle.std.proofs.Common.{refl, subst}
+use Rattle.std.proofs.Common.{refl, subst, true}
 use Rattle.itv_base.specs.Memory.{shelf_state, sink_state}
 use Rattle.itv_cli.specs.Job.{turns_for}
 use Rattle.itv_cli.specs.Run.{Call, call_of}
