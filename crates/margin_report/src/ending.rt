@@ -1,0 +1,74 @@
+//! The words of the finding and of the end.
+
+ghost use Rattle.std.specs.Prelude.{◌≡◌};
+ghost use Rattle.std.specs.List.{list_any};
+ghost use Rattle.margin_report.specs.Found.{is_number_spent};
+ghost use Rattle.margin_report.specs.Text.{ending_of, finding_word};
+
+use crate::number_found::NumberFound;
+use margins::EndsFound;
+use moves::{Border, EndFound, NetFound, SpanFound};
+use slack_report::EndWord;
+
+/// What is said of the network.
+pub fn finding_word(base: NetFound) -> &'static str
+    ensures { result.now ≡ finding_word base }
+{
+    match base {
+        NetFound::Inconsistent => "inconsistent",
+        NetFound::Spent => "spent",
+        NetFound::Passes | NetFound::Breaks(_) | NetFound::Open => "consistent",
+    }
+}
+
+/// The word at the end, by what was found of the network and of its numbers.
+pub fn ending_of(base: NetFound, numbers: &[NumberFound]) -> EndWord
+    ensures { result ≡ ending_of base (list_any is_number_spent numbers.now) }
+{
+    match base {
+        NetFound::Passes => {
+            if numbers.iter().any(|found| is_number_spent(found)) {
+                EndWord::Undecided
+            } else {
+                EndWord::Pass
+            }
+        }
+        NetFound::Breaks(_) => EndWord::Fail,
+        NetFound::Inconsistent => EndWord::Inconsistent,
+        NetFound::Open | NetFound::Spent => EndWord::Undecided,
+    }
+}
+
+// Whether something of a number was left open.
+fn is_number_spent(found: &NumberFound) -> bool
+    ensures { result ≡ is_number_spent found.now }
+{
+    are_ends_spent(&found.ends) || found.span.is_some_and(is_span_spent)
+}
+
+// Whether an end of a number was left open.
+fn are_ends_spent(found: &EndsFound) -> bool {
+    found.low.is_some_and(is_end_spent) || found.high.is_some_and(is_end_spent)
+}
+
+fn is_end_spent(found: EndFound) -> bool {
+    match found {
+        EndFound::Spent => true,
+        EndFound::Free | EndFound::Moves { .. } | EndFound::Never | EndFound::Limit => false,
+    }
+}
+
+fn is_span_spent(found: SpanFound) -> bool {
+    match found {
+        SpanFound::Between { low, high } => is_border_spent(low) || is_border_spent(high),
+        SpanFound::Nothing => false,
+        SpanFound::Spent => true,
+    }
+}
+
+fn is_border_spent(border: Border) -> bool {
+    match border {
+        Border::Spent(_) => true,
+        _ => false,
+    }
+}
