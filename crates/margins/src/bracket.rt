@@ -27,12 +27,12 @@ pub struct Bracket {
     pub row: u32,
 }
 
-/// The margin between two moves. The first guess is this far below the greater one.
+/// The margin between two moves. The first guess is this far below the greater one, or just below it where nothing is known.
 pub fn margin_in(
     alloc: Global,
     sought: EndSought<'_>,
     bracket: Bracket,
-    back: i64,
+    back: Option<i64>,
 ) -> Result<EndFound, NoMemory>
     requires bracket { IsBracket sought bracket }
     requires budget { 1 ≤ sought.effort.budget }
@@ -40,8 +40,8 @@ pub fn margin_in(
     ensures out { IfOk result (λ found. cause_choices sought.drawn.now.net.constraints ≤ sought.effort.budget → is_end_spent found ≡ false) }
 {
     let mut bracket = bracket;
-    let mut guess = bracket.breaks.saturating_sub(back);
-    let mut rounds = 0;
+    let mut guess = Some(bracket.breaks.saturating_sub(back.unwrap_or(1)));
+    let mut rounds: u32 = 0;
     while bracket.passes + 1 < bracket.breaks {
         let by = between(bracket, rounds, guess);
         rounds = u32::saturating_add(rounds, 1);
@@ -52,15 +52,17 @@ pub fn margin_in(
             NetFound::Passes => {
                 bracket.passes = by;
                 guess = match sought.room(&probed.sides) {
-                    Some(room) => by.saturating_add(room).saturating_add(1),
-                    None => bracket.breaks,
+                    Some(room) => Some(by.saturating_add(room).saturating_add(1)),
+                    None => Some(bracket.breaks),
                 };
             }
             NetFound::Breaks(row) => {
                 bracket.breaks = broken_at(alloc, sought, by, row, &probed, bracket.passes)?;
                 bracket.row = row;
-                let back = sought.excess(&probed.sides).unwrap_or(1);
-                guess = bracket.breaks.saturating_sub(back);
+                guess = match sought.excess(&probed.sides) {
+                    Some(back) => Some(bracket.breaks.saturating_sub(back)),
+                    None => None,
+                };
             }
             NetFound::Inconsistent | NetFound::Open | NetFound::Spent => {
                 return Ok(EndFound::Spent);
@@ -73,16 +75,15 @@ pub fn margin_in(
     })
 }
 
-// The next move between those of a bracket: the guess, or the nearest one, or the middle after many rounds.
-fn between(bracket: Bracket, rounds: u32, guess: i64) -> i64
+// The next move between those of a bracket: the guess, or the nearest one. Without a guess and after many rounds it is the middle.
+fn between(bracket: Bracket, rounds: u32, guess: Option<i64>) -> i64
     requires apart { bracket.passes < bracket.breaks }
     ensures above { bracket.passes <ℤ result }
     ensures below { result <ℤ bracket.breaks }
 {
-    let by = if rounds < GUIDED_ROUNDS {
-        guess
-    } else {
-        bracket.passes + (bracket.breaks - bracket.passes) / 2
+    let by = match guess {
+        Some(guess) if rounds < GUIDED_ROUNDS => guess,
+        _ => bracket.passes + (bracket.breaks - bracket.passes) / 2,
     };
     max(bracket.passes + 1, min(by, bracket.breaks - 1))
 }

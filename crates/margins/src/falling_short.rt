@@ -29,10 +29,7 @@ pub fn margin_from_break(
         row,
     };
     match probed.found {
-        NetFound::Passes => {
-            let back = sought.excess(&base.sides).unwrap_or(1);
-            margin_in(alloc, sought, bracket, back)
-        }
+        NetFound::Passes => margin_in(alloc, sought, bracket, sought.excess(&base.sides)),
         NetFound::Breaks(_) => Ok(EndFound::Never),
         NetFound::Inconsistent => margin_past_contradiction(alloc, sought, bracket),
         NetFound::Open | NetFound::Spent => Ok(EndFound::Spent),
@@ -55,7 +52,7 @@ fn margin_past_contradiction(
             NetFound::Inconsistent => bracket.passes = by,
             NetFound::Passes => {
                 bracket.passes = by;
-                return margin_in(alloc, sought, bracket, 1);
+                return margin_in(alloc, sought, bracket, None);
             }
             NetFound::Breaks(row) => {
                 bracket.breaks = broken_at(alloc, sought, by, row, &probed, bracket.passes)?;

@@ -56,8 +56,7 @@ fn margin_below(
         breaks: broken_at(alloc, sought, by, row, probed, passes)?,
         row,
     };
-    let back = sought.excess(&probed.sides).unwrap_or(1);
-    margin_in(alloc, sought, bracket, back)
+    margin_in(alloc, sought, bracket, sought.excess(&probed.sides))
 }
 
 // The margin above a move with which every requirement passes, where no bound is known to grow: by the network with the end open.
