@@ -51,18 +51,18 @@ pub fn margin_in(
         match probed.found {
             NetFound::Passes => {
                 bracket.passes = by;
-                guess = match sought.room(&probed.sides) {
-                    Some(room) => Some(by.saturating_add(room).saturating_add(1)),
-                    None => Some(bracket.breaks),
-                };
+                let next = sought
+                    .room(&probed.sides)
+                    .map(|room| by.saturating_add(room).saturating_add(1));
+                guess = Some(next.unwrap_or(bracket.breaks));
             }
             NetFound::Breaks(row) => {
                 bracket.breaks = broken_at(alloc, sought, by, row, &probed, bracket.passes)?;
                 bracket.row = row;
-                guess = match sought.excess(&probed.sides) {
-                    Some(back) => Some(bracket.breaks.saturating_sub(back)),
-                    None => None,
-                };
+                let breaks = bracket.breaks;
+                guess = sought
+                    .excess(&probed.sides)
+                    .map(|back| breaks.saturating_sub(back));
             }
             NetFound::Inconsistent | NetFound::Open | NetFound::Spent => {
                 return Ok(EndFound::Spent);
