@@ -134,7 +134,7 @@ def solver_cells(net, folder, printed, solvers=SOLVERS):
             total = None if took is None else total + took
             found = re.search(pattern, out.decode())
             if took is not None and number:
-                # A solver may tell the greatest of a number as the least of its opposite.
+                # A solver may report the greatest of a number as the least of its opposite.
                 differs |= found is None or round(abs(float(re.sub(r"[() ]", "", found.group(1))))) != abs(int(number.group(1)))
         cells.append(show(total, LIMIT) + (" DIFFERENT" if differs else ""))
     return cells

@@ -1,13 +1,13 @@
-// What is found of a design behind a key: the runs of the program, one job after another, and what they say together.
+// What is found of a design after a key press: the runs of the program, one job after another, and what they say together.
 
 import { entriesOf, unitOf } from "./answer.js";
 import { Design } from "./design.js";
 import { Matrix, Report, Why, warningsOf } from "./printed.js";
 import { refusalOf } from "./refusals.js";
 
-// The cases that each search may close behind a key. Where they do not suffice job settle goes on.
+// The cases that each search may close after a key press. Where they do not suffice job settle continues.
 export const BUDGET = 100;
-// A matrix of more events is worked out only where its tab is chosen: it has a number for each pair.
+// A matrix of more events is computed only where its tab is chosen: it has a number for each pair.
 const MOST_EVENTS_OF_WINDOWS = 256;
 
 /** The words of a job on a design. */
@@ -119,7 +119,7 @@ export class Analysis {
     return read ? read.name : this.name;
   }
 
-  /** For each file the words of its edges, by their numbers: the worst verdict of a row, `ask`, or `contradicts`. */
+  /** For each file the words of its edges, given by their numbers: the worst verdict of a row, `ask`, or `contradicts`. */
   verdicts() {
     const worst = ["contradicts", "fail", "undecided", "ask", "pass"];
     const verdicts = new Map();
@@ -135,7 +135,7 @@ export class Analysis {
     return verdicts;
   }
 
-  /** The name of the file in which the edges of a part stand, by its number; of the netlist where that is null. */
+  /** The name of the file in which the edges of a part stand, given by its number; of the netlist where that is null. */
   fileOf(part) {
     return part === null || this.design.alone ? this.name : this.design.parts[part].file;
   }

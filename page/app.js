@@ -1,4 +1,4 @@
-// The page at work: which files are open, what is found behind a key, and what of it is shown.
+// The page at work: which files are open, what is found after a key press, and what of it is shown.
 
 import { Analysis } from "./analysis.js";
 import { answerOf } from "./answer.js";
@@ -13,7 +13,7 @@ import { Ended } from "./runner.js";
 import { fillTabs } from "./tabs.js";
 import { escaped } from "./texts.js";
 
-// How long the page waits behind a key for the next one, and after how long it shows that it searches, in milliseconds.
+// How long the page waits after a key press for the next one, and after how long it shows that it searches, in milliseconds.
 const WAIT = 20;
 const SHOWN_AFTER = 300;
 // After how many milliseconds an answer is shown before its warnings are known.
@@ -310,7 +310,7 @@ export class App {
     );
   }
 
-  /** Where an edge stands in the text of a file. */
+  /** Where an edge is in the text of a file. */
   edgePlace(read, number) {
     const { start, end } = read.value.at(Object.hasOwn(read.tree, "itv") ? "edges" : "edge", number);
     return { start, end };

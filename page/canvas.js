@@ -16,7 +16,7 @@ export function pathOf(...points) {
   return `M${points.map(([x, y]) => `${point(x)} ${point(y)}`).join("L")}`;
 }
 
-/** The lines of a picture, and where times stand in it: from `low` behind the gutter to `high` at the right edge of its width. */
+/** The lines of a picture, and where times are in it: from `low` after the gutter to `high` at the right edge of its width. */
 export class Canvas {
   constructor(gutter, low, high, width = WIDTH) {
     this.width = width;

@@ -49,7 +49,7 @@ function putLane(canvas, lane, bricks, y) {
   if (lane.wave) new Strip(canvas, y).draw(withoutTail(runsOf({ ...lane, wave: lane.wave }, bricks, 1, EVEN_BRICKS), lane.wave.length));
 }
 
-/** The runs that the wave itself draws: in front of its first brick and behind its last one nothing stands. */
+/** The runs that the wave itself draws: before its first brick and after its last one nothing stands. */
 function withoutTail({ runs, gaps }, length) {
   const kept = runs.filter((run) => run.kind !== "none" && (run.start === null || run.start < length));
   return { runs: kept.map((run) => (run.end === null || run.end > length ? { ...run, end: length } : run)), gaps };

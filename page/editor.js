@@ -22,7 +22,7 @@ export class Editor {
       // Tab leads on to the next part of the page.
       extraKeys: { Tab: false, "Shift-Tab": false, "Ctrl-]": "indentMore", "Ctrl-[": "indentLess" },
     });
-    // An editor that screen readers can read waits 80 ms before it takes what was typed. The answer wants it at once.
+    // An editor that screen readers can read waits 80 ms before it takes what was typed. The answer needs it at once.
     this.view.getInputField().addEventListener("input", () => setTimeout(() => takeTyped(this.view.display.input), 0));
     this.view.on("change", (view, change) => {
       if (change.origin !== "setValue" && this.name !== null) onChange(this.name, view.getValue());
@@ -88,7 +88,7 @@ export class Editor {
     if (below) this.putReason(line, says, below);
   }
 
-  /** Puts the reason of a refusal below its line, with the program's line behind it. */
+  /** Puts the reason of a refusal below its line, with the program's line after it. */
   putReason(line, says, printed) {
     const element = document.createElement("div");
     element.className = "reason";

@@ -1,6 +1,6 @@
 // Draws one bound of a row as a timing diagram to scale, in SVG.
 //
-// All texts are set in a font of one width, so that their room is known: no text stands over another or past the edge.
+// All texts are set in a font of one width, so that their room is known: no text overlaps another or passes the edge.
 
 import { Canvas, PAD, WIDTH, point } from "./canvas.js";
 import { Strip, WAVE } from "./strip.js";
@@ -115,7 +115,7 @@ export class Picture {
 
   // The scale.
 
-  /** The step of the scale, 1, 2 or 5 with zeros behind it, so wide that its numbers have room. */
+  /** The step of the scale, 1, 2 or 5 with zeros after it, so wide that its numbers have room. */
   tickStep() {
     const widest = Math.max(80, ...[this.canvas.low, this.canvas.high].map((time) => room(tickText(Math.round(time), this.unit)) + 16));
     const least = (widest * (this.canvas.high - this.canvas.low)) / (this.canvas.right - this.canvas.left);

@@ -11,7 +11,7 @@ class Value {
     this.text = "";
   }
 
-  /** The value under a key, the last one where the key stands twice; undefined where there is none. */
+  /** The value under a key, the last one where the key occurs twice; undefined where there is none. */
   get(key) {
     return this.members.filter((member) => member.key.text === key).map((member) => member.value).pop();
   }
@@ -45,7 +45,7 @@ class Scanner {
     this.place = blank.lastIndex;
   }
 
-  /** Whether this character comes next, which is then gone over. */
+  /** Whether this character comes next, which is then passed over. */
   takes(char) {
     this.skip();
     if (this.text[this.place] !== char) return false;

@@ -92,7 +92,7 @@ export class Report {
     this.last = this.row.bounds[which] = new Bound(which, words);
   }
 
-  /** Takes times: of the finding, of a bound, or behind a verdict. Those behind a verdict are passed over. */
+  /** Takes times: of the finding, of a bound, or after a verdict. Those after a verdict are passed over. */
   readTimes(words) {
     if (!this.rows.length) this.times = words.map(Number);
     else if (this.last) this.last.times = words.map(Number);
@@ -116,7 +116,7 @@ Report.READERS = {
   end: (report, words) => (report.end = words[0]),
 };
 
-/** The greatest separations that the rules without a choice allow, by the numbers of two events; null where they allow any. */
+/** The greatest separations that the rules without a choice allow, given by the numbers of two events; null where they allow any. */
 export class Matrix {
   constructor(text) {
     const lines = text.split("\n");
@@ -133,7 +133,7 @@ export class Matrix {
   }
 }
 
-/** Where a rule is drawn: `kind` is `edge`, `lane`, `net` or `wire`, with its number; `text` are these words, and `note` is what stands behind them. */
+/** Where a rule is drawn: `kind` is `edge`, `lane`, `net` or `wire`, with its number; `text` are these words, and `note` is what stands after them. */
 export class Origin {
   constructor(words) {
     const line = words.join(" ");
@@ -175,8 +175,8 @@ export class Why {
 const PLACES = { both: 2, drivers: 2, own: 2, held: 2 };
 
 /**
- * A warning of job lint: its word, its line, and the edges that it names, as a part (null for the netlist) and a number for each. Behind the places stands
- * free text.
+ * A warning of job lint: its word, its line, and the edges that it names, as a part (null for the netlist) and a number for each. Free text follows
+ * the places.
  */
 export class Warning {
   constructor(line) {

@@ -50,7 +50,7 @@ function edgeText(file, number) {
   return list && typeof list[number] === "string" ? list[number] : "";
 }
 
-/** The label of an edge: behind the first space in a sheet, and behind the second one in a netlist. */
+/** The label of an edge: after the first space in a sheet, and after the second one in a netlist. */
 function labelOf(file, number) {
   return edgeText(file, number).split(" ").slice(isNetlist(file.tree) ? 2 : 1).join(" ");
 }
@@ -79,7 +79,7 @@ const GRADES = (file) => file.value.at("itv_grades");
 const IN_EDGE = (file, [number]) => edgeValue(file, number);
 const range = (words) => RANGE_FAULTS[words[words.length - 1]];
 
-// For each fault of a file: where it stands, from the file and the words behind the fault's name, and what it says.
+// For each fault of a file: where it stands, from the file and the words after the fault's name, and what it says.
 const OF_FILE = {
   TooLong: [(file) => file.value, () => "The file has more than 4,194,304 bytes."],
   NotJson: [(file) => file.value, () => "The program takes no number as great as 1e999, no half of a surrogate pair, and no nesting deeper than 127."],
@@ -113,7 +113,7 @@ const OF_FILE = {
 
 const NET = (file, [net, pin]) => file.value.at("nets", Number(net), "pins", Number(pin));
 
-// For each fault of the joins and limits, which stand in the design's own file.
+// For each fault of the joins and limits, which are in the design's own file.
 const OF_DESIGN = {
   NoPart: [NET, () => "No part has this name."],
   NoPin: [NET, () => "The sheet of this part has no lane of this name with a mark."],

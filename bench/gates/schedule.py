@@ -12,7 +12,7 @@ The model knows nothing of memory, of the start of `rt ci`, and of the runs of p
 import dataclasses
 import heapq
 
-# What a check takes by the clock with one, two, three and four jobs, beside what it takes with one; measured in one crate with one and four.
+# The elapsed time of a check with one, two, three and four jobs, relative to its time with one; measured in one crate with one and four.
 BY_JOBS = (1.0, 0.71, 0.62, 0.57)
 
 

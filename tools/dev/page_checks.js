@@ -1,5 +1,5 @@
 // What is looked at in the browser on a page: each arrow starts and ends at the marks of its events within a pixel, each mark stands where its time has it
-// on the scale, and no text of the answer stands over another one or leaves the page. It gives what is wrong, and how much was looked at.
+// on the scale, and no text of the answer overlaps another one or leaves the page. It gives what is wrong, and how much was looked at.
 (() => {
   const wrong = [];
   const near = (a, b) => Math.abs(a - b) <= 1;

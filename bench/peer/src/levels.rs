@@ -1,4 +1,4 @@
-//! Levels of a graph of 300 events: the same network and the same steps by chance as those of the proved program of `bench/levels`.
+//! Levels of a graph of 300 events: the same network and the same random steps as those of the proved program of `bench/levels`.
 
 use std::time::Instant;
 

@@ -363,7 +363,7 @@ impl<'n> Search<'n> {
         self.splits.iter().copied().find(|&n| !self.net.constraints[n].is_met(times))
     }
 
-    /// Goes on to the next open case: false where none is left.
+    /// Continues to the next open case: false where none is left.
     fn next(&mut self, mut pending: Option<(usize, usize)>) -> bool {
         loop {
             if let Some((constraint, cause)) = pending {

@@ -10,7 +10,7 @@ pub struct NoMemory;
 
 pub type AllocError = NoMemory;
 
-/// A vector whose pushes may want memory; here they never do.
+/// A vector whose pushes may run out of memory; here they never do.
 #[derive(Debug, Clone, PartialEq, Eq)]
 pub struct Vec<T>(pub std::vec::Vec<T>);
 

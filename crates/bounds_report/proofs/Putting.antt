@@ -38,7 +38,7 @@ pub bound_may : (net : Net) (most : ℕ) (cert : Bool) (basis : List ℤ) (drawn
     → MayFollow (sized net most cert basis) drawn (at_bound current coming lines) (bound which value) (behind_bound current coming value)
 bound_may net most cert basis drawn current coming lines pair which value of fact = inr (value, ap (λ (w : Which). bound w value) (sym of.sort), fact, refl)
 
--- times come behind a bound that the times attain
+-- times come after a bound that the times attain
 behind_is : (net : Net) (pair : Pair) (which : Which) (current : CurrentRow) (coming : NextBound) (value : Bound) (list : List ℤ) (set : List Bool) → Attain net pair which value list set
     → behind_bound current coming value ≡ at_times current coming value
 behind_is net pair which current coming (bounds.Closed value) list set a = refl
@@ -53,7 +53,7 @@ attains net pair which current bounds.Unbounded list set f t a = tt
 attains net pair which current (bounds.Within limit None) list set f t a = absurd a
 attains net pair which current (bounds.Within limit (Some found)) list set f t a = rw (f, t) a
 
--- kept times may stand behind a bound
+-- kept times may stand after a bound
 times_fact : (net : Net) (current : CurrentRow) (pair : Pair) (which : Which) (value : Bound) (list : List ℤ) (set : List Bool)
     → current.row.from ≡ pair.from → current.row.to ≡ pair.to → IsWitness net pair which value list set → All IsPrintedTime list × (AreTimes net current.row list × Attains current.row value list)
 times_fact net current pair which value list set f t kept =
@@ -121,7 +121,7 @@ none_needed : (net : Net) (basis : List ℤ) (r : Row) (coming : NextBound) → 
 none_needed net basis r greatest = λ before after number chosen cases is left. absurd (no_line before after (Split number) is)
 none_needed net basis r (least_by first) = λ before after number chosen cases is left. absurd (no_line before after (Split number) is)
 
--- a bound behind lines that show it
+-- a bound after lines that show it
 bound_fact : (net : Net) (most : ℕ) (cert : Bool) (basis : List ℤ) (current : CurrentRow) (coming : NextBound) (pair : Pair) (which : Which) (searched : List ProofLine) (value : Bound) → current.tally.found ≡ findings.Consistent
     → IsOf current coming pair which → ShowsIn net most pair which searched value → AreNeededFor net basis (searched_pair which pair) searched → HasPrintedTimes value
     → (sized net most cert basis).bound current.tally.found current.row coming (printed cert searched) value
@@ -130,7 +130,7 @@ bound_fact net most cert basis current coming pair which searched value found of
     let each : AreNeededFor net basis (searched_pair (which_of coming) (record { from = current.row.from; to = current.row.to })) searched = rw (of.sort, of.from, of.to) needed in
     ((h, subst (λ (word : FindingWord). IsBoundOf net word current.row coming value) (sym found) s.0, (searched, refl, (s.1, needed_is net basis current.row coming searched each))), bound_times value h)
 
--- a bound behind a search, by the answer on the searched pair
+-- a bound after a search, from the answer on the searched pair
 pub answer_fact : (net : Net) (most : ℕ) (cert : Bool) (basis : List ℤ) (current : CurrentRow) (coming : NextBound) (pair : Pair) (which : Which) (left : Evidence)
     (answer : GreatestAnswer) (value : Bound) (searched : Pair) → current.tally.found ≡ findings.Consistent → IsOf current coming pair which → searched ≡ searched_pair which pair
     → IsGreatestAnswer (search_of net searched most) left answer → AreNeededFor net basis searched left.lines → left.leaves ≤ most → value ≡ bound_of which answer → All IsClose left.times

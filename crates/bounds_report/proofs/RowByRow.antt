@@ -41,12 +41,12 @@ rows_none [] (suc number) h = refl
 rows_none (row ∷ rows) zero h = absurd (omega arith)
 rows_none (row ∷ rows) (suc number) h = rows_none rows number (omega arith)
 
--- behind an inconsistent finding there are no rows
+-- after an inconsistent finding there are no rows
 pub rows_skipped : (word : FindingWord) (tally : Tally) (count : ℕ) → word ≡ findings.Inconsistent → tally_behind word tally ≡ tally_of word → behind_known word ≡ behind_rows word tally count
 rows_skipped word tally count e h =
     subst (λ (w : FindingWord). behind_known w ≡ behind_rows w tally count) (sym e) (ap (λ (report_tally : ReportTally). at_end (end_word report_tally)) (sym (subst (λ (w : FindingWord). tally_behind w tally ≡ tally_of w) e h)))
 
--- behind any other finding the rows begin
+-- after any other finding the rows begin
 pub rows_begin : (word : FindingWord) → (word ≡ findings.Consistent) ⊎ (word ≡ findings.Unsettled) → at_rows word ≡ behind_known word
 rows_begin word (inl e) = rw e refl
 rows_begin word (inr e) = rw e refl

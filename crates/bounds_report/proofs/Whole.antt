@@ -67,7 +67,7 @@ sized_implies net most cert basis = record {
 abbrev front : ℕ → List Entry
 front most = heading ∷ budget most ∷ []
 
--- lines behind the front
+-- lines after the front
 front_reads : (drawn : Drawn) (most : ℕ) (cert : Bool) (basis : List ℤ) (lines : List Entry) (last : ReportState) → LinesLead (sized drawn.net most cert basis) drawn at_events lines last
     → LinesLead (written drawn.net most cert basis) drawn at_heading (heading ∷ budget most ∷ lines) last
 front_reads drawn most cert basis lines last reads =

@@ -35,7 +35,7 @@ abbrev pub IsEachNeeded : Net → List ℤ → Row → NextBound → List ProofL
 IsEachNeeded net known r greatest lines = AtEachSplit net (IsNeededToBound net r.from r.to (separation known r.from r.to)) lines
 IsEachNeeded net known r (least_by most) lines = AtEachSplit net (IsNeededToBound net r.to r.from (separation known r.to r.from)) lines
 
--- the line claims of job bounds; `known` are the times that are printed behind a consistent finding
+-- the line claims of job bounds; `known` are the times that are printed after a consistent finding
 abbrev pub written : Net → ℕ → Bool → List ℤ → LineClaims
 written net most cert known = record {
   finding = λ lines word. (right net).finding lines word

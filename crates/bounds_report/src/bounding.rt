@@ -91,7 +91,7 @@ fn keep(
     }
 }
 
-// The bound of a pair by the answer of the search on its searched pair.
+// The bound of a pair from the answer of the search on its searched pair.
 fn bound_of(which: Which, answer: GreatestAnswer) -> Bound
     requires times { HasTimes (greatest_by answer) }
     ensures bound { result ≡ bound_of which answer }

@@ -51,7 +51,7 @@ fn word_of(found: SearchFinding) -> FindingWord
     }
 }
 
-// Writes the known times behind a consistent finding.
+// Writes the known times after a consistent finding.
 fn print_times<K: Sink>(
     word: FindingWord,
     net: &Network,

@@ -1,4 +1,4 @@
-//! Writing the bounds of a row behind an unsettled finding: the root bounds.
+//! Writing the bounds of a row after an unsettled finding: the root bounds.
 
 ghost use Rattle.std.specs.Prelude.{◌≡◌, ◌<◌, ℕ, ℤ, Bool, [], List, IfOk, OnOk};
 ghost use Rattle.branch.specs.Work.{IsMadeFor};
@@ -20,7 +20,7 @@ use line_words::LineBuffer;
 use requirements::{BothBounds, Bound};
 use slack_report::{Item, Which, write_item};
 
-/// Writes both bounds of a pair by its root bounds alone, without a search.
+/// Writes both bounds of a pair from its root bounds alone, without a search.
 pub fn print_limits<K: Sink>(
     pair: Pair,
     net: &Network,

@@ -23,7 +23,7 @@ use line_words::LineBuffer;
 use requirements::{BothBounds, Bound, Verdict, raise_past};
 use slack_report::{Item, Which, write_item};
 
-/// Behind a verdict that is a fail, writes times that break the requirement. Behind any other verdict writes nothing.
+/// After a verdict that is a fail, writes times that break the requirement. After any other verdict writes nothing.
 pub fn print_past<K: Sink>(
     word: Verdict,
     range: Range,

@@ -17,7 +17,7 @@ use itv_base::{PutFailed, Sink};
 use jobs::row_at;
 use slack_report::{FindingWord, Item, write_item};
 
-/// Writes how many rows there are, and each row. Behind an inconsistent finding writes nothing.
+/// Writes how many rows there are, and each row. After an inconsistent finding writes nothing.
 pub fn print_rows<K: Sink>(
     found: FindingWord,
     drawn: &DrawnNetwork,

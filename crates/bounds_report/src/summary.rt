@@ -1,8 +1,8 @@
-//! What a report comes to.
+//! The result of a report.
 
 use slack_report::EndWord;
 
-/// What a report comes to: its end, and how many requirements pass, fail and are left undecided.
+/// The result of a report: its end, and how many requirements pass, fail and are left undecided.
 #[derive(Clone, Copy)]
 pub struct Summary {
     pub end: EndWord,

@@ -10,7 +10,7 @@ ghost use Rattle.right_report.specs.Right.ReportState.{tally_of, end_word};
 use requirements::Verdict;
 use slack_report::{EndWord, FindingWord};
 
-/// What a row comes to: its verdict, if it has one, and whether one of its bounds is `Within`.
+/// The result of a row: its verdict, if it has one, and whether one of its bounds is `Within`.
 #[derive(Clone, Copy)]
 pub struct RowEnd {
     pub verdict: Option<Verdict>,

@@ -17,7 +17,7 @@ use itv_base::{PutFailed, Range, Sink};
 use requirements::{BothBounds, Verdict, judge, slack};
 use slack_report::{Item, Which, write_item};
 
-/// Writes the verdict on a requirement by the two bounds of its pair, times that break it if it fails, and the slacks.
+/// Writes the verdict on a requirement according to the two bounds of its pair, times that break it if it fails, and the slacks.
 pub fn print_verdict<K: Sink>(
     range: Range,
     pair: Pair,

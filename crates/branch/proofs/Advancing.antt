@@ -1,4 +1,4 @@
--- How one step of a search goes on from the lines before.
+-- How one step of a search continues from the lines before.
 use Rattle.std.proofs.Common.{◌≡◌, ◌+◌, ◌≤ℤ◌, ℕ, ℤ, List, [], ◌∷◌, ◌++◌, slice_get, refl, sym, subst, arith}
 use Rattle.std.proofs.lemmas.Int.{ints}
 use Rattle.event_graph.specs.Network.{Net}
@@ -38,7 +38,7 @@ one_more : (earlier lines : List ProofLine) (line : ProofLine) → (earlier ++ l
 one_more [] lines line = refl
 one_more (l ∷ earlier) lines line = let rest = one_more earlier lines line in cc
 
--- the search goes on after lines that close cases
+-- the search continues after lines that close cases
 goes : (net : Net) (goal : ProofGoal) (IsNeeded : List ProofLine → Case → ℕ → Type 0) (earlier lines : List ProofLine) (cases : List Case) (before : ℕ) (now : Search) (entry : NextCase)
     → IsSearchedSoFar net goal IsNeeded earlier cases before → SearchSteps net goal cases before now entry lines
     → IsSearchedSoFar net goal IsNeeded (earlier ++ lines) (left_after net now.cases.chosen entry) now.leaves
@@ -46,7 +46,7 @@ goes net goal IsNeeded earlier lines cases before now entry searched steps =
     subst (IsSearchedSoFar net goal IsNeeded (earlier ++ lines) (left_after net now.cases.chosen entry)) (sym steps.count)
     (searched_closes net goal IsNeeded earlier lines cases (left_after net now.cases.chosen entry) before searched steps.closes)
 
--- the search goes on after a split
+-- the search continues after a split
 goes_split : (net : Net) (goal : ProofGoal) (IsNeeded : List ProofLine → Case → ℕ → Type 0) (earlier lines : List ProofLine) (chosen : Case) (number before : ℕ) (now : Search) (entry : NextCase)
     → IsFree net chosen number → IsNeeded earlier chosen number → IsSearchedSoFar net goal IsNeeded earlier (open_cases net chosen) before
     → SearchSteps net goal (open_cases net (first_of number chosen)) before now entry lines
@@ -66,7 +66,7 @@ cut_split net goal IsNeeded earlier lines chosen number before now free need sea
     (searched_closes net goal IsNeeded (earlier ++ Split number ∷ []) lines (open_cases net (first_of number chosen)) short.left before
     (searched_splits net goal IsNeeded earlier chosen number before searched free.may need (splittable_causes (slice_get net.constraints number) free.causes)) short.closes)
 
--- the search for a bound goes on after a split
+-- the search for a bound continues after a split
 pub split_goes : (net : Net) (aim : Aim) (best : ℤ) (before : ℕ) (earlier lines : List ProofLine) (chosen : Case) (now : Search) (entry : NextCase) (number : ℕ)
     → aim.known ≤ℤ best → IsOpen net aim.from aim.to best chosen number
     → SearchSteps net (Bound aim.from aim.to best) (open_cases net (first_of number chosen)) before now entry lines
@@ -75,7 +75,7 @@ split_goes net aim best before earlier lines chosen now entry number least open'
     goes_split net (Bound aim.from aim.to best) (IsNeededToBound net aim.from aim.to aim.known) earlier lines chosen number before now entry open'.free
     (needed_open net aim best earlier (open_cases net chosen) before chosen number least searched open') searched steps
 
--- the search for a bound goes on after a path
+-- the search for a bound continues after a path
 pub path_goes : (net : Net) (aim : Aim) (was best : ℤ) (before : ℕ) (earlier lines : List ProofLine) (chosen : Case) (now : Search) (entry : NextCase)
     → was ≤ℤ best → SearchSteps net (Bound aim.from aim.to best) (open_cases net chosen) before now entry lines
     → IsBoundSearched net aim was earlier (open_cases net chosen) before → IsBoundSearched net aim best (earlier ++ lines) (left_after net now.cases.chosen entry) now.leaves
@@ -111,7 +111,7 @@ path_cut net aim was best before lines chosen now up short =
       count = short.count;
     }
 
--- the search for satisfying times goes on after a split on a broken constraint
+-- the search for satisfying times continues after a split on a broken constraint
 pub find_goes : (net : Net) (before : ℕ) (earlier lines : List ProofLine) (chosen : Case) (now : Search) (entry : NextCase) (number : ℕ) (times : List ℤ) → IsFree net chosen number
     → MeetsUsable net chosen times → Breaks times net number → SearchSteps net Nothing (open_cases net (first_of number chosen)) before now entry lines
     → IsFindSearched net earlier (open_cases net chosen) before → IsFindSearched net (earlier ++ Split number ∷ lines) (left_after net now.cases.chosen entry) now.leaves

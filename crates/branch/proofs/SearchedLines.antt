@@ -1,4 +1,4 @@
--- What a search has come to by its lines.
+-- What a search has reached, according to its lines.
 use Rattle.std.proofs.Common.{◌≡◌, ◌+◌, ◌-◌, ◌<◌, ◌≤ℤ◌, ◌⊎◌, ℕ, zero, suc, ℤ, List, [], ◌∷◌, ◌++◌, All, Contains, refl, sym, ap, ◌∙◌, subst, inl, inr, arith}
 use Rattle.std.proofs.lemmas.Int.{ints}
 use Rattle.std.proofs.lemmas.List.Elements.{All-contains, Contains-append_right}
@@ -55,7 +55,7 @@ paths_within net from to value (Loop others ∷ lines) (chosen ∷ cases) left n
       | inr rest ↦ paths_within net from to value lines cases left names reads.1 rest
     ]
 
--- a line in two joined lists stands in the one or in the other
+-- a line in two joined lists is in the one or in the other
 pub stands_in : (xs ys before after : List ProofLine) (line : ProofLine) → xs ++ ys ≡ before ++ line ∷ after
     → ((rest : List ProofLine) × (xs ≡ before ++ line ∷ rest)) ⊎ ((front : List ProofLine) × (before ≡ xs ++ front) × (ys ≡ front ++ line ∷ after))
 stands_in [] ys before after line same = inr (before, refl, same)
@@ -120,7 +120,7 @@ pub nothing_after : (lines : List ProofLine) → lines ++ [] ≡ lines
 nothing_after [] = refl
 nothing_after (line ∷ lines) = ap (λ ls. line ∷ ls) (nothing_after lines)
 
--- a needed split goes on from what was searched
+-- a needed split continues from what was searched
 pub searched_splits : (net : Net) (goal : ProofGoal) (IsNeeded : List ProofLine → Case → ℕ → Type 0) (lines : List ProofLine) (chosen : Case) (number closed : ℕ)
     → IsSearchedSoFar net goal IsNeeded lines (open_cases net chosen) closed → MaySplit net chosen number → IsNeeded lines chosen number
     → 0 < count_causes (slice_get net.constraints number)

@@ -37,7 +37,7 @@ pub record Evidence : Type 0 where
   pub times : List ℤ
   pub ray : List Bool
 
--- these lines, and what the working memory holds behind the search
+-- these lines, and what the working memory holds after the search
 abbrev pub evidence : List ProofLine → WorkView → Evidence
 evidence lines work = record { lines = lines; leaves = work.leaves; times = work.times; ray = work.ray }
 

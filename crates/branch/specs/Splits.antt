@@ -28,7 +28,7 @@ HasNumber splits number = (s : Splitting) × Contains splits s × (s.number ≡ 
 abbrev pub AreAscending : List Splitting → Type 0
 AreAscending = AllPairs (λ (s t : Splitting). s.number < t.number)
 
--- the list has the constraints with two or more causes, by their numbers
+-- the list has the constraints with two or more causes, given by their numbers
 pub record AreSplits (net : Net) (splits : List Splitting) : Type 0 where
   pub each : All (IsSplitOf net) splits
   pub all : (number : ℕ) → IsSplittable (slice_get net.constraints number) → HasNumber splits number

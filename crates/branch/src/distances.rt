@@ -18,7 +18,7 @@ use std::marker::Model;
 /// Only *which* constraint is picked depends on this search; that the answer is right does not.
 #[derive(Drop)]
 pub struct Distances {
-    // The constraints with two or more causes, by their numbers.
+    // The constraints with two or more causes, given by their numbers.
     rules: Vec<Splittable>,
     // For each event the places in `rules` of the constraints that enter it.
     entering: ByEvent<usize>,
@@ -78,7 +78,7 @@ impl Distances {
         })
     }
 
-    /// The first constraint whose choice edges the times all break, by its number, or `None`. If the times meet all always-edges,
+    /// The first constraint whose choice edges the times all break, given by its number, or `None`. If the times meet all always-edges,
     /// it is the first constraint that they break.
     pub fn first_broken(&self, times: &[i64]) -> Option<u32>
         requires between { AreBetween (length times.now) self.now }
@@ -311,7 +311,7 @@ fn lesser(so_far: Option<u32>, number: u32) -> Option<u32>
     }
 }
 
-// Puts an event behind those that were reached, unless it is there already. Returns how many there are.
+// Puts an event after those that were reached, unless it is there already. Returns how many there are.
 fn put(reached: &mut [bool], queue: &mut [EventId], count: usize, event: EventId) -> usize
     requires { count ≤ length queue.old }
     ensures { result ≤ length queue.new }

@@ -24,7 +24,7 @@ pub struct Search {
     pub budget: u64,
 }
 
-/// How a search comes to its next case.
+/// How a search reaches its next case.
 #[derive(Clone, Copy)]
 pub enum NextCase {
     /// The bounds stand on it.
@@ -141,7 +141,7 @@ fn enter_case<S: Scribe>(
     unreachable!()
 }
 
-// Counts a closed case, and goes on to the next open case if there is one and the budget allows it. Otherwise returns how the
+// Counts a closed case, and continues to the next open case if there is one and the budget allows it. Otherwise returns how the
 // search ends.
 fn leave_case(net: &Network, search: &mut Search) -> Option<NextCase>
     requires below { IsBelowCase net.now search.old }
@@ -161,7 +161,7 @@ fn leave_case(net: &Network, search: &mut Search) -> Option<NextCase>
     None
 }
 
-// Goes on from a closed case to the next open one. Returns whether there is one.
+// Continues from a closed case to the next open one. Returns whether there is one.
 fn next_case(net: &Network, search: &mut Search) -> bool
     requires below { IsSearchCase net.now search.old.cases.chosen }
     requires stands { StandsBelow net.now search.old.cases.chosen search.old.bounds }

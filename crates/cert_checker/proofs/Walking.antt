@@ -58,7 +58,7 @@ module _ (net : Net) (chosen : Case) (from to : EventId) (names : List EdgeName)
       at_drop_more (path_sum net) names place name within
       ∙ ap (λ (n : EdgeName). weight_of (edge net n) +ℤ path_sum net (drop (place + 1) names)) (sym is_name)
 
-  -- the walk goes on by one edge
+  -- the walk continues by one edge
   pub walks_more : (e : Edge) → edge net name ≡ Some e → IsEnd (Some e.weight) → fault_of_edge place at (is_usable net chosen name) (edge net name) ≡ None
       → Walks net chosen from to names (place + 1) e.to (sum +ℤ e.weight)
   walks_more e is_edge is_end none =

@@ -1,4 +1,4 @@
--- The first fault of a line of a proof, and the cases that are open behind a line.
+-- The first fault of a line of a proof, and the cases that are open after a line.
 use Rattle.std.specs.Prelude.{◌==◌, ◌+◌, ◌++◌, ◌||◌, ◌&&◌, ℕ, ℤ, pos, Bool, true, false, if◌then◌else◌, List, [], ◌∷◌, length, Option, Some, None, slice_get, nat_le, int_le, int_lt}
 use Rattle.std.specs.Option.{option_or}
 use Rattle.itv_base.specs.declared.names.EdgeName.{EdgeName}
@@ -114,7 +114,7 @@ fault_of_line net goal (chosen ∷ cases) (Split number) = fault_of_split net ch
 fault_of_line net goal (chosen ∷ cases) (Path names) = fault_of_path net goal chosen names
 fault_of_line net goal (chosen ∷ cases) (Loop names) = fault_of_loop net chosen names
 
--- ---- the cases that are open behind a line without a fault
+-- ---- the cases that are open after a line without a fault
 
 abbrev pub behind_line : Net → List Case → ProofLine → List Case
 behind_line net [] line = []

@@ -13,7 +13,7 @@ pub enum CheckFault {
     NoSuchConstraint,
     /// The constraint of a split is split above already.
     AlreadySplit,
-    /// A path stands in a proof of `Nothing`, that no times satisfy.
+    /// A path is in a proof of `Nothing`, that no times satisfy.
     PathHere,
     /// There are this many edges, more than the network has events.
     TooLong(usize),

@@ -125,7 +125,7 @@ fn split(net: &Network, chosen: &mut Decisions, constraint: u32) -> Result<(), C
     Ok(())
 }
 
-// Goes on from a closed case to the next open case. Returns whether there is one.
+// Continues from a closed case to the next open case. Returns whether there is one.
 fn next_case(net: &Network, chosen: &mut Decisions) -> bool
     requires room { chosen.old.room ≡ length net.now.constraints }
     requires case { IsCase net.now chosen.old.chosen }

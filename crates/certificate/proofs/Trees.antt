@@ -81,7 +81,7 @@ pub length-stored : (start : ℕ) (stored : List Stored) (edges : List EdgeName)
 length-stored start [] edges = refl
 length-stored start (s ∷ stored) edges = ap suc (length-stored s.end stored edges)
 
--- a part of a row of edges is unchanged by what is put behind the row
+-- a part of a row of edges is unchanged by what is put after the row
 part_same : (start end : ℕ) (all more : List EdgeName) → start ≤ end → end ≤ length all → take (end - start) (drop start (all ++ more)) ≡ take (end - start) (drop start all)
 part_same start end all more h k =
     let within : start ≤ length all = omega arith in
@@ -101,7 +101,7 @@ stored_more start (t ∷ stored) all more s ends last =
     ap (λ edges. stored_line t.kind edges ∷ stored_lines t.end (stored ++ s ∷ []) (all ++ more)) (part_same start t.end all more low high)
     ∙ ap (λ lines. stored_line t.kind (take (t.end - start) (drop start all)) ∷ lines) (stored_more t.end stored all more s ends.1 last)
 
--- the ends still rise behind a line that is kept
+-- the ends still rise after a line that is kept
 pub kept_ends : (stored : List Stored) (all more : List EdgeName) (kind : StoredKind) (end : ℕ) → EndsRise 0 stored (length all) → IsSplitEnd 0 kind (length more) → end ≡ length (all ++ more)
     → EndsRise 0 (stored ++ (record { kind = kind; end = end }) ∷ []) (length (all ++ more))
 kept_ends stored all more kind end ends is last =

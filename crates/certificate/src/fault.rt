@@ -10,7 +10,7 @@ use itv_base::NoMemory as OutOfMemory;
 pub enum LineFault {
     /// The text is not the text of a line.
     BadLine,
-    /// Memory was wanted and not found.
+    /// There was not enough memory.
     NoMemory,
 }
 

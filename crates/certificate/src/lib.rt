@@ -1,6 +1,6 @@
-//! Lines of proofs as texts, and who keeps or writes them while a proof is found.
-//! The contract: each line of a proof has one text, which `write_line` writes. `read_line` takes these texts and no others. A scribe grew by
-//! just the lines that it took, or failed in the last of them.
+//! Lines of proofs as texts, and the scribes that keep or write them while a proof is found.
+//! The contract: each line of a proof has one text, which `write_line` writes. `read_line` takes these texts and no others. A scribe grows
+//! by just the lines that it takes, or fails in the last of them.
 #![tactic(auto)]
 
 mod fault;

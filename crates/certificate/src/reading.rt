@@ -116,7 +116,7 @@ fn read_owned(alloc: Global, text: &[u8]) -> Result<OwnedLine, LineFault>
     }
 }
 
-/// The line of a proof with this text, which has no line end. Want of memory is the only other fault.
+/// The line of a proof with this text, which has no line end. Lack of memory is the only other fault.
 pub fn read_line(alloc: Global, text: &[u8]) -> Result<OwnedLine, LineFault>
     // A line that is read has this text.
     ensures ok { IfOk result (λ line. Spells text.now (line_view line)) }

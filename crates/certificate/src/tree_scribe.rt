@@ -66,7 +66,7 @@ impl TreeScribe {
         self.stored.is_empty()
     }
 
-    /// A line that is kept, by its number from 0.
+    /// A line that is kept, given by its number from 0.
     pub fn line(&self, k: u64) -> Line<'_>
         requires { k < length self.now.lines }
         ensures line { slice_get self.now.lines k ≡ Some (lent_line result) }

@@ -13,7 +13,7 @@ use itoa::Buffer;
 use itv_base::{EdgeName, PutFailed, Side, Sink, number_text, put_all};
 use line_words::put_words;
 
-/// The letter of a side, as it stands in the name of an edge.
+/// The letter of a side, as it is written in the name of an edge.
 pub fn side_letter(side: Side) -> &'static [u8]
     ensures letter { result.now ≡ side_letter side }
 {

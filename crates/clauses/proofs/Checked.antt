@@ -121,7 +121,7 @@ line_near net goal state Close next near closes =
       block = tt;
     })
 
--- a line behind lines
+-- a line after lines
 pub leads_more : (net : Net) (goal : Goal) (state : State) (lines : List ClauseLine) (after : State) (line : ClauseLine) (next : State) → ProofLeads net goal state lines after
     → IsLine net goal after line next → ProofLeads net goal state (lines ++ line ∷ []) next
 leads_more net goal state [] after line next leads is = (next, subst (λ (s : State). IsLine net goal s line next) (sym leads) is, refl)

@@ -105,7 +105,7 @@ others_past sum place through all ways none =
     ap (λ (ws : List Way). with_others sum place through ws ways) (drop_all place all past)
     ∙ ap (λ (ws : List Way). with_others sum (place + 1) through ws ways) (sym (drop_all (place + 1) all (omega arith)))
 
--- one more literal behind others
+-- one more literal after others
 pub literals_step : (all new now old : List Literal) (place : ℕ) (l : Literal) → Some l ≡ slice_get all place → new ≡ now ++ l ∷ [] → now ≡ old ++ take place all
     → new ≡ old ++ take (place + 1) all
 literals_step all new now old place l at is_new is_now =
@@ -121,7 +121,7 @@ literals_past all now old place none is_now =
 pub near_start : (event : EventId) → IsNearWalk (starting_walk event)
 near_start event = record { sum = (omega (arith, ints), omega (arith, ints)); ways = all_none _ }
 
--- a step behind others
+-- a step after others
 walks_more : (net : Net) (kept : List Clause) (walk : Walk) (steps : List WalkStep) (after : Walk) (step : WalkStep) (next : Walk) → Walks net kept walk steps after
     → StepsTo net kept after step next → Walks net kept walk (steps ++ step ∷ []) next
 walks_more net kept walk [] after step next walks leads = (next, subst (λ (w : Walk). StepsTo net kept w step next) (sym walks) leads, refl)

@@ -26,7 +26,7 @@ broader a b e = omega (arith, ints)
 same_back : (m n : ℕ) → (m == n) ≡ true → (n == m) ≡ true
 same_back m n e = grind arith
 
--- one way joined to others, by whether the first of the others is from the same event, and by which of both is wider
+-- one way joined to others, according to whether the first of the others is from the same event, and to which of both is wider
 joined : (times : List ℤ) (target : EventId) (way other : Way) (same wide : Bool) (ways : List Way) → (way.from.0 == other.from.0) ≡ same → int_le way.weight other.weight ≡ wide
     → IsInWay times target way ⊎ Any (IsInWay times target) (other ∷ ways)
     → (IsInWay times target way ⊎ Any (IsInWay times target) ways → Any (IsInWay times target) (with_way way ways))

@@ -64,12 +64,12 @@ abbrev pub FallFaultForbids : Type 0
 FallFaultForbids = (net : Net) (goal : Goal) (state : State) (event : EventId) (value : ℤ) (basis : Basis) (fault : FallLineFault) (next : State)
     → IsFallLineFault net state.kept (frame_of state) event value basis fault → IsLine net goal state (Fall event value basis) next → ⊥
 
--- a line that makes a literal known leads to no state if it has a fault other than want of memory
+-- a line that makes a literal known leads to no state if it has a fault other than lack of memory
 abbrev pub KnowFaultForbids : Type 0
 KnowFaultForbids = (net : Net) (goal : Goal) (state : State) (l : Literal) (basis : Basis) (fault : KnowFault) (next : State) → (fault ≡ KnowWantsMemory → ⊥)
     → IsKnowFault net state.kept (frame_of state) l basis fault → IsLine net goal state (Know l basis) next → ⊥
 
--- a loop that has a fault other than want of memory leads to no state
+-- a loop that has a fault other than lack of memory leads to no state
 abbrev pub LoopFaultForbids : Type 0
 LoopFaultForbids = (net : Net) (goal : Goal) (state : State) (event : EventId) (steps : List WalkStep) (fault : LoopFault) (next : State) → (fault ≡ LoopWantsMemory → ⊥)
     → IsLoopFault net state.kept event steps fault → IsLine net goal state (Loop event steps) next → ⊥

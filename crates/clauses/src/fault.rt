@@ -36,7 +36,7 @@ pub enum KnowFault {
     MayHold(Literal),
     /// The literal is known already.
     Known,
-    /// Memory was wanted and not found.
+    /// There was not enough memory.
     NoMemory,
 }
 
@@ -61,7 +61,7 @@ pub enum StepFault {
     NoWay,
     /// The sum or a way of the walk would exceed 2^60 in absolute value.
     TooWide,
-    /// Memory was wanted and not found.
+    /// There was not enough memory.
     NoMemory,
 }
 
@@ -84,7 +84,7 @@ pub enum LoopFault {
     NotBack(EventId),
     /// The steps lead back with this sum, which is not below 0.
     NotBelow(i64),
-    /// Memory was wanted and not found.
+    /// There was not enough memory.
     NoMemory,
 }
 
@@ -103,7 +103,7 @@ impl<T: Drop> From<AllocFailed<T>> for LoopFault {
 pub enum AssumeFault {
     /// The first literal that has no edge: there is no such cause, or its low end is open.
     OpenEnd(Literal),
-    /// Memory was wanted and not found.
+    /// There was not enough memory.
     NoMemory,
 }
 
@@ -134,7 +134,7 @@ pub enum CloseFault {
     NoBlock,
     /// The open block has not ended.
     NotEnded,
-    /// Memory was wanted and not found.
+    /// There was not enough memory.
     NoMemory,
 }
 

@@ -37,12 +37,12 @@ pub fn fall_fault_forbids()
     ensures law { FallFaultForbids }
 {}
 
-/// A line that makes a literal known leads to no state if it has a fault other than want of memory.
+/// A line that makes a literal known leads to no state if it has a fault other than lack of memory.
 pub fn know_fault_forbids()
     ensures law { KnowFaultForbids }
 {}
 
-/// A loop that has a fault other than want of memory leads to no state.
+/// A loop that has a fault other than lack of memory leads to no state.
 pub fn loop_fault_forbids()
     ensures law { LoopFaultForbids }
 {}

@@ -1,6 +1,6 @@
 //! Proofs of bounds by clauses, for networks with choices of both kinds. A clause says that one of its literals holds,
 //! or that its target comes within one of its ways. Values fall by clauses. Loops and refuted assumptions are kept as
-//! clauses. The contract of the crate: [`ClauseChecker`] takes a line if and only if a proof allows it, and else
+//! clauses. The contract of the crate: [`ClauseChecker`] takes a line if and only if a proof allows it, and otherwise
 //! returns the first fault. [`decide`] says what an ended proof and times show of the checker's goal.
 #![tactic(auto)]
 

@@ -127,7 +127,7 @@ fn stepped(net: &Network, kept: &[Clause], walk: Walk, step: WalkStep) -> Result
     })
 }
 
-// Puts the literals of a clause behind others.
+// Puts the literals of a clause after others.
 fn push_literals(
     net: &Network,
     kept: &[Clause],
@@ -146,7 +146,7 @@ fn push_literals(
     Ok(())
 }
 
-// Puts the literal at a place of a clause behind others, if there is one.
+// Puts the literal at a place of a clause after others, if there is one.
 fn push_literal(
     net: &Network,
     kept: &[Clause],

@@ -5,7 +5,7 @@ use Rattle.sheet.specs.declared.groups.GroupFault.TheVariants as group
 use Rattle.compose.specs.declared.fault.JoinFault.{JoinFault}
 use Rattle.compose.specs.declared.fault.JoinFault.TheVariants.{NoPart, NoPin, MarkCounts, KindsDiffer, WireNoPart, WireNoMark, TooManyCauses, NoMemory}
 
--- memory was wanted and not found, which says nothing of the netlist
+-- there was not enough memory, which says nothing of the netlist
 abbrev pub is_memory : JoinFault → Bool
 is_memory (NoPart net pin) = false
 is_memory (NoPin net pin) = false

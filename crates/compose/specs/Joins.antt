@@ -22,6 +22,6 @@ first_joins pin (suc k) = first_joins pin k ++ join_at pin k ∷ []
 abbrev pub pin_joins : PinJoins → List Join
 pin_joins pin = first_joins pin pin.marks
 
--- the joins of pins, one pin behind the other
+-- the joins of pins, one pin after the other
 abbrev pub joins_of_pins : List PinJoins → List Join
 joins_of_pins pins = flat_map pin_joins pins

@@ -81,13 +81,13 @@ pins_joined n k driver delay other = record {
   origin = FromPin n k;
 }
 
--- the joins with all joins of pin k behind them, if the kinds of all its marks fit
+-- the joins with all joins of pin k after them, if the kinds of all its marks fit
 abbrev pub with_pin : List SheetContents → Terminal → Ends → ℕ → ℕ → List Join → Terminal → Result (List Join) JoinFault
 with_pin sheets driver delay n k done other = do
   _ ← walk_to (kinds_fit sheets driver other n k) 0 tt driver.count
   Ok (done ++ pin_joins (pins_joined n k driver delay other))
 
--- the joins with all joins of net n behind them, by its pins; all pins have as many marks as the first one, which drives each other one
+-- the joins with all joins of net n after them, by its pins; all pins have as many marks as the first one, which drives each other one
 abbrev pub with_terminals : List SheetContents → Ends → ℕ → List Join → List Terminal → Result (List Join) JoinFault
 with_terminals sheets delay n done [] = Ok done
 with_terminals sheets delay n done (driver ∷ others) = do

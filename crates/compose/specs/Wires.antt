@@ -37,7 +37,7 @@ wire_label wire = record { kind = wire.kind; shift = wire.shift; tag = wire.tag;
 abbrev pub wire_link : List SheetContents → ℕ → Wire → WireEnds → Link
 wire_link sheets n wire ends = record { from = number_of sheets ends.from; to = number_of sheets ends.to; origin = FromWire n; label = wire_label wire }
 
--- the links with wire n behind them, or its fault; a comment adds no link
+-- the links with wire n after them, or its fault; a comment adds no link
 abbrev pub with_wire : List Part → List SheetContents → ℕ → List Link → Option Wire → Result (List Link) JoinFault
 with_wire parts sheets n done None = Ok done
 with_wire parts sheets n done (Some wire) = do

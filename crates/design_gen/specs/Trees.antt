@@ -1,4 +1,4 @@
--- The files of the generated design, as trees. The members of an object stand in the order of their keys.
+-- The files of the generated design, as trees. The members of an object are in the order of their keys.
 use Rattle.std.specs.Prelude.{ℕ, List, [], ◌∷◌, ◌++◌, map, codes, decimal}
 use Rattle.std.specs.List.{range_with_len}
 use Rattle.serde_json.specs.Data.{Data, array, member, no_members, number, object, string, unsigned}
@@ -42,7 +42,7 @@ merge = sheet (clock_lane ∷ lane (codes "done") (codes "01") (codes ".d") ∷ 
 
 -- ---- the netlist
 
--- the name of a slave, by its number from 0
+-- the name of a slave, given by its number from 0
 abbrev pub slave_name : ℕ → List ℕ
 slave_name i = codes "S" ++ decimal i
 

@@ -121,7 +121,7 @@ pub no_way_on : (net : Net) (parent : Parents) (at target : ℕ) → parent at �
 no_way_on net parent at target top off [] climb = off climb
 no_way_on net parent at target top off (name ∷ es) climb = none-some name (sym top ∙ climb.0)
 
--- a climb to another event goes on from the parent
+-- a climb to another event continues from the parent
 pub way_on : (net : Net) (parent : Parents) (at target : ℕ) (name : EdgeName) (e : Edge) → parent at ≡ Some name → edge net name ≡ Some e → (at ≡ target → ⊥) → (es : List EdgeName) → IsClimb net parent at es target
     → (fs : List EdgeName) × IsClimb net parent e.from.0 fs target × (es ≡ name ∷ fs)
 way_on net parent at target name e held is off [] climb = absurd (off climb)
@@ -131,7 +131,7 @@ way_on net parent at target name e held is off (other ∷ es) climb =
 
 -- ---- after one parent has changed
 
--- the parents are as they were, save for one event
+-- the parents are as they were, except for one event
 pub record ChangesAt (old new : Parents) (v : ℕ) (name : EdgeName) : Type 0 where
   pub here : new v ≡ Some name
   pub others : (u : ℕ) → u ≢ v → new u ≡ old u

@@ -67,7 +67,7 @@ follows_number label e z at follows =
     let far : number (label e.to.0) ≡ there.far = number-at (label e.to.0) there.far there.here in
     omega (arith, ints)
 
--- the feasible times are a potential for all edges, save for the edges that start at the event
+-- the feasible times are a potential for all edges, except for the edges that start at the event
 pub old_potential : (s : Scope) (from : EventId) (stamps : List Stamp) (base : ℕ) → IsNet s.net → IsPoised s from zeros stamps base → IsPotential s (Some from) (λ v. number (labels_from stamps base v))
 old_potential s from stamps base is_net poised name e among off =
     let within = edge_within s.net name e is_net among.is in

@@ -35,7 +35,7 @@ use trail::Trail;
 /// **current edges** count. The current edges are the always-edges of the network and the chosen edges.
 ///
 /// Bounds are made for one network. A graph stands from a [`start`](Bounds::start) that fits until the next start. A [`descend`](Bounds::descend)
-/// adds an edge, and a [`retreat`](Bounds::retreat) gives the graph back as it stood before. One [`Trail`] keeps the graphs, so a level costs what it
+/// adds an edge, and a [`retreat`](Bounds::retreat) gives the graph back as it was before. One [`Trail`] keeps the graphs, so a level costs what it
 /// changes. The first half of its slots has the label of each event from the source, the second half the feasible times. Labels fall along edges. The
 /// event whose label has fallen furthest comes first. The feasible times are potentials, which show in advance that the labels settle.
 #[derive(Drop)]
@@ -179,7 +179,7 @@ impl Bounds {
         Fit::Fits
     }
 
-    /// Gives back the graph as it stood before the last [`descend`](Bounds::descend) that fitted and was not taken back yet. There has to be such a
+    /// Gives back the graph as it was before the last [`descend`](Bounds::descend) that fitted and was not taken back yet. There has to be such a
     /// level above the start.
     pub fn retreat(&mut self)
         requires stands { (net : Net) × Stands net self.old }

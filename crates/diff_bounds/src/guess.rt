@@ -1,6 +1,6 @@
 //! A guess of times that meet all always-edges of a network.
 //!
-//! No proof says how the guess comes about. The code checks that its times meet the edges, and uses it only then.
+//! No proof says how the guess is made. The code checks that its times meet the edges, and uses it only then.
 
 ghost use Rattle.std.specs.Prelude.{◌≡◌, ◌<◌, ◌≤◌, All, IfOk, IsTrue, length, pos, slice_index_or};
 ghost use Rattle.event_graph.specs.Edges.{Meets};
@@ -140,7 +140,7 @@ fn place_first(net: &Network, due: &[u32], order: &mut [EventId]) -> usize
     count
 }
 
-// Puts an event into the order behind `count` others, if there is room. The answer is how many events are in the order now.
+// Puts an event into the order after `count` others, if there is room. The answer is how many events are in the order now.
 fn place(event: EventId, order: &mut [EventId], count: usize) -> usize
     requires count { count ≤ length order.old }
     requires event { event.0 < length order.old }

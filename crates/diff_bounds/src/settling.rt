@@ -33,11 +33,11 @@ const ZERO: Stamp = Stamp {
     parent: None,
 };
 
-/// Makes the first graph the current one, and works out its feasible times where they have not settled yet. The answer is an edge that closes a loop
+/// Makes the first graph the current one, and computes its feasible times where they have not settled yet. The answer is an edge that closes a loop
 /// of negative sum, if there is one.
 ///
-/// Where a guess of times meets all always-edges, the feasible times settle over all of them at once. Else they settle event by event, which finds a
-/// loop if there is one. Both ways give the same feasible times.
+/// Where a guess of times meets all always-edges, the feasible times settle over all of them at once. Otherwise they settle event by event, which
+/// finds a loop if there is one. Both ways give the same feasible times.
 pub fn settle_root(
     settled: bool,
     net: &Network,
@@ -138,8 +138,7 @@ fn settle_at_once(
     }
 }
 
-// Lets all events wait. Each starts with the number by which 0 is above its guess. The falls of its label are added later, so the number stays how
-// far the label is above the guess.
+// Queues all events. An event's priority is its label minus its guess; at the start the label is 0. Each later fall of the label is added to it.
 fn push_all(events: u32, guess: &Guess, pending: &mut Pending)
     requires guess { length guess.now ≡ events }
     requires marks { length pending.old.marks ≡ events }
@@ -215,7 +214,7 @@ fn settle_feasible(
     fall_from(net, out, chosen, run, from, trail, pending)
 }
 
-/// Works out the labels from a source anew, in a first graph whose feasible times have settled. Without a source there are no labels.
+/// Computes the labels from a source anew, in a first graph whose feasible times have settled. Without a source there are no labels.
 pub fn reach(
     net: &Network,
     out: &ByEvent<Arc>,
@@ -285,7 +284,7 @@ fn settle_uppers(
     }
 }
 
-// Lets labels fall from an event on. All edges are followed already, save for the edges that start there. The answer is an edge that would lower the
+// Lets labels fall from an event on. All edges are followed already, except for the edges that start there. The answer is an edge that would lower the
 // label at the stop, if there is one.
 fn fall_from(
     net: &Network,

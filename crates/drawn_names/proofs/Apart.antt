@@ -1,4 +1,4 @@
--- Lists in which no element stands twice.
+-- Lists in which no element occurs twice.
 use Rattle.std.proofs.Common.{◌≡◌, ◌<◌, ◌||◌, ℕ, zero, suc, Bool, true, false, List, [], ◌∷◌, ◌++◌, length, map, get_or, Option, Some, None, cond, refl, sym, ap, ◌∙◌, arith}
 use Rattle.std.specs.List.{list_any}
 use Rattle.itv_base.specs.Names.{Name}
@@ -18,7 +18,7 @@ abbrev pub AllOther : {X : Type 0} → List X → List X → Type 0
 AllOther [] ys = Unit {0}
 AllOther (x ∷ xs) ys = IsOther x ys × AllOther xs ys
 
--- no element stands twice in a list
+-- no element occurs twice in a list
 abbrev pub AreApart : {X : Type 0} → List X → Type 0
 AreApart [] = Unit {0}
 AreApart (x ∷ xs) = IsOther x xs × AreApart xs
@@ -55,7 +55,7 @@ apart_at (x ∷ xs) i zero d h less within e = absurd (omega arith)
 apart_at (x ∷ xs) zero (suc j) d h less within e = at_other x xs j d h.0 (omega arith) e
 apart_at (x ∷ xs) (suc i) (suc j) d h less within e = apart_at xs i j d h.1 (omega arith) (omega arith) e
 
--- ---- what was looked for and not found
+-- ---- what was searched for and not found
 
 not_same : {K : Type 0} (same : K → K → Bool) → ((a b : K) → a ≡ b → same a b ≡ true) → (a b : K) → same a b ≡ false → a ≡ b → ⊥
 not_same same self a b is e = cc (is, self a b e)
@@ -169,7 +169,7 @@ all_other_cycle : (n : ℕ) (names others : List Name) → Every (λ (name : Nam
 all_other_cycle n [] others h g = tt
 all_other_cycle n (name ∷ names) others h g = (other_cycle n name others h.0 g, all_other_cycle n names others h.1 g)
 
--- no name stands twice in all cycles
+-- no name occurs twice in all cycles
 pub cycles_apart : (parts : List (List ℕ)) (sheets : List SheetContents) (n : ℕ) → AreApart parts → Every MarksApart sheets → AreApart (in_cycles (names_in parts sheets) n)
 cycles_apart parts sheets zero h g = tt
 cycles_apart parts sheets (suc n) h g =

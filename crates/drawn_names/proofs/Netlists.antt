@@ -29,7 +29,7 @@ IsNamed part = IsTrue (is_name part.name)
 abbrev pub part_names : List Part → List (List ℕ)
 part_names parts = map (λ (part : Part). part.name) parts
 
--- the parts have names of the form, and no name stands twice
+-- the parts have names of the form, and no name occurs twice
 pub record AreNamed (parts : List Part) : Type 0 where
   pub named : All IsNamed parts
   pub apart : AreApart (part_names parts)

@@ -29,7 +29,7 @@ use Rattle.drawn_names.proofs.Steps.{result_then, unless_gave, unless_none}
 abbrev pub IsMarked : Mark → Type 0
 IsMarked mark = IsTrue (is_mark mark.name)
 
--- the marks have such names, and no mark stands twice
+-- the marks have such names, and no mark occurs twice
 abbrev pub AreMarks : List Mark → Type 0
 AreMarks marks = All IsMarked marks × AreApart (map (λ (mark : Mark). mark.name) marks)
 
@@ -80,7 +80,7 @@ IsGiven found result = Ok found ≡ result
 given : (found sheet : SheetContents) → IsGiven found (Ok sheet) → found.marks ≡ sheet.marks
 given found sheet is = let same : found ≡ sheet = cc is in ap (λ (c : SheetContents). c.marks) same
 
--- the marks of a sheet that was read have such names, and none stands twice
+-- the marks of a sheet that was read have such names, and none occurs twice
 pub sheet_holds : (labels : Labels) (drawing : Drawing) (sheet : SheetContents) → sheet_of labels drawing ≡ Ok sheet → HasMarks sheet
 unfolding sheet_of
 sheet_holds labels drawing sheet is =

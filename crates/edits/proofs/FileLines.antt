@@ -1,4 +1,4 @@
--- A file of edits is read line by line: the edits that were read stand in front of the edits that are still to be read.
+-- A file of edits is read line by line: the edits that were read stand before the edits that are still to be read.
 use Rattle.std.proofs.Common.{◌≡◌, ◌==◌, ◌+◌, ◌<◌, ℕ, Bool, true, false, cond, List, [], ◌∷◌, ◌++◌, length, All, Some, None, Result, Ok, Err, IfOk, IsErrAnd, if◌then◌else◌, refl, sym, ap, subst, ◌∙◌, arith, append_assoc, append-nil, length-append}
 use Rattle.std.specs.List.{after_first, before_first, onto_first, position_or_len, slice_split}
 use Rattle.std.specs.Str.{IsUtf8, is_utf8}
@@ -77,7 +77,7 @@ split_some (b ∷ text) = cons_part (is_feed b) b (slice_split is_feed text) (sp
 
 -- ---- the edits so far
 
--- edits that were read, in front of the edits that are still to be read
+-- edits that were read, before the edits that are still to be read
 abbrev pub behind_edits : List RangeEdit → Result (List RangeEdit) EditsFault → Result (List RangeEdit) EditsFault
 behind_edits front rest = rest >>= λ others. Ok (front ++ others)
 
@@ -97,7 +97,7 @@ more_by : (front : List RangeEdit) (edit : RangeEdit) (rest : Result (List Range
 more_by front edit (Ok others) = ap (λ es. Ok es) (sym (append_assoc front (edit ∷ []) others))
 more_by front edit (Err fault) = refl
 
--- a line in front of others
+-- a line before others
 line_first : (drawn : Drawn) (n : ℕ) (line : List ℕ) (lines : List (List ℕ)) → HasPart lines
     → edits_from drawn n (line ∷ lines) ≡ (edit_at drawn n line >>= λ first. edits_from drawn (n + 1) lines >>= λ others. Ok (first ∷ others))
 line_first drawn n line [] some = absurd some

@@ -26,7 +26,7 @@ use Rattle.edits.specs.declared.edit.Subject.TheVariants.{Cause, Number}
 use Rattle.edits.specs.Subject.{HasSubjectForm, subject_text}
 use Rattle.edits.specs.EditLine.{◌>>◌, cause_named, part_edge_named, net_named, number_of, subject_named, subject_of, wire_named}
 
--- a subject and the text behind it
+-- a subject and the text after it
 abbrev pub Found : Type 0
 Found = Subject × List ℕ
 
@@ -59,9 +59,9 @@ number_again n rest h ends =
       short_again n h,
     ) refl
 
--- ---- a number behind a front
+-- ---- a number after a front
 
--- a subject that a number makes, behind a front
+-- a subject that a number makes, after a front
 abbrev behind : List ℕ → (ℕ → Subject) → List ℕ → Option Found
 behind front make text = stripped front text >> λ rest. number_of rest >> λ x. Some (make x.0, x.1)
 
@@ -81,7 +81,7 @@ behind_again front make n rest h ends = rw (stripped-append front (number_text n
 
 -- ---- each kind of subject
 
--- a text spells a subject in front of another text
+-- a text spells a subject before another text
 abbrev Spells : List ℕ → Found → Type 0
 Spells text x = HasSubjectForm x.0 × (text ≡ subject_text x.0 ++ x.1)
 

@@ -46,11 +46,11 @@ infixl 10 ◌>>◌
 abbrev pub ◌>>◌ : {A B : Type 0} → Option A → (A → Option B) → Option B
 o >> f = option_and_then f o
 
--- the number that a text begins with, and the text behind it
+-- the number that a text begins with, and the text after it
 abbrev pub number_of : List ℕ → Option (ℕ × List ℕ)
 number_of text = option_map (λ n. (n, after_while is_ascii_digit text)) (number_in (2 ^ 32 - 1) (take_while is_ascii_digit text))
 
--- a net, by the word `net` and the text behind it
+-- a net, by the word `net` and the text after it
 abbrev pub net_named : List ℕ → List ℕ → Option (Subject × List ℕ)
 net_named word behind = when (bytes_eq word (codes "net")) (stripped (codes " ") behind >> λ rest. number_of rest >> λ x. Some (Number (numbers.Net x.0), x.1))
 
@@ -58,7 +58,7 @@ net_named word behind = when (bytes_eq word (codes "net")) (stripped (codes " ")
 abbrev pub wire_named : List ℕ → List ℕ → Option (Subject × List ℕ)
 wire_named word behind = when (bytes_eq word (codes "wire")) (stripped (codes " ") behind >> λ rest. number_of rest >> λ x. Some (Number (numbers.Wire x.0), x.1))
 
--- an edge of a part, by the name of the part
+-- an edge of a part, given the name of the part
 abbrev pub part_edge_named : List ℕ → List ℕ → Option (Subject × List ℕ)
 part_edge_named word behind = when (is_name word) (stripped (codes " edge ") behind >> λ rest. number_of rest >> λ x. Some (Number (numbers.Edge word x.0), x.1))
 
@@ -68,11 +68,11 @@ cause_named word behind =
     number_in (2 ^ 32 - 1) word >> λ constraint. stripped (codes ".") behind >> λ dotted. number_of dotted >> λ x.
     Some (Cause (record { constraint = constraint; cause = x.0 }), x.1)
 
--- what a text names, by its first word and the text behind the word; a part may be called as the word before a number is
+-- what a text names, by its first word and the text after the word; a part may be called as the word before a number is
 abbrev pub subject_named : List ℕ → List ℕ → Option (Subject × List ℕ)
 subject_named word behind = or_else (net_named word behind) (or_else (wire_named word behind) (or_else (part_edge_named word behind) (cause_named word behind)))
 
--- the subject that a line names, and the text behind it; the first word ends at a character that no name has
+-- the subject that a line names, and the text after it; the first word ends at a character that no name has
 unfoldable pub subject_of : List ℕ → Option (Subject × List ℕ)
 subject_of text = stripped (codes "set ") text >> λ named. subject_named (take_while is_name_byte named) (after_while is_name_byte named)
 

@@ -11,18 +11,18 @@ use Rattle.edits.specs.declared.fault.EditsFault.{EditsFault}
 use Rattle.edits.specs.declared.fault.EditsFault.TheVariants.{Line, NoMemory, NoSuch, Range, TooLong, TooMany}
 use Rattle.edits.specs.declared.file.TheConstants.{MAX_EDITS, MAX_EDITS_BYTES}
 
--- the edits of a file that was cut at its line ends, from the line of a number on; bytes behind the last line end are a line that is not of the form
+-- the edits of a file that was cut at its line ends, from the line of a number on; bytes after the last line end are a line that is not of the form
 abbrev pub edits_from : Drawn → ℕ → List (List ℕ) → Result (List RangeEdit) EditsFault
 edits_from drawn n [] = Ok []
 edits_from drawn n (rest ∷ []) = if length rest == 0 then Ok [] else Err (Line n)
 edits_from drawn n (line ∷ next ∷ lines) =
     edit_at drawn n line >>= λ first. edits_from drawn (n + 1) (next ∷ lines) >>= λ others. Ok (first ∷ others)
 
--- nothing stands behind the last line end
+-- nothing stands after the last line end
 abbrev pub is_ended : List ℕ → Bool
 is_ended bytes = option_map_or is_feed (slice_get bytes (length bytes - 1)) true
 
--- how many lines there are: one for each line end, and one more for what stands behind the last
+-- how many lines there are: one for each line end, and one more for what stands after the last
 abbrev pub line_count : List ℕ → ℕ
 line_count bytes = count_by is_feed bytes + (if is_ended bytes then 0 else 1)
 

@@ -25,7 +25,7 @@ pub const MAX_EDITS: u64 = 1_000;
 /// constraint and of one of its causes; or `PART edge N`, `net N` or `wire N`: each cause that this edge of the part's sheet, this net, or this
 /// edge of the netlist draws. All numbers count from 0. `[l,u]` is the range that the causes are to have, in picoseconds, `*` where open. The
 /// first of these faults is reported: the file is too long, it has too many lines, or a line has a fault, and then the first such line. Within a
-/// line the form is judged first, then its range, and then whether there is such a cause. Bytes behind the last line end are a line that is not
+/// line the form is judged first, then its range, and then whether there is such a cause. Bytes after the last line end are a line that is not
 /// of the form.
 pub fn read_edits(alloc: Global, drawn: &DrawnNetwork, bytes: &[u8]) -> Result<Edits, EditsFault>
     ensures read { AgreesWith is_memory (λ (edits : List RangeEdit). edits) result (edits_of drawn.now bytes.now) }
@@ -56,7 +56,7 @@ fn feeds(bytes: &[u8]) -> usize
     bytes.iter().filter(|b| **b == b'\n').count()
 }
 
-// Whether nothing stands behind the last line end.
+// Whether nothing stands after the last line end.
 fn is_ended(bytes: &[u8]) -> bool
     ensures { result ≡ is_ended bytes.now }
 {
@@ -83,7 +83,7 @@ fn read_lines(alloc: Global, drawn: &DrawnNetwork, bytes: &[u8]) -> Result<Edits
     Ok(Edits::from(edits))
 }
 
-// The first line of a text, and the text behind the end of this line, or `None` where no line ends.
+// The first line of a text, and the text after the end of this line, or `None` where no line ends.
 fn cut_line(text: &[u8]) -> Option<(&[u8], &[u8])>
     ensures { Cuts text.now result }
 {

@@ -10,7 +10,7 @@ use line_words::short_in;
 use numbers::{CauseName, DrawnNumber};
 use std::alloc::Global;
 
-/// What a line names, with the name of a part as it stands on the line.
+/// What a line names, with the name of a part as it is written on the line.
 #[derive(Clone, Copy)]
 pub enum Named<'a> {
     /// A constraint and one of its causes.
@@ -39,7 +39,7 @@ pub fn owned_subject(alloc: Global, named: Named<'_>) -> Result<Subject, NoMemor
     }
 }
 
-/// What a line names, and the text behind it, or `None` where the line does not begin as an edit does.
+/// What a line names, and the text after it, or `None` where the line does not begin as an edit does.
 #[tactic(auto, unfolding(crate::specs::EditLine::subject_of))]
 pub fn named_in(text: &str) -> Option<(Named<'_>, &str)>
     ensures named { option_map (λ x. (subject_view x.0, x.1.now)) result ≡ subject_of text.now }
@@ -49,7 +49,7 @@ pub fn named_in(text: &str) -> Option<(Named<'_>, &str)>
     by_word(word, behind)
 }
 
-// What a text names, by its first word and the text behind the word.
+// What a text names, by its first word and the text after the word.
 fn by_word<'a>(word: &'a str, behind: &'a str) -> Option<(Named<'a>, &'a str)>
     ensures { option_map (λ x. (subject_view x.0, x.1.now)) result ≡ subject_named word.now behind.now }
 {
@@ -103,7 +103,7 @@ fn cause_in<'a>(word: &str, behind: &'a str) -> Option<(Named<'a>, &'a str)>
     Some((Named::Cause { constraint, cause }, behind))
 }
 
-// The number that a text begins with, and the text behind it.
+// The number that a text begins with, and the text after it.
 fn number_in(text: &str) -> Option<(u32, &str)>
     ensures { option_map (λ x. (x.0, x.1.now)) result ≡ number_of text.now }
 {

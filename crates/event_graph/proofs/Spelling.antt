@@ -24,7 +24,7 @@ mutual
 
 -- ---- all lines that are read are lines of trees
 
--- the trees that are read for the first cases, and the lines behind them
+-- the trees that are read for the first cases, and the lines after them
 record Spelled (net : Net) (goal : ProofGoal) (each cases : List Case) (lines : List ProofLine) : Type 0 where
   trees : Trees
   more : List ProofLine
@@ -45,7 +45,7 @@ closed net goal chosen each cases tree line lines proves own s = record {
   shorter = omega (arith, s.shorter);
 }
 
--- lines split the first case, and the lines of the other cases come behind
+-- lines split the first case, and the lines of the other cases follow
 split_up : (net : Net) (goal : ProofGoal) (chosen : Case) (number : ℕ) (each cases : List Case) (lines : List ProofLine) → MaySplit net chosen number
     → (s : Spelled net goal (cases_of net chosen number) (each ++ cases) lines) → Spelled net goal each cases s.more → Spelled net goal (chosen ∷ each) cases (Split number ∷ lines)
 split_up net goal chosen number each cases lines may s t = record {

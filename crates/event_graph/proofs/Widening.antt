@@ -11,7 +11,7 @@ use Rattle.event_graph.specs.declared.cause.Cause.{Cause}
 use Rattle.event_graph.specs.Network.{Constraint}
 use Rattle.event_graph.specs.Satisfying.{Holds, HoldsAs, IsAfter, IsBefore}
 use Rattle.event_graph.specs.Times.{time_of}
-use Rattle.event_graph.specs.Widening.{IsHigherEnd, IsLowerEnd, IsWider, IsWiderCause, IsWiderConstraint, WiderKeepsSatisfying}
+use Rattle.event_graph.specs.Widening.{IsHigherEnd, IsLowerEnd, IsWiderCause, IsWiderConstraint, WiderKeepsSatisfying}
 
 -- ---- one end
 

@@ -1,4 +1,4 @@
--- Cases of a proof that is read in order, by their choices.
+-- Cases of a proof that is read in order, given by their choices.
 use Rattle.std.specs.Prelude.{◌==◌, ◌+◌, ◌-◌, ◌<◌, ◌||◌, ◌++◌, ℕ, Bool, false, if◌then◌else◌, List, [], ◌∷◌, Option, Some, None, slice_get}
 use Rattle.event_graph.specs.Network.{Net}
 use Rattle.event_graph.specs.Proof.{Case, MaySplit, cases_from, count_causes}
@@ -28,7 +28,7 @@ IsCase net (choice ∷ above) =
 abbrev pub first_of : ℕ → Case → Case
 first_of number chosen = (record { constraint = number; cause = 0 }) ∷ chosen
 
--- All other open cases of a proof that is read in order, by the choices of the case at hand: one case for each cause after the chosen one, for the
+-- All other open cases of a proof that is read in order, given the choices of the case at hand: one case for each cause after the chosen one, for the
 -- latest choice first and then for each choice before it.
 abbrev pub siblings : Net → Case → List Case
 siblings net [] = []

@@ -19,7 +19,7 @@ pub data ProofGoal : Type 0 where
   Bound : EventId → EventId → ℤ → ProofGoal
   Nothing : ProofGoal
 
--- a constraint and one of its causes, by their numbers
+-- a constraint and one of its causes, given by their numbers
 pub record Choice : Type 0 where
   pub constraint : ℕ
   pub cause : ℕ

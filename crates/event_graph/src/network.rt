@@ -137,7 +137,7 @@ impl Network {
         self.push(alloc, RuleKind::Early, target, causes)
     }
 
-    /// Adds a copy of a constraint that is there in `net`, by its number. Both networks have as many events, and there
+    /// Adds a copy of a constraint that is there in `net`, given by its number. Both networks have as many events, and there
     /// is room for one more constraint. After a refusal the network is unchanged.
     pub fn push_copy(&mut self, alloc: Global, net: &Network, number: u32) -> Result<(), NoMemory>
         requires there { number < length net.now.constraints }
@@ -320,7 +320,7 @@ impl Network {
     }
 
     /// The number of the first constraint, from `start` on, that the times break, or none if and only if they break
-    /// none of these constraints. So a loop that goes on behind each result passes over the constraints once. The times
+    /// none of these constraints. So a loop that continues after each result passes over the constraints once. The times
     /// are as for [`Network::broken`].
     pub fn broken_from(&self, times: &[i64], start: u32) -> Option<u32>
         requires count { length times.now ≡ self.now.events }

@@ -13,7 +13,7 @@ use std::fmt;
 pub enum PushFault {
     /// The network is full: it has this many constraints, the most that it may have.
     Full(u32),
-    /// Memory was wanted and not found.
+    /// There was not enough memory.
     NoMemory,
 }
 

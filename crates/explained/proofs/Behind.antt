@@ -121,7 +121,7 @@ greatest_of net word row (bounds.Closed value) times set is = (is.found, is.grea
 greatest_of net word row bounds.Unbounded times set is = is.found
 greatest_of net word row (bounds.Within limit attained) times set is = (is.root, is.rests)
 
--- a least bound of a row, by the reversed pair
+-- a least bound of a row, from the reversed pair
 pub least_of : (net : Net) (word : FindingWord) (row : Row) (most value : Bound) (times : List ℤ) (set : List Bool)
     → IsGreatestBy net word (record { from = row.to; to = row.from }) value times set → IsBoundOf net word row (least_by most) (reversed value)
 least_of net word row most (bounds.Closed value) times set is =
@@ -130,14 +130,14 @@ least_of net word row most bounds.Unbounded times set is = is.found
 least_of net word row most (bounds.Within limit attained) times set is =
     (subst (IsRootBound net row.to row.from) (no_neg limit) is.root, attained_turned word attained is.rests)
 
--- what stands behind a greatest bound, behind a row
+-- what stands behind a greatest bound of a row
 greatest_right : (net : Net) (word : FindingWord) (row : Row) (found : BoundFound) → IsExplained net word (record { from = row.from; to = row.to }) found
     → IsBoundOf net word row greatest (bound_of found) × IsBehind net row greatest found
 greatest_right net word row (Closed value chain) is = ((is.0, is.1), is.2)
 greatest_right net word row (Unbounded set) is = (is.0, is.1)
 greatest_right net word row (Within limit attained) is = ((is.root, is.rests), tt)
 
--- and by the reversed pair behind a least bound
+-- and by the reversed pair for a least bound
 least_right : (net : Net) (word : FindingWord) (row : Row) (most : Bound) (found : BoundFound) → IsExplained net word (record { from = row.to; to = row.from }) found
     → IsBoundOf net word row (least_by most) (bound_of (reversed_found found)) × IsBehind net row (least_by most) (reversed_found found)
 least_right net word row most (Closed value chain) is = (

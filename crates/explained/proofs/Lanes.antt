@@ -39,7 +39,7 @@ both_found net budget word row most fewest first second = record {
   least_shown = second.shown;
 }
 
--- what the search of a pair finds, with what makes it so and the lines that show it
+-- what the search of a pair finds, with its reason and the lines that show it
 pub record IsFoundBy (net : Net) (budget : ℕ) (word : FindingWord) (pair : Pair) (found : BoundFound) : Type 0 where
   pub explained : IsExplained net word pair found
   pub shown : IsGreatestShown net budget pair (bound_of found)

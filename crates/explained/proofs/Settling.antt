@@ -34,17 +34,17 @@ use Rattle.explained.proofs.Wider.{is_net_apart}
 
 -- ---- one search
 
--- behind an unsettled finding the budget was used up
+-- after an unsettled finding the budget was used up
 unsettled_below : (net : Net) (budget : ℕ) → IsNet net → IsFindingShown net budget findings.Unsettled → budget < cause_choices net.constraints
 unsettled_below net budget is_net shown = stopped_proof_is_below_choices net Nothing shown.0 budget is_net shown.1
 
--- a bound without an attained number stands only behind an unsettled finding
+-- a bound without an attained number stands only after an unsettled finding
 unsettled_by : (word : FindingWord) → HasAttained word None → word ≡ findings.Unsettled
 unsettled_by findings.Consistent attained = absurd (cc attained)
 unsettled_by findings.Inconsistent attained = absurd attained
 unsettled_by findings.Unsettled attained = refl
 
--- a budget that suffices settles a bound behind a finding that is settled
+-- a budget that suffices settles a bound after a finding that is settled
 bound_settles : (net : Net) (budget : ℕ) (word : FindingWord) (row : Row) (side : NextBound) (bound : Bound) → IsNet net → cause_choices net.constraints ≤ budget
     → (word ≡ findings.Unsettled → ⊥) → IsBoundOf net word row side bound → IsBoundShown net budget row side bound → IsBoundSettled bound
 bound_settles net budget word row side (bounds.Closed value) is_net enough settled right shown = tt

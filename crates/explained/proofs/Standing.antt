@@ -94,7 +94,7 @@ judged_apart apart there row kind range both rests same_there same_kind passes i
 
 -- ---- the finding of the network apart
 
--- behind a consistent finding of the drawn network it is searched
+-- after a consistent finding of the drawn network it is searched
 pub searched_apart : (net : Net) (spent budget : ℕ) (there : FindingWord) (known : Option (List ℤ)) → FindingAllows net findings.Consistent → HasFound net there known
     → IsFindingShown net spent there → spent ≡ budget → IsFindingApart net budget findings.Consistent there
 searched_apart net spent budget there known allows found shown same = record {
@@ -102,12 +102,12 @@ searched_apart net spent budget there known allows found shown same = record {
   shown = subst (λ (b : ℕ). IsFindingShown net b there) same shown;
 }
 
--- behind an unsettled one it is not
+-- after an unsettled one it is not
 pub unsettled_apart : (net : Net) (budget : ℕ) (there : FindingWord) → FindingAllows net findings.Unsettled → there ≡ findings.Unsettled
     → IsFindingApart net budget findings.Unsettled there
 unsettled_apart net budget there allows same = record { holds = subst (IsFinding net) (sym same) (is_finding net findings.Unsettled allows); shown = same }
 
--- behind a finding that is not inconsistent a network apart that is the drawn one has this finding too
+-- after a finding that is not inconsistent a network apart that is the drawn one has this finding too
 whole_shown : (net : Net) (budget : ℕ) (word : FindingWord) → FindingAllows net word → IsFindingShown net budget word → IsShownApart net budget word word
 whole_shown net budget findings.Consistent allows shown = shown
 whole_shown net budget findings.Inconsistent allows shown = allows

@@ -114,7 +114,7 @@ copied_next net origins k old new fit within order before copied =
     let added : new ≡ with_constraint old n.0 = subst P n.1 copied in
     added ∙ (ap (λ (m : Net). with_constraint m n.0) before ∙ ap (λ (cs : List Constraint). record { events = net.events; constraints = cs }) (sym n.2))
 
--- behind the last one this is the network apart
+-- after the last one this is the network apart
 pub front_whole : (net : Net) (origins : List (List Origin)) (k : ℕ) → OriginsFit net origins → length net.constraints ≤ k
     → front_apart net origins k ≡ record { events = net.events; constraints = constraints_apart net.constraints origins }
 front_whole net origins k fit all =
@@ -143,7 +143,7 @@ whole_apart drawn k fit all whole =
 
 -- ---- what the network apart asks
 
--- where a constraint of the network apart is found behind the first, it is among the constraints behind the first
+-- where a constraint of the network apart is found after the first, it is among the constraints after the first
 found_in : (first : Constraint) (cs apart : List Constraint) (c : Constraint) → ((j : ℕ) → slice_get apart j ≡ Some c → (i : ℕ) × (slice_get cs i ≡ Some c)) → (keeps : Bool) (k : ℕ)
     → slice_get (if keeps then apart else first ∷ apart) k ≡ Some c → (i : ℕ) × (slice_get (first ∷ cs) i ≡ Some c)
 found_in first cs apart c later true k here = let w = later k here in (suc w.0, w.1)

@@ -1,4 +1,4 @@
--- What is found of a network and of its rows, with what makes it so.
+-- What is found of a network and of its rows, with the reasons.
 use Rattle.std.specs.Prelude.{◌≡◌, ◌≤◌, ℕ, ℤ, neg_ℤ, Bool, List, [], ◌∷◌, length, All, Option, Some, None}
 use Rattle.itv_base.specs.Range.{Ends}
 use Rattle.itv_base.specs.declared.names.EdgeName.{EdgeName}
@@ -72,7 +72,7 @@ pub record Explains (net : Net) (from to : EventId) (value : ℤ) (names : List 
 abbrev pub CanRise : Net → EventId → EventId → List Bool → Type 0
 CanRise net from to set = (times : List ℤ) × Satisfies times net × IsRay net from to times set
 
--- what stands behind a bound; behind a least separation stands what is behind the greatest one of the reversed pair, which is minus it
+-- what stands behind a bound; for a least separation this is what stands behind the greatest one of the reversed pair, which is minus it
 abbrev pub IsBehind : Net → Row → NextBound → BoundFound → Type 0
 IsBehind net row greatest (Closed value chain) = Explains net row.from row.to value chain.items
 IsBehind net row (least_by most) (Closed value chain) = Explains net row.to row.from (neg_ℤ value) chain.items
@@ -80,7 +80,7 @@ IsBehind net row greatest (Unbounded set) = CanRise net row.from row.to set.item
 IsBehind net row (least_by most) (Unbounded set) = CanRise net row.to row.from set.items
 IsBehind net row side (Within limit attained) = Unit {0}
 
--- the bound alone, without what makes it so
+-- the bound alone, without its reason
 abbrev pub bound_of : BoundFound → Bound
 bound_of (Closed value chain) = bounds.Closed value
 bound_of (Unbounded set) = bounds.Unbounded
@@ -92,11 +92,11 @@ BoundHolds net row greatest value = IsGreatestBound net row.from row.to value
 BoundHolds net row (least_by most) value = IsLeastBound net row.from row.to value
 
 -- the lines of some search show a bound of a row within a budget, as in job bounds: one that was left open with an attained number has a stopped proof
--- that used the budget up; there are no lines behind an unsettled finding
+-- that used the budget up; there are no lines after an unsettled finding
 abbrev pub IsBoundShown : Net → ℕ → Row → NextBound → Bound → Type 0
 IsBoundShown net budget row side bound = (lines : List ProofLine) × ShowsBound net budget lines row side bound
 
--- a bound is right, by itself and behind a finding, what stands behind it is so too, and a search within the budget makes it
+-- a bound is right, by itself and after a finding, what stands behind it is so too, and a search within the budget makes it
 pub record IsBoundFound (net : Net) (budget : ℕ) (word : FindingWord) (row : Row) (side : NextBound) (found : BoundFound) : Type 0 where
   pub holds : BoundHolds net row side (bound_of found)
   pub right : IsBoundOf net word row side (bound_of found)
@@ -111,19 +111,19 @@ verdict_in range found = verdict_of range (bound_of found.least) (bound_of found
 abbrev pub verdict_by : Ends → BothBounds → Verdict
 verdict_by range both = verdict_of range both.least both.greatest
 
--- What the searches find of whether times satisfy the network apart, by the finding of the drawn network. Behind a consistent one a search of its own
--- within the budget makes the finding. Behind an unsettled one nothing is searched, and the network apart is unsettled too.
+-- What the searches find of whether times satisfy the network apart, according to the finding of the drawn network. After a consistent one
+-- a search of its own within the budget makes the finding. After an unsettled one nothing is searched, and the network apart is unsettled too.
 abbrev pub IsShownApart : Net → ℕ → FindingWord → FindingWord → Type 0
 IsShownApart apart budget findings.Consistent word = IsFindingShown apart budget word
 IsShownApart apart budget findings.Inconsistent word = ⊥
 IsShownApart apart budget findings.Unsettled word = word ≡ findings.Unsettled
 
--- the one finding of the network apart behind a finding of the drawn network
+-- the one finding of the network apart after a finding of the drawn network
 pub record IsFindingApart (apart : Net) (budget : ℕ) (word word_apart : FindingWord) : Type 0 where
   pub holds : IsFinding apart word_apart
   pub shown : IsShownApart apart budget word word_apart
 
--- both bounds of a row are right in a network, by themselves and behind a finding, and searches within the budget make them
+-- both bounds of a row are right in a network, by themselves and after a finding, and searches within the budget make them
 pub record AreRowBounds (net : Net) (budget : ℕ) (word : FindingWord) (row : Row) (both : BothBounds) : Type 0 where
   pub holds : IsGreatestBound net row.from row.to both.greatest × IsLeastBound net row.from row.to both.least
   pub greatest_shown : IsBoundShown net budget row greatest both.greatest
@@ -163,13 +163,13 @@ AreRowsFound drawn budget word word_apart (row ∷ rows) [] = ⊥
 AreRowsFound drawn budget word word_apart (row ∷ rows) (found ∷ others) =
     IsRowFound drawn budget word word_apart row found × AreRowsFound drawn budget word word_apart rows others
 
--- what is found of each row behind a finding of the drawn network and the one finding of the network apart
+-- what is found of each row after a finding of the drawn network and the one finding of the network apart
 pub record AreFoundBehind (drawn : Drawn) (budget : ℕ) (word : FindingWord) (found : List RowFound) : Type 0 where
   pub word_apart : FindingWord
   pub finding_apart : IsFindingApart (net_apart drawn) budget word word_apart
   pub rows : AreRowsFound drawn budget word word_apart drawn.rows found
 
--- what is found of each row; behind an inconsistent finding there is nothing
+-- what is found of each row; after an inconsistent finding there is nothing
 abbrev pub AreFound : Drawn → ℕ → Finding → List RowFound → Type 0
 AreFound drawn budget Consistent found = AreFoundBehind drawn budget findings.Consistent found
 AreFound drawn budget (Inconsistent set) found = found ≡ []

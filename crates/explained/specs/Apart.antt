@@ -11,7 +11,7 @@ use Rattle.drawn.specs.Drawn.{Drawn}
 abbrev pub keeps_order : List Origin → Bool
 keeps_order origins = list_any is_lane origins
 
--- the constraints that keep no order of a lane, by the origins of their causes
+-- the constraints that keep no order of a lane, according to the origins of their causes
 abbrev pub constraints_apart : List Constraint → List (List Origin) → List Constraint
 constraints_apart [] origins = []
 constraints_apart (c ∷ others) [] = c ∷ others

@@ -50,7 +50,7 @@ fn keeps_order_at(origins: &Origins, number: u32) -> bool
     keeps_order(origins.get(u64::from(number)).as_slice())
 }
 
-// Whether a constraint keeps the order of a lane, by the origins of its causes.
+// Whether a constraint keeps the order of a lane, according to the origins of its causes.
 fn keeps_order(origins: &[Origin]) -> bool
     ensures { result ≡ keeps_order origins.now }
 {

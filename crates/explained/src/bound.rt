@@ -6,8 +6,8 @@ ghost use Rattle.event_graph.specs.Times.{IsTime};
 use itv_base::EdgeName;
 use requirements::Bound;
 
-/// The greatest or the least separation of a row, in picoseconds, with what makes it so. A least separation is minus the greatest separation of the
-/// reversed pair, and what makes it so is said of this pair.
+/// The greatest or the least separation of a row, in picoseconds, with its reason. A least separation is minus the greatest separation of the
+/// reversed pair, and its reason is given for this pair.
 #[derive(Drop)]
 pub enum BoundFound {
     /// The separation, and a chain of edges from one event of the pair to the other, whose weights sum to it.

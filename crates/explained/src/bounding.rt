@@ -17,7 +17,7 @@ use event_graph::Network;
 use requirements::{BothBounds, Bound};
 use slack_report::FindingWord;
 
-/// The greatest bound of a pair of events of a network that is not inconsistent. Behind a consistent finding it comes from a search. Behind an
+/// The greatest bound of a pair of events of a network that is not inconsistent. After a consistent finding it comes from a search. After an
 /// unsettled one it is the root bound. The search leaves times that attain a closed bound, and the events to raise where the pair is unbounded.
 pub fn greatest_bound(net: &Network, pair: Pair, searches: &mut Searches) -> Bound
     requires settled { IsNotInconsistent net.now searches.old }

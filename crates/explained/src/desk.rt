@@ -40,8 +40,8 @@ impl Desk {
     {
         let net = drawn.network();
         Ok(Desk {
-            searches: Searches::new(alloc, net, budget)?,
             chains: Chains::new(alloc, net)?,
+            searches: Searches::new(alloc, net, budget)?,
             apart: new_apart(alloc, drawn, budget)?,
         })
     }
@@ -63,7 +63,7 @@ fn new_apart(alloc: Global, drawn: &DrawnNetwork, budget: u64) -> Result<Option<
     }
 }
 
-/// Makes the finding of the network apart. Behind a consistent finding of the drawn network it looks for times there too, within the budget. Behind
+/// Makes the finding of the network apart. After a consistent finding of the drawn network it looks for times there too, within the budget. After
 /// an unsettled one the network apart stays unsettled.
 pub fn settle_apart(word: FindingWord, apart: &mut Option<Apart>)
     requires fresh { IfSome apart.old (λ a. IsFresh a.net a.searches) }

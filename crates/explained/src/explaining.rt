@@ -1,4 +1,4 @@
-//! Greatest bounds, with what makes them so.
+//! Greatest bounds, with their reasons.
 
 ghost use Rattle.std.specs.Prelude.{◌≡◌, ◌<◌, IfOk};
 ghost use Rattle.requirements.specs.Bounds.{HasTimes};
@@ -16,7 +16,7 @@ use itv_base::NoMemory;
 use requirements::Bound;
 use std::alloc::Global;
 
-/// The greatest bound of a pair of events of a network that is not inconsistent, with what makes it so.
+/// The greatest bound of a pair of events of a network that is not inconsistent, with its reason.
 pub fn explain_greatest(
     alloc: Global,
     net: &Network,

@@ -1,6 +1,6 @@
-//! What is found of a drawn network and of its rows, with what makes it so: for a number a chain of edges, for a contradiction the constraints that
-//! contradict each other, and for a verdict that rests on the order of a lane, the bounds without this order. The contract of the crate: all that
-//! `explain` finds is right.
+//! The finding of a drawn network and the bounds of its rows, each with its reason. The reason for a number is a chain of edges. The reason for a
+//! contradiction is the constraints that contradict each other. For a verdict that rests on the order of a lane there are also the bounds without
+//! this order. The contract of the crate: all that `explain` finds is right.
 #![tactic(auto)]
 
 mod apart;

@@ -17,14 +17,14 @@ use itv_base::NoMemory;
 use slack_report::FindingWord;
 use std::alloc::Global;
 
-/// What is found of a network and of each of its rows, in order. Behind an inconsistent finding `rows` is empty.
+/// What is found of a network and of each of its rows, in order. After an inconsistent finding `rows` is empty.
 #[derive(Drop)]
 pub struct NetworkFound {
     pub finding: Finding,
     pub rows: Vec<RowFound>,
 }
 
-/// Finds whether some times satisfy a drawn network, and both bounds of each of its rows, with what makes it so. Each search closes at most `budget`
+/// Finds whether some times satisfy a drawn network, and both bounds of each of its rows, with their reasons. Each search closes at most `budget`
 /// cases; it leaves its finding or its bound open only if it closes just as many. If the budget is no less than the number of cause choices, neither the finding nor a bound is left open. Where some constraint keeps the
 /// order of a lane, a row that passes is searched once more without such orders.
 ///
@@ -41,7 +41,9 @@ pub fn explain(alloc: Global, drawn: &DrawnNetwork, budget: u64) -> Result<Netwo
     let mut marking = Marking::new(alloc, net)?;
     let mut desk = Desk::new(alloc, drawn, budget)?;
     find_marking(net, &mut desk.searches, &mut marking);
-    found_behind(alloc, drawn, &marking, &mut desk)
+    let found = found_behind(alloc, drawn, &marking, &mut desk);
+    drop(desk);
+    found
 }
 
 // What is found after the search for times. `marking` has the constraints that contradict each other, if this search found so.

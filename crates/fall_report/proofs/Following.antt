@@ -87,7 +87,7 @@ spent_told which from times ray Spent other = refl
 
 -- ---- rows
 
--- whether a bound was spent, behind both bounds of a row
+-- whether a bound was spent, after both bounds of a row
 pub spent_in : (spent greatest least either : Bool) → either ≡ (greatest || least) → ((spent || greatest) || least) ≡ (spent || either)
 spent_in true greatest least either e = refl
 spent_in false greatest least either e = sym e

@@ -9,7 +9,7 @@ use Rattle.certificate.specs.Text.{side_letter}
 use Rattle.falling.specs.declared.line.Reason.TheVariants.{ByEdge}
 use Rattle.fall_report.specs.FallText.{fall_line_text}
 
--- the end of a line stands behind its last word
+-- the end of a line stands after its last word
 joined : (a b c d e : List ℕ) → a ++ (32 ∷ (b ++ (32 ∷ (c ++ (46 ∷ (d ++ (e ++ 10 ∷ []))))))) ≡ (a ++ 32 ∷ (b ++ 32 ∷ (c ++ 46 ∷ (d ++ e)))) ++ 10 ∷ []
 joined a b c d e = simp append_assoc
 

@@ -126,7 +126,7 @@ minus_zero time value e z = omega (arith, ints)
 no_events : {m n : ℕ} → m < n → n ≡ 0 → ⊥
 no_events some none = omega arith
 
--- the finding of a network with events in a view, by the answer for event 0 and event 0
+-- the finding of a network with events in a view, from the answer for event 0 and event 0
 finding_in : (net : Net) (negation : Option Net) (turns : ℕ) (lines : List FallLine) (times : List ℤ) (ray : List Bool) (fallen : Fallen) (view : View) → 0 < net.events
     → IsNegationOf net negation → AnswersAs negation net (asked_of first_event first_event turns) lines times ray fallen → (HasTimes fallen → All IsNearValue times) → IsViewOf net view
     → IsFinding view net turns lines (shown_finding (found_by fallen) times)

@@ -29,14 +29,14 @@ pub record Job : Type 0 where
   pub turns : ℕ
   pub cert : Bool
 
--- a row that comes next or is being written: its number, whether the turns of a bound before it were spent, and the rows behind it
+-- a row that comes next or is being written: its number, whether the turns of a bound before it were spent, and the rows after it
 pub record FallRow : Type 0 where
   pub spent : Bool
   pub number : ℕ
   pub row : Row
   pub later : List Row
 
--- where a text stands between two pieces, behind its front
+-- where a text stands between two pieces, after its front
 pub data TextState : Type 0 where
   at_finding : TextState
   at_rows : TextState
@@ -60,7 +60,7 @@ is_spent (closed value list) = false
 is_spent (unbounded list set) = false
 is_spent bound_spent = true
 
--- the state behind a bound of a row: the least bound comes behind the greatest, and the rows that are left come behind the least
+-- the state after a bound of a row: the least bound comes after the greatest, and the rows that are left come after the least
 abbrev pub behind_bound : FallRow → Which → Bool → TextState
 behind_bound current Max spent = at_bound (record current { spent = current.spent || spent }) Min
 behind_bound current Min spent = before_rows (current.spent || spent) (current.number + 1) current.later

@@ -9,7 +9,7 @@ use Rattle.falling.specs.declared.line.FallLine.{FallLine}
 use Rattle.falling.specs.declared.line.Reason.{Reason}
 use Rattle.falling.specs.declared.line.Reason.TheVariants.{ByEdge, ByLatest}
 
--- the first word of a line, by its reason
+-- the first word of a line, according to its reason
 abbrev pub reason_name : Reason → Word
 reason_name (ByEdge edge) = codes "fall"
 reason_name (ByLatest number) = codes "late"

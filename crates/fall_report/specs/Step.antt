@@ -137,17 +137,17 @@ abbrev pub WritesPieces : {B E : Type 0} → Job → TextState → (B → TextSt
 WritesPieces job here to old new (Ok x) = WrotePieces job here (to x) old new
 WritesPieces job here to old new (Err e) = WrotePieceFront job here old new
 
--- the state behind a finding
+-- the state after a finding
 abbrev pub behind_found : FallFinding → TextState
 behind_found founds.Consistent = at_rows
 behind_found founds.Inconsistent = at_end endings.Inconsistent
 behind_found founds.Spent = at_end endings.Undecided
 
--- the state behind both bounds of a row. It depends on whether the turns of one of them were spent
+-- the state after both bounds of a row. It depends on whether the turns of one of them were spent
 abbrev pub behind_row : FallRow → Bool → TextState
 behind_row current spent = before_rows (current.spent || spent) (current.number + 1) current.later
 
--- the word at the end behind all rows
+-- the word at the end after all rows
 abbrev pub end_word : Bool → EndWord
 end_word spent = if spent then endings.Undecided else endings.Pass
 

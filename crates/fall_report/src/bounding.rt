@@ -81,7 +81,7 @@ fn search_bound<K: Sink>(
 
 // ---- the lines
 
-// Puts the lines of a bound, by the latest answer of the solver.
+// Puts the lines of a bound, from the latest answer of the solver.
 fn put_bound<K: Sink>(
     which: Which,
     row: &Row,

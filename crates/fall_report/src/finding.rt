@@ -87,7 +87,7 @@ fn found_by(fallen: Fallen, net: &Network, solver: &Falling) -> FallFinding
     }
 }
 
-// Puts the finding, and behind a consistent finding the times of the solver.
+// Puts the finding, and after a consistent finding the times of the solver.
 fn put_finding<K: Sink>(
     found: FallFinding,
     solver: &Falling,

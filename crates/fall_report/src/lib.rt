@@ -1,7 +1,7 @@
 //! Job fall: from a drawn network and a number of turns to its bounds by falling values, without a case split. The
 //! contract of the crate: `write_fall` writes the view, the events, the finding and both bounds of each row. A
 //! derivation, printed or left out, shows each finding and bound, unless its turns were spent before it was known. If a
-//! put failed, a front of such a text was written.
+//! put failed, the beginning of such a text was written.
 #![tactic(auto)]
 
 mod bounding;

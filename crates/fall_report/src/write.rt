@@ -83,7 +83,7 @@ fn put_view<K: Sink>(view: View, sink: &mut K) -> Result<(), PutFailed>
     }
 }
 
-// Writes the finding, the rows behind a consistent finding, and the word at the end.
+// Writes the finding, the rows after a consistent finding, and the word at the end.
 fn print_bounds<K: Sink>(
     drawn: &DrawnNetwork,
     wanted: Wanted,
@@ -100,7 +100,7 @@ fn print_bounds<K: Sink>(
     Ok(word)
 }
 
-// Writes the rows behind a consistent finding. Returns the word at the end.
+// Writes the rows after a consistent finding. Returns the word at the end.
 fn print_behind<K: Sink>(
     found: FallFinding,
     drawn: &DrawnNetwork,
@@ -123,7 +123,7 @@ fn print_behind<K: Sink>(
     }
 }
 
-// The word at the end behind a consistent finding. It depends on whether the turns of a bound were spent.
+// The word at the end after a consistent finding. It depends on whether the turns of a bound were spent.
 fn end_word(is_spent: bool) -> EndWord
     ensures { result ≡ end_word is_spent }
 {

@@ -33,7 +33,7 @@ met kind constraints number within is_one = go kind constraints number number wi
     go kind (c ∷ cs) zero at within is_one = rw (sym is_one) refl
     go kind (c ∷ cs) (suc number) at within is_one = go kind cs number at (omega arith) is_one
 
--- behind the last constraint there is no constraint
+-- after the last constraint there is no constraint
 pub none_left : (kind : RuleKind) (constraints : List Constraint) (number : ℕ) → length constraints ≤ number → position_from (is_choice_of kind) number (drop number constraints) ≡ None
 none_left kind constraints number past = go kind constraints number number past
   where

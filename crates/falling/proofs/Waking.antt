@@ -125,7 +125,7 @@ woken net agenda pending values event value made lower kept there tried number w
           subst (λ (n : ℕ). Contains (at_event agenda.followers event.0) n) is_number
           (subst (λ (i : ℕ). Contains (at_event agenda.followers i) name.constraint) same contains)
 
--- a constraint that was looked at in vain needs no flag
+-- a constraint that was examined without result needs no flag
 pub tried_without : (net : Net) (values : List ℤ) (before after : List ℕ) (number : ℕ) → AreOthersTried net values before → IsConstraintTried net values number
     → ((k : ℕ) → k ≢ number → IsPending before k → IsPending after k) → AreOthersTried net values after
 tried_without net values before after number tried here others k within not_pending = elim (cases_eq k number) [

@@ -82,7 +82,7 @@ AnswersByNegation net asked lines times ray Unbounded = IsUnboundedByNegation ne
 AnswersByNegation net asked lines times ray Inconsistent = IsInconsistentByNegation net asked.to lines
 AnswersByNegation net asked lines times ray Spent = HasSpentTurnsByNegation net asked.to asked.turns lines
 
--- what an answer says of a pair, by whether the negation was solved
+-- what an answer says of a pair, according to whether the negation was solved
 abbrev pub AnswersAs : Option Net → Net → Asked → List FallLine → List ℤ → List Bool → Fallen → Type 0
 AnswersAs None net asked lines times ray answer = IsFallenAnswer net asked lines times ray answer
 AnswersAs (Some negation) net asked lines times ray answer = AnswersByNegation net asked lines times ray answer

@@ -54,7 +54,7 @@ impl Agenda {
         self.pending.fill();
     }
 
-    /// The first line of the constraint of least number that allows a line. A constraint that is looked at in vain loses its flag.
+    /// The first line of the constraint of least number that allows a line. A constraint that is examined without result loses its flag.
     pub fn next_line(&mut self, net: &Network, values: &[i64]) -> Option<FallLine>
         requires made { IsAgendaFor net.now self.old }
         requires count { length values.now ≡ net.now.events }

@@ -15,7 +15,7 @@ use crate::line::{FallLine, Reason};
 use event_graph::Network;
 use itv_base::EventId;
 
-/// How a derivation went: no line is allowed any more, the derivation has ended, or its turns were spent.
+/// How a derivation stopped: no line is allowed any more, the derivation has ended, or its turns were spent.
 #[derive(Clone, Copy)]
 pub enum DerivationEnd {
     Settled,
@@ -23,7 +23,7 @@ pub enum DerivationEnd {
     Spent,
 }
 
-// How a derivation went, and the number of its lines.
+// How a derivation stopped, and the number of its lines.
 #[derive(Clone, Copy)]
 pub struct Descent {
     pub end: DerivationEnd,

@@ -31,7 +31,7 @@ use std::marker::Model;
 /// Finds greatest separations over one network whose choices are all of one kind.
 ///
 /// It is made for a network, and every later call gets the same network. A network that is not plain is solved by its negation: the pair is
-/// turned round, and the times are negated. No call but `new` takes memory.
+/// reversed, and the times are negated. No call but `new` takes memory.
 #[derive(Drop)]
 pub struct Falling {
     negation: Option<Network>,
@@ -79,7 +79,7 @@ impl Falling {
     }
 
     /// The greatest separation of a pair of events, in picoseconds, by a derivation of at most so many lines, which are noted. Over a plain
-    /// network it is a derivation from the from-event. Else it is a derivation in the negation from the to-event.
+    /// network it is a derivation from the from-event. Otherwise it is a derivation in the negation from the to-event.
     pub fn greatest<N: FallScribe>(
         &mut self,
         net: &Network,
@@ -210,7 +210,7 @@ fn solve<N: FallScribe>(
     }
 }
 
-// The greatest separation of a pair of a network by its negation, where the pair is turned round.
+// The greatest separation of a pair of a network by its negation, where the pair is reversed.
 fn greatest_by_negation<N: FallScribe>(
     net: &Network,
     negation: &Network,

@@ -1,6 +1,6 @@
 //! Greatest separations without a case split, for networks whose choices are all of one kind. Every value starts high and only falls, line
 //! by line, until no value falls any more or the network is shown inconsistent.
-//! The contract of the crate: over a network that lacks choices of the earliest kind, or of the latest kind, [`Falling::greatest`] gives
+//! The contract of the crate: [`Falling::greatest`] takes a network that lacks choices of the earliest kind, or of the latest kind. It gives
 //! the greatest separation of a pair with times that attain it, or times and a ray that show the pair unbounded, or says that no times
 //! satisfy. Each answer has the lines of a derivation. [`FallChecker`] takes a line if and only if a derivation allows it. [`View::of`]
 //! says which network is solved, or gives the first choice of each kind.

@@ -24,7 +24,7 @@ pub fn negation_of(alloc: Global, net: &Network) -> Result<Network, NoMemory>
     Ok(negation)
 }
 
-// Adds the negation of the constraint of a number, behind the negations of the constraints before it.
+// Adds the negation of the constraint of a number, after the negations of the constraints before it.
 fn push_negated(
     alloc: Global,
     net: &Network,

@@ -39,7 +39,7 @@ with_grade_whole g done grade all =
 pub walk_whole : (written : List Grade) → IfOk (walk with_grade 0 [] written) AreRanges
 walk_whole written = IfOk-walk (All HasRanges) with_grade with_grade_whole 0 [] written (All-nil HasRanges)
 
--- if the walk comes to its end, its grades give ranges
+-- if the walk reaches its end, its grades give ranges
 pub ranged_whole : (written grades : List Grade) → walk with_grade 0 [] written ≡ Ok grades → AreRanges grades
 ranged_whole written grades is = IfOk-at_ok AreRanges is (walk_whole written)
 

@@ -1,4 +1,4 @@
--- Where a text may be cut, and what is behind a front of it.
+-- Where a text may be cut, and what is after a front of it.
 use Rattle.std.proofs.Common.{◌≡◌, ℕ, zero, suc, ◌<◌, Bool, true, false, cond, eqb, List, [], ◌∷◌, ◌++◌, length, get_or, Option, Some, None, refl, sym, ap, ◌∙◌, arith, Bor, MatchOption, add-one}
 use Rattle.std.specs.List.{prefix_len}
 use Rattle.std.specs.Str.{IsUtf8, IsCharBoundary}
@@ -12,9 +12,9 @@ use Rattle.std.proofs.lemmas.Str.{IsCharBoundary-start, IsCharBoundary-after_asc
 use Rattle.itv_base.specs.Characters.{is_name_byte}
 use Rattle.itv_base.specs.Cuts.{stripped}
 
--- ---- behind a run
+-- ---- after a run
 
--- a text may be cut behind the bytes that pass a test which only ASCII passes
+-- a text may be cut after the bytes that pass a test which only ASCII passes
 pub run_ends : (p : ℕ → Bool) → ((b : ℕ) → p b ≡ true → b < 128) → (bs : List ℕ) (n : ℕ) → IsUtf8 bs → n ≡ prefix_len p bs → IsCharBoundary bs n
 run_ends p small bs zero utf8 e = IsCharBoundary-start bs utf8
 run_ends p small bs (suc n) utf8 e =
@@ -28,7 +28,7 @@ digit_is_ascii b h = grind (arith, nat_tests)
 pub name_byte_is_ascii : (b : ℕ) → is_name_byte b ≡ true → b < 128
 name_byte_is_ascii b h = grind (arith, nat_tests)
 
--- ---- behind a front
+-- ---- after a front
 
 pub stripped-append : (front rest : List ℕ) → stripped front (front ++ rest) ≡ Some rest
 stripped-append [] rest = refl

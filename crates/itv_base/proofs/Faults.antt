@@ -3,7 +3,7 @@ use Rattle.std.proofs.Common.{◌≡◌, ℕ, suc, ◌+◌, ◌-◌, ◌<◌, Bo
 use Rattle.std.proofs.lemmas.List.{drop-map}
 use Rattle.itv_base.specs.Reading.{◌>>=◌, unless, walk, walk_to, UnlessTrue, IsReadingFault}
 
--- ---- faults handed on
+-- ---- faults passed on
 
 handed_on : {A B F : Type 0} (b : Bool) (reading : Result A F) (more : Result B F) (fault : F) → ((d : F) → reading ≡ Err d → more ≡ Err d)
     → UnlessTrue b (reading ≡ Err fault) → UnlessTrue b (more ≡ Err fault)

@@ -1,4 +1,4 @@
--- The bytes at the front of a text that pass a test, and the text behind them.
+-- The bytes at the front of a text that pass a test, and the text after them.
 use Rattle.std.proofs.Common.{◌≡◌, ℕ, ◌+◌, Bool, true, false, not, cond, List, [], ◌∷◌, ◌++◌, drop, refl, sym, ap, ◌∙◌}
 use Rattle.std.specs.List.{list_all, take_while, prefix_len}
 use Rattle.std.proofs.Math.Numerals.{one-add}

@@ -65,7 +65,7 @@ is_named (Some call) calls = call == calls
 abbrev pub takes : MemSink → List ℕ → Bool
 takes s piece = if is_named s.failing s.calls then false else nat_le (length s.bytes + length piece) s.room
 
--- how much of the piece goes in: nothing at the call that is to fail, else as far as it fits
+-- how much of the piece goes in: nothing at the call that is to fail, otherwise as far as it fits
 abbrev pub part_taken : MemSink → List ℕ → List ℕ
 part_taken s piece = if is_named s.failing s.calls then take 0 piece else take (s.room - length s.bytes) piece
 

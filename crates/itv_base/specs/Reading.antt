@@ -7,7 +7,7 @@ abbrev pub ◌>>=◌ : {A B F : Type 0} → Result A F → (A → Result B F) �
 (Ok x) >>= f = f x
 (Err fault) >>= f = Err fault
 
--- a value if nothing is wrong with it, and else the fault of what is wrong
+-- a value if nothing is wrong with it, and otherwise the fault of what is wrong
 abbrev pub unless : {A X F : Type 0} → Option X → (X → F) → A → Result A F
 unless None fault value = Ok value
 unless (Some x) fault value = Err (fault x)
@@ -31,11 +31,11 @@ abbrev pub UnlessTrue : Bool → Type 0 → Type 0
 UnlessTrue true P = Unit {0}
 UnlessTrue false P = P
 
--- A fault is the fault of a reading. Want of memory, which a test knows, may come whatever the reading gives.
+-- A fault is the fault of a reading. Lack of memory, which a test knows, may come whatever the reading gives.
 abbrev pub IsReadingFault : {A F : Type 0} → (F → Bool) → Result A F → F → Type 0
 IsReadingFault is_memory reading fault = UnlessTrue (is_memory fault) (reading ≡ Err fault)
 
--- A result, seen by a view, is the result of a reading, unless memory was wanted.
+-- A result, seen by a view, is the result of a reading, unless there was not enough memory.
 abbrev pub AgreesWith : {A B F : Type 0} → (F → Bool) → (A → B) → Result A F → Result B F → Type 0
 AgreesWith is_memory view (Ok x) reading = reading ≡ Ok (view x)
 AgreesWith is_memory view (Err fault) reading = IsReadingFault is_memory reading fault

@@ -2,7 +2,7 @@
 use Rattle.std.specs.Prelude.{◌≡◌, ℕ, ◌≤◌, List, ◌++◌, length, take, Option}
 use Rattle.std.specs.Io.KnownBytes.{Appends, Consumes}
 
--- Bytes were read and put behind others. They came next in what the reader had left, if that is known.
+-- Bytes were read and put after others. They came next in what the reader had left, if that is known.
 pub record ReadsOn (before after : Option (List ℕ)) (old new : List ℕ) : Type 0 where
   pub more : List ℕ
   pub grew : new ≡ old ++ more

@@ -1,4 +1,4 @@
-//! What every crate of the verifier stands on: limits, ranges of delays, names, texts and the numbers in them, and the
+//! What every crate of the verifier uses: limits, ranges of delays, names, texts and the numbers in them, and the
 //! outside. The contract of the outside: a fetch gives the first bytes of the file, if contracts see the files, and a
 //! put appends its piece. Each fails only if its count of faults rose in the call. A failed fetch leaves its name as
 //! the last that failed.

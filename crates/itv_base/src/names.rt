@@ -1,6 +1,6 @@
 //! The names of events and of edges.
 
-/// An event of a network, by its number from 0.
+/// An event of a network, given by its number from 0.
 #[derive(Clone, Copy, PartialEq, Eq)]
 pub struct EventId(pub u32);
 

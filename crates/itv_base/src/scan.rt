@@ -9,7 +9,7 @@ ghost use Rattle.itv_base.specs.Cuts.{stripped, after_while};
 
 use crate::characters::is_name_byte;
 
-/// The text behind a front, if it stands there.
+/// The text after a front, if it stands there.
 pub fn strip<'a>(text: &'a str, front: &str) -> Option<&'a str>
     ensures rest { option_copied result ≡ stripped front.now text.now }
 {
@@ -22,7 +22,7 @@ fn digits_len(bytes: &[u8]) -> usize
     bytes.iter().take_while(|b| b.is_ascii_digit()).count()
 }
 
-/// The digits that a text begins with, and the text behind them.
+/// The digits that a text begins with, and the text after them.
 pub fn split_digits(text: &str) -> (&str, &str)
     ensures digits { result.0.now ≡ take_while is_ascii_digit text.now }
     ensures rest { result.1.now ≡ after_while is_ascii_digit text.now }
@@ -36,7 +36,7 @@ fn name_len(bytes: &[u8]) -> usize
     bytes.iter().take_while(|b| is_name_byte(**b)).count()
 }
 
-/// The letters of ASCII, digits and `_` that a text begins with, and the text behind them.
+/// The letters of ASCII, digits and `_` that a text begins with, and the text after them.
 pub fn split_name(text: &str) -> (&str, &str)
     ensures name { result.0.now ≡ take_while is_name_byte text.now }
     ensures rest { result.1.now ≡ after_while is_name_byte text.now }

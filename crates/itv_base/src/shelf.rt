@@ -50,7 +50,7 @@ pub trait Shelf {
     ghost state: { Self → ShelfState };
 
     /// The first `cap` bytes of a file, or all its bytes if there are fewer. It fails only if the count of faults rose,
-    /// and then the name is the last that failed. Want of memory changes nothing of the view.
+    /// and then the name is the last that failed. Lack of memory changes nothing of the view.
     fn fetch(&mut self, alloc: Global, name: &str, cap: u32) -> Result<Vec<u8>, FetchFault>
         ensures fetches { Fetches (state self.old) (state self.new) name.now cap result };
 }

@@ -76,7 +76,7 @@ impl ShelfMem {
         Ok(())
     }
 
-    /// Lists a call that is to fail, by its number from 0. Where memory is not found the shelf is unchanged.
+    /// Lists a call that is to fail, given by its number from 0. Where memory is not found the shelf is unchanged.
     pub fn fail_call(&mut self, call: u32) -> Result<(), NoMemory>
         ensures ok { OnOk result (self.new ≡ record self.old { failing = self.old.failing ++ call ∷ [] }) }
         ensures err { OnErr result (self.new ≡ self.old) }

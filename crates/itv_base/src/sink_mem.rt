@@ -46,7 +46,7 @@ impl SinkMem {
         })
     }
 
-    /// Names the one call that is to fail, by its number from 0.
+    /// Names the one call that is to fail, given by its number from 0.
     pub fn fail_call(&mut self, call: u32)
         ensures named { self.new ≡ record self.old { failing = Some call } }
     {

@@ -14,7 +14,7 @@ use std::hash::{Hash, Hasher};
 use std::marker::Model;
 use thiserror::Error;
 
-/// Memory was wanted and not found.
+/// There was not enough memory.
 #[derive(Clone, Copy, Debug, Error)]
 #[error("out of memory")]
 pub struct NoMemory;

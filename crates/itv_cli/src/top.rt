@@ -63,7 +63,11 @@ fn run_task<H: Shelf, K: Sink>(
         → OutcomeMeans (call_of words (H.state shelf.old) (H.state shelf.new) (K.state sink.old) (K.state sink.new)) result }
 {
     match open(alloc, task, shelf) {
-        Ok(given) => answered(answer(alloc, &given, sink)),
+        Ok(given) => {
+            let end = answered(answer(alloc, &given, sink));
+            drop(given);
+            end
+        }
         Err(stop) => stopped(&stop, sink),
     }
 }

@@ -1,4 +1,4 @@
--- What a job answers, by the word at the end of its text.
+-- What a job answers, according to the word at the end of its text.
 use Rattle.slack_report.specs.declared.words.EndWord.{EndWord}
 use Rattle.slack_report.specs.declared.words.EndWord.TheVariants as ends
 use Rattle.jobs.specs.declared.answer.Answer.{Answer}

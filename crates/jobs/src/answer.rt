@@ -22,7 +22,7 @@ pub enum Answer {
     DesignRefused,
 }
 
-/// What a job answers, by the word at the end of its text.
+/// What a job answers, according to the word at the end of its text.
 pub fn answer_of(word: EndWord) -> Answer
     ensures { result ≡ answer_of word }
 {

@@ -1,5 +1,5 @@
 //! What all jobs share: how a job ends, or why it has no answer, which the program reports by its exit status; and the lines of events and rows. Each
-//! job states by `JobWrote` what it answers and writes.
+//! job states with `JobWrote` what it answers and writes.
 #![tactic(auto)]
 
 mod answer;

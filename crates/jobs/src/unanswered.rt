@@ -10,7 +10,7 @@ use itv_base::{NoMemory, PutFailed};
 pub enum Unanswered {
     /// The output could not be written.
     PutFailed,
-    /// Memory was wanted and not found, before anything was written.
+    /// Memory ran out before anything was written.
     NoMemory,
 }
 

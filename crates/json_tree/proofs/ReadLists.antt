@@ -4,7 +4,7 @@ use Rattle.std.specs.Prelude.{option_map}
 use Rattle.std.proofs.lemmas.List.{append_assoc}
 use Rattle.json_tree.specs.Words.{all_of}
 
--- what is read of the elements that are left, behind what was read before
+-- what is read of the elements that are left, after what was read before
 abbrev pub with_rest : {X Y : Type 0} → (X → Option Y) → List Y → List X → Option (List Y)
 with_rest read done xs = option_map (λ more. done ++ more) (all_of read xs)
 

@@ -1,4 +1,4 @@
--- What stands in a tree of JSON.
+-- What is in a tree of JSON.
 use Rattle.std.specs.Prelude.{ℕ, ℤ, if◌then◌else◌, List, [], ◌∷◌, Option, Some, None, option_map, option_and_then}
 use Rattle.serde_json.specs.Data.{Data, null, boolean, number, string, array, object, Items, no_items, item, Members, no_members, member}
 use Rattle.serde_json.specs.Find.{get, as_array, as_i64, as_number, as_object, as_str}
@@ -18,7 +18,7 @@ list_of d = option_map elements (as_array d)
 abbrev pub list_at : List ℕ → Data → Option (List Data)
 list_at key tree = option_and_then list_of (get key tree)
 
--- The members of an object with their keys. They stand in the order of their keys' bytes. If a key is written twice, the last value counts.
+-- The members of an object with their keys. They are in the order of their keys' bytes. If a key is written twice, the last value counts.
 abbrev pub members : Members → List (List ℕ × Data)
 members no_members = []
 members (member key d rest) = (key, d) ∷ members rest

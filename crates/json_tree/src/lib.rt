@@ -1,4 +1,4 @@
-//! What stands in a tree of JSON: lists, texts, names and whole numbers, under a key or by themselves, and pairs of
+//! What is in a tree of JSON: lists, texts, names and whole numbers, under a key or by themselves, and pairs of
 //! ends. All readers of trees share the words of its contracts: the elements of an array, and the members of an object
 //! with their keys. The one contract: a call gives what its definition says of the tree. It gives `None` if and only if
 //! the tree has no such value there.

@@ -1,4 +1,4 @@
--- What a reader answers to a text, by the labels that the text spells.
+-- What a reader answers to a text, according to the labels that the text spells.
 use Rattle.std.proofs.Common.{◌≡◌, ℕ, Bool, true, false, cond, List, Option, Some, None, Result, Ok, Err, refl, ap, subst, ◌∙◌, ◌↔◌}
 use Rattle.std.specs.Prelude.{IfOk, IsOkAnd, IsErrOf}
 use Rattle.label_grammar.specs.declared.label.LabelFault.{LabelFault}

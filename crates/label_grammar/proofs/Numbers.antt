@@ -1,4 +1,4 @@
--- The digits of a number behind its sign.
+-- The digits of a number after its sign.
 use Rattle.std.proofs.Common.{◌≡◌, ℕ, Bool, true, false, eqb, ltb, List, [], ◌∷◌, Some, refl, sym, ap, ◌∙◌}
 use Rattle.std.specs.List.{take_while}
 use Rattle.std.specs.Char.{is_ascii_digit}
@@ -9,7 +9,7 @@ use Rattle.itv_base.specs.Numerals.{is_numeral, value_of, signed}
 use Rattle.itv_base.proofs.Numbers.{positive}
 use Rattle.label_grammar.specs.Reading.{number_from, number_of}
 
--- what is read of a numeral that is not `0`, behind a minus
+-- what is read of a numeral that is not `0`, after a minus
 number_given : (negative : Bool) (digits rest : List ℕ) → is_numeral digits ≡ true → (negative ≡ true → pointwise eqb digits (48 ∷ []) ≡ false)
     → number_from negative digits rest ≡ Some (Some (signed negative (value_of digits)), rest)
 number_given false digits rest h apart = rw h refl

@@ -20,7 +20,7 @@ use Rattle.itv_base.proofs.Numerals.{text-value, value-text, digits-text, numera
 
 -- ---- steps
 
--- the front stands first and the text behind it gave what was found, or it does not and the other thing was found
+-- the front stands first and the text after it gave what was found, or it does not and the other thing was found
 pub after_cases : {R : Type 0} (o : Option (List ℕ)) (f : List ℕ → R) (other found : R) → after o f other ≡ found
     → ((rest : List ℕ) × (o ≡ Some rest) × (f rest ≡ found)) ⊎ ((o ≡ None) × (other ≡ found))
 after_cases None f other found e = inr (refl, e)
@@ -33,7 +33,7 @@ bind_some (Some x) f y e = (x, refl, e)
 pub bind_is : {A B : Type 0} (o : Option A) (f : A → Option B) (x : A) → o ≡ Some x → (o >>= f) ≡ f x
 bind_is o f x e = rw e refl
 
--- the text is the spelling of what was read, and the text behind it
+-- the text is the spelling of what was read, and the text after it
 found_is : {A : Type 0} (spell : A → List ℕ) (text behind rest : List ℕ) (x y : A) → ◌≡◌ {A = Option (A × List ℕ)} (Some (x, behind)) (Some (y, rest)) → text ≡ spell x ++ behind → text ≡ spell y ++ rest
 found_is spell text behind rest x y e h = let p = some_pair_parts x y behind rest e in h ∙ ap (λ z. spell z ++ behind) p.0 ∙ ap (λ r. spell y ++ r) p.1
 
@@ -61,7 +61,7 @@ kind_again Ask rest = refl
 
 -- ---- shifts
 
--- what may stand behind a shift, and behind a tag
+-- what may stand after a shift, and after a tag
 abbrev pub Opens : List ℕ → Type 0
 Opens [] = Unit {0}
 Opens (b ∷ rest) = (b ≡ 58) ⊎ (b ≡ 32)
@@ -77,7 +77,7 @@ numeral_front text h = run_whole is_ascii_digit text ∙ ap (λ x. x ++ after_wh
 pub shift_above : (n : ℕ) → 0 < n → shift_text n ≡ 43 ∷ number_text n
 shift_above n h = rw (ne_eqb n 0 (λ e. omega arith)) refl
 
--- a shift that is read behind a plus
+-- a shift that is read after a plus
 shift_from_takes : (text rest : List ℕ) (n : ℕ) → shift_from (take_while is_ascii_digit text) (after_while is_ascii_digit text) ≡ Some (n, rest) → (43 ∷ text ≡ shift_text n ++ rest) × (n ≤ 64)
 shift_from_takes text rest n e =
     let digits = take_while is_ascii_digit text in
@@ -260,7 +260,7 @@ span_again (named name) rest h spaced =
 
 -- ---- what gives the ends
 
--- What gives the ends of a label of a version is read as it is spelled, and spelled as it is read. It stands behind a space.
+-- What gives the ends of a label of a version is read as it is spelled, and spelled as it is read. It stands after a space.
 pub record Inverts {E : Type 0} (v : Version E) (reading : List ℕ → Option (E × List ℕ)) : Type 0 where
   pub takes : (text rest : List ℕ) (written : E) → reading text ≡ Some (written, rest) → (text ≡ v.text written ++ rest) × (v.has_form written ≡ true)
   pub again : (written : E) (rest : List ℕ) → v.has_form written ≡ true → IsSpaced rest → reading (v.text written ++ rest) ≡ Some (written, rest)

@@ -18,7 +18,7 @@ proper_range label proper = ranges label.ends proper.narrow proper.ordered
     ranges None narrow ordered = tt
     ranges (Some ends) narrow ordered = is_range ends narrow ordered
 
--- the ends of a proper label of version 2, if they stand in the label itself, are a range
+-- the ends of a proper label of version 2, if they are in the label itself, are a range
 pub proper_span : (label : LooseLabel Span) → IsProper version_2 label → IfSome label.ends (λ span. IfSome (fixed_ends span) IsRange)
 proper_span label proper = ranges label.ends proper.narrow proper.ordered
   where

@@ -30,7 +30,7 @@ module _ {E : Type 0} (v : Version E) (reading : List ℕ → Option (E × List 
       (kind_takes text a.0.1 a.0.0 a.1) shift.0 tag.0 written.0 (note_takes d.0.1 f.0 f.1) in
       found_is text (record { kind = a.0.0; shift = b.0.0; tag = c.0.0; ends = d.0.0; note = f.0 }) l f.2 (record { shift = shift.1; tag = tag.1; ends = written.1.some; form = written.1.form }, whole)
 
-  -- a note stands behind a space, if there is one
+  -- a note stands after a space, if there is one
   noted : (note : Option (List ℕ)) → IsSpaced (note_text note)
   noted None = tt
   noted (Some text) = refl
@@ -40,7 +40,7 @@ module _ {E : Type 0} (v : Version E) (reading : List ℕ → Option (E × List 
   spaced None remark = noted remark
   spaced (Some written) remark = inverts.spaced written (note_text remark)
 
-  -- a text that begins with a space, or is empty, may stand behind a shift
+  -- a text that begins with a space, or is empty, may stand after a shift
   opened : (text : List ℕ) → IsSpaced text → Opens text
   opened [] h = tt
   opened (b ∷ rest) h = inr h

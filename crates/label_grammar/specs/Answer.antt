@@ -6,7 +6,7 @@ use Rattle.label_grammar.specs.declared.label.LabelFault.{LabelFault}
 use Rattle.label_grammar.specs.declared.label.LabelFault.TheVariants.{BadLabel, TooWide, EmptyRange}
 use Rattle.label_grammar.specs.Label.{LooseLabel, Version, IsLoose, has_wide_end, has_reversed_ends, spelling}
 
--- The first of these faults counts: the text spells no label, an end is too wide, the ends are the wrong way round. Only ends that stand in the label
+-- The first of these faults counts: the text spells no label, an end is too wide, the ends are the wrong way round. Only ends that are in the label
 -- itself are judged.
 abbrev pub judged_label : {E : Type 0} → (E → Option Ends) → Option (LooseLabel E) → Result (LooseLabel E) LabelFault
 judged_label outright None = Err BadLabel

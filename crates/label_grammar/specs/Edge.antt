@@ -32,6 +32,6 @@ abbrev pub edge_from : List ℕ → List ℕ → EdgeSeen
 edge_from word label =
     if is_timing_label label then (if is_shape word then timing (slice_index word 0) (last_byte word) label else malformed) else comment
 
--- The shape word stands before the first space, and the label behind it. Where there is no space the label is empty.
+-- The shape word stands before the first space, and the label after it. Where there is no space the label is empty.
 unfoldable pub edge_of : List ℕ → EdgeSeen
 edge_of text = edge_from (before_first is_space text) (after_first is_space text)

@@ -4,7 +4,7 @@ use Rattle.itv_base.specs.Range.{Ends, has_wide, is_reversed}
 use Rattle.label_grammar.specs.declared.label.LabelFault.{LabelFault}
 use Rattle.label_grammar.specs.declared.label.LabelFault.TheVariants.{BadLabel, TooWide, EmptyRange}
 
--- the ends that were read, where nothing is behind them
+-- the ends that were read, where nothing is after them
 abbrev pub only_ends : Option (Ends × List ℕ) → Option Ends
 only_ends None = None
 only_ends (Some read) = if length read.1 == 0 then Some read.0 else None

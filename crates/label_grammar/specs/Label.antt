@@ -12,7 +12,7 @@ use Rattle.label_grammar.specs.declared.label2.Label2.{Label2}
 use Rattle.label_grammar.specs.declared.label2.Span as code
 use Rattle.label_grammar.specs.declared.label2.Span.TheVariants.{Fixed, Named}
 
--- A label. In version 1 the two ends stand in it, and in version 2 a span does. Ends are whole numbers of any size, and are not yet known to be a range.
+-- A label. In version 1 the two ends are in it, and in version 2 a span is. Ends are whole numbers of any size, and are not yet known to be a range.
 -- An end that is `None` is open.
 pub record LooseLabel (E : Type 0) : Type 0 where
   pub kind : Kind
@@ -49,18 +49,18 @@ is_ask kind = false
 
 -- ---- versions
 
--- How the labels of a version give their ends, by what stands in them of type `E`: whether it can be spelled, how it is spelled, and the ends, if they are
+-- How the labels of a version give their ends, by what is in them of type `E`: whether it can be spelled, how it is spelled, and the ends, if they are
 -- known from the label itself.
 pub record Version (E : Type 0) : Type 0 where
   pub has_form : E → Bool
   pub text : E → List ℕ
   pub outright : E → Option Ends
 
--- the ends stand in brackets, behind a space
+-- the ends are in brackets, after a space
 abbrev pub ends_text : Ends → List ℕ
 ends_text ends = codes " [" ++ (end_text ends.low ++ (codes "," ++ (end_text ends.high ++ codes "]")))
 
--- the name of a parameter stands behind a space and a dollar sign
+-- the name of a parameter stands after a space and a dollar sign
 abbrev pub span_text : Span → List ℕ
 span_text (fixed ends) = ends_text ends
 span_text (named name) = codes " $" ++ name
@@ -127,7 +127,7 @@ kind_text Ask = codes "@ask"
 abbrev pub shift_text : ℕ → List ℕ
 shift_text shift = if shift == 0 then [] else codes "+" ++ number_text shift
 
--- a tag stands behind a colon
+-- a tag stands after a colon
 abbrev pub tag_text : Option (List ℕ) → List ℕ
 tag_text None = []
 tag_text (Some tag) = codes ":" ++ tag
@@ -137,7 +137,7 @@ abbrev pub optional_text : {E : Type 0} → (E → List ℕ) → Option E → Li
 optional_text text None = []
 optional_text text (Some written) = text written
 
--- a note stands behind a space
+-- a note stands after a space
 abbrev pub note_text : Option (List ℕ) → List ℕ
 note_text None = []
 note_text (Some note) = codes " " ++ note

@@ -17,7 +17,7 @@ infixl 10 ◌>>=◌
 abbrev pub ◌>>=◌ : {A B : Type 0} → Option A → (A → Option B) → Option B
 o >>= f = option_and_then f o
 
--- Each of these but the last two gives what was read and the text behind it.
+-- Each of these but the last two gives what was read and the text after it.
 
 -- the first of these kinds with its word at the front of the text
 abbrev pub first_kind : List Kind → List ℕ → Option (Kind × List ℕ)
@@ -44,12 +44,12 @@ tag_from tag rest = if is_name tag then Some (Some tag, rest) else None
 unfoldable pub tag_of : List ℕ → Option (Option (List ℕ) × List ℕ)
 tag_of text = after (stripped (codes ":") text) (λ rest. tag_from (take_while is_name_byte rest) (after_while is_name_byte rest)) (Some (None, text))
 
--- a number behind a minus is not 0
+-- a number after a minus is not 0
 abbrev pub number_from : Bool → List ℕ → List ℕ → Option (Option ℤ × List ℕ)
 number_from false digits rest = if is_numeral digits then Some (Some (pos (value_of digits)), rest) else None
 number_from true digits rest = if is_numeral digits && nat_lt 0 (value_of digits) then Some (Some (neg_ℤ (pos (value_of digits))), rest) else None
 
--- the digits of a number behind its sign
+-- the digits of a number after its sign
 abbrev pub number_of : Bool → List ℕ → Option (Option ℤ × List ℕ)
 number_of is_negative text = number_from is_negative (take_while is_ascii_digit text) (after_while is_ascii_digit text)
 

@@ -43,7 +43,7 @@ wire_between from to label = malformed
 abbrev pub wire_from : List ℕ → List ℕ → List ℕ → WireSeen
 wire_from from to label = if is_timing_label label then wire_between (part_mark_of from) (part_mark_of to) label else comment
 
--- The words stand before the first two spaces, and the label behind them. Where there are not two spaces the label is empty.
+-- The words stand before the first two spaces, and the label after them. Where there are not two spaces the label is empty.
 unfoldable pub wire_of : List ℕ → WireSeen
 wire_of text =
     let rest = after_first is_space text in

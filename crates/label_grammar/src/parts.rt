@@ -1,4 +1,4 @@
-//! Reading the form of a label from the front of a text. Each function but the last two gives what it read and the text behind it.
+//! Reading the form of a label from the front of a text. Each function but the last two gives what it read and the text after it.
 
 ghost use Rattle.std.specs.Prelude.{◌≡◌, option_map};
 ghost use Rattle.std.specs.Option.{option_copied};
@@ -53,7 +53,7 @@ pub fn read_tag(text: &str) -> Option<(Option<&str>, &str)>
     is_name(tag).then_some((Some(tag), rest))
 }
 
-// The digits of a number behind its sign. There is no `-0`.
+// The digits of a number after its sign. There is no `-0`.
 fn read_number(is_negative: bool, text: &str) -> Option<(Option<Number<'_>>, &str)>
     ensures { option_map (λ x. (option_map number_value x.0, x.1.now)) result ≡ number_of is_negative text.now }
 {

@@ -11,7 +11,7 @@ use crate::parts::read_ends;
 use crate::reading::range_of;
 use itv_base::Range;
 
-// What `read_range` gives, by the definitions of reading. The other clauses of `read_range` follow from this clause.
+// What `read_range` gives, according to the definitions of reading. The other clauses of `read_range` follow from this clause.
 fn read_judged(text: &str) -> Result<Range, LabelFault>
     ensures { result ≡ judged_alone (only_ends (ends_of text.now)) }
 {
@@ -22,7 +22,7 @@ fn read_judged(text: &str) -> Result<Range, LabelFault>
     range_of(ends)
 }
 
-/// Reads the two ends of a range as they stand in a label: a space and `[low,high]`, in picoseconds, `*` where open, and nothing else. It
+/// Reads the two ends of a range as they are written in a label: a space and `[low,high]`, in picoseconds, `*` where open, and nothing else. It
 /// reports the first of these faults: the text does not have this form, an end is too wide, the ends are the wrong way round.
 /// [`read_label`](crate::read_label) has the same faults in the same order.
 pub fn read_range(text: &str) -> Result<Range, LabelFault>
@@ -31,7 +31,7 @@ pub fn read_range(text: &str) -> Result<Range, LabelFault>
     // Two ends that make a range, and that the text spells, are read.
     ensures only { (ends : Ends) → has_wide ends ≡ false → is_reversed ends ≡ false → text.now ≡ ends_text ends
         → result ≡ Ok ends }
-    // The same by the definitions of reading, for the definitions of crates above this one.
+    // The same according to the definitions of reading, for the definitions of crates above this one.
     ensures exact { result ≡ judged_alone (only_ends (ends_of text.now)) }
 {
     read_judged(text)

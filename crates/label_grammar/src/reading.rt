@@ -44,7 +44,7 @@ fn range_between(ends: Option<EndPair<'_>>) -> Result<Option<Range>, LabelFault>
     }
 }
 
-// What `read_label` gives, by the definitions of reading. The other clauses of `read_label` follow from this clause.
+// What `read_label` gives, according to the definitions of reading. The other clauses of `read_label` follow from this clause.
 fn read_judged(text: &str) -> Result<Label<'_>, LabelFault>
     ensures { LabelAgrees label_view result (judged_label (λ ends. Some ends) (label_of ends_of text.now)) }
 {
@@ -64,7 +64,7 @@ fn read_judged(text: &str) -> Result<Label<'_>, LabelFault>
 /// a zero in front. It reports the first of these faults: the text does not have this form, an end is too wide, the ends are the wrong way
 /// round.
 pub fn read_label<'a>(text: &'a str) -> Result<Label<'a>, LabelFault>
-    // The label that is read is proper, and the text is its spelling: so its tag and its note stand in the text.
+    // The label that is read is proper, and the text is its spelling: so its tag and its note are in the text.
     ensures ok { IfOk result (λ l. IsProper version_1 (label_view l) × (text.now ≡ spelling version_1 (label_view l))) }
     // A proper label that the text spells is read.
     ensures only { (l : LooseLabel Ends) → IsProper version_1 l → text.now ≡ spelling version_1 l
@@ -72,7 +72,7 @@ pub fn read_label<'a>(text: &'a str) -> Result<Label<'a>, LabelFault>
     ensures bad { IsErrOf result LabelFault.BadLabel ↔ IsUnspelled version_1 text.now }
     ensures wide { IsErrOf result LabelFault.TooWide ↔ SpellsWideEnd version_1 text.now }
     ensures empty { IsErrOf result LabelFault.EmptyRange ↔ SpellsReversedEnds version_1 text.now }
-    // The same by the definitions of reading, for the definitions of crates above this one.
+    // The same according to the definitions of reading, for the definitions of crates above this one.
     ensures exact { LabelAgrees label_view result (judged_label (λ ends. Some ends) (label_of ends_of text.now)) }
 {
     read_judged(text)

@@ -42,7 +42,7 @@ fn judged_span<'a>(written: Option<WrittenSpan<'a>>) -> Result<Option<Span<'a>>,
     }
 }
 
-// What `read_label2` gives, by the definitions of reading. The other clauses of `read_label2` follow from this clause.
+// What `read_label2` gives, according to the definitions of reading. The other clauses of `read_label2` follow from this clause.
 fn read_judged2(text: &str) -> Result<Label2<'_>, LabelFault>
     ensures { LabelAgrees label2_view result (judged_label fixed_ends (label_of span_of text.now)) }
 {
@@ -64,7 +64,7 @@ fn read_judged2(text: &str) -> Result<Label2<'_>, LabelFault>
 /// faults: the text has neither form, an end is too wide, the ends are the wrong way round. The reader does not ask whether there is such a
 /// parameter.
 pub fn read_label2<'a>(text: &'a str) -> Result<Label2<'a>, LabelFault>
-    // The label that is read is proper, and the text is its spelling: so its tag, its parameter and its note stand in the text.
+    // The label that is read is proper, and the text is its spelling: so its tag, its parameter and its note are in the text.
     ensures ok { IfOk result (λ l. IsProper version_2 (label2_view l) × (text.now ≡ spelling version_2 (label2_view l))) }
     // A proper label that the text spells is read.
     ensures only { (l : LooseLabel SpanSeen) → IsProper version_2 l → text.now ≡ spelling version_2 l
@@ -72,7 +72,7 @@ pub fn read_label2<'a>(text: &'a str) -> Result<Label2<'a>, LabelFault>
     ensures bad { IsErrOf result LabelFault.BadLabel ↔ IsUnspelled version_2 text.now }
     ensures wide { IsErrOf result LabelFault.TooWide ↔ SpellsWideEnd version_2 text.now }
     ensures empty { IsErrOf result LabelFault.EmptyRange ↔ SpellsReversedEnds version_2 text.now }
-    // The same by the definitions of reading, for the definitions of crates above this one.
+    // The same according to the definitions of reading, for the definitions of crates above this one.
     ensures exact { LabelAgrees label2_view result (judged_label fixed_ends (label_of span_of text.now)) }
 {
     read_judged2(text)

@@ -39,7 +39,7 @@ pub parts_are_lines : (bytes : List ℕ) → AllByRecursion IsLine (slice_split 
 parts_are_lines [] = (tt, tt)
 parts_are_lines (b ∷ bytes) = cons_lines b (slice_split is_feed bytes) (is_feed b) refl (parts_are_lines bytes)
 
--- a text with a line and its end in front is cut behind the line's end
+-- a text with a line and its end in front is cut after the line's end
 pub split_line : (line rest : List ℕ) → IsLine line → slice_split is_feed (ended line ++ rest) ≡ line ∷ slice_split is_feed rest
 split_line line rest h =
     ap (slice_split is_feed) (append_assoc line (10 ∷ []) rest) ∙ slice_split_at is_feed line 10 rest (All-from_recursion (λ b. is_feed b ≡ false) line h) refl

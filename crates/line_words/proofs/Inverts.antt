@@ -68,7 +68,7 @@ behind_is key (word ∷ words) rest e =
     let same : words ≡ rest = same_Some words rest p.1 in
     cc
 
--- what is read behind a word
+-- what is read after a word
 pub keyed_takes : {A : Type 0} (key : Word) (read : List Word → Option A) (words : List Word) (x : A) → keyed key read words ≡ Some x → (rest : List Word) × (words ≡ key ∷ rest) × (read rest ≡ Some x)
 keyed_takes key read words x e =
     let b = bind_some (behind_word key words) read x e in

@@ -1,4 +1,4 @@
--- Reading words one after another: what was read so far stands in front of what is read of the words that are left.
+-- Reading words one after another: what was read so far stands before what is read of the words that are left.
 use Rattle.std.proofs.Common.{◌≡◌, ℕ, ◌+◌, ◌<◌, ◌≤◌, List, [], ◌∷◌, ◌++◌, length, get_or, drop, Bor, Option, Some, None, option_map, refl, sym, ap, ◌∙◌, append_assoc, add-one, drop-cons}
 use Rattle.std.proofs.lemmas.List.{append-nil, drop_all}
 use Rattle.line_words.specs.Words.{◌>>=◌, Word, many}

@@ -41,7 +41,7 @@ minus_long : (n : ℕ) → 1 ≤ n → n ≤ 2 ^ 63 → IsLong (neg_ℤ (pos n))
 minus_long zero h k = absurd (omega arith)
 minus_long (suc n) h k = record { sfits = omega arith }
 
--- a number below 0, by its digits behind the sign
+-- a number below 0, by its digits after the sign
 negative_takes : (digits : Word) (value : ℤ) → negative_in digits ≡ Some value → (45 ∷ digits ≡ signed_text value) × IsLong value
 negative_takes digits value e =
     let n = value_of digits in
@@ -62,7 +62,7 @@ positive_takes word value e =
     let long : IsLong (pos n) = record { sfits = omega arith } in
     subst (λ z. (word ≡ signed_text z) × IsLong z) (same_Some (pos n) value w.1) (sym (text-value word p.0), long)
 
--- what was read behind a sign, or without one
+-- what was read after a sign, or without one
 after_some : (o : Option Word) (f : Word → Option ℤ) (other : Option ℤ) (value : ℤ) (P : Type 0) → after o f other ≡ Some value
     → ((rest : Word) → o ≡ Some rest → f rest ≡ Some value → P) → (other ≡ Some value → P) → P
 after_some None f other value P e here there = there e

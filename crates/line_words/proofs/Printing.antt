@@ -1,4 +1,4 @@
--- A line as a writer puts it: the first word, each other word behind a space, and the line end.
+-- A line as a writer puts it: the first word, each other word after a space, and the line end.
 use Rattle.std.proofs.Common.{◌≡◌, ℕ, ◌+◌, ◌<◌, List, [], ◌∷◌, ◌++◌, length, get_or, drop, map, Bor, Result, refl, sym, subst, ap, ◌∙◌, append_assoc, add-one, drop-cons}
 use Rattle.std.specs.List.{flat_map}
 use Rattle.std.proofs.lemmas.List.{drop-map, append-nil}
@@ -8,7 +8,7 @@ use Rattle.itv_base.proofs.Written.{cut_more, cut_then, puts_same, puts_then}
 use Rattle.line_words.specs.Words.{Word}
 use Rattle.line_words.specs.Lines.{ended, line_of, spaced}
 
--- the words of a line put one behind another
+-- the words of a line put one after another
 pub join_spaced : (word : Word) (words : List Word) → line_of (word ∷ words) ≡ word ++ flat_map spaced words
 join_spaced word [] = sym (append-nil word)
 join_spaced word (other ∷ words) = ap (λ rest. word ++ (32 ∷ rest)) (join_spaced other words)

@@ -11,10 +11,10 @@ pub record Gathered : Type 0 where
 abbrev pub buffer_state : Gathered → SinkState
 buffer_state b = record { written = Some b.bytes; faults = b.faults }
 
--- a piece fits behind the bytes
+-- a piece fits after the bytes
 abbrev pub fits : Gathered → List ℕ → Bool
 fits b piece = nat_le (length b.bytes + length piece) b.room
 
--- what a put leaves: the bytes with the piece if it fits, and else the same bytes and one fault more
+-- what a put leaves: the bytes with the piece if it fits, and otherwise the same bytes and one fault more
 abbrev pub after_put : Gathered → List ℕ → Gathered
 after_put b piece = if fits b piece then record b { bytes = b.bytes ++ piece } else record b { faults = one_more_fault b.faults }

@@ -14,6 +14,6 @@ ended line = line ++ 10 ∷ []
 abbrev pub line_of : List Word → List ℕ
 line_of words = join_with_byte 32 words
 
--- a word behind a space
+-- a word after a space
 abbrev pub spaced : Word → List ℕ
 spaced word = 32 ∷ word

@@ -17,7 +17,7 @@ IsLongOrOpen end = IfSome end IsLong
 abbrev pub number_in : ℕ → Word → Option ℕ
 number_in limit word = when (is_numeral word && nat_le (value_of word) limit) (Some (value_of word))
 
--- a number of 64 bits below 0, by its digits behind the sign
+-- a number of 64 bits below 0, by its digits after the sign
 abbrev pub negative_in : Word → Option ℤ
 negative_in digits = when (is_numeral digits && (nat_le 1 (value_of digits) && nat_le (value_of digits) (2 ^ 63))) (Some (neg_ℤ (pos (value_of digits))))
 

@@ -32,12 +32,12 @@ or_else (Some x) other = Some x
 abbrev pub when : {A : Type 0} → Bool → Option A → Option A
 when test found = if test then found else None
 
--- the words behind the first word, if the first word is this one
+-- the words after the first word, if the first word is this one
 abbrev pub behind_word : Word → List Word → Option (List Word)
 behind_word key [] = None
 behind_word key (word ∷ words) = when (is_word word key) (Some words)
 
--- what is read of the words behind this first word
+-- what is read of the words after this first word
 abbrev pub keyed : {A : Type 0} → Word → (List Word → Option A) → List Word → Option A
 keyed key read words = behind_word key words >>= read
 

@@ -1,6 +1,6 @@
 //! Lines of words: a line is read word by word, each word whole, and is written word by word. The contract: reading a
 //! word or the words of a line gives what the definitions read of the text. A line is put with one space between two
-//! words and a line feed behind the last word.
+//! words and a line feed after the last word.
 #![tactic(auto)]
 
 mod buffer;

@@ -50,7 +50,7 @@ fn positive_in(word: &str) -> Option<i64>
     Some(value as i64)
 }
 
-/// The number of 64 bits that a word is. A minus stands in front if it is below 0.
+/// The number of 64 bits that a word is. A minus is in front if it is below 0.
 #[tactic(auto, unfolding(crate::specs::Numbers::long_in))]
 pub fn long_in(word: &str) -> Option<i64>
     ensures number { result ≡ long_in word.now }

@@ -20,7 +20,7 @@ pub fn split_words<'a>(alloc: Global, line: &'a str) -> Result<Vec<&'a str>, NoM
     Ok(collect_words(alloc, line)?)
 }
 
-/// The words behind the first word, if the first word is `key`.
+/// The words after the first word, if the first word is `key`.
 pub fn behind_word<'a, 'b>(words: &'b [&'a str], key: &str) -> Option<&'b [&'a str]>
     ensures words { option_map (λ w. texts w.now) result ≡ behind_word key.now (texts words.now) }
 {

@@ -100,7 +100,7 @@ sides_kept net from to range kept.Open kept.NotAll h l = inr (l.0, l.1, low_brok
 sides_kept net from to range kept.Open kept.All h l = tt
 sides_kept net from to range kept.Open kept.Open h l = tt
 
--- whether a range is kept, by the greatest separation of a pair and of the reversed one
+-- whether a range is kept, according to the greatest separation of a pair and of the reversed one
 pub range_kept : (net : Net) (from to : EventId) (range : Ends) (found reversed : Extent) → IsExtent net from to found → IsExtent net to from reversed
     → KeepsRange net from to range (kept_in range found reversed)
 range_kept net from to range found reversed is other =

@@ -12,11 +12,11 @@ use Rattle.lint_report.specs.Text.{both_words, stroke_between, word_if_any}
 
 -- ---- pieces
 
--- one word behind a space
+-- one word after a space
 pub one_spaced : (word : Word) → (32 ∷ []) ++ word ≡ spaced word
 one_spaced word = refl
 
--- a word of two pieces behind a space
+-- a word of two pieces after a space
 pub two_spaced : (first other : Word) → spaced first ++ spaced other ≡ spaced (first ++ (32 ∷ other))
 two_spaced first other = refl
 

@@ -38,7 +38,7 @@ pub answered_by : (plan : Planned) (design : Composed) (network : Drawn) (lines 
     → clean ≡ is_clean plan design network lines → answer ≡ answer_by (is_clean plan design network lines)
 answered_by plan design network lines answer clean by is = by ∙ ap answer_by is
 
--- the whole text, by whether it is clean and by the number of lines that are silenced
+-- the whole text, according to whether it is clean and to the number of lines that are silenced
 pub lint_is : (plan : Planned) (design : Composed) (network : Drawn) (lines : List Line) (clean : Bool) (meant : ℕ) → clean ≡ is_clean plan design network lines
     → meant ≡ meant_count plan design network lines
     → ended (codes "itv lint 1") ++ (flat_map (shown_text plan design network) lines ++ end_text clean meant) ≡ lint_text plan design network lines

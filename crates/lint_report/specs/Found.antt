@@ -27,7 +27,7 @@ use Rattle.lint_report.specs.declared.row_seen.RowSeen.{RowSeen}
 use Rattle.lint_report.specs.declared.lint_found.LintFound.{LintFound}
 use Rattle.lint_report.specs.declared.lint_found.LintFound.TheVariants.{Consistent, Inconsistent, Open}
 
--- ---- what is so by the order of lanes alone
+-- ---- what is so because of the order of lanes alone
 
 -- of two claims that exclude each other: the first is so, the second is so, or nothing is known
 abbrev pub IsByOrder : ByOrder → Type 0 → Type 0 → Type 0
@@ -88,7 +88,7 @@ pub record AreEndsFound (network : Drawn) (ends : List RangeEnd) : Type 0 where
   pub all : map (λ (end : RangeEnd). end.name) ends ≡ ends_of network
   pub right : All (IsEndFound network) ends
 
--- what is found behind a consistent finding
+-- what is found after a consistent finding
 pub record IsConsistentFound (network : Drawn) (found : List RangeEnd) (seen : List RowSeen) : Type 0 where
   pub consistent : IsConsistency network.net consistency.Consistent
   pub ends : AreEndsFound network found
@@ -116,7 +116,7 @@ is_order_open by_order.Open = true
 abbrev pub is_row_open : RowSeen → Bool
 is_row_open found = is_pair_open found.greatest || (is_pair_open found.least || is_order_open found.passes)
 
--- nothing was left open, but for ends where there are many of them
+-- nothing was left open, except for ends where there are many of them
 abbrev pub IsFoundOut : Drawn → LintFound → Type 0
 IsFoundOut network (Consistent ends rows) =
     (length (all_ends network) ≤ MOST_SEARCHES → All (λ (end : RangeEnd). IsEndSettled end.found) ends.items) × All (λ (row : RowSeen). is_row_open row ≡ false) rows.items

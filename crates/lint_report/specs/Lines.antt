@@ -1,4 +1,4 @@
--- Which lines job lint has, by the warnings of the drawing and by what the searches find.
+-- Which lines job lint has, according to the warnings of the drawing and to what the searches find.
 use Rattle.std.specs.Prelude.{ℕ, ℤ, ◌+◌, ◌==◌, ◌&&◌, ◌||◌, Bool, true, false, if◌then◌else◌, List, [], ◌∷◌, ◌++◌, Option, Some, None, option_and_then, unwrap_or, slice_get, codes, nat_eq, count_by}
 use Rattle.std.specs.List.{ends_with, flat_map, list_all, list_any}
 use Rattle.std.specs.Option.{option_map_or}
@@ -92,7 +92,7 @@ is_by_order by_order.Yes = true
 is_by_order by_order.No = false
 is_by_order by_order.Open = false
 
--- the answer of a row rests on the order of a lane: a chain behind one of its bounds goes over it, or its requirement passes by that order alone
+-- the answer of a row rests on the order of a lane: a chain behind one of its bounds uses it, or its requirement passes because of that order alone
 abbrev pub rests_on_order : Drawn → RowSeen → Bool
 rests_on_order network found = goes_over network found.greatest || (goes_over network found.least || is_by_order found.passes)
 
@@ -123,7 +123,7 @@ contradiction_lines by_order.Yes = Contradiction ∷ []
 contradiction_lines by_order.No = []
 contradiction_lines by_order.Open = Open ∷ []
 
--- the lines behind the lines of ends
+-- the lines after the lines of ends
 abbrev pub other_lines : Drawn → LintFound → List Line
 other_lines network (found.Consistent ends rows) = row_lines network 0 network.rows rows.items ++ open_ends_line (count_by is_end_open ends.items)
 other_lines network (found.Inconsistent by) = contradiction_lines by

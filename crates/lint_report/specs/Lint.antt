@@ -17,8 +17,8 @@ abbrev pub answer_by : Bool → Answer
 answer_by true = AllPass
 answer_by false = SomeFail
 
--- The text has just the lines of the warnings of the design that was read, and of what is found of it, but for those that are meant. All that was found
--- is right. The answer says whether there are any lines.
+-- The text has just the lines of the warnings of the design that was read, and of what is found of it, except for those that are meant. All
+-- that was found is right. The answer says whether there are any lines.
 pub record AnswersLint (plan : Planned) (network : Drawn) (budget : ℕ) (answer : Answer) (text : List ℕ) : Type 0 where
   pub design : Composed
   pub is_design : composed_on plan.netlist (sheets_on plan.sheets plan.netlist.parts) ≡ Ok design

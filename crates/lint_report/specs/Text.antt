@@ -31,7 +31,7 @@ use Rattle.lint_report.specs.Lines.{event_part, is_clean, is_silenced, meant_cou
 
 -- ---- places
 
--- an edge or a lane of a part has the name of the part before it; a pin or a wire stands by itself
+-- an edge or a lane of a part has the name of the part before it; a pin or a wire is by itself
 abbrev pub place_word : List ℕ → Origin → Word
 place_word part (drawn.Lane n) = part ++ (32 ∷ origin_text (drawn.Lane n))
 place_word part (drawn.Edge n) = part ++ (32 ∷ origin_text (drawn.Edge n))
@@ -48,7 +48,7 @@ at_word network at = place_word (event_part network at.event) at.origin
 abbrev pub mark_byte : Composed → DesignMark → List ℕ
 mark_byte d mark = option_map_or (λ (m : Mark). m.name ∷ []) (slice_get (marks_at d.sheets mark.part) mark.mark) []
 
--- a mark behind its part, with a full stop between them
+-- a mark after its part, with a full stop between them
 abbrev pub mark_word : Composed → DesignMark → Word
 mark_word d mark = part_word d mark.part ++ (46 ∷ mark_byte d mark)
 
@@ -173,7 +173,7 @@ narrow_words plan network at side weight only =
     codes "narrow" ∷ at_word network at ∷ end_word side ∷ signed_text (end_number side weight) ∷ codes "only" ∷ signed_text (end_number side only)
     ∷ at_told plan network at
 
--- the words of a line, behind its first word
+-- the words of a line, after its first word
 abbrev pub line_words : Planned → Composed → Drawn → Line → List Word
 line_words plan d network (Drawing warning) = warning_words plan d warning
 line_words plan d network (Narrow at side weight only) = narrow_words plan network at side weight only

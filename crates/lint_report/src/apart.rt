@@ -41,7 +41,7 @@ pub enum WithoutOrder {
     Open,
 }
 
-/// Whether a design that no times satisfy contradicts itself by the order of lanes alone.
+/// Whether a design that no times satisfy contradicts itself because of the order of lanes alone.
 pub fn contradicts_by_order(
     alloc: Global,
     drawn: &DrawnNetwork,
@@ -153,7 +153,7 @@ fn found_apart(
     }
 }
 
-/// Whether a requirement that all satisfying times keep is kept by the order of lanes alone.
+/// Whether a requirement that all satisfying times keep is kept because of the order of lanes alone.
 pub fn passes_by_order(
     alloc: Global,
     drawn: &DrawnNetwork,

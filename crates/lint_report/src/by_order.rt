@@ -1,6 +1,6 @@
 //! Whether the order of lanes decides something.
 
-/// Whether something is so by the order of lanes alone: it is so, and without that order it is not.
+/// Whether something is so because of the order of lanes alone: it is so, and without that order it is not.
 #[derive(Clone, Copy, PartialEq, Eq)]
 pub enum ByOrder {
     Yes,

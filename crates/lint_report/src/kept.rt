@@ -49,7 +49,7 @@ pub fn extent_by(found: &Greatest) -> Extent
     }
 }
 
-/// Whether all satisfying times keep a range, by the greatest separation of the pair and of the reversed pair.
+/// Whether all satisfying times keep a range, according to the greatest separation of the pair and of the reversed pair.
 pub fn kept_in(range: Range, found: Extent, reversed: Extent) -> RangeKept
     ensures kept { result ≡ kept_in range found reversed }
 {
@@ -96,7 +96,8 @@ fn kept_both(first: RangeKept, other: RangeKept) -> RangeKept
     }
 }
 
-/// Whether a requirement that is kept in the drawn network passes by the order of lanes alone, by whether it is kept without that order.
+/// Whether a requirement that is kept in the drawn network passes because of the order of lanes alone, given whether it is kept
+/// without that order.
 pub fn order_by_kept(kept: RangeKept) -> ByOrder
     ensures order { result ≡ order_by_kept kept }
 {
@@ -107,7 +108,7 @@ pub fn order_by_kept(kept: RangeKept) -> ByOrder
     }
 }
 
-/// Whether rules that contradict each other do so by the order of lanes alone, by what is found without that order.
+/// Whether rules that contradict each other do so because of the order of lanes alone, given what is found without that order.
 pub fn order_by_finding(found: Consistency) -> ByOrder
     ensures order { result ≡ order_by_finding found }
 {

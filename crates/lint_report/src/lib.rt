@@ -1,5 +1,6 @@
 //! Job lint: what in a design may say something else than was meant. The contract of the crate: `write_lint` writes just the lines of the
-//! warnings of the definitions, and of what is found of the design, but for those that are meant. If a put failed, it wrote a front of such a text.
+//! warnings of the definitions, and of what is found of the design, except for those that are meant. If a put failed, the beginning of these
+//! lines was written.
 #![tactic(auto)]
 
 mod apart;

@@ -20,7 +20,7 @@ use narrow::RangeEnd;
 use std::alloc::Global;
 use warnings::Warning;
 
-/// All lines in order, by the warnings of the drawing and by what is found.
+/// All lines in order, according to the warnings of the drawing and to what is found.
 pub fn lines_of(
     alloc: Global,
     design: &Design<'_>,
@@ -37,7 +37,7 @@ pub fn lines_of(
     Ok(lines)
 }
 
-// The lines of the warnings of the drawing, but for those that lines of ends say too.
+// The lines of the warnings of the drawing, except for those that lines of ends say too.
 fn drawing_lines(
     alloc: Global,
     design: &Design<'_>,
@@ -70,7 +70,7 @@ fn push_drawing(
     Ok(lines.push(Line::Drawing(*warning))?)
 }
 
-// Lines behind others.
+// Lines after others.
 fn push_all(more: &[Line], lines: &mut Vec<Line>) -> Result<(), NoMemory>
     ensures lines { IfOk result (λ _. lines.new.items ≡ lines.old.items ++ more.now) }
 {
@@ -116,7 +116,7 @@ fn push_end(drawn: &DrawnNetwork, end: &RangeEnd, lines: &mut Vec<Line>) -> Resu
     }
 }
 
-// The lines behind the lines of ends.
+// The lines after the lines of ends.
 fn push_others(
     drawn: &DrawnNetwork,
     found: &LintFound,

@@ -12,7 +12,7 @@ pub enum LintFound {
         ends: Vec<RangeEnd>,
         rows: Vec<RowSeen>,
     },
-    /// No times satisfy it: whether that is so by the order of lanes alone.
+    /// No times satisfy it: whether that is so because of the order of lanes alone.
     Inconsistent(ByOrder),
     /// The search for times was left open.
     Open,

@@ -16,7 +16,7 @@ pub enum Piece<'a> {
     Key(&'a [u8]),
     /// Bytes without those that can't be printed.
     Printed(&'a [u8]),
-    /// What draws something, behind the name of its part.
+    /// What draws something, after the name of its part.
     Place(PartPlace<'a>),
     /// What draws something, without a part.
     Drawn(Origin),

@@ -25,7 +25,7 @@ use origin::Origin;
 use plan::Plan;
 use warnings::{DrawnPlace, Warning};
 
-/// Puts a line and its end, by one put if it fits the buffer, and else piece by piece. What the buffer held before is forgotten.
+/// Puts a line and its end, by one put if it fits the buffer, and otherwise piece by piece. What the buffer held before is forgotten.
 pub fn put_line<K: Sink>(
     plan: &Plan,
     design: &Design<'_>,
@@ -58,7 +58,7 @@ fn put_whole<K: Sink>(
     sink.put(b"\n")
 }
 
-// Puts a space and a word for each word of a line behind its first word.
+// Puts a space and a word for each word of a line after its first word.
 fn put_line_words<K: Sink>(
     plan: &Plan,
     design: &Design<'_>,
@@ -171,7 +171,7 @@ fn put_narrow<K: Sink>(
     }
 }
 
-// A place in a drawn network, by the name of its part.
+// A place in a drawn network, with the name of its part.
 fn place_at<'a>(drawn: &'a DrawnNetwork, at: DrawnAt) -> PartPlace<'a>
     ensures part { result.part.now ≡ event_part drawn.now at.event }
     ensures origin { result.origin ≡ at.origin }
@@ -283,7 +283,7 @@ fn put_period<K: Sink>(
     )
 }
 
-// A place in a design, by the name of its part.
+// A place in a design, with the name of its part.
 fn place_of<'a>(design: &'a Design<'_>, spot: &DrawnPlace) -> PartPlace<'a>
     ensures part { result.part.now ≡ part_word design.now spot.now.part }
     ensures origin { result.origin ≡ spot.now.origin }
@@ -294,7 +294,7 @@ fn place_of<'a>(design: &'a Design<'_>, spot: &DrawnPlace) -> PartPlace<'a>
     }
 }
 
-// Puts a mark that follows two drivers, by the pins.
+// Puts a mark that follows two drivers, through the pins.
 fn put_drivers<K: Sink>(
     plan: &Plan,
     design: &Design<'_>,

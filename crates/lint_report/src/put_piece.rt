@@ -51,7 +51,7 @@ fn put_text<K: Sink>(text: &[u8], sink: &mut K) -> Result<(), PutFailed>
     put_printed(text, sink)
 }
 
-// Puts a space and what draws something, behind the name of its part if it has one.
+// Puts a space and what draws something, after the name of its part if it has one.
 fn put_place<K: Sink>(place: PartPlace<'_>, sink: &mut K) -> Result<(), PutFailed>
     ensures puts { Puts (K.state sink.old) (K.state sink.new) (spaced (place_word place.entry.part.now place.entry.origin)) result }
 {
@@ -77,7 +77,7 @@ fn put_drawn<K: Sink>(origin: Origin, sink: &mut K) -> Result<(), PutFailed>
     put_origin(origin, sink)
 }
 
-// Puts a space and a mark behind the name of its part.
+// Puts a space and a mark after the name of its part.
 fn put_mark<K: Sink>(part: &str, name: Option<u8>, sink: &mut K) -> Result<(), PutFailed>
     ensures puts { Puts (K.state sink.old) (K.state sink.new) (spaced (marked_word part.now name)) result }
 {

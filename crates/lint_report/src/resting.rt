@@ -12,7 +12,7 @@ use crate::row_seen::RowSeen;
 use drawn::DrawnNetwork;
 use itv_base::EdgeName;
 
-/// Whether a chain behind a bound of a row goes over the order of a lane, or its requirement passes by that order alone.
+/// Whether a chain behind a bound of a row goes over the order of a lane, or its requirement passes because of that order alone.
 pub fn rests_on_order(drawn: &DrawnNetwork, found: &RowSeen) -> bool
     ensures rests { result ≡ rests_on_order drawn.now found.now }
 {

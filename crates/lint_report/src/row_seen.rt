@@ -9,6 +9,6 @@ pub struct RowSeen {
     pub greatest: PairSeen,
     /// The greatest separation of the reversed pair, which is minus the least separation.
     pub least: PairSeen,
-    /// Whether its requirement passes by the order of lanes alone. A row that only asks has none.
+    /// Whether its requirement passes because of the order of lanes alone. A row that only asks has none.
     pub passes: ByOrder,
 }

@@ -76,7 +76,7 @@ fn has_order(drawn: &DrawnNetwork) -> bool
         .any(|origins| keeps_order(origins.as_slice()))
 }
 
-// Whether a constraint keeps the order of a lane, by the origins of its causes.
+// Whether a constraint keeps the order of a lane, according to the origins of its causes.
 fn keeps_order(origins: &[Origin]) -> bool
     ensures { result ≡ keeps_order origins.now }
 {
@@ -181,7 +181,7 @@ fn see_closed(
     Ok(PairSeen::Closed { value, chain })
 }
 
-// Whether the requirement of a row passes by the order of lanes alone.
+// Whether the requirement of a row passes because of the order of lanes alone.
 fn row_passes(
     alloc: Global,
     drawn: &DrawnNetwork,
@@ -206,7 +206,7 @@ fn row_passes(
     }
 }
 
-// Whether a requirement passes by the order of lanes alone.
+// Whether a requirement passes because of the order of lanes alone.
 fn range_passes(
     alloc: Global,
     drawn: &DrawnNetwork,
@@ -233,7 +233,7 @@ fn range_passes(
     }
 }
 
-// Whether all satisfying times keep a range, by what is found of a pair and of the reversed pair.
+// Whether all satisfying times keep a range, according to what is found of a pair and of the reversed pair.
 fn seen_kept(range: Range, greatest: &PairSeen, least: &PairSeen) -> RangeKept
     ensures kept { (net : Net) (from to : EventIdOf) → IsPairSeen net from to greatest.now → IsPairSeen net to from least.now
         → KeepsRange net from to range result }

@@ -44,7 +44,7 @@ fn is_narrow_spot(
         .any(|line| is_about(drawn, part, origin, line))
 }
 
-// Whether a line is about the end of the range of an edge, by the name of its part.
+// Whether a line is about the end of the range of an edge, given the name of its part.
 fn is_about(drawn: &DrawnNetwork, part: &str, origin: Origin, line: &Line) -> bool
     ensures { result ≡ is_about drawn.now part.now origin line.now }
 {

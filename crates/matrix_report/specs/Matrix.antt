@@ -27,7 +27,7 @@ row_of rows from = slice_index_or rows from []
 abbrev pub entry_in : Entries → EventId → EventId → Option ℤ
 entry_in rows from to = slice_index_or (row_of rows from.0) to.0 None
 
--- the entry of each pair of events is the greatest separation of the pair by the times that meet the always-edges, or none where it is unbounded
+-- the entry of each pair of events is the greatest separation of the pair over the times that meet the always-edges, or none where it is unbounded
 pub record AreRootEntries (net : Net) (rows : Entries) : Type 0 where
   pub count : length rows ≡ net.events
   pub counts : (from : ℕ) → from < net.events → length (row_of rows from) ≡ net.events

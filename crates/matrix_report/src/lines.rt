@@ -57,7 +57,7 @@ fn put_row<K: Sink>(matrix: &Matrix, from: u32, count: u32, sink: &mut K) -> Res
     sink.put(b"\n")
 }
 
-// Writes the line of a row. It is one put if the line fits the buffer, and else a put for each piece.
+// Writes the line of a row. It is one put if the line fits the buffer, and otherwise a put for each piece.
 fn write_row<K: Sink>(
     matrix: &Matrix,
     from: u32,

@@ -108,7 +108,7 @@ step_there events entries from to weight step =
     let longer : entries from to ≤ℤ weight = step.longer in
     omega (arith, ints)
 
--- the path from a source goes on over the edge
+-- the path from a source continues over the edge
 pub record GoesOn (entries : Entries) (source from to : ℕ) (weight : ℤ) : Type 0 where
   pub within : entries source to ≤ℤ (entries source from +ℤ weight)
   pub there : IsPresent (entries source to)

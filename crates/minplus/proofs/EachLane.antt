@@ -154,7 +154,7 @@ each_of list all = Each1-from_get_or IsEntry list ABSENT (λ i below. all i ABSE
 pub all_of : (list : List ℤ) → Each1 IsEntry list → All IsEntry list
 all_of list each = λ i d below. Each1-get_or IsEntry list i d below each
 
--- ---- numbers that went through their 64 bits
+-- ---- numbers that were put into 64 bits and read back
 pub entries_by_bits : (entries : List ℤ) → Each1 IsEntry entries → map (to_z w64) (map (of_z w64) entries) ≡ entries
 entries_by_bits [] held = refl
 entries_by_bits (x ∷ entries) held = joined (to_z-of_z w64 x (entry_fits x held.0)) (entries_by_bits entries held.1)
@@ -194,7 +194,7 @@ eight_by_bits weight place old other lanes small within lengths held other_held 
     ap (λ l. map (to_z w64) (map (of_z w64) l)) read ∙ improved_by_bits weight _ _ small entries others in
     eight_put weight place old other _ within lengths stored
 
--- the eight entries behind a part are as they were
+-- the eight entries after a part are as they were
 pub chunk_behind : (weight : ℤ) (first place : ℕ) (old other now : List ℤ) → ImprovesPart weight first place old other now → place + 8 ≤ length old → All IsEntry old → All IsEntry (chunk place 8 now)
 chunk_behind weight first place old other now part within held =
     all_of (chunk place 8 now)

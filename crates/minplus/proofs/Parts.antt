@@ -40,7 +40,7 @@ whole weight last old other new all lengths part = record {
   ];
 }
 
--- all parts, where the weight went through its 64 bits
+-- all parts, where the weight was put into 64 bits and read back
 pub whole_by_bits : (weight : ℤ) (last : ℕ) (old other new : List ℤ) → SFits w64 weight → length old ≤ last → length other ≡ length old
     → ImprovesPart (to_z w64 (of_z w64 weight)) 0 last old other new → Improves weight old other new
 whole_by_bits weight last old other new fits all lengths part =
@@ -58,7 +58,7 @@ one_set weight place old other entry within is = record {
   above = λ at high. let apart : at ≡ place → ⊥ = λ same. omega arith in get_or-set_other old place at entry ABSENT apart;
 }
 
--- one entry was set, where the numbers went through their 64 bits
+-- one entry was set, where the numbers were put into 64 bits and read back
 pub one_set_by_bits : (weight : ℤ) (place : ℕ) (old other : List ℤ) (entry : ℤ) → SFits w64 weight → SFits w64 (get_or old place (pos 0)) → SFits w64 (get_or other place (pos 0)) → SFits w64 entry
     → place < length old → length other ≡ length old
     → entry ≡ improved (to_z w64 (of_z w64 weight)) (to_z w64 (of_z w64 (get_or old place (pos 0)))) (to_z w64 (of_z w64 (get_or other place (pos 0))))

@@ -84,7 +84,7 @@ IsApart x ys = AllByRecursion (λ y. eqb x y ≡ false) ys
 abbrev pub AreApart : List ℕ → List ℕ → Type 0
 AreApart xs ys = AllByRecursion (λ x. IsApart x ys) xs
 
--- a number is in a list: `front` and `back` are what is before and behind it
+-- a number is in a list: `front` and `back` are what is before and after it
 pub record IsFound (x : ℕ) (ys : List ℕ) : Type 0 where
   pub front : List ℕ
   pub back : List ℕ

@@ -184,7 +184,7 @@ absent_place events place =
 other_entry : (events own place : ℕ) → (place ≡ own → ⊥) → entry_at (set (replicate events ABSENT) own (pos 0)) place ≡ ABSENT
 other_entry events own place apart = get_or-set_other (replicate events ABSENT) own place (pos 0) ABSENT apart ∙ absent_place events place
 
--- an entry of the rows of no edges: 0 from an event to itself, else absent
+-- an entry of the rows of no edges: 0 from an event to itself, otherwise absent
 empty_cell : (events : ℕ) (rows : List (List ℤ)) → AreEmptyRows events events rows → (from to : ℕ) → ((from ≡ to) × (cells rows from to ≡ pos 0)) ⊎ (cells rows from to ≡ ABSENT)
 empty_cell events rows empty from to =
     elim (cases_lt from events) [

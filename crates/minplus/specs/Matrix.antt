@@ -1,4 +1,4 @@
--- Matrices of path lengths, row by row: the entry from one event to another stands in the row of the first at the place of the second.
+-- Matrices of path lengths, row by row: the entry from one event to another is in the row of the first at the place of the second.
 use Rattle.std.specs.Prelude.{◌≡◌, ◌<◌, ◌≤◌, ℕ, ℤ, List, [], length, Option, Some, None, int_lt, slice_index_or, if◌then◌else◌}
 use Rattle.itv_base.specs.declared.limits.TheConstants.{MAX_MATRIX_EVENTS}
 use Rattle.itv_base.specs.declared.names.EventId.{EventId}
@@ -9,7 +9,7 @@ use Rattle.minplus.specs.declared.fault.MatrixFault.{MatrixFault}
 use Rattle.minplus.specs.declared.fault.MatrixFault.TheVariants.{Loop, NoMemory, TooMany}
 use Rattle.minplus.specs.declared.rows.TheConstants.{ABSENT}
 
--- the entry of a matrix from one event to another, by their numbers
+-- the entry of a matrix from one event to another, given by their numbers
 abbrev pub cells : List (List ℤ) → ℕ → ℕ → ℤ
 cells rows from to = entry_at (slice_index_or rows from []) to
 

@@ -15,7 +15,7 @@ pub enum MatrixFault {
     TooMany(u32),
     /// No times meet the always-edges.
     Loop,
-    /// Memory was wanted and not found.
+    /// There was not enough memory.
     NoMemory,
 }
 

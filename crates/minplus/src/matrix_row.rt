@@ -19,7 +19,7 @@ impl Model for MatrixRow {
     ghost view = { λ row. row.entries.items };
 }
 
-/// The entry from one event to another, by their numbers.
+/// The entry from one event to another, given by their numbers.
 pub fn entry(rows: &[MatrixRow], from: usize, to: usize) -> i64
     requires from { from < length rows.now }
     requires to { to < length (slice_index_or rows.now from []) }

@@ -47,7 +47,7 @@ along_next drawn budget names i d before after places more ends others left less
   left_over = omega (arith, fewer, along.left_over);
 }
 
--- behind the last name the ends stand for all of them
+-- after the last name the ends stand for all of them
 pub along_all : (drawn : Drawn) (budget : ℕ) (names : List EdgeName) (i : ℕ) (extremes : Extremes) (places : EndPlaces) (ends : List RangeEnd) (left : ℕ) → length names ≤ i
     → IsAlong drawn budget names i extremes places ends left → Stand drawn names places ends
 along_all drawn budget names i extremes places ends left past along = subst (λ (n : List EdgeName). Stand drawn n places ends) (take_all i names past) along.stand

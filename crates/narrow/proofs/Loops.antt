@@ -31,7 +31,7 @@ pub passed : (drawn : Drawn) (constraint cause : ℕ) (side : Side) (before : Li
 passed drawn constraint cause side before is =
     sym (append-nil before) ∙ ap (λ names. before ++ names) (sym (if_false (is_end drawn (record { constraint = constraint; cause = cause; side = side })) _ [] is))
 
--- what the three tests of an end come to
+-- the result of the three tests of an end
 pub end_tests : (kind_there : Option RuleKind) (origin_there : Option Origin) (e : Option Edge) (kind : RuleKind) (origin : Origin) (side : Side) → kind_there ≡ Some kind → origin_there ≡ Some origin
     → ((is_end_side kind side && not (is_lane origin)) && is_some e) ≡ ((is_seen kind_there side && has_range origin_there) && is_some e)
 end_tests kind_there origin_there e kind origin side k o = rw (k, o) refl

@@ -37,7 +37,7 @@ below_weight weight value only None less (inl same) before = absurd (cc same)
 below_weight weight value only (Some z) less (inl same) before = subst (λ (y : ℤ). y <ℤ weight) (cc same) before
 below_weight weight value only so_far less (inr same) before = subst (λ (y : ℤ). y <ℤ weight) (sym same) less
 
--- a greatest separation below the weight, behind the greatest one so far
+-- a greatest separation below the weight, after the greatest one so far
 pub closed_narrow : (net : Net) (e : Edge) (weight value only : ℤ) (so_far : Option ℤ) → IsGreatest net e.from e.to value → value <ℤ weight → value ≤ℤ only
     → IfSome so_far (λ z. z ≤ℤ only) → (so_far ≡ Some only) ⊎ (only ≡ value) → IsSearched net e weight so_far (Narrow only)
 closed_narrow net e weight value only so_far greatest less least before one = (

@@ -18,8 +18,8 @@ use Rattle.drawn.specs.Drawn.{Drawn, name_of}
 
 -- ---- which edges are ends
 
--- the sides of a range that are looked at, by the kind of the constraint. The other side of a latest or earliest constraint is often not attained: another
--- cause may always come later, or earlier.
+-- the sides of a range that are looked at, according to the kind of the constraint. The other side of a latest or earliest constraint is often not
+-- attained: another cause may always come later, or earlier.
 abbrev pub is_end_side : RuleKind → Side → Bool
 is_end_side Lin side = true
 is_end_side Late Lower = false

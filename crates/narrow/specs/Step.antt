@@ -60,7 +60,7 @@ AreEndPlaces places count = (key : EndKey) → IfSome (place_of places key) (λ 
 
 -- ---- what is found of ends
 
--- What a search of one edge finds, behind the greatest separation so far, if there was one: of the edges so far none goes beyond it. The numbers stay
+-- What a search of one edge finds, after the greatest separation so far, if there was one: of the edges so far none goes beyond it. The numbers stay
 -- below the weight.
 abbrev pub IsSearched : Net → Edge → ℤ → Option ℤ → EndFound → Type 0
 IsSearched net e weight so_far (Narrow only) =

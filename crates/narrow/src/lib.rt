@@ -1,4 +1,4 @@
-//! The ends of drawn ranges that no satisfying times attain, since other rules are tighter. The contract of the crate: `find_narrow` finds for each
+//! The ends of drawn ranges that no satisfying times attain, because other rules are tighter. The contract of the crate: `find_narrow` finds for each
 //! end, once for all cycles and places that one thing draws, whether some satisfying times attain it, or how far they come at most.
 #![tactic(auto)]
 

@@ -44,7 +44,7 @@ pub fn search(
     Ok(found_of(greatest, weight, so_far))
 }
 
-// What is found of an end with a weight, by what is found of a greatest separation and the greatest one so far.
+// What is found of an end with a weight, according to what is found of a greatest separation and the greatest one so far.
 fn found_of(greatest: Greatest, weight: i64, so_far: Option<i64>) -> EndFound
     ensures found { (net : Net) (e : EdgeSeen) → IsGreatestFound net e.from e.to greatest → IsSearched net e weight so_far result }
     ensures settled { (greatest ≡ Greatest.Open → ⊥) → IsEndSettled result }

@@ -1,4 +1,4 @@
-//! One key beside the known keys.
+//! One key compared with the known keys.
 
 ghost use Rattle.std.specs.Prelude.{◌≡◌, map};
 ghost use Rattle.std.specs.List.{list_any};

@@ -31,7 +31,7 @@ abbrev pub list_if : Option Data → NetlistFault → Result (List Data) Netlist
 list_if None fault = Ok []
 list_if (Some d) fault = ok_or (list_of d) fault
 
--- no fault where a test is met, and else this fault
+-- no fault where a test is met, and otherwise this fault
 abbrev pub demand : Bool → NetlistFault → Result ⊤ NetlistFault
 demand true fault = Ok tt
 demand false fault = Err fault
@@ -84,11 +84,11 @@ with_part version n done d = do
   part ← ok_or (part_of version d) (Part n)
   if is_part done part.name then Err (DoublePart n) else Ok (done ++ part ∷ [])
 
--- names with one more behind them, if it is new
+-- names with one more after them, if it is new
 abbrev pub with_name : List (List ℕ) → List ℕ → List (List ℕ)
 with_name names name = if list_any (bytes_eq name) names then names else names ++ name ∷ []
 
--- the distinct names of sheets in the order of first mention, behind others
+-- the distinct names of sheets in the order of first mention, after others
 abbrev pub names_from : List (List ℕ) → List code.Part → List (List ℕ)
 names_from names [] = names
 names_from names (part ∷ parts) = names_from (with_name names part.sheet) parts

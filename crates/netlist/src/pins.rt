@@ -58,7 +58,7 @@ fn read_pin(alloc: Global, element: &Value) -> Result<Option<PinText>, NoMemory>
     }))
 }
 
-// The name of a part, before the first full stop of a text, and the name of a lane, behind it.
+// The name of a part, before the first full stop of a text, and the name of a lane, after it.
 #[tactic(auto, unfolding(crate::specs::Netlist::pin_of))]
 fn cut_pin(text: &str) -> Option<(&str, &str)>
     ensures { option_map (λ pin. record { part = pin.0.now; lane = pin.1.now }) result ≡ pin_of text.now }

@@ -1,5 +1,5 @@
-//! Notes: what the label of an edge says in plain words behind everything else.
-//! The contract: a keeper of notes gives the note of what draws a cause or a row, by the name of its part, and the speed grade of the part.
+//! Notes: what the label of an edge says in plain words after everything else.
+//! The contract: a keeper of notes gives the note of what draws a cause or a row, given the name of its part, and the speed grade of the part.
 //! If there is none, it gives an empty text.
 #![tactic(auto)]
 

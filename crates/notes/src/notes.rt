@@ -15,7 +15,7 @@ pub trait Notes {
     fn note(&self, part: &str, origin: Origin) -> &str
         ensures note { result.now ≡ (noted self.now).note part.now origin };
 
-    /// The speed grade at which the part of a row is drawn, by the name of the part. It is empty if the part has none, or if the netlist draws
+    /// The speed grade at which the part of a row is drawn, given the name of the part. It is empty if the part has none, or if the netlist draws
     /// the row.
     fn grade(&self, part: &str, origin: Origin) -> &str
         ensures grade { result.now ≡ (noted self.now).grade part.now origin };

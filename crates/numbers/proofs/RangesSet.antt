@@ -89,7 +89,7 @@ module _ (range : Ends) where
   other_constraint cs k i l None other = refl
   other_constraint cs k i l (Some c) other = set_other cs k l (edited_constraint i c) other
 
-  -- what one edit makes of a cause: it has the range if it is the cause, and else it is as it was
+  -- what one edit makes of a cause: it has the range if it is the cause, and otherwise it is as it was
   abbrev Comes : Net → CauseName → CauseName → Type 0
   Comes net p name =
       ((p ≡ name) × (cause_at (with_range net p.constraint p.cause range) name.constraint name.cause ≡ option_map ranged (cause_at net name.constraint name.cause)))
@@ -141,7 +141,7 @@ module _ (range : Ends) where
   either_by now net p name (inr e) (inl f) = inr (e ∙ (ap (option_map ranged) f.1 ∙ twice (cause_at net name.constraint name.cause)))
   either_by now net p name (inr e) (inr f) = inr (e ∙ ap (option_map ranged) f.1)
 
-  -- behind other ranges a cause has the range or is as it was
+  -- after other ranges a cause has the range or is as it was
   either : (net : Net) (names : List CauseName) (name : CauseName) → Either (with_ranges net names range) net name
   either net [] name = inl refl
   either net (p ∷ names) name =

@@ -7,7 +7,7 @@ use crate::origin::Origin;
 use itoa::Buffer;
 use itv_base::{PutFailed, Sink, number_text, put_all};
 
-/// Puts the text of an origin, with no space before it and no end behind it. If a put failed, a front of the text was
+/// Puts the text of an origin, with no space before it and no end after it. If a put failed, a front of the text was
 /// written, and the sink's count of faults rose.
 pub fn put_origin<K: Sink>(origin: Origin, sink: &mut K) -> Result<(), PutFailed>
     ensures puts { Puts (K.state sink.old) (K.state sink.new) (origin_text origin) result }

@@ -1,4 +1,4 @@
--- The notes of edges and of wires, and the names of nets, as they are printed. A note is what a label says in plain words behind everything
+-- The notes of edges and of wires, and the names of nets, as they are printed. A note is what a label says in plain words after everything
 -- else. Parts, edges, wires and nets are numbered from 0.
 use Rattle.std.specs.Prelude.{ℕ, Bool, ◌&&◌, ◌==◌, nat_le, if◌then◌else◌, List, [], ◌∷◌, Option, Some, None, find, option_and_then, unwrap_or, slice_get, Result, Ok, Err}
 use Rattle.std.specs.List.{list_all}
@@ -101,7 +101,7 @@ edge_on plan part n = option_and_then (λ (sheet : SheetContents). slice_get she
 abbrev pub edge_named : Planned → List ℕ → ℕ → Option (List ℕ)
 edge_named plan name n = option_and_then (λ (part : Part). edge_on plan part n) (find (λ (part : Part). bytes_eq name part.name) plan.netlist.parts)
 
--- what an edge of a part is called, by the name of the part; empty if there is no such part or edge
+-- what an edge of a part is called, given the name of the part; empty if there is no such part or edge
 abbrev pub part_note : Planned → List ℕ → ℕ → List ℕ
 part_note plan name n = option_map_or (edge_title plan.netlist.version) (edge_named plan name n) []
 
@@ -109,7 +109,7 @@ part_note plan name n = option_map_or (edge_title plan.netlist.version) (edge_na
 abbrev pub net_note : JoinedPins → List ℕ
 net_note net = printed_note net.name
 
--- The note of what draws a cause or a row, by the name of the part. An edge of its sheet without a note has the name of its parameter in place
+-- The note of what draws a cause or a row, given the name of the part. An edge of its sheet without a note has the name of its parameter in place
 -- of one, and a pin the name of its net. Lanes have no note.
 abbrev pub plan_note : Planned → List ℕ → Origin → List ℕ
 plan_note plan part (Edge n) = part_note plan part n
@@ -121,7 +121,7 @@ plan_note plan part (Lane n) = []
 abbrev pub part_grade : Planned → List ℕ → List ℕ
 part_grade plan name = unwrap_or (option_and_then (λ (part : Part). part.grade) (find (λ (part : Part). bytes_eq name part.name) plan.netlist.parts)) []
 
--- the speed grade that an edge is drawn at, by the name of its part; what is drawn by the order of a lane or by the netlist has none
+-- the speed grade that an edge is drawn at, given the name of its part; what is drawn by the order of a lane or by the netlist has none
 abbrev pub plan_grade : Planned → List ℕ → Origin → List ℕ
 plan_grade plan part (Edge n) = part_grade plan part
 plan_grade plan part (Wire n) = []

@@ -1,8 +1,8 @@
-//! What was read of a design: its netlist and the sheets of its parts, as a plan, which keeps the notes of the edges and of the wires.
+//! A plan: the netlist of a design and the sheets of its parts, as they were read. It keeps the notes of the edges and of the wires.
 //! Parts, edges, wires and nets are numbered from 0.
 //! The one contract: a plan has the sheet of each part, and gives the note of what draws a cause or a row, in characters that can be
-//! printed. An edge without a note has the name of its parameter in place of one, and a pin the name of its net. If there is neither, it
-//! gives an empty text.
+//! printed. For an edge without a note it gives the name of the edge's parameter, and for a pin the name of its net. If there is neither,
+//! it gives an empty text.
 #![tactic(auto)]
 
 mod label_note;

@@ -70,7 +70,7 @@ impl Plan {
         &self.sheets
     }
 
-    // What an edge of the sheet of a part is called, by the name of the part.
+    // What an edge of the sheet of a part is called, given the name of the part.
     fn part_note(&self, name: &str, n: u64) -> &str
         ensures { result.now ≡ part_note self.now name.now n }
     {

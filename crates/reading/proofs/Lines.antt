@@ -1,4 +1,4 @@
--- The lines of refusals as they are written: the first words, then each other word behind a space, and the line end.
+-- The lines of refusals as they are written: the first words, then each other word after a space, and the line end.
 use Rattle.std.proofs.Common.{◌≡◌, List, ◌∷◌, ◌++◌, codes, sym, ap, ◌∙◌, append_assoc}
 use Rattle.std.specs.List.{flat_map}
 use Rattle.std.proofs.lemmas.List.Concat.{flat_map-append}

@@ -1,4 +1,4 @@
--- Readings step by step, and what they come to over known files.
+-- Readings step by step, and their results over known files.
 use Rattle.std.proofs.Common.{◌≡◌, ℕ, ◌+◌, ◌<◌, ◌≤◌, Bool, true, false, cond, List, [], ◌∷◌, length, take, drop, get_or, All, Option, Some, None, IsNone, option_map, Result, Ok, Err, IsErrAnd, refl, sym, ap, ◌∙◌, subst, inl, inr}
 use Rattle.std.specs.Option.{option_map_or}
 use Rattle.std.proofs.lemmas.List.{drop_all, drop_more}
@@ -15,7 +15,7 @@ use Rattle.reading.specs.Step.{Opens, ReadsAs, stop_of}
 
 -- ---- one reading, and then another
 
--- the first gave something, and the second came to an end
+-- the first gave something, and the second ended
 pub comes_then : {A B : Type 0} (shelf : ShelfState) (o : FileReading A) (f : A → FileReading B) (x : A) (end : End B) → RunsTo shelf o (ready x) → RunsTo shelf (f x) end → RunsTo shelf (o >>= f) end
 comes_then shelf (gives y) f x end c h = let same : x ≡ y = cc c in subst (λ z. RunsTo shelf (f z) end) same h
 comes_then shelf (refuses place why) f x end c h = absurd (cc c)
@@ -41,7 +41,7 @@ module _ {A B X Y : Type 0} (va : X → A) (vb : Y → B) (o : FileReading A) (f
   then_on old new x (Err (ReadFault place)) c h = (h.0, (comes_then old o f (va x) (unread place h.0) c h.1.0, h.1.1))
   then_on old new x (Err NoMemory) c h = h
 
-  -- a step gave something, and the next goes on with it
+  -- a step gave something, and the next continues with it
   pub opens_then : (old mid new : ShelfState) (x : X) (r : Result Y Stop) → Opens va old mid o (Ok x) → Opens vb mid new (f (va x)) r → Opens vb old new (o >>= f) r
   opens_then old mid new x r h next = then_on old new x r h.0 (subst (λ state. Opens vb state new (f (va x)) r) h.1 next)
 
@@ -51,7 +51,7 @@ module _ {A B X Y : Type 0} (va : X → A) (vb : Y → B) (o : FileReading A) (f
   opens_stop old new (ReadFault place) h = (h.0, (comes_unread old o f place h.0 h.1.0, h.1.1))
   opens_stop old new NoMemory h = h
 
-  -- a step failed, and its fault is handed on
+  -- a step failed, and its fault is passed on
   pub opens_up : (old new : ShelfState) (s : Stop) (r : Result Y Stop) → IsErrAnd r (λ e. e ≡ s) → Opens va old new o (Err s) → Opens vb old new (o >>= f) r
   opens_up old new s (Ok y) is h = absurd is
   opens_up old new s (Err e) is h = rw is (opens_stop old new s h)
@@ -137,9 +137,9 @@ pub at_err : {A B F : Type 0} (is_memory : F → Bool) (v : B → A) (state : Sh
     → Opens v state state (at place why reading) (Err (stop_of is_memory why place fault))
 at_err is_memory v state place why reading fault h = at_by v state place why reading fault (is_memory fault) h
 
--- ---- what came of steps
+-- ---- the results of steps
 
--- two readings, one after another, came to something
+-- two readings, one after another, gave something
 pub opening_then : {A B : Type 0} (shelf : ShelfState) (o : FileReading A) (f : A → FileReading B) (y : B) → RunsTo shelf (o >>= f) (ready y)
     → (x : A) × RunsTo shelf o (ready x) × RunsTo shelf (f x) (ready y)
 opening_then shelf (gives x) f y comes = (x, refl, comes)
@@ -148,12 +148,12 @@ opening_then shelf (fetches place name most next) f y (inl is) = absurd (cc is)
 opening_then shelf (fetches place name most next) f y (inr (bytes, front, comes)) =
     let (x, first, then') = opening_then shelf (next bytes) f y comes in (x, inr (bytes, front, first), then')
 
--- what was read already came to itself
+-- what was read already is what the reading gives
 pub at_gave : {A F : Type 0} (shelf : ShelfState) (place : RefusalPlace) (why : F → Refusal) (r : Result A F) (x : A) → RunsTo shelf (at place why r) (ready x) → r ≡ Ok x
 at_gave shelf place why (Ok y) x comes = let same : x ≡ y = cc comes in ap (λ z. Ok z) (sym same)
 at_gave shelf place why (Err fault) x comes = absurd (cc comes)
 
--- a reading that gives something came to it
+-- a reading that gives something ended with it
 pub gave : {A : Type 0} (shelf : ShelfState) (x y : A) → RunsTo shelf (gives x) (ready y) → x ≡ y
 gave shelf x y comes = cc comes
 

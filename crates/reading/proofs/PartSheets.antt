@@ -78,7 +78,7 @@ both_of true b is none = none
 both_of false b is none = absurd (cc is)
 
 module _ (shelf : ShelfState) (place : RefusalPlace) (name : List ℕ) (grades : Option (List Grade)) (drawing : Drawing) where
-  -- a part that is drawn on the file has its sheet behind it
+  -- a part that is drawn on the file has its sheet after it
   part_brings : (n : ℕ) (sheets more : NamedSheets) (part : Part) → RunsTo shelf (with_part place name grades drawing n sheets part) (ready more) → part.sheet ≡ name → IsThere (key_of part) more
   part_brings n sheets more part comes named = by (is_unread sheets name part) refl comes
     where
@@ -107,7 +107,7 @@ abbrev pub AreDrawn : List Part → List ℕ → NamedSheets → Type 0
 AreDrawn parts name sheets = All (λ (part : Part). part.sheet ≡ name → IsThere (key_of part) sheets) parts
 
 module _ (shelf : ShelfState) (netlist : NetlistContents) where
-  -- what the reading of a file went through
+  -- the steps of the reading of a file
   file_parts : (number : ℕ) (sheets more : NamedSheets) (name : List ℕ) → RunsTo shelf (sheets_in netlist number sheets name) (ready more)
       → (drawing : Drawing) × (grades : Option (List Grade)) × RunsTo shelf (each (with_part (File number) name grades drawing) 0 sheets netlist.parts) (ready more)
   file_parts number sheets more name comes =

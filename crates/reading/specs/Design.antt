@@ -64,7 +64,7 @@ with_part place name grades drawing n sheets part =
     then (at place Sheet (sheet_by grades part.grade drawing) >>= λ sheet. gives (with_sheet sheets (key_of part) sheet))
     else gives sheets
 
--- The sheets that the tree of a file draws, behind the sheets that are read already: one for each grade or none, in the order in which the parts first
+-- The sheets that the tree of a file draws, after the sheets that are read already: one for each grade or none, in the order in which the parts first
 -- mention them. The grades are read before the sheets, also where no part has a grade.
 abbrev pub sheets_at : NetlistContents → ℕ → NamedSheets → List ℕ → Data → FileReading NamedSheets
 sheets_at netlist number sheets name tree = do

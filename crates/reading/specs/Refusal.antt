@@ -28,7 +28,7 @@ use Rattle.reading.specs.declared.refusal.Refusal.{Refusal}
 use Rattle.reading.specs.declared.refusal.Refusal.TheVariants.{TooLong, NotJson, Diagram, Grades, Sheet, Netlist, Joins, Limits, Mixed, Wide, Edits}
 use Rattle.reading.specs.RefusalPlace.{place_words}
 
--- The words of a fault are its name and then what it keeps: a number in decimal, a mark as its character, and an inner fault by its name. Want of memory
+-- The words of a fault are its name and then what it keeps: a number in decimal, a mark as its character, and an inner fault by its name. Lack of memory
 -- is no refusal.
 
 abbrev pub range_fault_name : RangeFault → Word

@@ -9,7 +9,7 @@ use Rattle.reading.specs.FileReading.{FileReading, ready, refused, unread, RunsT
 pub mod Lone
 pub mod Word
 
--- What a step of a reading answers, seen by a view: the end that its reading came to, with what this end leaves of the shelf. Want of memory may come in
+-- What a step of a reading answers, seen by a view: the end of its reading, with what this end leaves of the shelf. Lack of memory may come in
 -- place of any end, and leaves the shelf as it was.
 abbrev pub Opens : {A B : Type 0} → (B → A) → ShelfState → ShelfState → FileReading A → Result B Stop → Type 0
 Opens view old new opening (Ok x) = RunsToEnd old new opening (ready (view x))

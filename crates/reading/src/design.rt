@@ -15,7 +15,7 @@ use unroll::unroll;
 
 /// What the design of a file draws.
 ///
-/// [`open_plan`] reads the plan of the design. Behind all files come the joins of the design, and then its limits. The first refusal ends the
+/// [`open_plan`] reads the plan of the design. After all files come the joins of the design, and then its limits. The first refusal ends the
 /// reading. A fetch that failed ends the reading where it stands, and the shelf keeps the name of the file.
 ///
 /// `NoMemory` may come in place of any answer. `NoMemory` and a refusal leave the shelf as it was.

@@ -1,4 +1,4 @@
-//! Reads a design from its files: places, refusals and their lines, and the reading itself, which asks for files as it goes. A design file
+//! Reads a design from its files: places, refusals and their lines, and the reading itself, which asks for files one by one. A design file
 //! is a lone sheet, or a netlist. The sheets of a netlist are fetched in the order of first mention.
 //! The one contract: `open_plan` gives the plan of the design, which is its netlist and its sheets, and `open_design` gives what the design
 //! draws. Either gives the first refusal with its place, or the place of the file that failed.

@@ -46,7 +46,7 @@ pub fn put_unread<K: Sink>(place: RefusalPlace, sink: &mut K) -> Result<(), PutF
     sink.put(b"\n")
 }
 
-// ---- the words of a line behind its first
+// ---- the words of a line after its first
 
 // A word of a line.
 #[derive(Clone, Copy)]
@@ -56,7 +56,7 @@ enum Word<'a> {
     Count(u128),
 }
 
-// Writes some words, each behind a space.
+// Writes some words, each after a space.
 fn put_words<K: Sink>(words: &[Word], sink: &mut K) -> Result<(), PutFailed>
     ensures { Puts (K.state sink.old) (K.state sink.new) (flat_map spaced (map word_spelled words.now)) result }
 {

@@ -7,7 +7,7 @@ use sheet::{GradesFault, SheetFault};
 use unroll::UnrollFault;
 use wavejson::DiagramFault;
 
-/// The first refusal of files. Want of memory is no refusal, so no fault in a refusal is `NoMemory`.
+/// The first refusal of files. Lack of memory is no refusal, so no fault in a refusal is `NoMemory`.
 #[derive(Clone, Copy)]
 pub enum Refusal {
     /// The file is longer than its limit.

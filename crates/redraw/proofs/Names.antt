@@ -19,7 +19,7 @@ name_got [] i within = absurd (omega arith)
 name_got (n ∷ ns) zero within = refl
 name_got (n ∷ ns) (suc i) within = name_got ns i (omega arith)
 
--- if no name stands twice, two events have different texts
+-- if no name occurs twice, two events have different texts
 pub names_differ : OtherNamesDiffer
 names_differ drawn count named once a b in_a in_b same =
     let there_a : a.0 < length drawn.names = omega arith in

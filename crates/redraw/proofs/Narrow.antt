@@ -62,7 +62,7 @@ least_below [] i d within = absurd (omega arith)
 least_below (time ∷ times) zero d within = fold_below times time
 least_below (time ∷ times) (suc i) d within = fold_least times time i d (omega arith)
 
--- ---- narrowed times, by the numbers that are removed
+-- ---- narrowed times, from the numbers that are removed
 
 counted : (width : ℕ) (times : List ℤ) (base time : ℤ) (n : ℕ) → IsNaturalPart (time -ℤ base) n → base ≤ℤ time
     → pos (follow_count width times base n) ≡ (time -ℤ pos (removed width times base n)) -ℤ base

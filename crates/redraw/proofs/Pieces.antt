@@ -212,7 +212,7 @@ behind_first : (edge : List ℕ) (edges : List (List ℕ)) (last : List ℕ) →
 behind_first edge [] last = refl
 behind_first edge (e ∷ es) last = refl
 
--- edges with commas between them: each edge but the last has a comma behind it
+-- edges with commas between them: each edge but the last has a comma after it
 pub edges_are : (edges : List (List ℕ)) (last : List ℕ) → with_commas (map quoted (edges ++ last ∷ [])) ≡ steps_text edges ++ quoted last
 edges_are [] last = append-nil (quoted last)
 edges_are (e ∷ es) last =

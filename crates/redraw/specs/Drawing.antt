@@ -29,7 +29,7 @@ mark_at number = slice_index marks number
 abbrev pub first_stand : Timed → DrawnEvent
 first_stand x = record { event = x.event; number = 0; place = 1; time = pos 0 }
 
--- The event behind another one. Its place is one further if it comes later. Its drawn time is later by the same gap, but at most by the greatest
+-- The event after another one. Its place is one further if it comes later. Its drawn time is later by the same gap, but at most by the greatest
 -- gap that is kept.
 abbrev pub next_stand : Timed → DrawnEvent → Timed → DrawnEvent
 next_stand last before x = record {

@@ -66,7 +66,7 @@ abbrev pub NamesDiffer : Drawn → Type 0
 NamesDiffer drawn =
     (a b : EventId) → a.0 < drawn.net.events → b.0 < drawn.net.events → name_word (name_of drawn a) ≡ name_word (name_of drawn b) → a.0 ≡ b.0
 
--- two events have different names if each name has the form of names, and no name stands twice
+-- two events have different names if each name has the form of names, and no name occurs twice
 abbrev pub OtherNamesDiffer : Type 0
 OtherNamesDiffer = (drawn : Drawn) → length drawn.names ≡ drawn.net.events → All IsName drawn.names
     → ((i j : ℕ) → i < j → j < length drawn.names → slice_index_or drawn.names i nameless ≡ slice_index_or drawn.names j nameless → ⊥) → NamesDiffer drawn

@@ -42,7 +42,7 @@ narrowed width times = map (narrowed_time width times) times
 abbrev pub AreNeighbours : List ℤ → ℤ → ℤ → Type 0
 AreNeighbours times lower upper = (lower ≤ℤ upper) × All (λ (time : ℤ). (time ≤ℤ lower) ⊎ (upper ≤ℤ time)) times
 
--- a gap between neighbouring times becomes the width if it was greater, and else it stays
+-- a gap between neighbouring times becomes the width if it was greater, and otherwise it stays
 pub record HasGapsWithin (width : ℕ) (times others : List ℤ) : Type 0 where
   pub count : length others ≡ length times
   pub gaps : (i j : ℕ) → i < length times → j < length times → AreNeighbours times (slice_index_or times i (pos 0)) (slice_index_or times j (pos 0))

@@ -41,7 +41,7 @@ pub record IsStand (events : ℕ) (s : DrawnEvent) : Type 0 where
   pub least : 1 ≤ s.place
   pub most : s.place ≤ MOST_DRAWN
 
--- each event stands behind the event before it, by no more than the greatest gap that is kept
+-- each event stands after the event before it, by no more than the greatest gap that is kept
 abbrev pub AreNear : DrawnEvent → List DrawnEvent → Type 0
 AreNear before [] = Unit {0}
 AreNear before (s ∷ ss) = (pos 0 ≤ℤ (s.time -ℤ before.time)) × ((s.time -ℤ before.time) ≤ℤ pos widest_gap) × AreNear s ss
@@ -70,7 +70,7 @@ lane_end mark = escaped_byte mark ++ codes "\"}"
 abbrev pub edge_front : ℕ → ℕ → List ℕ
 edge_front from to = (codes "\"" ++ escaped_byte from) ++ (codes "->" ++ escaped_byte to)
 
--- texts in quotation marks, each with a comma behind it
+-- texts in quotation marks, each with a comma after it
 abbrev pub steps_text : List (List ℕ) → List ℕ
 steps_text edges = flat_map (λ (edge : List ℕ). quoted edge ++ codes ",") edges
 

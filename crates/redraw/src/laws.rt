@@ -37,7 +37,7 @@ pub fn drawn_belong()
     ensures law { DrawnBelong }
 {}
 
-/// If no name stands twice, two events of a network have different texts for names.
+/// If no name occurs twice, two events of a network have different texts for names.
 pub fn other_names_differ()
     ensures law { OtherNamesDiffer }
 {}

@@ -83,7 +83,7 @@ fn later(time: i64, gap: i64) -> i64
     time + gap
 }
 
-// How far behind the event before it an event is drawn.
+// How far after the event before it an event is drawn.
 fn gap_between(last: Timed, item: Timed) -> i64
     requires last { IsTime last.time }
     requires item { IsTime item.time }

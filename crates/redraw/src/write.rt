@@ -158,7 +158,7 @@ fn put_lane<K: Sink>(names: &DrawnNetwork, stand: DrawnEvent, sink: &mut K) -> R
     put_lane_back(stand.place, mark_at(stand.number), sink)
 }
 
-// Puts a lane behind another one.
+// Puts a lane after another one.
 fn put_next_lane<K: Sink>(
     names: &DrawnNetwork,
     stand: DrawnEvent,
@@ -240,7 +240,7 @@ fn number_of(stands: &[DrawnEvent], event: EventId) -> u32
     0
 }
 
-// Puts the lanes behind the first.
+// Puts the lanes after the first.
 fn put_other_lanes<K: Sink>(
     names: &DrawnNetwork,
     stands: &[DrawnEvent],
@@ -269,7 +269,7 @@ fn put_lanes<K: Sink>(
     put_other_lanes(names, &stands[1..], sink)
 }
 
-// The range for how far behind another event an event is drawn.
+// The range for how far after another event an event is drawn.
 fn exactly_between(before: DrawnEvent, stand: DrawnEvent) -> Range
     requires low { pos 0 ≤ℤ (stand.time -ℤ before.time) }
     requires high { (stand.time -ℤ before.time) ≤ℤ pos widest_gap }
@@ -283,7 +283,7 @@ fn exactly_between(before: DrawnEvent, stand: DrawnEvent) -> Range
     }
 }
 
-// Puts the edge that keeps two events apart, with a comma behind it.
+// Puts the edge that keeps two events apart, with a comma after it.
 fn put_step<K: Sink>(before: DrawnEvent, stand: DrawnEvent, sink: &mut K) -> Result<(), PutFailed>
     requires before { before.number < MOST_DRAWN }
     requires number { stand.number < MOST_DRAWN }
@@ -298,7 +298,7 @@ fn put_step<K: Sink>(before: DrawnEvent, stand: DrawnEvent, sink: &mut K) -> Res
     sink.put(b",")
 }
 
-// Puts the edges that keep the events behind the first one apart, each with a comma behind it.
+// Puts the edges that keep the events after the first one apart, each with a comma after it.
 fn put_steps_after<K: Sink>(
     first: DrawnEvent,
     stands: &[DrawnEvent],
@@ -317,7 +317,7 @@ fn put_steps_after<K: Sink>(
     Ok(())
 }
 
-// Puts the edges that keep all events apart, each with a comma behind it.
+// Puts the edges that keep all events apart, each with a comma after it.
 fn put_steps<K: Sink>(stands: &[DrawnEvent], sink: &mut K) -> Result<(), PutFailed>
     requires some { 1 ≤ length stands.now }
     requires numbers { All (λ (s : DrawnEvent). s.number < MOST_DRAWN) stands.now }

@@ -1,4 +1,4 @@
--- The times that satisfy a chain of events, each exactly so far behind the event before it, are the drawn times plus one number.
+-- The times that satisfy a chain of events, each exactly so far after the event before it, are the drawn times plus one number.
 use Rattle.std.proofs.Common.{◌≡◌, ◌+◌, ◌<◌, ◌≤◌, ℕ, zero, suc, ℤ, pos, ◌+ℤ◌, ◌-ℤ◌, ◌≤ℤ◌, List, [], ◌∷◌, All, length, get_or, ◌∙◌, refl, sym, ap, subst, arith}
 use Rattle.std.proofs.lemmas.Int.{ints}
 use Rattle.std.proofs.lemmas.List.{ext_get_or, get_or-map, length-map}

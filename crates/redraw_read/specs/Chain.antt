@@ -1,4 +1,4 @@
--- Chains of events: each event comes exactly as far behind the event before it as it is drawn.
+-- Chains of events: each event comes exactly as far after the event before it as it is drawn.
 use Rattle.std.specs.Prelude.{◌≡◌, ◌+◌, ◌≤◌, ◌↔◌, ℕ, ℤ, ◌-ℤ◌, List, [], ◌∷◌, length}
 use Rattle.event_graph.specs.Network.{Constraint, Net, linear}
 use Rattle.event_graph.specs.Satisfying.{Satisfies}

@@ -8,7 +8,7 @@ pub fn redrawn_is_sheet()
     ensures law { RedrawnIsSheet }
 {}
 
-/// Times satisfy a chain of events, each exactly as far behind the event before it as it is drawn, if and only if they are the drawn times
+/// Times satisfy a chain of events, each exactly as far after the event before it as it is drawn, if and only if they are the drawn times
 /// plus one number.
 pub fn times_of_chain()
     ensures law { TimesOfChain }

@@ -37,7 +37,7 @@ pub record Draws (drawn : Drawn) (lines : List Entry) (answer : Answer) (text : 
   pub is_answer : answer ≡ failed_answer drawn failed
   pub is_text : text ≡ failed_text drawn failed
 
--- the answer and the text for a report, by the word at its end
+-- the answer and the text for a report, according to the word at its end
 abbrev pub AnswersEndWord : Drawn → List Entry → EndWord → Answer → List ℕ → Type 0
 AnswersEndWord drawn lines endings.Pass answer text = (answer ≡ AllPass) × (text ≡ codes "nothing failed\n")
 AnswersEndWord drawn lines endings.Fail answer text = Draws drawn lines answer text

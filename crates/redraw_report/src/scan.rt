@@ -8,7 +8,7 @@ ghost use Rattle.redraw_report.specs.Step.{fail_view, seen_view};
 use requirements::Verdict;
 use slack_report::{Item, Items};
 
-/// A row, by its number, the side on which it fails, and times in picoseconds that break its requirement there.
+/// A row, given by its number, the side on which it fails, and times in picoseconds that break its requirement there.
 #[derive(Clone, Copy)]
 pub struct Fail<'a> {
     pub row: u32,

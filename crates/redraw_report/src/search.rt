@@ -60,7 +60,7 @@ fn write_report(alloc: Global, drawn: &DrawnNetwork, budget: u64) -> Result<Writ
             tape,
             end: summary.end,
         }),
-        // A put into a tape fails only for want of memory.
+        // A put into a tape fails only for lack of memory.
         Err(Unanswered::NoMemory | Unanswered::PutFailed) => Err(NoMemory),
     }
 }

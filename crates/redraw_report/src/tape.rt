@@ -6,7 +6,7 @@ use itv_base::{PutFailed, Sink};
 use std::alloc::Global;
 use std::marker::Model;
 
-/// A sink that keeps its bytes in memory. A put fails only for want of memory; it then takes nothing of the piece.
+/// A sink that keeps its bytes in memory. A put fails only for lack of memory; it then takes nothing of the piece.
 #[derive(Drop)]
 pub struct Tape {
     bytes: Vec<u8>,

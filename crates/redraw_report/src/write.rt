@@ -46,7 +46,7 @@ pub fn write_redraw<K: Sink>(
     Ok(put_answer(drawn, &search, &mut work, sink)?)
 }
 
-// Puts what a report gives, by the word at its end.
+// Puts what a report gives, according to the word at its end.
 fn put_answer<K: Sink>(
     drawn: &DrawnNetwork,
     search: &KeptReport,

@@ -178,7 +178,7 @@ get-drop zero b xs = let e : b ≡ 0 + b = omega arith in ap (slice_get xs) e
 get-drop (suc a) b [] = refl
 get-drop (suc a) b (x ∷ xs) = let e : suc (a + b) ≡ suc a + b = omega arith in get-drop a b xs ∙ ap (slice_get (x ∷ xs)) e
 
--- the line behind the proof lines is no proof line
+-- the line after the proof lines is no proof line
 pub end_other : (lines : List Entry) (start end : ℕ) (line : Entry) → end ≡ start + length (proof_front (drop start lines)) → slice_get lines end ≡ Some line → is_proof line ≡ false
 end_other lines start end line is there =
     front_other (drop start lines) line (get-drop start (length (proof_front (drop start lines))) lines ∙ subst (λ k. slice_get lines k ≡ Some line) is there)
@@ -193,7 +193,7 @@ module _ (drawn : Drawn) (group : ProofGroup) (lines : List Entry) (start end : 
       front_parts (drop start lines)
       ∙ ap (λ xs. map proof (proof_front (drop start lines)) ++ xs) (drop_drop start (length (proof_front (drop start lines))) lines ∙ ap (λ k. drop k lines) (sym is_end))
 
-  -- if the proof lines are taken for their goal, or have no goal, they lead to the line behind them
+  -- if the proof lines are taken for their goal, or have no goal, they lead to the line after them
   pub group_leads : ((g : ProofGoal) → goal_ahead (behind_lines drawn group []) (drop end lines) ≡ Some g → Takes drawn.net g (proof_front (drop start lines)))
       → CheckLeads drawn lines (behind_lines drawn group []) start (behind_lines drawn group (proof_front (drop start lines))) end
   group_leads taken =

@@ -1,4 +1,4 @@
--- What findings and bounds decide behind proof lines.
+-- What findings and bounds decide after proof lines.
 use Rattle.std.proofs.Common.{◌≡◌, ◌↔◌, ℕ, Bool, true, false, IsTrue, List, [], ◌∷◌, Some, None, inl, inr, refl, sym, ap, subst, ◌∙◌}
 use Rattle.event_graph.specs.Network.{Net}
 use Rattle.event_graph.specs.Proof.{Nothing, ProofLine}

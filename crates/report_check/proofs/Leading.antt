@@ -73,7 +73,7 @@ module _ (drawn : Drawn) (lines : List Entry) where
       let none : drop start lines ≡ [] = drop_of_length-le lines past in
       leads.reads (subst (λ xs. LinesLead (checked drawn.net) drawn last xs at_last) (sym none) is)
 
--- the first wrong line is one of the lines, or the missing line behind them
+-- the first wrong line is one of the lines, or the missing line after them
 pub wrong_within : (drawn : Drawn) (here : ReportState) (lines : List Entry) (number : ℕ) → IsFirstWrong drawn here lines number → number ≤ length lines
 wrong_within drawn here [] number w = let e : number ≡ 0 = w.1 in omega arith
 wrong_within drawn here (line ∷ lines) number (inl w) = let e : number ≡ 0 = w.1 in omega arith

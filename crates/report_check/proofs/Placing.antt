@@ -48,7 +48,7 @@ module _ (drawn : Drawn) (number : ℕ) (name : Name) (line : Entry) (test : Boo
   pub event_none : test ≡ false → Decides drawn (at_of drawn (stages.Event number)) line None
   event_none fails = rw (names_from drawn.names number name there is) (λ next h. let clash : true ≡ false = sym (tells.1 h.0) ∙ fails in absurd (cc clash))
 
--- behind all rows the end comes
+-- after all rows the end comes
 pub end_decides : (drawn : Drawn) (tally : ReportTally) (number : ℕ) (left : List Row) (line : Entry) (o : Option Stage) → left ≡ []
     → Decides drawn (at_end (end_word (tally_in tally))) line o → Decides drawn (at_row (tally_in tally) number left) line o
 end_decides drawn tally number left line None none d = subst (λ xs. Decides drawn (at_row (tally_in tally) number xs) line None) (sym none) d

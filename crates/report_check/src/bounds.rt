@@ -1,4 +1,4 @@
-//! Whether a report may have a finding or a bound behind some proof lines. It is known whether these lines are a whole
+//! Whether a report may have a finding or a bound after some proof lines. It is known whether these lines are a whole
 //! proof.
 
 ghost use Rattle.std.specs.Prelude.{◌≡◌, ◌↔◌, ◌<◌, neg_ℤ, List, Some, IfSome, IsTrue};
@@ -23,7 +23,7 @@ use itv_base::EventId;
 use requirements::Bound;
 use slack_report::FindingWord;
 
-/// Whether a finding may stand behind proof lines. `whole` says whether they prove that no times satisfy.
+/// Whether a finding may stand after proof lines. `whole` says whether they prove that no times satisfy.
 pub fn proves_finding(net: &Network, work: &mut Work, word: FindingWord, whole: bool) -> bool
     requires made { IsMadeFor net.now work.old }
     ensures proves { (lines : List ProofLine) → (word ≡ FindingWord.Inconsistent → IsWholeFor net.now (Some Nothing) lines whole)
@@ -60,7 +60,7 @@ fn is_bound(root: Root) -> bool
     }
 }
 
-/// Whether a bound of a row may stand behind a finding and behind proof lines. `whole` says whether these lines prove
+/// Whether a bound of a row may stand after a finding and after proof lines. `whole` says whether these lines prove
 /// it.
 pub fn proves_bound(
     net: &Network,

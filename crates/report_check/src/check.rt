@@ -40,7 +40,9 @@ fn check_items(alloc: Global, drawn: &DrawnNetwork, items: &Items) -> Result<Che
     let net = drawn.network();
     let mut checker = Checker::new(alloc, net)?;
     let mut work = Work::new(alloc, net)?;
-    match walk(drawn, &mut checker, &mut work, items) {
+    let walked = walk(drawn, &mut checker, &mut work, items);
+    drop(work);
+    match walked {
         Ok(()) => Ok(Checked::Accepted),
         Err(number) => Ok(Checked::Refused { line: number + 1 }),
     }

@@ -236,7 +236,7 @@ fn judge_times<'a>(
     }
 }
 
-// The stage behind the times of a bound.
+// The stage after the times of a bound.
 fn behind_times<'a>(
     current: &CurrentRow,
     coming: NextBound,

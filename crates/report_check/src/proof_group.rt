@@ -1,4 +1,4 @@
-//! Proof lines, with the finding or the bound that stands behind them.
+//! Proof lines, with the finding or the bound that stands after them.
 
 ghost use Rattle.std.specs.Prelude.{◌≡◌, ◌↔◌, IsTrue, ◌+◌, ◌<◌, ◌≤◌, ◌^◌, ◌-◌, neg_ℤ, pos, List, [], Option, false, length, drop};
 ghost use Rattle.std.specs.Int.{int_min};
@@ -26,7 +26,7 @@ use slack_report::{FindingWord, Item, Items, Which};
 /// What some proof lines stand before.
 #[derive(Clone, Copy)]
 pub enum ProofGroup {
-    /// The finding, behind so many events.
+    /// The finding, after so many events.
     Finding(u32),
     /// A bound of a row.
     Bound {
@@ -35,7 +35,7 @@ pub enum ProofGroup {
     },
 }
 
-/// A step over the proof lines from a line on, and over the finding or the bound behind them. Returns the next stage
+/// A step over the proof lines from a line on, and over the finding or the bound after them. Returns the next stage
 /// with the number of the next line, or the number of the first wrong line.
 pub fn step_group(
     drawn: &DrawnNetwork,

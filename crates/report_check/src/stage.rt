@@ -21,7 +21,7 @@ pub struct ReportTally {
     pub within: bool,
 }
 
-/// Which bound of a row comes next: the greatest, or the least behind the greatest.
+/// Which bound of a row comes next: the greatest, or the least after the greatest.
 #[derive(Clone, Copy)]
 pub enum NextBound {
     Greatest,
@@ -37,18 +37,18 @@ pub struct CurrentRow {
 }
 
 /// Where a check stands: before the line that the stage is named for. Proof lines are taken together with the finding
-/// or the bound behind them, so that no stage stands among them.
+/// or the bound after them, so that no stage stands among them.
 #[derive(Clone, Copy)]
 pub enum Stage<'a> {
     Heading,
     Budget,
     Events,
-    /// Before the event with this number, from 0. Behind all events: before the finding.
+    /// Before the event with this number, from 0. After all events: before the finding.
     Event(u32),
     /// Before the times of a consistent finding.
     Known,
     Rows(FindingWord),
-    /// Before the row with this number, from 0. Behind all rows: before the end.
+    /// Before the row with this number, from 0. After all rows: before the end.
     Row {
         tally: ReportTally,
         number: u64,
@@ -80,7 +80,7 @@ pub enum Stage<'a> {
         range: Range,
         both: BothBounds,
     },
-    /// Before the slack of a row. The row with this number comes behind it.
+    /// Before the slack of a row. The row with this number comes after it.
     Slack {
         tally: ReportTally,
         number: u64,
@@ -88,12 +88,12 @@ pub enum Stage<'a> {
         both: BothBounds,
     },
     End(EndWord),
-    /// Behind the last line.
+    /// After the last line.
     Done,
 }
 
 impl ReportTally {
-    /// The tally behind a finding.
+    /// The tally after a finding.
     pub fn new(found: FindingWord) -> ReportTally
         ensures tally { tally_in result ≡ tally_of found }
     {
@@ -148,7 +148,7 @@ impl NextBound {
     }
 }
 
-/// The stage behind a finding.
+/// The stage after a finding.
 pub fn behind_finding(word: FindingWord) -> Stage<'static>
     ensures stage { (drawn : Drawn) → at_of drawn result ≡ behind_finding word }
     ensures fits { (drawn : Drawn) → Fits drawn result }
@@ -160,7 +160,7 @@ pub fn behind_finding(word: FindingWord) -> Stage<'static>
     }
 }
 
-// The stage behind both bounds of a row.
+// The stage after both bounds of a row.
 fn behind_both(current: &CurrentRow, both: &BothBounds) -> Stage<'static>
     requires number { current.now.number < 2 ^ 32 }
     ensures stage { (drawn : Drawn) → at_of drawn result ≡ bounded (current_in drawn current.now) (next_in (NextBound.LeastBy both.now.greatest)) both.now.least }
@@ -179,7 +179,7 @@ fn behind_both(current: &CurrentRow, both: &BothBounds) -> Stage<'static>
     }
 }
 
-/// The stage behind a bound and its lines.
+/// The stage after a bound and its lines.
 pub fn bounded(current: &CurrentRow, coming: NextBound, value: Bound) -> Stage<'static>
     requires number { current.now.number < 2 ^ 32 }
     ensures stage { (drawn : Drawn) → at_of drawn result ≡ bounded (current_in drawn current.now) (next_in coming) value }
@@ -200,7 +200,7 @@ pub fn bounded(current: &CurrentRow, coming: NextBound, value: Bound) -> Stage<'
     }
 }
 
-/// The stage behind the line of a bound.
+/// The stage after the line of a bound.
 pub fn behind_bound(current: &CurrentRow, coming: NextBound, value: Bound) -> Stage<'static>
     requires number { current.now.number < 2 ^ 32 }
     ensures stage { (drawn : Drawn) → at_of drawn result ≡ behind_bound (current_in drawn current.now) (next_in coming) value }
@@ -216,7 +216,7 @@ pub fn behind_bound(current: &CurrentRow, coming: NextBound, value: Bound) -> St
     }
 }
 
-/// The stage behind a verdict and the times that break the requirement.
+/// The stage after a verdict and the times that break the requirement.
 pub fn behind_past(
     current: &CurrentRow,
     range: Range,
@@ -235,7 +235,7 @@ pub fn behind_past(
     }
 }
 
-/// The stage behind a verdict.
+/// The stage after a verdict.
 pub fn behind_verdict(
     current: &CurrentRow,
     range: Range,

@@ -35,7 +35,7 @@ fn satisfy(net: &Network, times: &[i64]) -> bool
     times.len() == net.events() as usize && are_within(times) && net.broken(times).is_none()
 }
 
-/// Whether times satisfy the network and event 0 is at 0, as the times behind a consistent finding must.
+/// Whether times satisfy the network and event 0 is at 0, as the times after a consistent finding must.
 pub fn are_known(net: &Network, times: &[i64]) -> bool
     ensures known { IsTrue result ↔ (checked net.now).known times.now }
 {

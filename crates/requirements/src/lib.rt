@@ -1,4 +1,4 @@
-//! Requirements on separations: the verdict on a requirement by the two bounds of its pair, and how far the bounds are inside its
+//! Requirements on separations: the verdict on a requirement according to the two bounds of its pair, and how far the bounds are inside its
 //! ends. The contract: a verdict is the one in the table of verdicts. With right bounds, a pass says that every satisfying
 //! separation lies in the range, and a fail says that a printed one does not.
 #![tactic(auto)]

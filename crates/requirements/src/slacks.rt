@@ -49,7 +49,7 @@ fn high_slack(high: Option<i64>, greatest: Bound) -> Option<i64>
     }
 }
 
-/// The slacks of a requirement on the separation of a pair, by its range and the two bounds of the pair: the least separation less
+/// The slacks of a requirement on the separation of a pair, from its range and the two bounds of the pair: the least separation less
 /// the low end, and the high end less the greatest separation. The numbers of the bounds are below 2^61 in absolute value.
 pub fn slack(range: Range, both: &BothBounds) -> Slack
     requires least { HasTimes both.now.least }

@@ -19,7 +19,7 @@ pub enum Verdict {
     Undecided,
 }
 
-// Whether a satisfying separation is known to be past the high end, by the greatest bound.
+// Whether a satisfying separation is known to be past the high end, according to the greatest bound.
 fn breaks_high(high: Option<i64>, greatest: Bound) -> bool
     ensures { result ≡ breaks_high high greatest }
 {
@@ -33,7 +33,7 @@ fn breaks_high(high: Option<i64>, greatest: Bound) -> bool
     }
 }
 
-// Whether no satisfying separation is past the high end, by the greatest bound.
+// Whether no satisfying separation is past the high end, according to the greatest bound.
 fn meets_high(high: Option<i64>, greatest: Bound) -> bool
     ensures { result ≡ meets_high high greatest }
 {
@@ -47,7 +47,7 @@ fn meets_high(high: Option<i64>, greatest: Bound) -> bool
     }
 }
 
-// Whether a satisfying separation is known to be past the low end, by the least bound.
+// Whether a satisfying separation is known to be past the low end, according to the least bound.
 fn breaks_low(low: Option<i64>, least: Bound) -> bool
     ensures { result ≡ breaks_low low least }
 {
@@ -61,7 +61,7 @@ fn breaks_low(low: Option<i64>, least: Bound) -> bool
     }
 }
 
-// Whether no satisfying separation is past the low end, by the least bound.
+// Whether no satisfying separation is past the low end, according to the least bound.
 fn meets_low(low: Option<i64>, least: Bound) -> bool
     ensures { result ≡ meets_low low least }
 {
@@ -75,7 +75,7 @@ fn meets_low(low: Option<i64>, least: Bound) -> bool
     }
 }
 
-/// The verdict on a requirement on the separation of a pair, by its range and the two bounds of the pair. An open end demands
+/// The verdict on a requirement on the separation of a pair, according to its range and the two bounds of the pair. An open end demands
 /// nothing. A broken side decides before a fine one, and the high side before the low one.
 pub fn judge(range: Range, both: &BothBounds) -> Verdict
     ensures { result ≡ verdict_of range both.now.least both.now.greatest }

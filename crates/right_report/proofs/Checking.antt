@@ -39,7 +39,7 @@ is_closed net r (least_by most) value lines list p t e = record {
   least = λ times sat. above (time_of times r.from) (time_of times r.to) value (proof_bounds net r.to r.from (neg_ℤ value) lines times p sat);
 }
 
--- the times behind a closed bound
+-- the times after a closed bound
 attained : (drawn : Drawn) (current : CurrentRow) (coming : NextBound) (value : ℤ) (lines : List Entry) → LinesLead (checked drawn.net) drawn (at_times current coming (Closed value)) lines at_last
     → (list : List ℤ) × AreTimes drawn.net current.row list × (separation list current.row.from current.row.to ≡ value)
 attained drawn current coming value [] h = absurd (cc)
@@ -62,7 +62,7 @@ bind : (drawn : Drawn) (current : CurrentRow) (coming : NextBound) (lines : List
 bind drawn current coming lines line next rest (inl h) more = inl h
 bind drawn current coming lines line next rest (inr h) more = inr (h.0, h.1, is_bound drawn current coming lines h.0 next rest h.2.1 h.3 more, h.3)
 
--- a line that meets the check is right, if all lines behind it meet the check too
+-- a line that meets the check is right, if all lines after it meet the check too
 follow : (drawn : Drawn) (here : ReportState) (line : Entry) (next : ReportState) (rest : List Entry) → MayFollow (checked drawn.net) drawn here line next → LinesLead (checked drawn.net) drawn next rest at_last
     → MayFollow (right drawn.net) drawn here line next
 follow drawn at_heading line next rest h more = h

@@ -148,7 +148,7 @@ module _ (drawn : Drawn) (current : CurrentRow) (is_row : slice_get drawn.rows c
     counts_verdict verdicts.FailLow e = c
     counts_verdict verdicts.Undecided e = tallies_word verdicts.Undecided e
 
-  -- ---- behind a bound
+  -- ---- after a bound
 
   counts_judged : (least most : Bound) (kind : RowKind) → current.row.kind ≡ kind → Counts drawn (judged kind current least most)
   counts_judged least most Ask e = tallies_ask least most e

@@ -50,7 +50,7 @@ module _ (claims : LineClaims) (drawn : Drawn) (word : FindingWord) (next : Repo
   finds (at_end other) h = absurd (cc h.0)
   finds at_last h = absurd h
 
--- the finding in the lines is right, and the lines behind it lead on
+-- the finding in the lines is right, and the lines after it lead on
 pub record Tells (drawn : Drawn) (word : FindingWord) (last : ReportState) : Type 0 where
   pub holds : IsFinding drawn.net word
   pub lines : List Entry

@@ -131,7 +131,7 @@ module _ (drawn : Drawn) (goal : ProofGoal) where
   by_find rest line lines next (inl m) h later = complete_later drawn.net goal lines m.0 (later m.0 (subst (λ x. LinesLead (checked drawn.net) drawn x rest at_last) m.2 h))
   by_find rest line lines next (inr m) h later = let clash : proof line ≡ finding m.0 = m.1 in absurd (cc)
 
-  -- if something is to be shown in a report that meets the check, lines behind complete the proof
+  -- if something is to be shown in a report that meets the check, later lines complete the proof
   ahead_find : (rest : List Entry) (front lines : List ProofLine) → goal_ahead (at_finding front) rest ≡ Some goal → LinesLead (checked drawn.net) drawn (at_finding lines) rest at_last
       → Completes drawn.net goal lines
   ahead_find [] front lines is h = absurd (cc)

@@ -13,7 +13,7 @@ use Rattle.right_report.proofs.RightOrder.{right_lines_keep_order}
 use Rattle.right_report.specs.Laws.{RightIsReport}
 
 module _ (claims : LineClaims) (drawn : Drawn) (line : Entry) (next : ReportState) where
-  -- if a line may stand in a report of so many events, it may stand where the order asks for another number of events
+  -- if a line may be in a report of so many events, it may stand where the order asks for another number of events
   other_count : (count : ℕ) (known : Entry) → line ≡ known → (IsReportEntry (length drawn.names) known → IsReportEntry count known) → IsReportEntry (length drawn.names) line → IsReportEntry count line
   other_count count known same free e = subst (IsReportEntry count) (sym same) (free (subst (IsReportEntry (length drawn.names)) same e))
 

@@ -15,7 +15,7 @@ use Rattle.right_report.specs.Laws.{GreatestIsRight, LeastIsRight, UnboundedAbov
 use Rattle.right_report.specs.ReportContents.{first_bound}
 use Rattle.right_report.proofs.Standing.{IsRightBound, attained_is_right, closed_is_right, none_is_right, on_row, rise_is_right}
 
--- ---- a bound is right by the times and the set behind it
+-- ---- a bound is right by the times and the set after it
 
 module _ (drawn : Drawn) (current : CurrentRow) (coming : NextBound) where
   raised : (list : List ℤ) (lines : List Entry) → LinesLead (right drawn.net) drawn (at_raise current coming list) lines at_last → IsRightBound drawn.net current.row coming Unbounded

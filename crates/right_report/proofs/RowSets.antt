@@ -1,4 +1,4 @@
--- What the set of events behind an unbounded bound says.
+-- What the set of events after an unbounded bound says.
 use Rattle.std.proofs.Common.{◌≡◌, ◌++◌, ℤ, Bool, List, [], ◌∷◌, Some, None, inl, inr, ◌⊎◌, refl, sym, subst, ◌∙◌}
 use Rattle.event_graph.specs.Bounds.{IsUnbounded}
 use Rattle.requirements.specs.declared.bound.Bound.{Bound}
@@ -22,7 +22,7 @@ use Rattle.right_report.specs.ReportContents.{first_set, set_behind}
 use Rattle.right_report.proofs.RowBounds.{IsBeforeMax, IsBeforeMin, before_min_bound, before_min_times}
 use Rattle.right_report.proofs.Standing.{IsRightBound, on_row, rise_is_right}
 
--- ---- behind a bound
+-- ---- after a bound
 
 module _ (drawn : Drawn) (P : Type 0) where
   -- a state after a bound: the next set is yet to come, or there is none before the next bound or row

@@ -1,4 +1,4 @@
--- What is known in a state of a right report, by the lines before it.
+-- What is known in a state of a right report, according to the lines before it.
 use Rattle.std.proofs.Common.{◌≡◌, ◌+◌, ◌-◌, ◌<◌, ◌==◌, ℕ, suc, ℤ, Bool, true, false, if◌then◌else◌, List, [], ◌∷◌, length, drop, get_or, Option, Some, None, slice_get, inl, inr, refl, sym, ap, subst, ◌∙◌, arith, add-one, drop-cons, length-drop}
 use Rattle.std.proofs.lemmas.Bool.{eqb-true}
 use Rattle.std.proofs.lemmas.Option.{same_Some, slice_get-get_or}
@@ -41,7 +41,7 @@ next_row rows later number r is =
 
 -- ---- states
 
--- the current row is a row of the design, and the later rows are the rows behind it
+-- the current row is a row of the design, and the later rows are the rows after it
 pub record IsTold (drawn : Drawn) (current : CurrentRow) : Type 0 where
   pub is_row : slice_get drawn.rows current.number ≡ Some current.row
   pub are_later : current.later ≡ drop (current.number + 1) drawn.rows
@@ -202,7 +202,7 @@ module _ (claims : LineClaims) (drawn : Drawn) (number : ℕ) (kind : RowKind) (
   begins (at_end word) h = absurd (cc h.0)
   begins at_last h = absurd h
 
--- a claim on what the lines of a row say first holds, wherever the row stands in the report
+-- a claim on what the lines of a row say first holds, wherever the row is in the report
 module _ {X : Type 0} (drawn : Drawn) (last : ReportState) (first : List Entry → Option X) (Claim : Row → X → Type 0)
     (empty : first [] ≡ None)
     (in_row : (current : CurrentRow) (lines : List Entry) (x : X) → IsTold drawn current → LinesLead (right drawn.net) drawn (at_bound current greatest []) lines last → first lines ≡ Some x → Claim current.row x) where

@@ -56,7 +56,7 @@ module _ (claims : LineClaims) (drawn : Drawn) (P : Type 0)
   Settled (at_end word) = word ≡ endings.Undecided → P
   Settled other = Unit {0}
 
-  -- ---- behind a bound and a verdict
+  -- ---- after a bound and a verdict
 
   settled_judged : (current : CurrentRow) (least most : Bound) (kind : RowKind) → Settles current.tally → ((is_within least || is_within most) ≡ true → P) → Settled (judged kind current least most)
   settled_judged current least most Ask s both = (s.0, or_by P current.tally.within (is_within least || is_within most) s.1 both)

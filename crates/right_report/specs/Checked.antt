@@ -22,7 +22,7 @@ ProvesFinding net lines findings.Consistent = Unit {0}
 ProvesFinding net lines findings.Inconsistent = IsProof net Nothing lines
 ProvesFinding net lines findings.Unsettled = (list : List ℤ) × MeetsAlways list net
 
--- a closed bound is proved by the lines before it; the times behind it show that it is attained
+-- a closed bound is proved by the lines before it; the times after it show that it is attained
 abbrev pub ProvesBound : Net → FindingWord → Row → NextBound → List ProofLine → Bound → Type 0
 ProvesBound net found r coming lines (bounds.Closed value) = (found ≡ findings.Consistent) × IsProof net (goal_of r coming value) lines
 ProvesBound net found r coming lines bounds.Unbounded = found ≡ findings.Consistent

@@ -85,13 +85,13 @@ abbrev pub UnboundedBelow : Type 0
 UnboundedBelow = (drawn : Drawn) (lines : List Entry) (number : ℕ) (r : Row) → IsRightReport drawn lines → slice_get drawn.rows number ≡ Some r
     → bound_on lines number sorts.Min ≡ Some bounds.Unbounded → IsUnbounded drawn.net r.to r.from
 
--- a set of events behind a greatest bound shows that satisfying separations of the pair exceed every number, even if the lines only begin a
+-- a set of events after a greatest bound shows that satisfying separations of the pair exceed every number, even if the lines only begin a
 -- right report
 abbrev pub SetShowsAbove : Type 0
 SetShowsAbove = (drawn : Drawn) (lines : List Entry) (number : ℕ) (r : Row) (set : List Bool) → BeginsRightReport drawn lines → slice_get drawn.rows number ≡ Some r
     → set_on lines number sorts.Max ≡ Some set → IsUnbounded drawn.net r.from r.to
 
--- a set of events behind a least bound shows the same of the reversed pair
+-- a set of events after a least bound shows the same of the reversed pair
 abbrev pub SetShowsBelow : Type 0
 SetShowsBelow = (drawn : Drawn) (lines : List Entry) (number : ℕ) (r : Row) (set : List Bool) → BeginsRightReport drawn lines → slice_get drawn.rows number ≡ Some r
     → set_on lines number sorts.Min ≡ Some set → IsUnbounded drawn.net r.to r.from

@@ -20,7 +20,7 @@ end_in [] = None
 end_in (ending word ∷ lines) = Some word
 end_in (line ∷ lines) = end_in lines
 
--- the lines behind the first line of the row with this number
+-- the lines after the first line of the row with this number
 abbrev pub behind_row : ℕ → List Entry → List Entry
 behind_row number [] = []
 behind_row number (row other kind from to ∷ lines) = if other == number then lines else behind_row number lines
@@ -48,7 +48,7 @@ set_behind (bound other value ∷ lines) = None
 set_behind (row other kind from to ∷ lines) = None
 set_behind (line ∷ lines) = set_behind lines
 
--- the set of events behind the first greatest or least bound before the next row
+-- the set of events after the first greatest or least bound before the next row
 abbrev pub first_set : Which → List Entry → Option (List Bool)
 first_set which [] = None
 first_set which (bound other value ∷ lines) = if is_which other which then set_behind lines else first_set which lines
@@ -63,6 +63,6 @@ verdict_on lines number = first_verdict (behind_row number lines)
 abbrev pub bound_on : List Entry → ℕ → Which → Option Bound
 bound_on lines number which = first_bound which (behind_row number lines)
 
--- the set of events behind the greatest or the least bound of the row with this number; it shows that the bound is unbounded
+-- the set of events after the greatest or the least bound of the row with this number; it shows that the bound is unbounded
 abbrev pub set_on : List Entry → ℕ → Which → Option (List Bool)
 set_on lines number which = first_set which (behind_row number lines)

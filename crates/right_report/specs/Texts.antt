@@ -32,6 +32,6 @@ pub record HasFirstWrong (drawn : Drawn) (bytes : List ℕ) (line : ℕ) : Type 
   pub is_line : line ≡ number + 1
   pub is_wrong : IsFirstWrongIn drawn lines number
 
--- the check refuses the bytes at this line, counted from 1: no report's text goes on there, or it is the first wrong line of the report
+-- the check refuses the bytes at this line, counted from 1: no report's text continues there, or it is the first wrong line of the report
 abbrev pub IsRefusedText : Drawn → List ℕ → ℕ → Type 0
 IsRefusedText drawn bytes line = IsFirstWrongLine bytes line ⊎ HasFirstWrong drawn bytes line

@@ -39,7 +39,7 @@ proof_so_far at = []
 abbrev pub Takes : Net → ProofGoal → List ProofLine → Type 0
 Takes net goal lines = (cases : List Case) × proofs.ProofLeaves net goal ([] ∷ []) lines cases
 
--- the lines to come need a proof, and reading it does not accept this line behind the lines before it
+-- the lines to come need a proof, and reading it does not accept this line after the lines before it
 abbrev pub IsLineRefused : Net → ReportState → Entry → List Entry → Type 0
 IsLineRefused net at (proof line) rest = IsSomeAnd (goal_ahead at rest) (λ goal. Takes net goal (proof_so_far at ++ line ∷ []) → ⊥)
 IsLineRefused net at other rest = ⊥

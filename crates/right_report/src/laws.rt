@@ -56,7 +56,7 @@ pub fn unbounded_is_so()
     ensures below { UnboundedBelow }
 {}
 
-/// A set of events behind a bound shows the same, even if the lines only begin a right report.
+/// A set of events after a bound shows the same, even if the lines only begin a right report.
 pub fn set_shows_unbounded()
     ensures above { SetShowsAbove }
     ensures below { SetShowsBelow }

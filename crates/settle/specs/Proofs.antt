@@ -6,7 +6,7 @@ use Rattle.falling.specs.declared.view.View.{View}
 use Rattle.falling.specs.declared.view.View.TheVariants.{Plain, Negated}
 use Rattle.falling.specs.Kinds.{negated}
 use Rattle.clauses.specs.Checking.{Checking, IsChecking}
-use Rattle.clauses.specs.Lines.{Assume, ClauseLine, Close, Fall, IsClauseProof, Know, ProofLeads, Loop, starting}
+use Rattle.clauses.specs.Lines.{Assume, ClauseLine, Close, Fall, IsClauseProof, IsLine, Know, ProofLeads, Loop, State, starting}
 use Rattle.settle.specs.declared.line.StoredLine.{StoredLine}
 use Rattle.settle.specs.declared.line.StoredLine.TheVariants.{Fall as FallTo, Know as KnowBy, Loop as LoopBack, Assume as AssumeAll, Close as CloseBlock}
 
@@ -36,3 +36,7 @@ pub record Proving : Type 0 where
 pub record IsProving (net : Net) (proving : Proving) : Type 0 where
   pub checking : IsChecking net proving.check
   pub lines : ProofLeads net proving.check.goal (starting net proving.check.goal.from) (lines_of proving.lines) proving.check.state
+
+-- the line leads from the checker's state to no state
+abbrev pub IsNoLine : Net → Checking → ClauseLine → Type 0
+IsNoLine net check line = (next : State) → IsLine net check.goal check.state line next → ⊥

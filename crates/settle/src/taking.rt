@@ -1,9 +1,9 @@
 //! Stored lines, given to a checker.
 
-ghost use Rattle.std.specs.Prelude.{◌≡◌, IsTrue, IsFalse, IfOk};
+ghost use Rattle.std.specs.Prelude.{◌≡◌, ◌↔◌, IsTrue, IsFalse, IfOk};
 ghost use Rattle.clauses.specs.Checking.{IsChecking, TakesLine};
 ghost use Rattle.clauses.specs.Lines.{Assume, Close, Fall, Know, Loop};
-ghost use Rattle.settle.specs.Proofs.{line_of};
+ghost use Rattle.settle.specs.Proofs.{IsNoLine, line_of};
 
 use crate::line::StoredLine;
 use clauses::{
@@ -14,7 +14,8 @@ use event_graph::Network;
 use itv_base::{EventId, NoMemory};
 use std::alloc::Global;
 
-/// Gives a line to a checker, and returns whether the checker has taken it. If not, nothing has changed.
+/// Gives a line to a checker, and returns whether the checker has taken it. If not, nothing has changed, and the line leads
+/// to no state.
 pub fn take_line(
     alloc: Global,
     net: &Network,
@@ -23,6 +24,7 @@ pub fn take_line(
 ) -> Result<bool, NoMemory>
     requires checking { IsChecking net.now checker.old }
     ensures taken { IfOk result (λ taken. IsTrue taken → TakesLine net.now checker.old (line_of line.now) checker.new) }
+    ensures refused { IfOk result (λ taken. IsFalse taken → IsNoLine net.now checker.old (line_of line.now)) }
     ensures unchanged { IfOk result (λ taken. IsFalse taken → checker.new ≡ checker.old) }
 {
     match line {
@@ -38,6 +40,7 @@ pub fn take_line(
 fn take_fall(net: &Network, checker: &mut ClauseChecker, fall: EventFall) -> bool
     requires checking { IsChecking net.now checker.old }
     ensures taken { IsTrue result → TakesLine net.now checker.old (Fall fall.event fall.value fall.basis) checker.new }
+    ensures refused { IsFalse result → IsNoLine net.now checker.old (Fall fall.event fall.value fall.basis) }
     ensures unchanged { IsFalse result → checker.new ≡ checker.old }
 {
     if net.events() <= fall.event.0 {
@@ -55,13 +58,24 @@ fn take_know(
 ) -> Result<bool, NoMemory>
     requires checking { IsChecking net.now checker.old }
     ensures taken { IfOk result (λ taken. IsTrue taken → TakesLine net.now checker.old (Know literal basis) checker.new) }
+    ensures refused { IfOk result (λ taken. IsFalse taken → IsNoLine net.now checker.old (Know literal basis)) }
     ensures unchanged { IfOk result (λ taken. IsFalse taken → checker.new ≡ checker.old) }
 {
     match checker.take_know(net, literal, basis) {
         Ok(()) => Ok(true),
-        Err(KnowFault::NoMemory) => Err(NoMemory),
-        Err(_) => Ok(false),
+        Err(fault) => {
+            if wants_memory_to_know(fault) {
+                return Err(NoMemory);
+            }
+            Ok(false)
+        }
     }
+}
+
+fn wants_memory_to_know(fault: KnowFault) -> bool
+    ensures { IsTrue result ↔ (fault ≡ KnowFault.NoMemory) }
+{
+    matches!(fault, KnowFault::NoMemory)
 }
 
 // Keeps the clause of a loop, if the steps are one.
@@ -74,13 +88,24 @@ fn keep_loop(
 ) -> Result<bool, NoMemory>
     requires checking { IsChecking net.now checker.old }
     ensures taken { IfOk result (λ taken. IsTrue taken → TakesLine net.now checker.old (Loop event steps.now.items) checker.new) }
+    ensures refused { IfOk result (λ taken. IsFalse taken → IsNoLine net.now checker.old (Loop event steps.now.items)) }
     ensures unchanged { IfOk result (λ taken. IsFalse taken → checker.new ≡ checker.old) }
 {
     match checker.keep_loop(alloc, net, event, steps) {
         Ok(()) => Ok(true),
-        Err(LoopFault::NoMemory) => Err(NoMemory),
-        Err(_) => Ok(false),
+        Err(fault) => {
+            if wants_memory_for_loop(fault) {
+                return Err(NoMemory);
+            }
+            Ok(false)
+        }
     }
+}
+
+fn wants_memory_for_loop(fault: LoopFault) -> bool
+    ensures { IsTrue result ↔ (fault ≡ LoopFault.NoMemory) }
+{
+    matches!(fault, LoopFault::NoMemory)
 }
 
 // Opens a block, if its literals may be assumed.
@@ -92,6 +117,7 @@ fn assume(
 ) -> Result<bool, NoMemory>
     requires checking { IsChecking net.now checker.old }
     ensures taken { IfOk result (λ taken. IsTrue taken → TakesLine net.now checker.old (Assume literals.now.items) checker.new) }
+    ensures refused { IfOk result (λ taken. IsFalse taken → IsNoLine net.now checker.old (Assume literals.now.items)) }
     ensures unchanged { IfOk result (λ taken. IsFalse taken → checker.new ≡ checker.old) }
 {
     match checker.assume(alloc, net, literals) {
@@ -105,6 +131,7 @@ fn assume(
 fn close(alloc: Global, net: &Network, checker: &mut ClauseChecker) -> Result<bool, NoMemory>
     requires checking { IsChecking net.now checker.old }
     ensures taken { IfOk result (λ taken. IsTrue taken → TakesLine net.now checker.old Close checker.new) }
+    ensures refused { IfOk result (λ taken. IsFalse taken → IsNoLine net.now checker.old Close) }
     ensures unchanged { IfOk result (λ taken. IsFalse taken → checker.new ≡ checker.old) }
 {
     match checker.close(alloc, net) {

@@ -8,6 +8,7 @@ use Rattle.event_graph.specs.Satisfying.{Satisfies}
 use Rattle.event_graph.specs.Times.{IsTime, moved, separation, time_of}
 use Rattle.event_graph.proofs.Reversing.{least_is_reversed_greatest}
 use Rattle.event_graph.proofs.Moving.{ray-moved, satisfies-moved, separation-moved, zero-moved}
+use Rattle.line_words.specs.Numbers.{IsLong}
 use Rattle.slack_report.specs.declared.words.Which.{Which}
 use Rattle.slack_report.specs.declared.words.Which.TheVariants.{Max, Min}
 use Rattle.drawn.specs.Drawn.{IsRowOf}
@@ -63,12 +64,13 @@ module _ (net : Net) (turns : ℕ) (found : ShownAnswer) (is_net : IsNet net) (s
   -- no times satisfy, and the lines prove it if proofs are wanted
   pub refuted : (cert : Bool) (proof : Proof) → found.answer ≡ Inconsistent
       → ((net : Net) (from to : EventId) → IsProofAs found.view net from to found.claim.value found.lines.items → ProvesClaim cert net from to found.claim.value proof)
-      → IsRefuted cert net proof
-  refuted cert proof is proves =
+      → IsLong proof.claim → IsRefuted cert net proof
+  refuted cert proof is proves long =
       let a = says found Inconsistent is f in
       let p : ProvesClaim cert net first_event first_event found.claim.value proof = proves net first_event first_event a.proof in record {
         none = a.none;
         low = rw p.0 a.low;
+        fits = long;
         proves = (refl, λ wanted. rw p.0 (p.1 wanted));
       }
 

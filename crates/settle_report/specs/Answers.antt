@@ -9,6 +9,7 @@ use Rattle.event_graph.specs.Limits.{IsPrintedTime}
 use Rattle.event_graph.specs.Network.{Net}
 use Rattle.event_graph.specs.Satisfying.{Satisfies}
 use Rattle.event_graph.specs.Times.{separation, time_of}
+use Rattle.line_words.specs.Numbers.{IsLong}
 use Rattle.falling.specs.Cap.{far_line}
 use Rattle.settle.specs.Proofs.{IsProofAs}
 use Rattle.requirements.specs.Verdicts.{verdict_of}
@@ -43,10 +44,11 @@ pub record ArePrintedTimes (net : Net) (origin : EventId) (times : List ℤ) : T
 abbrev pub first_event : EventId
 first_event = record { 0 = 0 }
 
--- no times satisfy; if proofs are wanted, the lines prove a claim below minus the far line
+-- no times satisfy; if proofs are wanted, the lines prove a claim of 64 bits that is below minus the far line
 pub record IsRefuted (cert : Bool) (net : Net) (proof : Proof) : Type 0 where
   pub none : IsInconsistent net
   pub low : proof.claim <ℤ neg_ℤ (pos (far_line net))
+  pub fits : IsLong proof.claim
   pub proves : ProvesClaim cert net first_event first_event proof.claim proof
 
 -- a finding that was spent says nothing

@@ -4,6 +4,7 @@ ghost use Rattle.std.specs.Prelude.{◌≤◌, ℤ, length};
 ghost use Rattle.itv_base.specs.Outside.{Puts};
 ghost use Rattle.itv_base.specs.declared.names.EventId.{EventId};
 ghost use Rattle.event_graph.specs.Network.{Net};
+ghost use Rattle.line_words.specs.Numbers.{IsLong};
 ghost use Rattle.settle.specs.Proofs.{IsProofAs};
 ghost use Rattle.settle_report.specs.Answers.{ProvesClaim};
 ghost use Rattle.settle_report.specs.Text.{shown_text};
@@ -35,6 +36,7 @@ pub fn proof_of(
 ) -> Proof
     ensures proves { (net : Net) (from to : EventId) → IsProofAs view net from to claim.value lines.items → ProvesClaim is_wanted net from to claim.value result }
     ensures lines { length result.lines.items ≤ length lines.items }
+    ensures fits { IsLong result.claim }
 {
     if is_wanted {
         Proof {

@@ -18,7 +18,7 @@ use Rattle.itv_base.proofs.Faults.{IsReadingFault-on}
 use Rattle.sheet.proofs.Openers.{rule_for, link_rules-map}
 use Rattle.itv_base.proofs.Lists.{drop-read}
 
--- What was read of the edges before number n: their links, the rules of these behind others, the table of their groups, and their rows.
+-- What was read of the edges before number n: their links, the rules of these after others, the table of their groups, and their rows.
 pub record EdgesRead (labels : Labels) (marks : List Mark) (edges : List (List ℕ)) (front : List SheetRule) (n : ℕ) (all : List SheetRule) (places : Places) (rows : List SheetRow) : Type 0 where
   pub links : List Link
   pub stands : RepresentsRules front links all places

@@ -69,7 +69,7 @@ module _ (done : List Mark) (number : ℕ) (lane : LaneText) (node : List ℕ) (
 -- ---- one lane
 
 module _ (done : List Mark) (lanes : List LaneText) (k : ℕ) (lane : LaneText) (read : slice_get lanes k ≡ Some lane) where
-  -- the marks of the lanes from number k on are the marks of lane k and then the marks of the lanes behind it
+  -- the marks of the lanes from number k on are the marks of lane k and then the marks of the lanes after it
   pub lanes-step : with_marks done (flat_map lane_marks (enumerate_from k (drop k lanes)))
       ≡ (with_marks done (lane_marks (k, lane)) >>= (λ more. with_marks more (flat_map lane_marks (enumerate_from (k + 1) (drop (k + 1) lanes)))))
   lanes-step =

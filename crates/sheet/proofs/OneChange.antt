@@ -5,7 +5,7 @@ use Rattle.std.proofs.lemmas.List.{append_assoc, length-append, length_push, set
 use Rattle.std.proofs.lemmas.Option.{same_Some}
 use Rattle.sheet.proofs.Lists.{AtMostOne, map_none}
 
--- The elements of f stand behind others. From f to g they change only at this place, where the element that passes stands.
+-- The elements of f stand after others. From f to g they change only at this place, where the element that passes stands.
 pub record ChangesAt {X Y : Type 0} (f g : X → Y) (p : X → Bool) (front : List Y) (xs : List X) (place : ℕ) : Type 0 where
   pub element : X
   pub passes : p element ≡ true

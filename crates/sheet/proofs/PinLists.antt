@@ -37,7 +37,7 @@ module _ (done : List Pin) (lanes : List LaneText) (k : ℕ) (l : NumberedLane) 
   cons-option None xs = refl
   cons-option (Some x) xs = refl
 
-  -- their pins are the pin of lane k, if it is a pin, and then the pins of the lanes behind it
+  -- their pins are the pin of lane k, if it is a pin, and then the pins of the lanes after it
   pins-step : with_pins done (filter_map pin_of (drop k (numbered lanes)))
       ≡ (with_pins done (option_to_list (pin_of l)) >>= (λ more. with_pins more (filter_map pin_of (drop (k + 1) (numbered lanes)))))
   pins-step =

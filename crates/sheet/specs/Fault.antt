@@ -5,7 +5,7 @@ use Rattle.sheet.specs.declared.fault.SheetFault.TheVariants.{BadNode, DoubleMar
 use Rattle.sheet.specs.declared.groups.GroupFault.{GroupFault}
 use Rattle.sheet.specs.declared.groups.GroupFault.TheVariants as group
 
--- memory was wanted and not found; this says nothing of the drawing
+-- there was not enough memory; this says nothing of the drawing
 abbrev pub is_memory : SheetFault → Bool
 is_memory (BadNode lane) = false
 is_memory (DoubleMark mark) = false

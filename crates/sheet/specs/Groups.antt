@@ -28,7 +28,7 @@ opens_by before link Early = not (list_any (joins link) before)
 opens_by before link Req = false
 opens_by before link Ask = false
 
--- a link opens a rule behind the links before it
+-- a link opens a rule after the links before it
 abbrev pub opens : List Link → Link → Bool
 opens before link = opens_by before link link.label.kind
 
@@ -70,17 +70,17 @@ group_link group = record {
 abbrev pub ArePlaces : Places → ℕ → Type 0
 ArePlaces places count = (group : Group) → IfSome (place_of places group) (λ place. place < count)
 
--- The rules of the links stand behind other rules. The table has, for each group, the place of the rule that the group opened.
+-- The rules of the links stand after other rules. The table has, for each group, the place of the rule that the group opened.
 pub record RepresentsRules (front : List SheetRule) (links : List Link) (all : List SheetRule) (places : Places) : Type 0 where
   pub stand : all ≡ front ++ link_rules links
   pub found : (group : Group) → place_of places group ≡ position_from (joins (group_link group)) (length front) (openers links)
 
--- The fault of edge n is that its group is full. Memory may be wanted at any time.
+-- The fault of edge n is that its group is full. Memory may run out at any time.
 abbrev pub IsFullFault : ℕ → Bool → GroupFault → Type 0
 IsFullFault n full (TooManyCauses m) = (m ≡ n) × (full ≡ true)
 IsFullFault n full NoMemory = Unit {0}
 
--- the answer to one more link, the link of edge n, and the rules and the table behind it
+-- the answer to one more link, the link of edge n, and the rules and the table after it
 abbrev pub AddsLink : List SheetRule → List Link → ℕ → Link → Result ⊤ GroupFault → List SheetRule → Places → Type 0
 AddsLink front links n link (Ok x) all places = (is_full links link ≡ false) × RepresentsRules front (links ++ link ∷ []) all places
 AddsLink front links n link (Err fault) all places = IsFullFault n (is_full links link) fault

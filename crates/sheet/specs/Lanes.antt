@@ -97,7 +97,7 @@ lane_order l = order_named l l.lane.name l.lane.wave
 abbrev pub order_rules : List LaneText → List SheetRule
 order_rules lanes = flat_map lane_order (numbered lanes)
 
--- ---- what stands twice
+-- ---- what occurs twice
 
 -- the first element whose key an earlier element has
 abbrev pub first_repeated : {X K : Type 0} → (K → K → Bool) → (X → K) → List K → List X → Option X

@@ -108,12 +108,12 @@ is_full links link = nat_le MAX_CAUSES (length (filter (joins link) links))
 
 -- ---- all edges, up to the first fault
 
--- the links with what edge n says behind them
+-- the links with what edge n says after them
 abbrev pub with_link : ℕ → List Link → Option Link → Result (List Link) SheetFault
 with_link n done None = Ok done
 with_link n done (Some link) = if is_full done link then Err (TooManyCauses n) else Ok (done ++ link ∷ [])
 
--- the links with the text of edge n read behind them
+-- the links with the text of edge n read after them
 abbrev pub with_edge : Labels → List Mark → ℕ → List Link → List ℕ → Result (List Link) SheetFault
 with_edge labels marks n done text = link_of labels marks n text >>= with_link n done
 

@@ -27,14 +27,14 @@ use Rattle.sheet.specs.Groups.{IsFullFault}
 use Rattle.sheet.specs.Links.{Labels, plain, graded, Link, link_rules, link_rows}
 use Rattle.sheet.specs.Rule.{SheetRule}
 
--- elements with more behind them, or the fault of the first element whose key an earlier element has
+-- elements with more after them, or the fault of the first element whose key an earlier element has
 abbrev pub with_distinct : {X K : Type 0} → (K → K → Bool) → (X → K) → (X → SheetFault) → List X → List X → Result (List X) SheetFault
 with_distinct same key fault done more = unless (first_repeated same key (map key done) more) fault (done ++ more)
 
 abbrev pub with_marks : List Mark → List Mark → Result (List Mark) SheetFault
 with_marks = with_distinct nat_eq (λ mark. mark.name) (λ mark. DoubleMark mark.name)
 
--- no mark stands twice, and each is a character that may be a mark
+-- no mark occurs twice, and each is a character that may be a mark
 pub record AreMarks (marks : List Mark) : Type 0 where
   pub distinct : IsDistinct nat_eq (map (λ mark. mark.name) marks)
   pub named : All (λ mark. is_mark mark.name ≡ true) marks
@@ -58,7 +58,7 @@ numbered_by number lane span = record { number = number; lane = lane; first = sp
 abbrev pub link_view : code.Link → Link
 link_view l = record { from = l.from; to = l.to; origin = l.origin; label = label_view l.label }
 
--- what the edges give, behind other rules
+-- what the edges give, after other rules
 abbrev pub rules_and_rows : List SheetRule → Result (List Link) SheetFault → Result EdgeRules SheetFault
 rules_and_rows front read = do
   links ← read
@@ -77,7 +77,7 @@ is_cause Early = true
 is_cause Req = false
 is_cause Ask = false
 
--- the answer to one more cause of a rule, the cause of edge n, and the rule behind it
+-- the answer to one more cause of a rule, the cause of edge n, and the rule after it
 abbrev pub AddsCause : SheetRule → ℕ → Source → Result ⊤ GroupFault → SheetRule → Type 0
 AddsCause old n cause (Ok x) new = (nat_le MAX_CAUSES (length old.causes) ≡ false) × (new ≡ record old { causes = old.causes ++ cause ∷ [] })
 AddsCause old n cause (Err fault) new = IsFullFault n (nat_le MAX_CAUSES (length old.causes)) fault

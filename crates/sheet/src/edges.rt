@@ -24,7 +24,7 @@ pub struct EdgeRules {
     pub rows: SheetRows,
 }
 
-/// The rules of the edges, behind the given rules, and the rows of the edges; or the first fault of an edge.
+/// The rules of the edges, after the given rules, and the rows of the edges; or the first fault of an edge.
 ///
 /// The edges are read once. A table gives the place of the rule of each group; it says where a cause belongs.
 pub fn read_edges(

@@ -107,7 +107,7 @@ fn push_marks(marks: &mut Marks, number: u64, lane: &LaneText) -> Result<(), She
         if !is_mark(*name) {
             continue;
         }
-        // Found here, before the next kind is worked out: a hostile node has many marks, and finding a kind walks over the wave.
+        // Found here, before the next kind is computed: a hostile node has many marks, and finding a kind walks over the wave.
         if has_mark(marks.as_slice(), *name) {
             return Err(SheetFault::DoubleMark(*name));
         }

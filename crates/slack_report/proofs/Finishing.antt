@@ -80,7 +80,7 @@ unfolding open_bound
 bounds_end spot sorts.Max ends = ends_by (at.Bound spot sorts.Max) (after_bound spot sorts.Max) (bound sorts.Max open_bound) (record { is_entry = (tt, tt); leads = refl }) ends
 bounds_end spot sorts.Min ends = ends_by (at.Bound spot sorts.Min) (after_bound spot sorts.Min) (bound sorts.Min open_bound) (record { is_entry = (tt, tt); leads = refl }) ends
 
--- a row in front of the rows behind it
+-- a row before the rows after it
 row_in_front : (count number more : ℕ) → Ends (before_row count (number + 1) more) → Ends (at.Row count number more)
 row_in_front count number more ends =
     let spot : Spot = record { events = count; next = number + 1; left = more; is_required = false } in

@@ -1,4 +1,4 @@
--- Reading line by line: the lines that were read stand in front of the lines that are still to be read.
+-- Reading line by line: the lines that were read stand before the lines that are still to be read.
 use Rattle.std.proofs.Common.{◌≡◌, ◌+◌, ◌<◌, ℕ, true, false, eqb, ◌&&◌, List, [], ◌∷◌, ◌++◌, length, Some, None, Ok, Err, refl, sym, ap, ◌∙◌, arith, append_assoc, append-nil, length-append, zero-add, suc}
 use Rattle.std.specs.List.{after_first, before_first, position_or_len, slice_split}
 use Rattle.std.proofs.lemmas.List.{length-map}
@@ -15,7 +15,7 @@ use Rattle.slack_report.specs.Step.Items.{step_view}
 use Rattle.slack_report.specs.Reading.{Read, behind_line, is_nothing, last_in, lines_in, step_at, with_line}
 use Rattle.slack_report.proofs.Walking.{lines_more, split_some}
 
--- the lines that were read in front of the lines that are still to be read
+-- the lines that were read before the lines that are still to be read
 abbrev pub after_front : List Entry → Read → Read
 after_front front (Ok entries) = Ok (front ++ entries)
 after_front front (Err before) = Err (length front + before)
@@ -44,7 +44,7 @@ uncut_is text h = slice_split_none is_feed text (λ k d within. fails_before_fir
 abbrev pub SoFar : List OwnedItem → Place → List ℕ → Read → Type 0
 SoFar items place text total = after_front (views items) (lines_in place (slice_split is_feed text)) ≡ total
 
--- the number of the line behind the lines that were read
+-- the number of the line after the lines that were read
 abbrev pub IsBehind : ℕ → Read → Type 0
 IsBehind line total = (before : ℕ) × (total ≡ Err before) × (line ≡ before + 1)
 
@@ -92,7 +92,7 @@ module _ (items : List OwnedItem) (place : Place) (text : List ℕ) (total : Rea
   whole_is h end =
       sym (last_part h) ∙ rw end (ap (λ es. Ok es) (append-nil (views items)))
 
-  -- the text is cut short, or goes on behind its end
+  -- the text is cut short, or continues after its end
   pub cut_short : (count : ℕ) → position_or_len is_feed text ≡ length text → (is_nothing place && eqb (length text) 0) ≡ false → count ≡ length items → IsBehind (count + 1) total
   cut_short count h end many =
       let none : Err 0 ≡ last_in place text = rw end refl in

@@ -1,4 +1,4 @@
--- Reading a set of events, event by event: the flags that were read stand in front of the flags that are still to be read.
+-- Reading a set of events, event by event: the flags that were read stand before the flags that are still to be read.
 use Rattle.std.proofs.Common.{◌≡◌, ◌+◌, ◌-◌, ◌<◌, ◌≤◌, ℕ, suc, Bool, true, false, cond, List, [], ◌∷◌, ◌++◌, length, drop, Bor, Option, Some, None, option_map, refl, sym, ap, ◌∙◌, arith, inl, inr, append_assoc, append-nil}
 use Rattle.std.proofs.lemmas.Bool.{cases_lt}
 use Rattle.itv_base.specs.Numerals.{number_text}
@@ -8,7 +8,7 @@ use Rattle.line_words.proofs.Looping.{in_front, texts_more, texts_none}
 use Rattle.slack_report.specs.Reading.{flags_in}
 use Rattle.slack_report.specs.Step.Cuts.{stands_first}
 
--- the words behind the first one if the first one was the number's text, and else all words
+-- the words after the first one if the first one was the number's text, and otherwise all words
 abbrev passed : Bool → List Word → List Word
 passed flag words = cond flag (drop 1 words) words
 
@@ -27,7 +27,7 @@ flag_in_front : (set : List Bool) (flag : Bool) (o : Option (List Bool)) → in_
 flag_in_front set flag None = refl
 flag_in_front set flag (Some rest) = ap (λ ys. Some ys) (sym (append_assoc set (flag ∷ []) rest))
 
--- where the words behind a number begin
+-- where the words after a number begin
 words_passed : (words : List (Bor (List ℕ))) (at next : ℕ) (key : Word) (flag : Bool) → at ≤ length words → flag ≡ stands_first key (texts (drop at words)) → next ≡ cond flag (at + 1) at
     → (next ≤ length words) × (texts (drop next words) ≡ passed flag (texts (drop at words)))
 words_passed words at next key false within is goes = (omega arith, ap (λ n. texts (drop n words)) goes)

@@ -77,7 +77,7 @@ entry_again (at.Slack spot) (slack value) behind form leads = rw (slack_line.aga
 entry_again at.End (ending word) behind form leads = rw (ending_line.again word tt) refl
 entry_again place entry behind form leads = absurd (cc)
 
--- ---- with the place behind it
+-- ---- with the place after it
 
 pub step_takes : (place : Place) (words : List Word) (step : Entry × Place) → step_at place words ≡ Some step → (words ≡ words_of step.0) × OrderStep place step.0 step.1
 step_takes place words step e =

@@ -148,7 +148,7 @@ module _ (laws : LineLaws) where
       let read : step_at place (split_words line) ≡ Some (entry, leads.0) = ap (λ l. step_at place (split_words l)) same.0 ∙ laws.again place entry leads.0 leads.1 in
       none-some (entry, leads.0) (sym none ∙ read)
 
-  -- if the lines behind a line begin no report from the place behind it, then with it in front they begin none from its place
+  -- if the lines after a line begin no report from the place after it, then with it in front they begin none from its place
   later_wrong : (place : Place) (line : List ℕ) (text : List ℕ) (step : Entry × Place) → IsLine line → step_at place (split_words line) ≡ Some step
       → ((es : List Entry) → OrderLeads step.1 es at.Nothing → (more : List ℕ) → text ++ more ≡ report_text es → ⊥)
       → (es : List Entry) → OrderLeads place es at.Nothing → (more : List ℕ) → (ended line ++ text) ++ more ≡ report_text es → ⊥

@@ -51,7 +51,7 @@ HasBoundForm (bounds.Closed value) = IsLong value
 HasBoundForm bounds.Unbounded = Unit {0}
 HasBoundForm (bounds.Within limit attained) = IsLongOrOpen limit × IsLongOrOpen attained
 
--- the line may stand in a report with this number of events, where the order of lines allows it
+-- the line may be in a report with this number of events, where the order of lines allows it
 abbrev pub IsReportEntry : ℕ → Entry → Type 0
 IsReportEntry count heading = Unit {0}
 IsReportEntry count (budget most) = (1 ≤ most) × (most ≤ MAX_BUDGET)

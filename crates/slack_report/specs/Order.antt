@@ -34,13 +34,13 @@ events_at (at.Slack spot) = spot.events
 events_at at.End = 0
 events_at at.Nothing = 0
 
--- the place before the event with this number, or before the finding if no events are left. The last argument counts this event and the events behind
+-- the place before the event with this number, or before the finding if no events are left. The last argument counts this event and the events after
 -- it
 abbrev pub before_event : ℕ → ℕ → ℕ → Place
 before_event count number zero = at.Finding count
 before_event count number (suc more) = at.Event count number more
 
--- the place before the row with this number, or before the end if no rows are left. The last argument counts this row and the rows behind it
+-- the place before the row with this number, or before the end if no rows are left. The last argument counts this row and the rows after it
 abbrev pub before_row : ℕ → ℕ → ℕ → Place
 before_row count number zero = at.End
 before_row count number (suc more) = at.Row count number more
@@ -49,7 +49,7 @@ abbrev pub is_required : RowKind → Bool
 is_required kinds.Ask = false
 is_required (kinds.Req ends) = true
 
--- the place behind the first line of a row
+-- the place after the first line of a row
 abbrev pub in_row : ℕ → ℕ → ℕ → RowKind → Place
 in_row count number more kind = at.Bound (record { events = count; next = number + 1; left = more; is_required = is_required kind }) sorts.Max
 
@@ -61,19 +61,19 @@ after_finding count findings.Unsettled = at.Rows count
 abbrev pub after_row : Spot → Place
 after_row spot = before_row spot.events spot.next spot.left
 
--- the place behind a bound and all its lines: before the other bound, the verdict or the next row
+-- the place after a bound and all its lines: before the other bound, the verdict or the next row
 abbrev pub after_bound : Spot → Which → Place
 after_bound spot sorts.Max = at.Bound spot sorts.Min
 after_bound spot sorts.Min = if spot.is_required then at.Verdict spot else after_row spot
 
--- the place behind the line of a bound
+-- the place after the line of a bound
 abbrev pub in_bound : Spot → Which → Bound → Place
 in_bound spot which (bounds.Closed value) = at.Times spot which false
 in_bound spot which bounds.Unbounded = at.Times spot which true
 in_bound spot which (bounds.Within limit None) = after_bound spot which
 in_bound spot which (bounds.Within limit (Some found)) = at.Times spot which false
 
--- the place behind the times of a bound
+-- the place after the times of a bound
 abbrev pub after_times : Spot → Which → Bool → Place
 after_times spot which raises = if raises then at.Raise spot which else after_bound spot which
 
@@ -89,7 +89,7 @@ is_which sorts.Max sorts.Min = false
 is_which sorts.Min sorts.Max = false
 is_which sorts.Min sorts.Min = true
 
--- the place behind a line, or none if the line may not stand at this place
+-- the place after a line, or none if the line may not stand at this place
 abbrev pub next : Place → Entry → Option Place
 next at.Heading heading = Some at.Budget
 next at.Budget (budget most) = Some at.Events

@@ -149,7 +149,7 @@ entry_at (at.Slack spot) words = option_map (λ x. slack (record { low = x.0; hi
 entry_at at.End words = option_map ending (keyed (codes "end") (one ending_in) words)
 entry_at at.Nothing words = None
 
--- a line with the place behind it, or none if the line may not stand at this place
+-- a line with the place after it, or none if the line may not stand at this place
 abbrev pub with_place : Place → Option Entry → Option (Entry × Place)
 with_place place found = do
   entry ← found
@@ -173,7 +173,7 @@ abbrev pub with_line : Entry → Read → Read
 with_line entry (Ok entries) = Ok (entry ∷ entries)
 with_line entry (Err before) = Err (suc before)
 
--- reads the last part of a text: the report has ended, and nothing stands behind its last line end
+-- reads the last part of a text: the report has ended, and nothing stands after its last line end
 abbrev pub last_in : Place → List ℕ → Read
 last_in place rest = if is_nothing place && length rest == 0 then Ok [] else Err 0
 

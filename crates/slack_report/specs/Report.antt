@@ -20,7 +20,7 @@ pub record IsReportText (bytes : List ℕ) : Type 0 where
   pub report : IsReport entries
   pub text : bytes ≡ report_text entries
 
--- the bytes, with some more behind them, are the text of a report
+-- the bytes, with some more after them, are the text of a report
 pub record BeginsReportText (bytes : List ℕ) : Type 0 where
   pub more : List ℕ
   pub whole : IsReportText (bytes ++ more)

@@ -11,7 +11,7 @@ use std::alloc::AllocFailed;
 pub enum ReportFault {
     /// The first line, counted from 1, at which no report can go on.
     Line(u64),
-    /// Memory was wanted and not found.
+    /// There was not enough memory.
     NoMemory,
 }
 

@@ -1,6 +1,6 @@
 //! Reports: their lines as items, the text of each line, and reading a text back line by line.
 //! The contract: `write_item` writes the text of an item. `read_report` reads a report from its text, or returns the
-//! first line at which no report can go on.
+//! first line at which no report can continue.
 #![tactic(auto)]
 
 mod fault;

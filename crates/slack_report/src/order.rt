@@ -1,4 +1,4 @@
-//! The order of the lines: the place behind a line that stands at a place.
+//! The order of the lines: the place after a line that stands at a place.
 
 ghost use Rattle.std.specs.Prelude.{◌≡◌, ◌+◌, ◌^◌, ◌<◌};
 ghost use Rattle.slack_report.specs.Order.{after_bound, after_finding, after_row, after_times, after_verdict, before_event, before_row, in_bound, in_row};
@@ -10,7 +10,7 @@ use itv_base::RowKind;
 use requirements::{Bound, Verdict};
 
 /// The place before the event with this number, or before the finding if no events are left. `left` counts this event
-/// and the events behind it.
+/// and the events after it.
 pub fn before_event(events: u32, number: u32, left: u32) -> Place
     requires { number + left < 2 ^ 32 }
     ensures is { result ≡ before_event events number left }
@@ -27,7 +27,7 @@ pub fn before_event(events: u32, number: u32, left: u32) -> Place
 }
 
 /// The place before the row with this number, or before the end if no rows are left. `left` counts this row and the
-/// rows behind it.
+/// rows after it.
 pub fn before_row(events: u32, number: u32, left: u32) -> Place
     requires { number + left < 2 ^ 32 }
     ensures is { result ≡ before_row events number left }
@@ -43,7 +43,7 @@ pub fn before_row(events: u32, number: u32, left: u32) -> Place
     }
 }
 
-/// The place behind the first line of a row. `more` rows come behind it.
+/// The place after the first line of a row. `more` rows come after it.
 pub fn in_row(events: u32, number: u32, more: u32, kind: &RowKind) -> Place
     requires { number + more + 1 < 2 ^ 32 }
     ensures is { result ≡ in_row events number more kind.now }
@@ -65,7 +65,7 @@ pub fn in_row(events: u32, number: u32, more: u32, kind: &RowKind) -> Place
     }
 }
 
-/// The place behind a finding.
+/// The place after a finding.
 pub fn after_finding(events: u32, word: FindingWord) -> Place
     ensures is { result ≡ after_finding events word }
     ensures within { IsPlaceWithin result }
@@ -77,7 +77,7 @@ pub fn after_finding(events: u32, word: FindingWord) -> Place
     }
 }
 
-/// The place behind a row.
+/// The place after a row.
 pub fn after_row(spot: Spot) -> Place
     requires { IsSpot spot }
     ensures is { result ≡ after_row spot }
@@ -86,7 +86,7 @@ pub fn after_row(spot: Spot) -> Place
     before_row(spot.events, spot.next, spot.left)
 }
 
-/// The place behind a bound and all its lines: before the other bound, the verdict or the next row.
+/// The place after a bound and all its lines: before the other bound, the verdict or the next row.
 pub fn after_bound(spot: Spot, which: Which) -> Place
     requires { IsSpot spot }
     ensures is { result ≡ after_bound spot which }
@@ -102,7 +102,7 @@ pub fn after_bound(spot: Spot, which: Which) -> Place
     }
 }
 
-/// The place behind the line of a bound.
+/// The place after the line of a bound.
 pub fn in_bound(spot: Spot, which: Which, value: Bound) -> Place
     requires { IsSpot spot }
     ensures is { result ≡ in_bound spot which value }
@@ -131,7 +131,7 @@ pub fn in_bound(spot: Spot, which: Which, value: Bound) -> Place
     }
 }
 
-/// The place behind the times of a bound.
+/// The place after the times of a bound.
 pub fn after_times(spot: Spot, which: Which, raises: bool) -> Place
     requires { IsSpot spot }
     ensures is { result ≡ after_times spot which raises }
@@ -143,7 +143,7 @@ pub fn after_times(spot: Spot, which: Which, raises: bool) -> Place
     after_bound(spot, which)
 }
 
-/// The place behind a verdict.
+/// The place after a verdict.
 pub fn after_verdict(spot: Spot, word: Verdict) -> Place
     requires { IsSpot spot }
     ensures is { result ≡ after_verdict spot word }

@@ -2,7 +2,7 @@
 
 use crate::words::Which;
 
-/// A row of a report: the number of events, the number of the next row, how many rows are left behind this one, and
+/// A row of a report: the number of events, the number of the next row, how many rows are left after this one, and
 /// whether this row is a requirement.
 #[derive(Clone, Copy)]
 pub struct Spot {
@@ -19,7 +19,7 @@ pub enum Place {
     Heading,
     Budget,
     Events,
-    /// Before the event with this number. `more` events come behind it.
+    /// Before the event with this number. `more` events come after it.
     Event {
         events: u32,
         number: u32,
@@ -36,7 +36,7 @@ pub enum Place {
     Rows {
         events: u32,
     },
-    /// Before the row with this number. `more` rows come behind it.
+    /// Before the row with this number. `more` rows come after it.
     Row {
         events: u32,
         number: u32,
@@ -47,7 +47,7 @@ pub enum Place {
         spot: Spot,
         which: Which,
     },
-    /// Before the times of a bound. If `raises`, a set of events to raise comes behind them.
+    /// Before the times of a bound. If `raises`, a set of events to raise comes after them.
     Times {
         spot: Spot,
         which: Which,
@@ -68,6 +68,6 @@ pub enum Place {
         spot: Spot,
     },
     End,
-    /// Behind the last line.
+    /// After the last line.
     Nothing,
 }

@@ -32,7 +32,7 @@ fn read_text(
     step_at(alloc, place, &words)
 }
 
-// The line that stands at a place, and the place behind it. None if the bytes are not UTF-8 or no such line may stand
+// The line that stands at a place, and the place after it. None if the bytes are not UTF-8 or no such line may stand
 // there.
 fn read_line(
     alloc: Global,
@@ -56,7 +56,7 @@ fn line_len(text: &[u8]) -> usize
     text.iter().take_while(|b| **b != b'\n').count()
 }
 
-// The first line of a text, and the text behind its end. None if no line ends.
+// The first line of a text, and the text after its end. None if no line ends.
 fn cut_line(text: &[u8]) -> Option<(&[u8], &[u8])>
     ensures { Cuts text.now result }
 {

@@ -1,4 +1,4 @@
-//! Reading the words of a line behind its first one.
+//! Reading the words of a line after its first one.
 
 ghost use Rattle.std.specs.Prelude.{◌≡◌, ◌≤◌, IfOk, codes, drop, length, option_map};
 ghost use Rattle.itv_base.specs.Names.{name_view};
@@ -50,7 +50,7 @@ fn is_number(word: &str, number: u32) -> bool
     word == number_text(u64::from(number), &mut digits)
 }
 
-/// The words behind the first one, if the first one is the text of a number.
+/// The words after the first one, if the first one is the text of a number.
 pub fn behind_number<'a, 'b>(words: &'b [&'a str], number: u32) -> Option<&'b [&'a str]>
     ensures { option_map (λ w. texts w.now) result ≡ behind_word (number_text number) (texts words.now) }
 {
@@ -173,7 +173,7 @@ pub fn verdict_in(words: &[&str]) -> Option<Verdict>
     }
 }
 
-// Two names behind `ask`.
+// Two names after `ask`.
 fn ask_in<'a>(words: &[&'a str]) -> Option<(RowKind, EventName<'a>, EventName<'a>)>
     ensures { option_map (λ x. (x.0, name_view x.1, name_view x.2)) result ≡ keyed (codes "ask") ask_in (texts words.now) }
 {
@@ -181,7 +181,7 @@ fn ask_in<'a>(words: &[&'a str]) -> Option<(RowKind, EventName<'a>, EventName<'a
     Some((RowKind::Ask, name_in(from)?, name_in(to)?))
 }
 
-// Two names and a range behind `req`.
+// Two names and a range after `req`.
 fn demand_in<'a>(words: &[&'a str]) -> Option<(RowKind, EventName<'a>, EventName<'a>)>
     ensures { option_map (λ x. (x.0, name_view x.1, name_view x.2)) result ≡ keyed (codes "req") demand_in (texts words.now) }
 {

@@ -19,7 +19,7 @@ pub fn budget_in(word: &str) -> Option<u64>
     (1 <= most).then_some(most)
 }
 
-// The mark with which a text begins, and the text behind it.
+// The mark with which a text begins, and the text after it.
 fn split_mark(text: &str) -> Option<(u8, &str)>
     ensures { option_map (λ x. (x.0, x.1.now)) result ≡ mark_of text.now }
 {
@@ -92,7 +92,7 @@ fn end_len(bytes: &[u8]) -> usize
     bytes.iter().take_while(|b| is_end_byte(**b)).count()
 }
 
-// The longest front of digits, `-` and `*` of a text, and the text behind it.
+// The longest front of digits, `-` and `*` of a text, and the text after it.
 fn split_end(text: &str) -> (&str, &str)
     ensures end { result.0.now ≡ take_while is_end_byte text.now }
     ensures rest { result.1.now ≡ after_while is_end_byte text.now }

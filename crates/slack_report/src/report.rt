@@ -49,7 +49,7 @@ fn read_whole(alloc: Global, bytes: &[u8]) -> Result<Report, ReportFault>
 }
 
 /// Parses a report, or gives the first line, counted from 1, at which no report can go on. If the text ends too early,
-/// that is the line behind its whole lines.
+/// that is the line after its whole lines.
 pub fn read_report(alloc: Global, bytes: &[u8]) -> Result<Report, ReportFault>
     // What is read is a report, and the bytes are its text.
     ensures ok { IfOk result (λ entries. IsReport entries × (bytes.now ≡ report_text entries)) }

@@ -1,4 +1,4 @@
-//! Reading the line that stands at a place, with the place behind it.
+//! Reading the line that stands at a place, with the place after it.
 
 ghost use Rattle.std.specs.Prelude.{◌≡◌, ◌+◌, ◌^◌, ◌<◌, ℤ, IfOk, IfSome, List, Some, codes, option_map};
 ghost use Rattle.itv_base.specs.Names.{name_view};
@@ -185,7 +185,7 @@ fn step_row(
     Ok(Some((OwnedItem::Row(number, kind, from, to), behind)))
 }
 
-// The line of times at a place. `behind` is the place behind it.
+// The line of times at a place. `behind` is the place after it.
 fn step_times(
     alloc: Global,
     place: Place,
@@ -260,7 +260,7 @@ fn step_bounded(
     }
 }
 
-/// The line that the words are and the place behind it, or none if no such line may stand at the place.
+/// The line that the words are and the place after it, or none if no such line may stand at the place.
 #[tactic(auto, unfolding(crate::specs::Reading::entry_at))]
 pub fn step_at(
     alloc: Global,

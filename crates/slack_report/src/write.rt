@@ -352,7 +352,7 @@ fn put_item<K: Sink>(item: &Item<'_>, sink: &mut K) -> Result<(), PutFailed>
     }
 }
 
-/// Writes a line of a report and its line end. It makes one put if the line fits the buffer, and else puts the line
+/// Writes a line of a report and its line end. It makes one put if the line fits the buffer, and otherwise puts the line
 /// piece by piece. If a put failed, a front of the line was written, and the sink's count of faults rose. The old
 /// content of the buffer is lost.
 pub fn write_item<K: Sink>(

@@ -32,13 +32,13 @@ number_lines drawn size summary =
 abbrev pub summary_text : Drawn → ℕ → Summary → List ℕ
 summary_text drawn size summary = flat_map words_text (number_lines drawn size summary) ++ words_text (codes "end" ∷ ending_word summary.end ∷ [])
 
--- a report that a budget allows, without lines of proofs, comes to a summary
+-- a report that a budget allows, without lines of proofs, has a summary
 pub record ComesTo (drawn : Drawn) (most : ℕ) (summary : Summary) : Type 0 where
   pub lines : List Entry
   pub is_written : IsWrittenReport drawn most false lines
   pub sums : Sums summary lines
 
--- what the job answers and writes: what such a report comes to; the end of the report gives the answer
+-- what the job answers and writes: the summary of such a report; the end of the report gives the answer
 pub record AnswersSummary (drawn : Drawn) (size most : ℕ) (answer : Answer) (text : List ℕ) : Type 0 where
   pub summary : Summary
   pub comes : ComesTo drawn most summary

@@ -22,7 +22,7 @@ use std::alloc::Global;
 /// Room for the bytes of a line: the longest line has a word of eleven letters and a number of ten digits.
 const ROOM: u32 = 32;
 
-/// Writes what the report of a drawn network comes to. The network is drawn by the generated design of a size. Each search of the report closes
+/// Writes the summary of the report of a drawn network. The network is drawn by the generated design of a size. Each search of the report closes
 /// at most `budget` cases. All memory is taken before the first put, and each line is written by one put.
 pub fn write_summary<K: Sink>(
     alloc: Global,
@@ -42,7 +42,7 @@ pub fn write_summary<K: Sink>(
     Ok(answer_of(summary.end))
 }
 
-// What the report of a drawn network comes to. The report itself is written nowhere.
+// The summary of the report of a drawn network. The report itself is written nowhere.
 fn summed(alloc: Global, drawn: &DrawnNetwork, budget: u64) -> Result<Summary, NoMemory>
     requires least { 1 ≤ budget }
     requires most { budget ≤ MAX_BUDGET }

@@ -76,7 +76,7 @@ impl Trail {
         self.starts.push_reserved(start);
     }
 
-    /// Takes the current graph away. The graph below is current again, as it stood when the other was pushed.
+    /// Takes the current graph away. The graph below is current again, as it was when the other was pushed.
     pub fn pop_level(&mut self)
         requires { 0 < length self.old.below }
         ensures below { self.new ≡ after_pop self.old }

@@ -44,7 +44,7 @@ marks_named all part cycle text (mark ∷ marks) is = rw (is, marks_named all pa
 front_get : (front : List (List ℕ)) (text : List ℕ) (rest : List (List ℕ)) → unwrap_or (slice_get (front ++ text ∷ rest) (length front)) [] ≡ text
 front_get front text rest = unwrap_or-slice_get (front ++ text ∷ rest) (length front) [] ∙ get_or-append_seam front text rest []
 
--- the labels of parts behind others give the names of their events
+-- the labels of parts after others give the names of their events
 labels_named : (front parts : List (List ℕ)) (cycle : ℕ) (sheets : List SheetContents) → length parts ≡ length sheets
     → map (name_by (front ++ parts)) (labels_from cycle (length front) sheets) ≡ names_in parts sheets cycle
 labels_named front [] cycle [] same = refl

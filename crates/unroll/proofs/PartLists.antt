@@ -121,11 +121,11 @@ first_read sheets firsts part read stand within is =
 pub exists_behind : (cycle first : ℕ) (rule : SheetRule) → rule_exists cycle (rule_behind first rule) ≡ rule_exists cycle rule
 exists_behind cycle first rule = list_all-map (λ (source : Source). nat_le source.shift cycle) (source_behind first) rule.causes
 
--- whether a moved rule is kept, by whether it exists before the move
+-- whether a moved rule is kept, according to whether it exists before the move
 pub one_kept : (cycles first : ℕ) (rule : SheetRule) (exists : Bool) → exists ≡ rule_exists (cycles - 1) rule → kept_rules cycles (rule_behind first rule ∷ []) ≡ cond exists (rule_behind first rule ∷ []) []
 one_kept cycles first rule exists is = rw (exists_behind (cycles - 1) first rule, is) refl
 
--- ---- behind no marks
+-- ---- after no marks
 
 nothing_before : (n : ℕ) → 0 + n ≡ n
 nothing_before n = omega arith
@@ -134,7 +134,7 @@ sources_unmoved : (causes : List Source) → map (source_behind 0) causes ≡ ca
 sources_unmoved [] = refl
 sources_unmoved (source ∷ causes) = rw (nothing_before source.mark, sources_unmoved causes) refl
 
--- behind no marks no rule moves
+-- after no marks no rule moves
 pub rules_unmoved : (rules : List SheetRule) → map (rule_behind 0) rules ≡ rules
 rules_unmoved [] = refl
 rules_unmoved (rule ∷ rules) = rw (nothing_before rule.target, sources_unmoved rule.causes, rules_unmoved rules) refl

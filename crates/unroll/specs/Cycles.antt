@@ -1,4 +1,4 @@
--- Cycles one after the other: the events of marks, the constraints of rules, and the rows. Each stands in the cycles in which it exists.
+-- Cycles one after the other: the events of marks, the constraints of rules, and the rows. Each is in the cycles in which it exists.
 use Rattle.std.specs.Prelude.{ℕ, zero, suc, ◌+◌, ◌-◌, ◌*◌, Bool, nat_le, if◌then◌else◌, List, [], ◌++◌, map, Option, Some, None}
 use Rattle.std.specs.List.{filter_map, list_all}
 use Rattle.itv_base.specs.declared.names.EventId.{EventId}
@@ -23,11 +23,11 @@ event_in marks cycle mark = record { 0 = cycle * marks + mark }
 abbrev pub cause_in : ℕ → ℕ → Source → Cause
 cause_in marks cycle source = record { event = event_in marks (cycle - source.shift) source.mark; range = source.range }
 
--- every cause stands in some cycle
+-- every cause is in some cycle
 abbrev pub rule_exists : ℕ → SheetRule → Bool
 rule_exists cycle rule = list_all (λ source. nat_le source.shift cycle) rule.causes
 
--- the constraint of a rule in the cycle of its target, if every cause stands in some cycle
+-- the constraint of a rule in the cycle of its target, if every cause is in some cycle
 abbrev pub constraint_in : ℕ → ℕ → SheetRule → Option Constraint
 constraint_in marks cycle rule =
     if rule_exists cycle rule then Some (record { kind = rule.kind; target = event_in marks cycle rule.target; causes = map (cause_in marks cycle) rule.causes }) else None
@@ -39,7 +39,7 @@ origins_in cycle rule = if rule_exists cycle rule then Some (map (λ source. sou
 abbrev pub row_exists : ℕ → SheetRow → Bool
 row_exists cycle row = nat_le row.shift cycle
 
--- a row in the cycle of its to-event, if its from-event stands in some cycle
+-- a row in the cycle of its to-event, if its from-event is in some cycle
 abbrev pub row_in : ℕ → ℕ → SheetRow → Option Row
 row_in marks cycle row =
     if row_exists cycle row then Some (record { kind = row.kind; from = event_in marks (cycle - row.shift) row.from; to = event_in marks cycle row.to; origin = row.origin }) else None

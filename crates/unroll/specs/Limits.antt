@@ -25,7 +25,7 @@ most_of SessionRows = MAX_SESSION_ROWS
 abbrev pub counted : Limit → ℕ → Counted
 counted limit count = record { limit = limit; count = count }
 
--- The counts that limits speak of, in the order in which they are looked at, by the numbers of events, constraints, rows, and constraints with
+-- The counts that have limits, in the order in which they are checked, from the numbers of events, constraints, rows, and constraints with
 -- two or more causes. Each row takes a cell for each event. So does each level of the search; there is one for each constraint with two or more
 -- causes, and one more for the graph below them.
 abbrev pub counts_by : ℕ → ℕ → ℕ → ℕ → List Counted

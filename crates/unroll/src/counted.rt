@@ -8,7 +8,7 @@ use crate::counts::Counts;
 use crate::limit::Limit;
 use itv_base::MAX_CYCLES;
 
-/// A limit, and the count that it speaks of.
+/// A limit, and the count that it is for.
 #[derive(Clone, Copy)]
 pub struct Counted {
     pub limit: Limit,

@@ -1,5 +1,5 @@
 //! The drawn network of a design: its events, constraints with their origins, and rows, cycle by cycle. All counts come before any
-//! memory is taken for the network, so a design that passes a limit is refused at once. The one contract: `unroll` gives what the
+//! memory is taken for the network, so a design that exceeds a limit is refused at once. The one contract: `unroll` gives what the
 //! design draws, or the first limit that this passes, with the count.
 #![tactic(auto)]
 

@@ -127,7 +127,7 @@ fn push_kind(
     }
 }
 
-/// Whether every cause of a rule stands in some cycle, if the target is in this one.
+/// Whether every cause of a rule is in some cycle, if the target is in this one.
 pub fn rule_exists(cycle: u32, rule: &Rule) -> bool
     ensures { result ≡ rule_exists cycle rule.now }
 {

@@ -17,7 +17,7 @@ each_append gives n (x ∷ xs) ys =
     ap (λ front. gives n x ++ front) (each_append gives (n + 1) xs ys ∙ ap (λ k. each_from gives (n + 1) xs ++ each_from gives k ys) same)
     ∙ sym (append_assoc (gives n x) (each_from gives (n + 1) xs) (each_from gives (n + suc (length xs)) ys))
 
--- one more element, by its number
+-- one more element, given by its number
 pub each_more : {X Y : Type 0} (gives : ℕ → X → List Y) (xs : List X) (n : ℕ) (x : X) (old now new : List Y) → slice_get xs n ≡ Some x
     → now ≡ old ++ each_from gives 0 (take n xs) → new ≡ now ++ gives n x → new ≡ old ++ each_from gives 0 (take (n + 1) xs)
 each_more gives xs n x old now new read before grown =
@@ -55,7 +55,7 @@ each_behind_append gives before (x ∷ xs) ys =
     ap (λ rest. gives before x ++ rest) (each_behind_append gives (before ++ x ∷ []) xs ys ∙ ap (λ front. each_behind gives (before ++ x ∷ []) xs ++ each_behind gives front ys) (append_assoc before (x ∷ []) xs))
     ∙ sym (append_assoc (gives before x) (each_behind gives (before ++ x ∷ []) xs) (each_behind gives (before ++ x ∷ xs) ys))
 
--- one more element behind some, and all behind others
+-- one more element after some, and all after others
 pub behind_push : {X Y : Type 0} (gives : List X → X → List Y) (before xs : List X) (x : X) (old now new : List Y) → now ≡ old ++ each_behind gives before xs
     → new ≡ now ++ gives (before ++ xs) x → new ≡ old ++ each_behind gives before (xs ++ x ∷ [])
 behind_push gives before xs x old now new held grown =
@@ -63,7 +63,7 @@ behind_push gives before xs x old now new held grown =
     each_behind_append gives before xs (x ∷ []) ∙ ap (λ ys. each_behind gives before xs ++ ys) (append-nil (gives (before ++ xs) x)) in
     grown ∙ ap (λ ys. ys ++ gives (before ++ xs) x) held ∙ append_assoc old (each_behind gives before xs) (gives (before ++ xs) x) ∙ ap (λ ys. old ++ ys) (sym more)
 
--- one list behind another, and both behind others
+-- one list after another, and both after others
 pub behind_lists : {X Y : Type 0} (gives : List X → X → List Y) (xs ys : List X) (old now new : List Y) → now ≡ old ++ each_behind gives [] xs
     → new ≡ now ++ each_behind gives xs ys → new ≡ old ++ each_behind gives [] (xs ++ ys)
 behind_lists gives xs ys old now new held grown =

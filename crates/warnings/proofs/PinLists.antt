@@ -115,7 +115,7 @@ module _ (join : Join) where
   one_pin true origin rest = refl
   one_pin false origin rest = refl
 
-  -- what draws the first such join of one pin, and others behind it
+  -- what draws the first such join of one pin, and others after it
   drew_pin : (pin : PinJoins) (pins : List PinJoins) → drew_too join (joins_of_pins (pin ∷ pins)) ≡ cond (goes_along pin join pin.marks) (Some pin.origin) (drew_too join (joins_of_pins pins))
   drew_pin pin pins =
       drew_append (pin_joins pin) (joins_of_pins pins) ∙ ap (λ found. option_or found (drew_too join (joins_of_pins pins))) (drew_first pin pin.marks)

@@ -14,7 +14,7 @@ abbrev pub each_behind : {X Y : Type 0} → (List X → X → List Y) → List X
 each_behind gives before [] = []
 each_behind gives before (x ∷ xs) = gives before x ++ each_behind gives (before ++ x ∷ []) xs
 
--- one warning where it is given, and else none
+-- one warning where it is given, and otherwise none
 abbrev pub warned : Bool → Warning → List Warning
 warned true warning = warning ∷ []
 warned false warning = []

@@ -48,7 +48,7 @@ same_range a b = same_end a.low b.low && same_end a.high b.high
 abbrev pub same_home : DrawnPlace → DrawnPlace → Bool
 same_home a b = if is_edge a.origin then is_edge b.origin && a.part == b.part else not (is_edge b.origin)
 
--- the linear rule of a period, by the driver of its mark
+-- the linear rule of a period, from the driver of its mark
 abbrev pub lead_clock : List Lead → Lead → List Clock
 lead_clock leads lead =
     if is_period lead && is_linear lead.kind

@@ -28,7 +28,7 @@ goes_along pin join count = goes_into pin join.to count && not (shares_from pin 
 abbrev pub drew_too : Join → List Join → Option Origin
 drew_too join joins = option_map (λ (other : Join). other.origin) (find (drives_too join) joins)
 
--- the warning of a mark that follows a second driver, by what draws both joins; none where there is no first join
+-- the warning of a mark that follows a second driver, with what draws both joins; none where there is no first join
 abbrev pub drivers_by : DesignMark → Origin → Option Origin → List Warning
 drivers_by mark other None = []
 drivers_by mark other (Some first) = Drivers mark first other ∷ []

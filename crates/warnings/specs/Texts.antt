@@ -71,19 +71,19 @@ is_nearly [] kind = nat_le (length kind) 0
 is_nearly (a ∷ word) [] = nat_le (length word) 0
 is_nearly (a ∷ word) (b ∷ kind) = small a == small b && is_nearly word kind
 
--- the letters that a text begins with, behind spaces
+-- the letters that a text begins with, after spaces
 abbrev pub first_word : List ℕ → List ℕ
 first_word text = take_while is_ascii_alphabetic (after_while is_space text)
 
 abbrev pub begins_with_kind : List ℕ → Bool
 begins_with_kind text = list_any (is_nearly (first_word text)) kind_words
 
--- a comment without a sign of a label whose first word is nearly a kind; the word stands behind the shape word
+-- a comment without a sign of a label whose first word is nearly a kind; the word stands after the shape word
 abbrev pub edge_word : ℕ → ℕ → List ℕ → List Warning
 edge_word part n text =
     warned (is_edge_comment (edge_of text) && (not (list_any is_sign text) && begins_with_kind (after_first is_space text))) (Word (spot part (drawn.Edge n)))
 
--- the word stands behind the two marks of the wire
+-- the word stands after the two marks of the wire
 abbrev pub wire_word : ℕ → List ℕ → List Warning
 wire_word n text =
     warned (is_wire_comment (wire_of text) && (not (list_any is_sign text) && begins_with_kind (after_first is_space (after_first is_space text)))) (Word (spot netlist_part (drawn.Wire n)))
@@ -94,7 +94,7 @@ sheet_words part sheet = each_from (edge_word part) 0 sheet.edges
 abbrev pub word_warnings : Planned → Composed → List Warning
 word_warnings plan d = each_from sheet_words 0 d.sheets ++ each_from wire_word 0 plan.netlist.edges
 
--- ---- notes that look like what belongs in front of them
+-- ---- notes that look like what belongs before them
 
 -- the note of a label that was read, byte by byte, whether it can be printed or not; an empty text where there is none
 abbrev pub written_note : {E : Type 0} → Result (LooseLabel E) LabelFault → List ℕ

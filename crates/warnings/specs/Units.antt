@@ -1,4 +1,4 @@
--- Ends of ranges that are tiny beside most ends of the design: a number in another unit than picoseconds looks so. Parts, edges and nets are numbered from 0.
+-- Ends of ranges that are tiny compared with most ends of the design, as in another unit than picoseconds. Parts, edges and nets are numbered from 0.
 use Rattle.std.specs.Prelude.{ℤ, ℕ, ◌*◌, ◌==◌, nat_lt, Bool, if◌then◌else◌, List, [], ◌∷◌, ◌++◌, length, Option, Some, None, count_by, unsigned_abs}
 use Rattle.std.specs.List.{flat_map, list_any}
 use Rattle.itv_base.specs.Range.{Ends}

@@ -60,7 +60,7 @@ fn push_rules(
     Ok(())
 }
 
-// Puts the warning of a rule behind others at the end, if the rule has one.
+// Puts the warning of a rule after others at the end, if the rule has one.
 fn push_rule(
     warnings: &mut Vec<Warning>,
     part: u32,

@@ -12,7 +12,7 @@ use itv_base::NoMemory;
 use sheet::SheetRow;
 use std::alloc::Global;
 
-/// The two marks of a row that is between cycles: the mark `to` stands in a later cycle than the mark `from`.
+/// The two marks of a row that is between cycles: the mark `to` is in a later cycle than the mark `from`.
 #[derive(Clone, Copy)]
 pub struct Crossing {
     pub from: DesignMark,

@@ -25,7 +25,7 @@ pub fn push_drivers(warnings: &mut Vec<Warning>, design: &Design<'_>) -> Result<
     Ok(())
 }
 
-// Puts the warnings of the marks of a pin, behind other pins, at the end.
+// Puts the warnings of the marks of a pin, after other pins, at the end.
 fn push_pin(
     warnings: &mut Vec<Warning>,
     pin: &PinJoins,
@@ -41,14 +41,14 @@ fn push_pin(
     Ok(())
 }
 
-// Puts the warning of a join, behind other pins, at the end, if the join has one.
+// Puts the warning of a join, after other pins, at the end, if the join has one.
 fn push_join(warnings: &mut Vec<Warning>, join: &Join, before: &[PinJoins]) -> Result<(), NoMemory>
     ensures pushed { OnOk result (warnings.new.items ≡ warnings.old.items ++ join_drivers (joins_of_pins before.now) join.now) }
 {
     push_mark(warnings, join.to, drew_too(join, before), join.origin)
 }
 
-// Puts the warning of a mark at the end, by what draws the first join into it and another. Without a first join there is none.
+// Puts the warning of a mark at the end, with what draws the first join into it and another. Without a first join there is none.
 fn push_mark(
     warnings: &mut Vec<Warning>,
     mark: DesignMark,

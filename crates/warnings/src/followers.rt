@@ -16,7 +16,7 @@ use compose::{Design, DesignMark};
 use itv_base::NoMemory;
 use sheet::Marks;
 
-/// Puts the warnings of marks that follow a clock at the end, by the leads and the crossings of the design.
+/// Puts the warnings of marks that follow a clock at the end, from the leads and the crossings of the design.
 pub fn push_followers(
     warnings: &mut Vec<Warning>,
     leads: &[Lead],

@@ -1,4 +1,4 @@
-//! Notes that look like what belongs in front of them.
+//! Notes that look like what belongs before them.
 
 ghost use Rattle.std.specs.Prelude.{◌≡◌, ◌≤◌, ◌==◌, ◌++◌, OnOk, length, slice_index};
 ghost use Rattle.std.specs.List.{before_first, list_any, prefix_len, position_or_len};

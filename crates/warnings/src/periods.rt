@@ -20,7 +20,7 @@ pub fn push_rivals(warnings: &mut Vec<Warning>, clocks: &[Clock]) -> Result<(), 
     Ok(())
 }
 
-// Puts the warning of a rule behind others at the end, if the rule has one.
+// Puts the warning of a rule after others at the end, if the rule has one.
 fn push_clock(warnings: &mut Vec<Warning>, clock: &Clock, before: &[Clock]) -> Result<(), NoMemory>
     ensures pushed { OnOk result (warnings.new.items ≡ warnings.old.items ++ clock_periods before.now clock.now) }
 {

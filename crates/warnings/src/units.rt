@@ -1,4 +1,4 @@
-//! Ends of ranges that are tiny beside most ends of a design.
+//! Ends of ranges that are tiny compared with most ends of a design.
 
 ghost use Rattle.std.specs.Prelude.{◌≡◌, ◌≤◌, ◌++◌, IfOk, OnOk, nat_lt, length, count_by};
 ghost use Rattle.std.specs.List.{flat_map, list_any};
@@ -38,7 +38,7 @@ fn push_among(warnings: &mut Vec<Warning>, ranges: &[Ranged], sizes: &[u64]) -> 
     Ok(())
 }
 
-// Whether an end of a range is tiny beside the middle of all sizes.
+// Whether an end of a range is tiny compared with the middle of all sizes.
 fn has_tiny(middle: u64, ranged: &Ranged) -> bool
     ensures { result ≡ list_any (is_below middle) (sizes_of ranged.now) }
 {

@@ -16,7 +16,7 @@ pub struct DrawnPlace {
 }
 
 impl DrawnPlace {
-    /// An edge of the netlist, by its number from 0.
+    /// An edge of the netlist, given by its number from 0.
     pub(crate) fn wire(n: u64) -> DrawnPlace
         ensures { result ≡ spot netlist_part (Wire n) }
     {
@@ -46,9 +46,9 @@ pub enum Warning {
     },
     /// A key of the netlist, of a part or of a net is not known. It has its number, from 0, among the stray keys of the netlist.
     NetlistKey(u64),
-    /// An end of the range of an edge is tiny beside most ends of the design. The place is an edge of a sheet or of the netlist.
+    /// An end of the range of an edge is tiny compared with most ends of the design. The place is an edge of a sheet or of the netlist.
     Unit(DrawnPlace),
-    /// An end of the delay of a net is tiny beside most ends of the design. The net has its number, from 0.
+    /// An end of the delay of a net is tiny compared with most ends of the design. The net has its number, from 0.
     NetUnit(u64),
     /// Two linear rules from different marks hold one mark from above. An edge of the netlist and an edge of a sheet may be the two.
     Both(DrawnPlace, DrawnPlace),
@@ -64,7 +64,7 @@ pub enum Warning {
         mark: DesignMark,
         follows: DrawnPlace,
     },
-    /// A mark follows two drivers, by the pins `first` and `other`.
+    /// A mark follows two drivers, through the pins `first` and `other`.
     Drivers {
         mark: DesignMark,
         first: Origin,

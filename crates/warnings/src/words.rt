@@ -80,7 +80,7 @@ fn push_wire(warnings: &mut Vec<Warning>, n: u64, text: &str) -> Result<(), NoMe
     push_where(given, Warning::Word(DrawnPlace::wire(n)), warnings)
 }
 
-// The text behind the first space, or an empty text where there is no space.
+// The text after the first space, or an empty text where there is no space.
 fn after_space(text: &str) -> &str
     ensures { result.now ≡ after_first is_space text.now }
 {
@@ -120,14 +120,14 @@ fn is_nearly(word: &[u8], kind: &[u8]) -> bool
     small(*a) == small(*b) && is_nearly(word_rest, kind_rest)
 }
 
-// The letters that a text begins with, behind spaces.
+// The letters that a text begins with, after spaces.
 fn first_word(text: &[u8]) -> &[u8]
     ensures { result.now ≡ first_word text.now }
 {
     front_letters(from_word(text))
 }
 
-// A text behind the spaces that it begins with.
+// A text after the spaces that it begins with.
 fn from_word(text: &[u8]) -> &[u8]
     ensures { result.now ≡ after_while is_space text.now }
 {

@@ -12,7 +12,7 @@ use Rattle.wave_string.specs.declared.class.Class.{Class}
 use Rattle.wave_string.specs.declared.class.Class.TheVariants.{PositiveClock, NegativeClock, Unknown}
 use Rattle.wave_string.specs.declared.mark_kind.MarkKind.TheVariants.{Bare}
 
--- the class in effect behind a front of the wave
+-- the class in effect after a front of the wave
 abbrev pub class_behind : List ℕ → Class
 class_behind front = option_map_or class_of (last_or None (filter (λ c. not (continues c)) front)) Unknown
 
@@ -69,7 +69,7 @@ kind_of_next k wave more c next =
     (brick_kind_behind k c wave (effective_class wave k)
     ∙ cond_below k (length wave) _ Bare (is_within k wave more c next))
 
--- A walk has passed k characters of the wave: `before` is in effect behind them, and the bytes `rest` are left.
+-- A walk has passed k characters of the wave: `before` is in effect after them, and the bytes `rest` are left.
 pub record HasPassed (wave : List ℕ) (k : ℕ) (before : Class) (rest : List ℕ) : Type 0 where
   pub behind : before ≡ class_behind (take k wave)
   pub left : drop k wave ≡ chars rest

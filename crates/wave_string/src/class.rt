@@ -1,7 +1,7 @@
 ghost use Rattle.std.specs.Prelude.{◌≡◌, if◌then◌else◌};
 ghost use Rattle.wave_string.specs.Kinds.{class_of, continues, last_class};
 
-/// What a brick draws, by the character that is in effect there.
+/// What a brick draws, according to the character that is in effect there.
 #[derive(Clone, Copy)]
 pub enum Class {
     /// A clock that begins each brick high and ends it low.

@@ -12,7 +12,7 @@ use crate::mark_kind::MarkKind;
 pub fn kind_at(wave: &str, place: u64) -> MarkKind
     ensures { result ≡ kind_of (chars wave.now) place }
 {
-    // Of the bricks before the place, the rule needs only the class in effect behind them.
+    // Of the bricks before the place, the rule needs only the class in effect after them.
     let mut before = Class::Unknown;
     for (index, character) in wave.chars().enumerate() {
         let here = before.followed_by(character);

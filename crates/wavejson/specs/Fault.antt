@@ -3,7 +3,7 @@ use Rattle.std.specs.Prelude.{Bool, true, false}
 use Rattle.wavejson.specs.declared.fault.DiagramFault.{DiagramFault}
 use Rattle.wavejson.specs.declared.fault.DiagramFault.TheVariants.{NotObject, NoSignal, EdgesNotList, EdgeNotText, NoMemory}
 
--- memory was wanted and not found; this says nothing of the tree
+-- there was not enough memory; this says nothing of the tree
 abbrev pub is_memory : DiagramFault → Bool
 is_memory NotObject = false
 is_memory NoSignal = false

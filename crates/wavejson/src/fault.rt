@@ -6,7 +6,7 @@ ghost use Rattle.wavejson.specs.declared.fault.DiagramFault.TheVariants.{NoMemor
 use itv_base::NoMemory as OutOfMemory;
 use thiserror::Error;
 
-/// What is wrong with a tree, or want of memory. The faults stand in the order in which they are reported.
+/// What is wrong with a tree, or lack of memory. The faults are in the order in which they are reported.
 #[derive(Clone, Copy, Debug, Error)]
 pub enum DiagramFault {
     /// The tree is no object.

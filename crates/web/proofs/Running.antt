@@ -16,7 +16,7 @@ use Rattle.web.proofs.Cutting.{shelf_of}
 not_below : {A : Type 0} (n : ℕ) → n < n → A
 not_below n lt = absurd (lt_irrefl n lt)
 
--- where memory is missing before a run, the call answers like a run that ends for want of memory
+-- where memory is missing before a run, the call answers like a run that ends for lack of memory
 without : (given : Given) (out : List ℕ) → IsFit given → IsAnswered given (code_of NoMemory) 0 out
 without given out fit =
     let run : ClausesHold (run_on given (shelf_with (files_in given)) empty_sink) NoMemory = record {

@@ -26,7 +26,7 @@ pub record ClausesHold (call : Call) (outcome : Outcome) : Type 0 where
   pub refuses_words : RefusesWords call outcome
   pub shows_faults : ShowsFaults call outcome
 
--- a run on what a page hands over came to this outcome and wrote this text
+-- a run on what a page hands over had this outcome and wrote this text
 pub record RunWrote (given : Given) (outcome : Outcome) (text : List ℕ) : Type 0 where
   pub shelf : ShelfState
   pub sink : SinkState
@@ -37,8 +37,8 @@ pub record RunWrote (given : Given) (outcome : Outcome) (text : List ℕ) : Type
 abbrev pub usable : List ℕ → ℕ
 usable out = min (length out) (2 ^ 32 - 1)
 
--- What the call answers: a status, how many bytes it wrote, and its room. Each case has a status of its own. Either a run came to an outcome, and what it
--- wrote stands at the front of the room. Or what was handed over is not fit, and nothing ran. Or a run wrote more than there is room for.
+-- What the call answers: a status, how many bytes it wrote, and its room. Each case has a status of its own. Either a run had an outcome, and what it
+-- wrote is at the front of the room. Or what was handed over is not fit, and nothing ran. Or a run wrote more than there is room for.
 pub data IsAnswered (given : Given) (status wrote : ℕ) (out : List ℕ) : Type 0 where
   ran : IsFit given → (outcome : Outcome) → RunWrote given outcome (take wrote out) → wrote ≤ usable out → status ≡ code_of outcome → IsAnswered given status wrote out
   unfit : ¬ (IsFit given) → status ≡ UNFIT → wrote ≡ 0 → IsAnswered given status wrote out

@@ -20,8 +20,8 @@ pub const UNFIT: u8 = 254;
 /// The status where a run wrote more than there is room for. It is the status of no outcome of a run.
 pub const NO_ROOM: u8 = 255;
 
-/// Runs on words over files, and returns the status of the run's end. What the run writes goes to the front of `out`, and its length in bytes into
-/// `wrote`.
+/// Runs on words over files, and returns the status of the run's end. What the run writes is put at the front of `out`, and its length in bytes
+/// into `wrote`.
 ///
 /// The words, the names of the files and their contents come as all their bytes one after another, and the size of each piece in bytes. The words are those
 /// after the program's name. Words and names are texts in UTF-8. Each name has a content. At one name twice, the later content is the file's.

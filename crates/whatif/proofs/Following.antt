@@ -54,7 +54,7 @@ cause_with constraints number cause range (Some c) k i at there =
     causes_set constraints number c (record c { causes = causes_with c.causes cause range (slice_get c.causes cause) }) k i at
     (cause_set c.causes cause range (slice_get c.causes cause) i) there
 
--- a cause that is there is there behind an edit
+-- a cause that is there is there after an edit
 there_behind : (net : Net) (number cause : ℕ) (range : Ends) (name : CauseName) → IsCauseOf net name → IsCauseOf (with_range net number cause range) name
 there_behind net number cause range name there = cause_with net.constraints number cause range (slice_get net.constraints number) name.constraint name.cause refl there
 
@@ -95,7 +95,7 @@ module _ (drawn : Drawn) where
   pub run_none : (s : SessionView) (edits : List RangeEdit) → IsRun drawn s (take 0 edits) s []
   run_none s edits = record { later = []; runs = tt; is_last = refl; net = refl; noted = refl }
 
-  -- each cause of the drawn network is there behind edits of it
+  -- each cause of the drawn network is there after edits of it
   pub run_stays : (s now : SessionView) (edits : List RangeEdit) (notes : List Note) → IsRun drawn s edits now notes → s.net ≡ drawn.net
       → (name : CauseName) → IsCauseOf drawn.net name → IsCauseOf now.net name
   run_stays s now edits notes run is name there =
@@ -122,7 +122,7 @@ module _ (drawn : Drawn) where
             ∙ sym (map-append (λ (u : EditedSession). note_of u.change u.session) run.later (t ∷ []))));
       }
 
--- each of some causes is there behind edits
+-- each of some causes is there after edits
 pub all_stay : (net now : Net) (given lent : List CauseName) → lent ≡ given → All (IsCauseOf net) given → ((name : CauseName) → IsCauseOf net name → IsCauseOf now name)
     → All (IsCauseOf now) lent
 all_stay net now given lent is all stays = subst (All (IsCauseOf now)) (sym is) (λ k d within. stays (get_or given k d) (all k d within))

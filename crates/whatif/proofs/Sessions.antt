@@ -1,4 +1,4 @@
--- Sessions: the bounds of pairs, and what they are behind an edit.
+-- Sessions: the bounds of pairs, and what they are after an edit.
 use Rattle.std.proofs.Common.{◌≡◌, ◌<◌, ◌≤◌, ◌≤ℤ◌, ◌+◌, ℕ, ℤ, List, [], ◌∷◌, ◌++◌, length, get_or, take, map, All, Option, Some, None, slice_get, refl, sym, ap, subst, ◌∙◌, arith, append_assoc}
 use Rattle.std.proofs.lemmas.List.{length-map, length-set, map-append, take_more}
 use Rattle.std.proofs.lemmas.List.Elements.{All-append, All-cons, All-head, All-tail}
@@ -177,7 +177,7 @@ two_more events pairs k bounds more a b d same places within is_a is_b places_a 
 
 -- ---- sessions that are edited
 
--- a session that was edited is sound; the bounds before and behind the edit have other names
+-- a session that was edited is sound; the bounds before and after the edit have other names
 pub sound_behind : (old : SessionView) (causes : List CauseName) (range : Ends) (net : Net) (found : SearchFinding) (before now shown : List KeptBound) (change : Change) (room room_now : ℕ) → IsSoundSession old room
     → net ≡ with_ranges old.net causes range → IsNet net → IsRightFinding net old.budget found → AreBoundsUpdated net old.budget old.found found before now change
     → room_now ≡ room → All (HasPlaces net.events) now → before ≡ old.bounds → shown ≡ now

@@ -39,7 +39,7 @@ module _ (May : KeptBound → Type 0) (Searched : KeptBound → KeptBound → Ty
   goes_less_searched a b kept searched kept_now searched_now fewer less (inr goes) =
       (fewer + 1, omega (arith, less, goes.3), inr (goes.0, goes.1, goes.2, refl))
 
-  -- one more bound behind those that are settled
+  -- one more bound after those that are settled
   one_more : (before now : List KeptBound) (a b : KeptBound) (kept searched kept_now searched_now : ℕ)
       → AreUpdated May Searched before now kept searched → Goes May Searched a b kept searched kept_now searched_now
       → AreUpdated May Searched (before ++ a ∷ []) (now ++ b ∷ []) kept_now searched_now

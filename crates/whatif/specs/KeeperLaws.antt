@@ -8,7 +8,7 @@ use Rattle.event_graph.specs.Proof.{ProofLine}
 use Rattle.certificate.specs.Scribing.{FitsTree, edge_count}
 use Rattle.whatif.specs.Step.Keeping.{KeeperGrew, KeeperWasCut, Keeping, KeptOn}
 
--- if lines fit with more lines behind them, they fit by themselves
+-- if lines fit with more lines after them, they fit by themselves
 front_fits : (line_room edge_room : ℕ) (xs ys : List ProofLine) → FitsTree line_room edge_room (xs ++ ys) → FitsTree line_room edge_room xs
 front_fits line_room edge_room xs ys fits = (
   le_trans (subst (λ n. length xs ≤ n) (sym (length-append xs ys)) (le-add_right (length xs) (length ys))) fits.0,
@@ -19,7 +19,7 @@ none_kept : (line_room edge_room : ℕ) (before : Option (List ProofLine)) → K
 none_kept line_room edge_room None = refl
 none_kept line_room edge_room (Some before) = inl (ap (λ lines. Some lines) (sym (append-nil before)))
 
--- lines were kept behind the lines before, and then more came
+-- lines were kept after the lines before, and then more came
 some_kept : (line_room edge_room : ℕ) (before : List ProofLine) (t u : Option (List ProofLine)) (xs ys : List ProofLine) → KeptOn line_room edge_room (Some before) xs t
     → KeptOn line_room edge_room t ys u → KeptOn line_room edge_room (Some before) (xs ++ ys) u
 some_kept line_room edge_room before t u xs ys (inl kept) q = behind_kept (subst (λ o. KeptOn line_room edge_room o ys u) kept q)

@@ -10,12 +10,12 @@ use Rattle.edits.specs.Subject.{causes_at}
 use Rattle.edits.specs.declared.edit.RangeEdit.{RangeEdit}
 use Rattle.whatif.specs.Session.{IsEdited, IsRight, SessionView, answers_of}
 
--- a session behind an edit, and what the edit did to its bounds
+-- a session after an edit, and what the edit did to its bounds
 pub record EditedSession : Type 0 where
   pub session : SessionView
   pub change : Change
 
--- edits lead from a session through these sessions, one behind each edit, and each of them is right; an edit of a number sets the causes that the
+-- edits lead from a session through these sessions, one after each edit, and each of them is right; an edit of a number sets the causes that the
 -- number draws in the drawn network
 abbrev pub Runs : Drawn → SessionView → List RangeEdit → List EditedSession → Type 0
 Runs drawn s [] [] = Unit {0}
@@ -23,7 +23,7 @@ Runs drawn s [] (t ∷ later) = ⊥
 Runs drawn s (e ∷ edits) [] = ⊥
 Runs drawn s (e ∷ edits) (t ∷ later) = IsEdited s (causes_at drawn e.subject) e.range t.session t.change × IsRight t.session × Runs drawn t.session edits later
 
--- the session behind all edits
+-- the session after all edits
 abbrev pub last_of : SessionView → List EditedSession → SessionView
 last_of s [] = s
 last_of s (t ∷ later) = last_of t.session later

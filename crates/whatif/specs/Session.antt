@@ -166,13 +166,13 @@ AreUpdated May Searched (a ∷ before) (b ∷ now) kept searched =
     ((fewer : ℕ) × (kept ≡ fewer + 1) × May a × (b ≡ a) × AreUpdated May Searched before now fewer searched)
     ⊎ ((fewer : ℕ) × (searched ≡ fewer + 1) × (May a → ⊥) × Searched a b × AreUpdated May Searched before now kept fewer)
 
--- which bounds an edit may keep: if the finding before it was consistent, all that may be kept for the network behind it, and else none
+-- which bounds an edit may keep: if the finding before it was consistent, all that may be kept for the network after it, and otherwise none
 abbrev pub MayKeepFrom : SearchFinding → Net → KeptBound → Type 0
 MayKeepFrom Consistent net b = MayKeep net b
 MayKeepFrom Inconsistent net b = ⊥
 MayKeepFrom Unsettled net b = ⊥
 
--- what becomes of the bounds: each is kept or searched anew if the finding is consistent now, and else all stay as they are
+-- what becomes of the bounds: each is kept or searched anew if the finding is consistent now, and otherwise all stay as they are
 abbrev pub AreBoundsUpdated : Net → ℕ → SearchFinding → SearchFinding → List KeptBound → List KeptBound → Change → Type 0
 AreBoundsUpdated net budget was Consistent before now change =
     (known : List ℤ) × Satisfies known net × AreUpdated (MayKeepFrom was net) (IsSearchedAnew net budget known) before now change.kept change.searched

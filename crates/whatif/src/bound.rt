@@ -120,7 +120,7 @@ impl KeptBound {
     }
 
     /// Searches the bound anew; `was` is the finding before. The search starts from the times of the bound if they are
-    /// no worse a start than the known times of the working memory, and else from the known times.
+    /// no worse a start than the known times of the working memory, and otherwise from the known times.
     pub fn search(&mut self, net: &Network, work: &mut Work, budget: u64, was: SearchFinding)
         requires pair { IsPairOf net.now.events self.old.pair }
         requires places { HasPlaces net.now.events self.old }
@@ -150,7 +150,7 @@ impl KeptBound {
     }
 }
 
-// Searches the greatest separation of a pair, from the times `start` if there are any, and else from the known times.
+// Searches the greatest separation of a pair, from the times `start` if there are any, and otherwise from the known times.
 fn search_pair(
     net: &Network,
     work: &mut Work,

@@ -13,7 +13,7 @@ pub enum SessionFault {
     /// There are this many pairs, more than [`MAX_PAIRS`](crate::MAX_PAIRS).
     #[error("{0} pairs are too many")]
     TooManyPairs(u64),
-    /// Memory was wanted and not found.
+    /// There was not enough memory.
     #[error("out of memory")]
     NoMemory,
 }
@@ -24,7 +24,7 @@ pub enum EditFault {
     /// A constraint or a cause is not there.
     #[error("there is no such cause")]
     NoSuch,
-    /// Memory was wanted and not found.
+    /// There was not enough memory.
     #[error("out of memory")]
     NoMemory,
 }

@@ -1,7 +1,7 @@
 //! Sessions: bounds of pairs of events that are kept while ranges of their network are edited.
-//! The contract, while times are found that satisfy the network: after any edits each bound is right for the network as
-//! it stands. An edit keeps a bound if and only if such times were found before it too, and what the bound keeps shows
-//! that it is right for the edited network. Else the edit searches the bound anew.
+//! The contract, while times are found that satisfy the network: after any edits each bound is right for the current
+//! network. An edit keeps a bound if and only if such times were found before it too, and what the bound keeps shows
+//! that it is right for the edited network. Otherwise the edit searches the bound anew.
 #![tactic(auto)]
 
 mod bound;

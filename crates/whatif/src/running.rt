@@ -17,7 +17,7 @@ use itv_base::NoMemory;
 use std::alloc::Global;
 use std::marker::Model;
 
-/// What a session comes to behind an edit: what the edit did, the finding, and the answers of all bounds, two for each
+/// What a session is after an edit: what the edit did, the finding, and the answers of all bounds, two for each
 /// pair. There are no answers if the finding is not consistent.
 #[derive(Drop)]
 pub struct Note {
@@ -34,7 +34,7 @@ impl Model for Note {
     ghost view = { λ n. record { change = n.change; found = n.found; answers = n.answers.items } };
 }
 
-/// A note of a session as it stands.
+/// A note of a session in its present state.
 pub fn note_session(alloc: Global, session: &Session, change: Change) -> Result<Note, NoMemory>
     ensures { IfOk result (λ n. n ≡ note_of change session.now) }
 {
@@ -45,7 +45,7 @@ pub fn note_session(alloc: Global, session: &Session, change: Change) -> Result<
     })
 }
 
-/// Makes the edits of a drawn network one after another, and notes the session behind each. The session is of the network as it is drawn, and
+/// Makes the edits of a drawn network one after another, and notes the session after each. The session is of the network as it is drawn, and
 /// what each edit names is there.
 pub fn run_edits(
     alloc: Global,
@@ -65,7 +65,7 @@ pub fn run_edits(
     Ok(notes)
 }
 
-// Makes an edit of a drawn network, and notes the session behind it. The session has each cause of the drawn network.
+// Makes an edit of a drawn network, and notes the session after it. The session has each cause of the drawn network.
 fn note_edit(
     alloc: Global,
     drawn: &DrawnNetwork,

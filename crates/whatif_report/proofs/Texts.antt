@@ -31,7 +31,7 @@ line_is number most least judged =
 joined : (s r n x m y l j t : List ℕ) → (((((s ++ r) ++ n) ++ (x ++ m)) ++ (y ++ l)) ++ j) ++ t ≡ s ++ ((r ++ (n ++ (x ++ (m ++ (y ++ (l ++ j)))))) ++ t)
 joined s r n x m y l j t = simp append_assoc
 
--- the line of a row in its pieces, behind a text
+-- the line of a row in its pieces, after a text
 pub row_is : (number : ℕ) (kind : RowKind) (least most : Bound) (start a b c d e end : List ℕ) → a ≡ start ++ codes "row" → b ≡ a ++ spaced (number_text number)
     → c ≡ b ++ (spaced (codes "max") ++ flat_map spaced (bound_words most)) → d ≡ c ++ (spaced (codes "min") ++ flat_map spaced (bound_words least))
     → e ≡ d ++ flat_map spaced (judged_words kind least most) → end ≡ e ++ 10 ∷ [] → end ≡ start ++ ended (line_of (row_words number kind least most))
@@ -70,7 +70,7 @@ rows_none number [] list none = refl
 rows_none number (kind ∷ rows) [] none = refl
 rows_none number (kind ∷ rows) (a ∷ list) none = absurd (omega (arith, none))
 
--- the line of the row at a place stands behind a text
+-- the line of the row at a place stands after a text
 pub rows_step : (whole text next : List ℕ) (rows : List RowKind) (list : List GreatestAnswer) (k : ℕ) (kind c : RowKind) (most least d e : GreatestAnswer) (low high : Bound) → k < length rows
     → 2 * k + 1 < length list → kind ≡ get_or rows k c → most ≡ get_or list (2 * k) d → least ≡ get_or list (2 * k + 1) e → low ≡ least_bound least
     → high ≡ greatest_bound most → text ++ rows_text k (drop k rows) (drop (2 * k) list) ≡ whole → next ≡ text ++ ended (line_of (row_words k kind low high))

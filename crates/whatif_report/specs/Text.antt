@@ -1,4 +1,4 @@
--- The text of job whatif: the states of a network behind edits of its ranges.
+-- The text of job whatif: the states of a network after edits of its ranges.
 use Rattle.std.specs.Prelude.{◌+◌, ℕ, List, [], ◌∷◌, ◌++◌, codes, Some}
 use Rattle.itv_base.specs.Numerals.{number_text}
 use Rattle.itv_base.specs.declared.row_kind.RowKind.{RowKind}
@@ -31,7 +31,7 @@ greatest_bound (answers.Closed value) = bounds.Closed value
 greatest_bound answers.Unbounded = bounds.Unbounded
 greatest_bound (answers.Enclosed upper attained) = bounds.Within upper (Some attained)
 
--- the least bound of a pair, by the answer for the reversed pair
+-- the least bound of a pair, from the answer for the reversed pair
 abbrev pub least_bound : GreatestAnswer → Bound
 least_bound answer = reversed (greatest_bound answer)
 
@@ -64,13 +64,13 @@ found_word founds.Unsettled = findings.Unsettled
 abbrev pub found_text : List RowKind → SearchFinding → List GreatestAnswer → List ℕ
 found_text rows found list = entry_text (finding (found_word found)) ++ rows_text 0 rows list
 
--- the line that begins a state behind an edit; the edit is named as in its file
+-- the line that begins a state after an edit; the edit is named as in its file
 abbrev pub state_words : ℕ → RangeEdit → Note → List Word
 state_words number e note =
     codes "state" ∷ number_text number ∷ subject_text e.subject ∷ range_word e.range ∷ codes "kept" ∷ number_text note.change.kept
     ∷ codes "searched" ∷ number_text note.change.searched ∷ []
 
--- the states behind edits, where the first of these states has this number
+-- the states after edits, where the first of these states has this number
 abbrev pub states_text : ℕ → List RowKind → List RangeEdit → List Note → List ℕ
 states_text number rows [] notes = []
 states_text number rows (e ∷ edits) [] = []
@@ -90,18 +90,18 @@ judged_rows tally (kind ∷ others) [] = tally
 judged_rows tally (kind ∷ others) (most ∷ []) = tally
 judged_rows tally (kind ∷ others) (most ∷ least ∷ found) = judged_rows (judged_row tally kind (least_bound least) (greatest_bound most)) others found
 
--- the word at the end, by a finding and the answers for rows. A report of that state ends with the same word
+-- the word at the end, according to a finding and the answers for rows. A report of that state ends with the same word
 abbrev pub ending_of : List RowKind → SearchFinding → List GreatestAnswer → EndWord
 ending_of rows found list = end_word (judged_rows (tally_of (found_word found)) rows list)
 
--- the note of the last state, behind all others
+-- the note of the last state, after all others
 abbrev pub last_note : Note → List Note → Note
 last_note first [] = first
 last_note first (note ∷ notes) = last_note note notes
 
 -- ---- the whole
 
--- the heading, the state before any edit, the states behind the edits, and the word at the end, by the last state
+-- the heading, the state before any edit, the states after the edits, and the word at the end, according to the last state
 abbrev pub whatif_text : List RowKind → Note → List RangeEdit → List Note → List ℕ
 whatif_text rows first edits notes =
     ended (codes "itv whatif 1") ++ (ended (codes "state 0") ++ (found_text rows first.found first.answers ++ (states_text 1 rows edits notes

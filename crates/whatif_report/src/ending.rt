@@ -28,7 +28,7 @@ pub fn last_of<'a>(first: &'a Note, notes: &'a [Note]) -> &'a Note
     }
 }
 
-/// The word at the end, by the note of the last state.
+/// The word at the end, according to the note of the last state.
 pub fn end_word(kinds: &[RowKind], note: &Note) -> EndWord
     requires of { IsNoteOf kinds.now note.now }
     requires few { length kinds.now ≤ MAX_PAIRS }

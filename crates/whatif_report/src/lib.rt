@@ -1,7 +1,7 @@
-//! Job whatif: from a drawn network and edits of its ranges to the bounds of its rows before and behind each edit. The
+//! Job whatif: from a drawn network and edits of its ranges to the bounds of its rows before and after each edit. The
 //! contract of the crate: `write_whatif` writes the states of a session through which the edits lead. Each state has
-//! its finding, how many bounds were kept and how many were searched, and both bounds of each row. If a put failed, a
-//! front of such a text was written.
+//! its finding, how many bounds were kept and how many were searched, and both bounds of each row. If a put failed,
+//! the beginning of such a text was written.
 #![tactic(auto)]
 
 mod asked;

@@ -20,7 +20,7 @@ use itv_base::{NoMemory, Range, RowKind, end_text, number_text};
 use numbers::{CauseName, DrawnNumber};
 use whatif::{Change, Note};
 
-/// Adds the states behind edits, by their notes. The first of these states has number 1.
+/// Adds the states after edits, by their notes. The first of these states has number 1.
 pub fn add_states(
     text: &mut Vec<u8>,
     kinds: &[RowKind],
@@ -61,7 +61,7 @@ fn add_finding(text: &mut Vec<u8>, found: SearchFinding) -> Result<(), NoMemory>
     }
 }
 
-// ---- the line that begins a state behind an edit
+// ---- the line that begins a state after an edit
 
 fn add_state(text: &mut Vec<u8>, number: u64, edit: &RangeEdit, note: &Note) -> Result<(), NoMemory>
     ensures { OnOk result (text.new.items ≡ text.old.items ++ ended (line_of (state_words number edit.now note.now))) }
@@ -107,7 +107,7 @@ fn add_drawn(text: &mut Vec<u8>, number: &DrawnNumber) -> Result<(), NoMemory>
     }
 }
 
-// Adds a space, a word and a number behind it.
+// Adds a space, a word and a number after it.
 fn add_called(text: &mut Vec<u8>, word: &[u8], number: u64) -> Result<(), NoMemory>
     ensures { OnOk result (text.new.items ≡ text.old.items ++ (spaced word.now ++ spaced (number_text number))) }
 {

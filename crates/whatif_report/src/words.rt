@@ -1,4 +1,4 @@
-//! Adding words behind a text that is gathered.
+//! Adding words after a text that is gathered.
 
 ghost use Rattle.std.specs.Prelude.{◌≡◌, ◌++◌, OnOk, codes};
 ghost use Rattle.std.specs.List.{flat_map};
@@ -10,7 +10,7 @@ use itoa::Buffer;
 use itv_base::{NoMemory, end_text, number_text, signed_text};
 use requirements::{Bound, Verdict};
 
-/// Adds a piece behind a text.
+/// Adds a piece after a text.
 pub fn add(text: &mut Vec<u8>, piece: &[u8]) -> Result<(), NoMemory>
     ensures added { OnOk result (text.new.items ≡ text.old.items ++ piece.now) }
 {

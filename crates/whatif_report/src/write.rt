@@ -20,7 +20,7 @@ use jobs::{Answer, Unanswered, answer_of};
 use std::alloc::Global;
 use whatif::{Change, Note, Pair, Session, SessionFault, note_session, run_edits};
 
-/// Writes the bounds of the rows of a drawn network before any edit and behind each edit of a list. There may be at
+/// Writes the bounds of the rows of a drawn network before any edit and after each edit of a list. There may be at
 /// most [`MAX_PAIRS`](whatif::MAX_PAIRS) rows. What each edit names must be there. Each search closes at
 /// most `budget` cases. All states are computed before the one put.
 pub fn write_whatif<K: Sink>(

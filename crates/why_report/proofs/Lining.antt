@@ -1,4 +1,4 @@
--- Lines that are put in pieces: more words behind the words of a line, and its end.
+-- Lines that are put in pieces: more words after the words of a line, and its end.
 use Rattle.std.proofs.Common.{◌≡◌, ℕ, List, [], ◌∷◌, ◌++◌, sym, ap, ◌∙◌, append_assoc, append-nil}
 use Rattle.std.specs.List.{flat_map}
 use Rattle.std.specs.Prelude.{codes}
@@ -7,7 +7,7 @@ use Rattle.line_words.specs.Words.{Word}
 use Rattle.line_words.specs.Lines.{ended, line_of, spaced}
 use Rattle.line_words.proofs.Printing.{join_spaced}
 
--- the words of two lists, each behind a space
+-- the words of two lists, each after a space
 pub spaced_both : (words more : List Word) (rest : List ℕ) → flat_map spaced words ++ (flat_map spaced more ++ rest) ≡ flat_map spaced (words ++ more) ++ rest
 spaced_both words more rest =
     sym (append_assoc (flat_map spaced words) (flat_map spaced more) rest) ∙ ap (λ l. l ++ rest) (sym (flat_map-append spaced words more))
@@ -16,13 +16,13 @@ spaced_both words more rest =
 pub spaced_word : (word : Word) (more : List Word) (rest : List ℕ) → spaced word ++ (flat_map spaced more ++ rest) ≡ flat_map spaced (word ∷ more) ++ rest
 spaced_word word more rest = sym (append_assoc (spaced word) (flat_map spaced more) rest)
 
--- more words behind the words of a line
+-- more words after the words of a line
 pub line_more : (word : Word) (words more : List Word) → line_of (word ∷ words) ++ flat_map spaced more ≡ line_of (word ∷ (words ++ more))
 line_more word words more =
     ap (λ l. l ++ flat_map spaced more) (join_spaced word words) ∙ append_assoc word (flat_map spaced words) (flat_map spaced more)
     ∙ ap (λ l. word ++ l) (sym (flat_map-append spaced words more)) ∙ sym (join_spaced word (words ++ more))
 
--- more words behind the words of a line, and the end of the line
+-- more words after the words of a line, and the end of the line
 pub line_end : (word : Word) (words more : List Word) → line_of (word ∷ words) ++ (flat_map spaced more ++ 10 ∷ []) ≡ ended (line_of (word ∷ (words ++ more)))
 line_end word words more = sym (append_assoc (line_of (word ∷ words)) (flat_map spaced more) (10 ∷ [])) ∙ ap ended (line_more word words more)
 
@@ -42,7 +42,7 @@ line_both_end first words more last = ap (λ l. line_of (first ∷ words) ++ l) 
 
 -- ---- without the end
 
--- one word more behind others
+-- one word more after others
 pub spaced_last : (words : List Word) (word : Word) → flat_map spaced words ++ spaced word ≡ flat_map spaced (words ++ word ∷ [])
 spaced_last words word = ap (λ l. flat_map spaced words ++ l) (sym (append-nil (spaced word))) ∙ sym (flat_map-append spaced words (word ∷ []))
 

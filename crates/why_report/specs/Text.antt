@@ -86,7 +86,7 @@ abbrev pub step_words : Noted → Drawn → EdgeName → EventId → EventId →
 step_words noted drawn name from to weight =
     codes "step" ∷ name_in drawn from ∷ name_in drawn to ∷ signed_text weight ∷ drawn_words noted drawn name
 
--- the step of an edge; behind a least separation it goes from the end of the edge to its start, and has minus its weight
+-- the step of an edge; for a least separation it goes from the end of the edge to its start, and has minus its weight
 abbrev pub edge_words : Noted → Drawn → Which → EdgeName → Edge → List Word
 edge_words noted drawn Max name e = step_words noted drawn name e.from e.to e.weight
 edge_words noted drawn Min name e = step_words noted drawn name e.to e.from (neg_ℤ e.weight)
@@ -94,7 +94,7 @@ edge_words noted drawn Min name e = step_words noted drawn name e.to e.from (neg
 abbrev pub step_text : Noted → Drawn → Which → EdgeName → List ℕ
 step_text noted drawn which name = unwrap_or (option_map (λ e. ended (line_of (edge_words noted drawn which name e))) (edge drawn.net name)) []
 
--- the steps from the from-event of a row to its to-event; behind a least separation they have the edges of the reversed pair, the last one first
+-- the steps from the from-event of a row to its to-event; for a least separation they have the edges of the reversed pair, the last one first
 abbrev pub steps_text : Noted → Drawn → Which → List EdgeName → List ℕ
 steps_text noted drawn Max names = flat_map (step_text noted drawn Max) names
 steps_text noted drawn Min names = flat_map (step_text noted drawn Min) (reverse names)
@@ -107,13 +107,13 @@ raise_text drawn number [] = []
 raise_text drawn number (is_in ∷ set) =
     (if is_in then ended (line_of (codes "raise" ∷ name_in drawn (record { 0 = number }) ∷ [])) else []) ++ raise_text drawn (number + 1) set
 
--- the lines behind a bound
+-- the lines after a bound
 abbrev pub behind_text : Noted → Drawn → Which → BoundFound → List ℕ
 behind_text noted drawn which (Closed value chain) = steps_text noted drawn which chain.items
 behind_text noted drawn which (Unbounded set) = raise_text drawn 0 set.items
 behind_text noted drawn which (Within limit attained) = []
 
--- a bound, and the lines behind it
+-- a bound, and the lines after it
 abbrev pub bound_text : Noted → Drawn → Which → BoundFound → List ℕ
 bound_text noted drawn which found = entry_text (line.bound which (bound_of found)) ++ behind_text noted drawn which found
 
@@ -195,7 +195,7 @@ ending_of rows Unsettled found = end_word (with_rows (tally_of (word_of Unsettle
 
 -- ---- the whole
 
--- behind the finding: the rules that contradict each other, or each row
+-- after the finding: the rules that contradict each other, or each row
 abbrev pub found_text : Noted → Drawn → Finding → List RowFound → List ℕ
 found_text noted drawn Consistent found = rows_text noted drawn 0 drawn.rows found
 found_text noted drawn (Inconsistent set) found = rules_text noted drawn set.items drawn.net.constraints drawn.origins

@@ -32,7 +32,7 @@ pub fn cause_count(drawn: &DrawnNetwork, number: u32) -> u32
     origins_at(drawn, number).len() as u32
 }
 
-/// A cause of a constraint, by the numbers of both. Both are in the network.
+/// A cause of a constraint, given by the numbers of both. Both are in the network.
 pub fn rule_at(drawn: &DrawnNetwork, number: u32, cause: u32) -> DrawnCause
     requires number { number < length drawn.now.net.constraints }
     requires cause { cause < length (constraint_at drawn.now number).causes }

@@ -26,7 +26,7 @@ pub fn finding_word(finding: &Finding) -> FindingWord
     }
 }
 
-/// The word at the end, by what was found of the network and of each row.
+/// The word at the end, according to what was found of the network and of each row.
 pub fn ending_of(drawn: &DrawnNetwork, finding: &Finding, found: &[RowFound]) -> EndWord
     requires found { (budget : ℕ) × AreFound drawn.now budget finding.now found.now }
     ensures word { result ≡ ending_of drawn.now.rows finding.now found.now }

@@ -1,5 +1,5 @@
-//! Job why: both bounds of each row, with the edges of the drawing that make them so. The contract of the crate: `write_why` writes
-//! what is found of the network and of each of its rows, with what makes it so. If a put failed, it wrote a front of such a text.
+//! Job why: both bounds of each row, with the edges of the drawing behind them. The contract of the crate: `write_why` writes
+//! what is found of the network and of each of its rows, with its reasons. If a put failed, it wrote the beginning of such a text.
 #![tactic(auto)]
 
 mod bound;

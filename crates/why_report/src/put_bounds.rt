@@ -1,4 +1,4 @@
-//! Putting a bound and the lines behind it.
+//! Putting a bound and the lines after it.
 
 ghost use Rattle.std.specs.Prelude.{◌≡◌, ◌<◌, if◌then◌else◌, [], ◌∷◌, codes, length};
 ghost use Rattle.itv_base.specs.Outside.{Puts};
@@ -17,7 +17,7 @@ use line_words::LineBuffer;
 use notes::Notes;
 use slack_report::{Item, Which, write_item};
 
-/// Puts a bound and the lines behind it. They are the steps that sum to it if it is a number, and the events that can be raised by
+/// Puts a bound and the lines after it. They are the steps that sum to it if it is a number, and the events that can be raised by
 /// any number if it is unbounded.
 pub fn put_bound<N: Notes, K: Sink>(
     notes: &N,
@@ -35,7 +35,7 @@ pub fn put_bound<N: Notes, K: Sink>(
     put_behind(notes, drawn, which, found, buffer, sink)
 }
 
-// Puts the lines behind a bound.
+// Puts the lines after a bound.
 fn put_behind<N: Notes, K: Sink>(
     notes: &N,
     drawn: &DrawnNetwork,

@@ -23,7 +23,7 @@ use itv_base::{
 use line_words::LineBuffer;
 use requirements::{BothBounds, Bound, Verdict};
 
-/// Puts a line and its end, by one put if it fits the buffer, and else piece by piece. What the buffer held before is forgotten.
+/// Puts a line and its end, by one put if it fits the buffer, and otherwise piece by piece. What the buffer held before is forgotten.
 pub fn put_line<K: Sink>(
     line: &Line<'_>,
     buffer: &mut LineBuffer,

@@ -18,7 +18,7 @@ use line_words::LineBuffer;
 use notes::Notes;
 use slack_report::Which;
 
-/// Puts the steps of edges from the from-event of a row to its to-event. Behind a least separation the edges are the edges of the
+/// Puts the steps of edges from the from-event of a row to its to-event. For a least separation the edges are the edges of the
 /// reversed pair. So the last one comes first, and each step goes from the end of its edge to its start.
 pub fn put_steps<N: Notes, K: Sink>(
     notes: &N,
@@ -36,7 +36,7 @@ pub fn put_steps<N: Notes, K: Sink>(
     }
 }
 
-// Puts the steps behind a greatest separation.
+// Puts the steps of a greatest separation.
 fn put_onward<N: Notes, K: Sink>(
     notes: &N,
     drawn: &DrawnNetwork,
@@ -52,7 +52,7 @@ fn put_onward<N: Notes, K: Sink>(
     Ok(())
 }
 
-// Puts the steps behind a least separation.
+// Puts the steps of a least separation.
 fn put_back<N: Notes, K: Sink>(
     notes: &N,
     drawn: &DrawnNetwork,

@@ -20,8 +20,8 @@ use notes::Notes;
 use slack_report::{EndWord, Item, LINE_ROOM, write_item};
 use std::alloc::Global;
 
-/// Writes both bounds of each row of a drawn network, with the edges of the drawing that make them so. Behind a number stand the
-/// steps from one event to the other; their weights sum to it. Behind an inconsistent finding stand the rules that contradict each
+/// Writes both bounds of each row of a drawn network, with the edges of the drawing that make them so. After a number stand the
+/// steps from one event to the other; their weights sum to it. After an inconsistent finding stand the rules that contradict each
 /// other. What draws a step, a row or a rule comes with its note. Each search closes at most `budget` cases. All is found before
 /// the first put.
 pub fn write_why<N: Notes, K: Sink>(
@@ -91,7 +91,7 @@ fn put_text<N: Notes, K: Sink>(
     write_item(&Item::End(word), buffer, sink)
 }
 
-// Puts the lines behind the finding: the rules that contradict each other, or each row.
+// Puts the lines after the finding: the rules that contradict each other, or each row.
 fn put_behind<N: Notes, K: Sink>(
     notes: &N,
     drawn: &DrawnNetwork,

@@ -1,4 +1,4 @@
--- What the words are taken for, by what `clap` returns.
+-- What the words are taken for, according to what `clap` returns.
 use Rattle.std.proofs.Common.{◌≡◌, ◌⊎◌, inl, inr, Result, Ok, Err, IfOk, true, List, [], ◌∷◌, map, ◌∙◌, sym, ap, subst, refl}
 use Rattle.clap.specs.Faults.{fault_of, is_simple_and_free}
 use Rattle.clap.specs.Kinds.{IsAmong, Kinds}

@@ -35,7 +35,7 @@ size_rule = number_rule (codes "size") MAX_SELF_SIZE
 abbrev pub design_rule : Rule
 design_rule = record (new_rule (codes "design")) { action = Some Set; value_names = 1 }
 
--- the words begin behind the program's name
+-- the words begin after the program's name
 abbrev pub bare_command : App
 bare_command = on_top (λ top. record top { no_binary_name = true }) (new_app (codes "itv"))
 

@@ -107,7 +107,7 @@ abbrev pub answer_by : Kinds → List Row → Invocation
 answer_by [] rows = answer_for (task_of rows)
 answer_by (kind ∷ kinds) rows = refusal_for kind
 
--- what the words behind the program's name are taken for
+-- what the words after the program's name are taken for
 unfoldable pub taken : List Text → Invocation
 taken words = answer_by (fault_of command words) (matches_of command words)
 

@@ -13,7 +13,7 @@ use std::alloc::{AllocError, Global};
 // What the program does, at the head of its help.
 const ABOUT: &str = "Verifies the interface timing of timing diagrams.";
 
-// What the help says behind the options.
+// What the help says after the options.
 const DETAILS: &str = "\
 Jobs:
   bounds  Bounds the separation of each row of DESIGN, with a verdict and the slack of each requirement

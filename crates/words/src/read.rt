@@ -15,7 +15,7 @@ use clap::{ArgMatches, Error};
 use itv_base::{DEFAULT_BUDGET, MAX_BUDGET, MAX_SELF_SIZE, NoMemory, Texts};
 use std::alloc::Global;
 
-/// Reads the words behind the program's name. The text of help is made whole here, so that it takes no memory later.
+/// Reads the words after the program's name. The text of help is made whole here, so that it takes no memory later.
 /// Reading any words may run out of memory, since `clap` takes some for all of them.
 pub fn read_words<'a>(alloc: Global, words: &'a Texts) -> Result<Invocation<'a>, NoMemory>
     ensures taken { IfOk result (λ answer. answer_view answer ≡ taken words.entry.now) }

@@ -66,7 +66,7 @@ pub enum Task<'a> {
         size: u32,
         budget: u64,
     },
-    /// To bound the rows of a design, and again behind each edit of a range: the name of its file, the name of the file
+    /// To bound the rows of a design, and again after each edit of a range: the name of its file, the name of the file
     /// of edits, and the cases that each search may close.
     Whatif {
         design: &'a str,

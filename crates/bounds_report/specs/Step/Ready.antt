@@ -36,12 +36,12 @@ pub record IsReady (net : Net) (word : FindingWord) (desk : Desk) : Type 0 where
   pub set : IsSet net desk
   pub found : HasFound net word desk.work.known
 
--- the tally behind the verdict of a row, if it has one
+-- the tally after the verdict of a row, if it has one
 abbrev pub tally_with : ReportTally → Option Verdict → ReportTally
 tally_with report_tally None = report_tally
 tally_with report_tally (Some word) = with_verdict report_tally word
 
--- the tally behind a row
+-- the tally after a row
 abbrev pub tally_after : ReportTally → RowEnd → ReportTally
 tally_after report_tally end = tally_with (record report_tally { within = report_tally.within || end.is_within }) end.verdict
 
@@ -51,7 +51,7 @@ pub record IsTally (tally : Tally) (words : List Verdict) : Type 0 where
   pub fails : tally.fails ≡ count_by is_fail words
   pub undecided : tally.undecided ≡ count_by is_undecided words
 
--- the tally of a report behind a finding and some rows
+-- the tally of a report after a finding and some rows
 abbrev pub tally_behind : FindingWord → Tally → ReportTally
 tally_behind word tally = record { found = word; fails = nat_lt 0 tally.fails; within = tally.is_within }
 
@@ -61,17 +61,17 @@ word_of founds.Consistent = findings.Consistent
 word_of founds.Inconsistent = findings.Inconsistent
 word_of founds.Unsettled = findings.Unsettled
 
--- times that may be printed behind a consistent finding: they satisfy, and event 0 is at 0
+-- times that may be printed after a consistent finding: they satisfy, and event 0 is at 0
 abbrev pub AreKnown : Net → List ℤ → Type 0
 AreKnown net list = All IsPrintedTime list × Satisfies list net × (time_of list (record { 0 = 0 }) ≡ pos 0)
 
--- the report state behind a finding and the times that come with it
+-- the report state after a finding and the times that come with it
 abbrev pub behind_known : FindingWord → ReportState
 behind_known findings.Consistent = at_rows findings.Consistent
 behind_known findings.Inconsistent = at_end endings.Inconsistent
 behind_known findings.Unsettled = at_rows findings.Unsettled
 
--- the report state behind a finding and all rows; `count` is how many rows there are
+-- the report state after a finding and all rows; `count` is how many rows there are
 abbrev pub behind_rows : FindingWord → Tally → ℕ → ReportState
 behind_rows findings.Consistent tally count = at_row (tally_behind findings.Consistent tally) count []
 behind_rows findings.Inconsistent tally count = at_end (end_word (tally_behind findings.Inconsistent tally))

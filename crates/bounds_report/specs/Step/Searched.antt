@@ -40,7 +40,7 @@ greatest_of (answers.Closed value) = bounds.Closed value
 greatest_of answers.Unbounded = bounds.Unbounded
 greatest_of (answers.Enclosed upper attained) = bounds.Within upper (Some attained)
 
--- the bound of a pair by the answer of the search on its searched pair
+-- the bound of a pair from the answer of the search on its searched pair
 abbrev pub bound_of : Which → GreatestAnswer → Bound
 bound_of sorts.Max answer = greatest_of answer
 bound_of sorts.Min answer = reversed (greatest_of answer)
@@ -50,7 +50,7 @@ pub record FindsBy (net : Net) (budget : ℕ) (lines : List ProofLine) (leaves :
   pub says : Finds net budget lines leaves known found
   pub needed : AtEachSplit net (IsNeededToFind net) lines
 
--- what an answer says of a pair by the lines of its search; each split of these lines was needed behind a known separation
+-- what an answer says of a pair by the lines of its search; each split of these lines was needed after a known separation
 pub record AnswersSearch (search : PairSearch) (known : ℤ) (left : Evidence) (answer : GreatestAnswer) : Type 0 where
   pub says : IsGreatestAnswer search left answer
   pub needed : AtEachSplit search.net (IsNeededToBound search.net search.from search.to known) left.lines

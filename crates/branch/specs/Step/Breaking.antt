@@ -1,4 +1,4 @@
--- Which constraints with two or more causes the times break, and which they meet, by their choice edges.
+-- Which constraints with two or more causes the times break, and which they meet, according to their choice edges.
 use Rattle.std.specs.Prelude.{◌≡◌, ◌<◌, ℕ, ℤ, List, length, All, Any, IfSome, IsSomeAnd, slice_get, slice_index_or}
 use Rattle.std.specs.List.{AllWithin}
 use Rattle.event_graph.specs.declared.edge.Edge.{Edge}

@@ -1,4 +1,4 @@
--- What a search has come to between two of its steps.
+-- What a search has reached between two of its steps.
 use Rattle.std.specs.Prelude.{◌≡◌, ◌+◌, ◌<◌, ◌≤◌, ◌≤ℤ◌, ◌<ℤ◌, ℕ, ℤ, Bool, List, [], ◌∷◌, ◌++◌, length, All, Option, Some, None}
 use Rattle.itv_base.specs.declared.names.EventId.{EventId}
 use Rattle.event_graph.specs.Bounds.{IsGreatestAmong, IsRay}
@@ -39,7 +39,7 @@ pub record IsAtCase (net : Net) (s : Search) : Type 0 where
   pub room : length net.constraints ≤ s.cases.room
   pub left : s.leaves < s.budget
 
--- a search comes to a case: the bounds stand on all its choices but the latest, there is room for every split, and the budget is not used up
+-- a search reaches a case: the bounds stand on all its choices but the latest, there is room for every split, and the budget is not used up
 pub record IsBelowCase (net : Net) (s : Search) : Type 0 where
   pub case : IsSearchCase net s.cases.chosen
   pub below : StandsBelow net s.cases.chosen s.bounds
@@ -64,7 +64,7 @@ left_after net now Entered = open_cases net now
 left_after net now AllClosed = []
 left_after net now Stopped = open_cases net now
 
--- the search comes to the next case: it and its siblings are the siblings of the case before
+-- the search reaches the next case: it and its siblings are the siblings of the case before
 pub record IsNext (net : Net) (before now : Search) : Type 0 where
   pub same : siblings net before.cases.chosen ≡ open_cases net now.cases.chosen
   pub some : 0 < length now.cases.chosen
@@ -120,7 +120,7 @@ pub record IsTrialFor (net : Net) (trial : Trial) : Type 0 where
   pub ray : length trial.ray.items ≡ net.events
   pub splits : AreSplits net trial.distances
 
--- what a look at a case finds, by the best separation so far and the separation that the search started from
+-- what a look at a case finds, from the best separation so far and the separation that the search started from
 abbrev pub Looks : Net → Aim → ℤ → Search → Trial → Look → Type 0
 Looks net aim best s trial Beaten = (value : ℤ) × HasUpper s.bounds aim.to value × (value ≤ℤ best)
 Looks net aim best s trial (Attained value) =
@@ -156,7 +156,7 @@ pub record Progress : Type 0 where
   pub search : Search
   pub best : Best
 
--- what a step of the search for a bound comes to: the next case is entered, or the search ends, or the pair is unbounded
+-- the result of a step of the search for a bound: the next case is entered, or the search ends, or the pair is unbounded
 abbrev pub Advances : Net → Aim → Progress → Progress → List Bool → List ProofLine → Option NextCase → Type 0
 Advances net aim before now ray lines (Some entry) =
     IsBestSoFar net aim now.best
@@ -188,11 +188,11 @@ SearchEnds net aim s best ray lines Raised =
     AreRays net aim best.times.items ray
     × ((value : ℤ) × (chosen : Case) × (closed : ℕ) × IsBoundSearched net aim value lines (open_cases net chosen) closed × (s.leaves ≡ closed + 1))
 
--- a search for satisfying times has come to these lines
+-- a search for satisfying times has reached these lines
 abbrev pub IsFindSearched : Net → List ProofLine → List Case → ℕ → Type 0
 IsFindSearched net lines cases closed = IsSearchedSoFar net Nothing (IsNeededToFind net) lines cases closed
 
--- what a step of the search for satisfying times comes to: the next case is entered, or the search ends, or the times satisfy
+-- the result of a step of the search for satisfying times: the next case is entered, or the search ends, or the times satisfy
 abbrev pub FindAdvances : Net → Search → Search → List ℤ → List ProofLine → Option NextCase → Type 0
 FindAdvances net before now times lines (Some entry) =
     (earlier : List ProofLine) → IsFindSearched net earlier (open_cases net before.cases.chosen) before.leaves

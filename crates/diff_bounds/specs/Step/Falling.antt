@@ -42,7 +42,7 @@ Relaxes run a old new (Fell by) =
     × (new ≡ record old { current = with_stamp old.current (run.base + a.edge.to.0) (fallen_stamp a.name (u.near +ℤ a.edge.weight)) })
 Relaxes run a old new Stops = (new ≡ old) × Undercuts (labels_from old.current.stamps run.base) a.edge × (run.stop ≡ Some a.edge.to)
 
--- numbers that meet all edges of a scope, save for the edges that leave the stop
+-- numbers that meet all edges of a scope, except for the edges that leave the stop
 abbrev pub IsPotential : Scope → Option EventId → (ℕ → ℤ) → Type 0
 IsPotential s stop potential = (name : EdgeName) (e : Edge) → IsAmong s name e → (stop ≡ Some e.from → ⊥) → potential e.to.0 ≤ℤ (potential e.from.0 +ℤ e.weight)
 

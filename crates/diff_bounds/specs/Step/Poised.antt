@@ -32,11 +32,11 @@ upper_run = record { base = 0; first = 0; stop = None }
 abbrev pub zero_stamp : Stamp
 zero_stamp = record { label = Some (pos 0); parent = None }
 
--- all edges of a scope are followed, save for the edges that start at an event
+-- all edges of a scope are followed, except for the edges that start at an event
 abbrev pub AreOthersFollowed : Scope → EventId → GraphLabels → Type 0
 AreOthersFollowed s from label = (name : EdgeName) (e : Edge) → IsAmong s name e → (e.from.0 ≡ from.0) ⊎ Follows label e
 
--- labels that fell from first labels over edges of a scope; all edges are followed, save for the edges that start at one event
+-- labels that fell from first labels over edges of a scope; all edges are followed, except for the edges that start at one event
 pub record IsPoised (s : Scope) (from : EventId) (start : GraphLabels) (stamps : List Stamp) (base : ℕ) : Type 0 where
   pub forest : IsForest s start (labels_from stamps base) (parents_from stamps base)
   pub others : AreOthersFollowed s from (labels_from stamps base)
@@ -52,7 +52,7 @@ pub record IsRunReady (net : Net) (out : List (List Arc)) (arcs : List Arc) (run
   pub marks : length waiting.marks ≡ net.events
   pub poised : IsPoised (scope_of net stack run) from start stack.current.stamps run.base
 
--- all edges of a scope are followed, save for one
+-- all edges of a scope are followed, except for one
 abbrev pub AreRestFollowed : Scope → Edge → GraphLabels → Type 0
 AreRestFollowed s added label = (name : EdgeName) (e : Edge) → IsAmong s name e → (e ≡ added) ⊎ Follows label e
 

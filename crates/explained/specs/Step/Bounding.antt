@@ -47,7 +47,7 @@ pub record IsOpenBound (net : Net) (word : FindingWord) (pair : Pair) (limit val
   pub rests : HasAttained word value
   pub attained : IfSome value (IsAttained net pair.from pair.to)
 
--- a greatest bound behind a finding, by the times and the set of events that the search left
+-- a greatest bound after a finding, by the times and the set of events that the search left
 abbrev pub IsGreatestBy : Net → FindingWord → Pair → Bound → List ℤ → List Bool → Type 0
 IsGreatestBy net word pair (bounds.Closed value) times set = IsClosedBy net word pair value times
 IsGreatestBy net word pair bounds.Unbounded times set = IsUnboundedBy net word pair times set
@@ -64,7 +64,7 @@ IsGreatestShown net budget pair bounds.Unbounded = (lines : List ProofLine) × (
 IsGreatestShown net budget pair (bounds.Within limit None) = Unit {0}
 IsGreatestShown net budget pair (bounds.Within limit (Some attained)) = (lines : List ProofLine) × IsStoppedProof net (pair_goal pair attained) lines budget
 
--- a greatest bound behind a finding, with the chain or the set that stands behind it
+-- a greatest bound after a finding, with the chain or the set that stands behind it
 abbrev pub IsExplained : Net → FindingWord → Pair → BoundFound → Type 0
 IsExplained net word pair (Closed value chain) = (word ≡ findings.Consistent) × IsGreatest net pair.from pair.to value × Explains net pair.from pair.to value chain.items
 IsExplained net word pair (Unbounded set) = (word ≡ findings.Consistent) × CanRise net pair.from pair.to set.items

@@ -22,7 +22,7 @@ word_of_found founds.Consistent = findings.Consistent
 word_of_found founds.Inconsistent = findings.Inconsistent
 word_of_found founds.Unsettled = findings.Unsettled
 
--- what a finding says of a network, and the known times behind it
+-- what a finding says of a network, and the known times that come with it
 abbrev pub HasFound : Net → FindingWord → Option (List ℤ) → Type 0
 HasFound net findings.Consistent known = IsSomeAnd known (λ times. Satisfies times net)
 HasFound net findings.Inconsistent known = IsInconsistent net
@@ -80,7 +80,7 @@ pub record IsDeskFor (drawn : Drawn) (desk : Desk) : Type 0 where
   pub fresh : IfSome desk.apart (λ (a : Apart). IsFresh a.net a.searches)
   pub budget : HasSameBudget desk.searches.budget desk.apart
 
--- the finding of the network apart is made, if this is another network; behind the finding of the drawn network with this word
+-- the finding of the network apart is made, if this is another network; after the finding of the drawn network with this word
 abbrev pub IsSettledApart : ℕ → FindingWord → Option Apart → Type 0
 IsSettledApart budget word apart = IfSome apart (λ (a : Apart). IsFindingApart a.net budget word a.searches.word)
 

@@ -25,7 +25,7 @@ pub record HasEnded (net : Net) (from : EventId) (turns : ℕ) (lines : List Fal
   pub ended : IsEnded net from values
   pub count : length lines ≤ turns
 
--- how a derivation of at most so many turns went
+-- how a derivation of at most so many turns stopped
 abbrev pub IsDerivationEnd : Net → EventId → ℕ → List FallLine → List ℤ → DerivationEnd → Type 0
 IsDerivationEnd net from turns lines values Settled = HasSettled net from turns lines values
 IsDerivationEnd net from turns lines values Ended = HasEnded net from turns lines values

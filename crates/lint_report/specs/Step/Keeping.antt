@@ -1,4 +1,4 @@
--- Whether all satisfying times keep a range, by what is found of two greatest separations.
+-- Whether all satisfying times keep a range, according to what is found of two greatest separations.
 use Rattle.std.specs.Prelude.{◌≡◌, ℤ, neg_ℤ, ◌≤ℤ◌, ◌<ℤ◌, int_le, Bool, if◌then◌else◌, List, Option, Some, None, IfSome, IsSomeAnd, option_map}
 use Rattle.itv_base.specs.Range.{Ends}
 use Rattle.itv_base.specs.declared.names.EventId.{EventId}
@@ -74,13 +74,13 @@ KeepsRange net from to range kept.Open = Unit {0}
 
 -- ---- by the order of lanes
 
--- a requirement that is kept in the drawn network passes by the order of lanes alone, if it is not kept without that order
+-- a requirement that is kept in the drawn network passes because of the order of lanes alone, if it is not kept without that order
 abbrev pub order_by_kept : RangeKept → ByOrder
 order_by_kept kept.All = by_order.No
 order_by_kept kept.NotAll = by_order.Yes
 order_by_kept kept.Open = by_order.Open
 
--- rules that contradict each other do so by the order of lanes alone, if some times satisfy without that order
+-- rules that contradict each other do so because of the order of lanes alone, if some times satisfy without that order
 abbrev pub order_by_finding : Consistency → ByOrder
 order_by_finding consistency.Consistent = by_order.Yes
 order_by_finding consistency.Inconsistent = by_order.No

@@ -22,7 +22,7 @@ use Rattle.lint_report.specs.Found.{IsLintFound, LeavesNothingOpen}
 use Rattle.lint_report.specs.Lines.{lines_of}
 use Rattle.lint_report.specs.Text.{both_words, place_word, told, told_words}
 
--- a mark behind the name of its part
+-- a mark after the name of its part
 abbrev pub marked_word : List ℕ → Option ℕ → Word
 marked_word part name = part ++ (46 ∷ option_map_or (λ byte. byte ∷ []) name [])
 

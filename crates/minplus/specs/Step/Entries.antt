@@ -9,7 +9,7 @@ use Rattle.event_graph.specs.Times.{separation}
 use Rattle.minplus.specs.Rows.{IsEntry, IsSmall}
 use Rattle.minplus.specs.declared.rows.TheConstants.{ABSENT}
 
--- the entries of a matrix, by the numbers of two events
+-- the entries of a matrix, given by the numbers of two events
 abbrev pub Entries : Type 0
 Entries = ℕ → ℕ → ℤ
 

@@ -25,7 +25,7 @@ pub record IsBetween (net : Net) (row : Row) : Type 0 where
   pub from : row.from.0 < net.events
   pub to : row.to.0 < net.events
 
--- what the lines before a bound are to show: for a closed bound they are to prove it, and else nothing
+-- what the lines before a bound are to show: for a closed bound they are to prove it, and otherwise nothing
 abbrev pub goal_for : Row → NextBound → Bound → Option ProofGoal
 goal_for r coming (bounds.Closed value) = Some (goal_of r coming value)
 goal_for r coming bounds.Unbounded = None

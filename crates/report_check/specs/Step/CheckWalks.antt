@@ -20,7 +20,7 @@ pub record CheckLeads (drawn : Drawn) (lines : List Entry) (here : ReportState) 
   pub reads : LinesLead (checked drawn.net) drawn next (drop behind lines) at_last → LinesLead (checked drawn.net) drawn here (drop start lines) at_last
   pub wrong : (number : ℕ) → IsWrongFrom drawn lines next behind number → IsWrongFrom drawn lines here start number
 
--- a step over some lines: the stage behind them, or the first wrong line
+-- a step over some lines: the stage after them, or the first wrong line
 pub record StepsOn (drawn : Drawn) (lines : List Entry) (here : ReportState) (start : ℕ) (stage : Stage) (behind : ℕ) : Type 0 where
   pub leads : CheckLeads drawn lines here start (at_of drawn stage) behind
   pub fits : Fits drawn stage

@@ -19,12 +19,12 @@ proof_front [] = []
 proof_front (proof line ∷ rest) = line ∷ proof_front rest
 proof_front (line ∷ rest) = []
 
--- the state of a report behind the events and then some proof lines
+-- the state of a report after the events and then some proof lines
 abbrev pub found_behind : ℕ → List ProofLine → ReportState
 found_behind number [] = at_event number []
 found_behind number (line ∷ lines) = at_finding (line ∷ lines)
 
--- the state of a report behind some proof lines
+-- the state of a report after some proof lines
 abbrev pub behind_lines : Drawn → ProofGroup → List ProofLine → ReportState
 behind_lines drawn (groups.Finding number) lines = found_behind number lines
 behind_lines drawn (groups.Bound current coming) lines = at_bound (current_in drawn current) (next_in coming) lines
@@ -50,7 +50,7 @@ pub record AreTaken (net : Net) (goal : ProofGoal) (lines : List ProofLine) (who
   pub reads : proofs.ProofLeaves net goal ([] ∷ []) lines cases
   pub is_whole : IsTrue whole ↔ (cases ≡ [])
 
--- a line, with its number among all lines, is not taken behind the lines before it, which are taken
+-- a line, with its number among all lines, is not taken after the lines before it, which are taken
 pub record IsOneRefused (net : Net) (goal : ProofGoal) (lines : List ProofLine) (first number : ℕ) : Type 0 where
   pub before : List ProofLine
   pub refused : ProofLine

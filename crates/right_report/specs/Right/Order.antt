@@ -18,7 +18,7 @@ is_unbounded (bounds.Closed value) = false
 is_unbounded bounds.Unbounded = true
 is_unbounded (bounds.Within limit attained) = false
 
--- the spot of a row in the order of texts: the number of the row behind it, how many rows are left, and whether this row demands a range
+-- the spot of a row in the order of texts: the number of the row after it, how many rows are left, and whether this row demands a range
 abbrev pub spot_behind : Drawn → ℕ → List Row → Bool → Spot
 spot_behind drawn number later required = record { events = length drawn.names; next = number; left = length later; is_required = required }
 

@@ -5,7 +5,7 @@ use Rattle.slack_report.specs.declared.fault.ReportFault.TheVariants as faults
 use Rattle.slack_report.specs.Entry.{Entry}
 use Rattle.slack_report.specs.Reading.{Read}
 
--- A fault gives the line behind the lines that were read, unless memory ran out.
+-- A fault gives the line after the lines that were read, unless memory ran out.
 abbrev pub IsFaultOf : ReportFault → Read → Type 0
 IsFaultOf (faults.Line line) read = (before : ℕ) × (read ≡ Err before) × (line ≡ before + 1)
 IsFaultOf faults.NoMemory read = Unit {0}

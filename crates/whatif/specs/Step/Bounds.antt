@@ -13,7 +13,7 @@ use Rattle.branch.specs.declared.answer.GreatestAnswer.TheVariants.{Closed, Unbo
 use Rattle.whatif.specs.declared.pair.Pair.{Pair}
 use Rattle.whatif.specs.Session.{IsPairOf, KeptBound, pair_search}
 
--- what is kept of the lines of a search, by its answer: the lines of a closed bound, and none of others
+-- what is kept of the lines of a search, according to its answer: the lines of a closed bound, and none of others
 abbrev pub kept_of : GreatestAnswer → Option (List ProofLine) → Option (List ProofLine)
 kept_of (Closed value) lines = lines
 kept_of Unbounded lines = None

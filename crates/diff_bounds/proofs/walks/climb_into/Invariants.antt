@@ -4,7 +4,7 @@ use Rattle.diff_bounds.specs.Labels.{IsClimb, Parents, parents_from}
 use Rattle.diff_bounds.specs.Step.Walking.{IsOneClimb}
 use Rattle.diff_bounds.proofs.walks.climb_into.Given as goal
 
--- what was written is the climb to here, and the rest of the climb goes on from here
+-- what was written is the climb to here, and the rest of the climb continues from here
 abbrev pub invariant-loop-to : goal.invariant-loop-to
 invariant-loop-to l = record {
   within : l.at.0 < l.net.events;
