@@ -2,4 +2,5 @@
 pub mod Found
 pub mod Text
 pub mod Margin
+pub mod Together
 pub mod Step

@@ -1,8 +1,10 @@
 -- Words of private contracts.
-use Rattle.std.specs.Prelude.{◌≡◌, ℕ, false, List, ◌∷◌, ◌++◌}
+use Rattle.std.specs.Prelude.{◌≡◌, ℕ, false, List, ◌∷◌, ◌++◌, map}
 use Rattle.std.specs.List.{list_any}
+use Rattle.itv_base.specs.Range.{Ends}
 use Rattle.line_words.specs.Words.{Word}
 use Rattle.numbers.specs.Numbers.{drawn_number_text}
+use Rattle.numbers.specs.declared.drawn_number.DrawnNumber.{DrawnNumber}
 use Rattle.slack_report.specs.Text.{range_word}
 use Rattle.drawn.specs.Drawn.{Drawn}
 use Rattle.moves.specs.Found.{IsEnough, IsNetFound, is_net_open}
@@ -15,6 +17,8 @@ use Rattle.margin_report.specs.declared.margin_found.MarginFound.{MarginFound}
 use Rattle.margin_report.specs.declared.put_line.NumberLine.{NumberLine}
 use Rattle.margin_report.specs.Found.{AreNumbersFound, is_number_spent}
 use Rattle.margin_report.specs.Text.{amount_word, note_words, row_words}
+use Rattle.margin_report.specs.Together.{IsTogetherFound, is_together_spent, range_drawn}
+use Rattle.margin_report.specs.declared.together.TogetherFound.{TogetherFound}
 
 -- all that is found is right
 pub record IsMarginFound (drawn : Drawn) (budget : ℕ) (found : MarginFound) : Type 0 where
@@ -40,3 +44,15 @@ abbrev pub HasMoves : SpanFound → Type 0
 HasMoves (spans.Between low high) = HasMove low × HasMove high
 HasMoves spans.Nothing = Unit {0}
 HasMoves spans.Spent = Unit {0}
+
+-- ---- numbers that move as one
+
+-- the ranges that numbers draw
+abbrev pub AreRangesOf : Drawn → List DrawnNumber → List Ends → Type 0
+AreRangesOf drawn numbers ranges = ranges ≡ map (range_drawn drawn) numbers
+
+-- all that is found of numbers that move as one is right
+pub record IsTogetherAll (drawn : Drawn) (numbers : List DrawnNumber) (budget : ℕ) (found : TogetherFound) : Type 0 where
+  pub base : IsNetFound drawn found.base
+  pub span : IsTogetherFound drawn numbers found.base found.span
+  pub settles : IsEnough drawn budget → (is_net_open found.base ≡ false) × (is_together_spent found.span ≡ false)

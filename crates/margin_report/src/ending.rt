@@ -2,6 +2,8 @@
 
 ghost use Rattle.std.specs.Prelude.{◌≡◌};
 ghost use Rattle.std.specs.List.{list_any};
+ghost use Rattle.moves.specs.Found.{is_border_spent, is_end_spent, is_span_spent};
+ghost use Rattle.margins.specs.Ends.{are_ends_spent};
 ghost use Rattle.margin_report.specs.Found.{is_number_spent};
 ghost use Rattle.margin_report.specs.Text.{ending_of, finding_word};
 
@@ -21,18 +23,20 @@ pub fn finding_word(base: NetFound) -> &'static str
     }
 }
 
-/// The word at the end, by what was found of the network and of its numbers.
-pub fn ending_of(base: NetFound, numbers: &[NumberFound]) -> EndWord
-    ensures { result ≡ ending_of base (list_any is_number_spent numbers.now) }
+/// Whether something of a number was left open.
+pub fn is_some_spent(numbers: &[NumberFound]) -> bool
+    ensures { result ≡ list_any is_number_spent numbers.now }
+{
+    numbers.iter().any(|found| is_number_spent(found))
+}
+
+/// The word at the end, by what was found of the network and whether something of a number was left open.
+pub fn ending_of(base: NetFound, is_spent: bool) -> EndWord
+    ensures { result ≡ ending_of base is_spent }
 {
     match base {
-        NetFound::Passes => {
-            if numbers.iter().any(|found| is_number_spent(found)) {
-                EndWord::Undecided
-            } else {
-                EndWord::Pass
-            }
-        }
+        NetFound::Passes if is_spent => EndWord::Undecided,
+        NetFound::Passes => EndWord::Pass,
         NetFound::Breaks(_) => EndWord::Fail,
         NetFound::Inconsistent => EndWord::Inconsistent,
         NetFound::Open | NetFound::Spent => EndWord::Undecided,
@@ -47,18 +51,25 @@ fn is_number_spent(found: &NumberFound) -> bool
 }
 
 // Whether an end of a number was left open.
-fn are_ends_spent(found: &EndsFound) -> bool {
+fn are_ends_spent(found: &EndsFound) -> bool
+    ensures { result ≡ are_ends_spent found.now }
+{
     found.low.is_some_and(is_end_spent) || found.high.is_some_and(is_end_spent)
 }
 
-fn is_end_spent(found: EndFound) -> bool {
+fn is_end_spent(found: EndFound) -> bool
+    ensures { result ≡ is_end_spent found }
+{
     match found {
         EndFound::Spent => true,
         EndFound::Free | EndFound::Moves { .. } | EndFound::Never | EndFound::Limit => false,
     }
 }
 
-fn is_span_spent(found: SpanFound) -> bool {
+/// Whether something of the values of numbers was left open.
+pub fn is_span_spent(found: SpanFound) -> bool
+    ensures { result ≡ is_span_spent found }
+{
     match found {
         SpanFound::Between { low, high } => is_border_spent(low) || is_border_spent(high),
         SpanFound::Nothing => false,
@@ -66,9 +77,11 @@ fn is_span_spent(found: SpanFound) -> bool {
     }
 }
 
-fn is_border_spent(border: Border) -> bool {
+fn is_border_spent(border: Border) -> bool
+    ensures { result ≡ is_border_spent border }
+{
     match border {
         Border::Spent(_) => true,
-        _ => false,
+        Border::Endless | Border::Breaks { .. } | Border::Contradicts(_) | Border::Limit(_) => false,
     }
 }

@@ -29,10 +29,7 @@ pub fn find_all(alloc: Global, drawn: &DrawnNetwork, budget: u64) -> Result<Marg
     ensures numbers { IfOk result (λ found. AreNumbersFound drawn.now found.base found.numbers.items) }
     ensures settles { IfOk result (λ found. IsEnough drawn.now budget → (is_net_open found.base ≡ false) × (list_any is_number_spent found.numbers.items ≡ false)) }
 {
-    let effort = Effort {
-        budget,
-        turns: CASE_TURNS * budget,
-    };
+    let effort = effort_of(budget);
     let base = base_of(alloc, drawn, effort)?;
     let seen = numbers_of(alloc, drawn)?;
     let numbers = match base.found {
@@ -46,6 +43,17 @@ pub fn find_all(alloc: Global, drawn: &DrawnNetwork, budget: u64) -> Result<Marg
         seen,
         numbers,
     })
+}
+
+/// How long each search may go on, for a budget of cases.
+pub fn effort_of(budget: u64) -> Effort
+    requires most { budget ≤ MAX_BUDGET }
+    ensures budget { result.budget ≡ budget }
+{
+    Effort {
+        budget,
+        turns: CASE_TURNS * budget,
+    }
 }
 
 // What is found of each number.

@@ -8,6 +8,7 @@ ghost use Rattle.numbers.specs.Numbers.{drawn_number_text};
 ghost use Rattle.slack_report.specs.Text.{range_word};
 ghost use Rattle.margin_report.specs.Step.{line_words};
 ghost use Rattle.margin_report.specs.Text.{amount_word, note_words, row_words};
+ghost use Rattle.margin_report.specs.Together.{value_line};
 
 use crate::told::{Amount, Told};
 use itoa::Buffer;
@@ -50,6 +51,33 @@ fn put_pieces<K: Sink>(line: &NumberLine<'_>, sink: &mut K) -> Result<(), PutFai
     put_range(line.seen.range, sink)?;
     put_row(line.told.row, sink)?;
     put_note(line.note, sink)?;
+    sink.put(b"\n")
+}
+
+/// Puts the line of a number that moves with others.
+pub fn put_together<K: Sink>(
+    number: &DrawnNumber,
+    range: Range,
+    note: &str,
+    sink: &mut K,
+) -> Result<(), PutFailed>
+    ensures puts { Puts (K.state sink.old) (K.state sink.new)
+        (ended (line_of (codes "together" ∷ drawn_number_text number.now ∷ range_word range ∷ note_words note.now))) result }
+{
+    sink.put(b"together")?;
+    put_number(number, sink)?;
+    put_range(range, sink)?;
+    put_note(note, sink)?;
+    sink.put(b"\n")
+}
+
+/// Puts the line that tells how far numbers may be moved as one.
+pub fn put_values<K: Sink>(which: &str, told: Told, sink: &mut K) -> Result<(), PutFailed>
+    ensures puts { Puts (K.state sink.old) (K.state sink.new) (value_line which.now told) result }
+{
+    put_all(sink, &[which.as_bytes(), b" "])?;
+    put_amount(told.amount, sink)?;
+    put_row(told.row, sink)?;
     sink.put(b"\n")
 }
 

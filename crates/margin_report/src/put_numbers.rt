@@ -102,8 +102,8 @@ fn put_told<N: Notes, K: Sink>(
     put_line(&line, buffer, sink)
 }
 
-// The note of what draws a number. It is empty if there is none.
-fn note_of<'a, N: Notes>(notes: &'a N, number: &DrawnNumber) -> &'a str
+/// The note of what draws a number. It is empty if there is none.
+pub fn note_of<'a, N: Notes>(notes: &'a N, number: &DrawnNumber) -> &'a str
     ensures note { result.now ≡ number_note (N.noted notes.now) number.now }
 {
     match number {

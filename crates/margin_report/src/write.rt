@@ -11,7 +11,7 @@ ghost use Rattle.margin_report.specs.Margin.{AnswersMargin};
 ghost use Rattle.margin_report.specs.Step.{IsMarginFound};
 ghost use Rattle.margin_report.specs.Text.{ending_of, margin_text};
 
-use crate::ending::{ending_of, finding_word};
+use crate::ending::{ending_of, finding_word, is_some_spent};
 use crate::finding::find_all;
 use crate::margin_found::MarginFound;
 use crate::put_numbers::put_numbers;
@@ -58,7 +58,7 @@ fn put_found<N: Notes, K: Sink>(
         → OnErr result ((text : List ℕ) × Answered (AnswersMargin (N.noted notes.now) drawn.now budget) text
         × CutShort (K.state sink.old) (K.state sink.new) text) }
 {
-    let word = ending_of(found.base, &found.numbers);
+    let word = ending_of(found.base, is_some_spent(&found.numbers));
     put_text(notes, drawn, found, word, buffer, sink)?;
     Ok(answer_of(word))
 }
