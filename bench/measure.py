@@ -35,7 +35,7 @@ def seconds(command, folder, stdin=None, runs=3, limit=BOTH):
     for _ in range(runs):
         begin = time.perf_counter()
         try:
-            done = subprocess.run(command, cwd=folder, input=stdin, capture_output=True, timeout=limit)
+            done = subprocess.run(command, cwd=folder, input=stdin, capture_output=True, timeout=limit, env=dict(os.environ, ITV_QUIET="1"))
         except subprocess.TimeoutExpired:
             return None, b""
         took = time.perf_counter() - begin

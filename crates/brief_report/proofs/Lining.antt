@@ -1,5 +1,5 @@
 -- Words of several lists behind spaces.
-use Rattle.std.proofs.Common.{◌≡◌, List, [], ◌∷◌, ◌++◌, sym, ap, ◌∙◌, append_assoc}
+use Rattle.std.proofs.Common.{◌≡◌, List, ◌++◌, sym, ap, ◌∙◌}
 use Rattle.std.specs.List.{flat_map}
 use Rattle.std.proofs.lemmas.Grind.{flat_map-append}
 use Rattle.line_words.specs.Words.{Word}
@@ -9,9 +9,6 @@ use Rattle.line_words.specs.Lines.{spaced}
 pub spaced_two : (words more : List Word) → flat_map spaced words ++ flat_map spaced more ≡ flat_map spaced (words ++ more)
 spaced_two words more = sym (flat_map-append spaced words more)
 
--- the words of three lists, and the end of the line
-pub spaced_end : (words more last : List Word)
-    → flat_map spaced words ++ (flat_map spaced more ++ (flat_map spaced last ++ 10 ∷ [])) ≡ flat_map spaced (words ++ (more ++ last)) ++ 10 ∷ []
-spaced_end words more last =
-    ap (λ l. flat_map spaced words ++ l) (sym (append_assoc (flat_map spaced more) (flat_map spaced last) (10 ∷ [])) ∙ ap (λ l. l ++ 10 ∷ []) (spaced_two more last))
-    ∙ sym (append_assoc (flat_map spaced words) (flat_map spaced (more ++ last)) (10 ∷ [])) ∙ ap (λ l. l ++ 10 ∷ []) (spaced_two words (more ++ last))
+-- the words of three lists
+pub spaced_three : (words more last : List Word) → flat_map spaced words ++ (flat_map spaced more ++ flat_map spaced last) ≡ flat_map spaced (words ++ (more ++ last))
+spaced_three words more last = ap (λ l. flat_map spaced words ++ l) (spaced_two more last) ∙ spaced_two words (more ++ last)

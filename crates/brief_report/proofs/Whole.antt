@@ -1,8 +1,8 @@
 -- The whole text of the job.
-use Rattle.std.proofs.Common.{◌≡◌, ◌≤◌, ℕ, List, [], ◌∷◌, ◌++◌, length, refl, arith}
+use Rattle.std.proofs.Common.{◌≡◌, ◌≤◌, ℕ, Bool, false, List, [], ◌∷◌, ◌++◌, length, refl, true, ap, ◌∙◌, arith}
 use Rattle.std.specs.Prelude.{OnErr, Result, Ok, Err, codes}
 use Rattle.itv_base.specs.Outside.{CutShort, SinkState}
-use Rattle.line_words.specs.Lines.{ended}
+use Rattle.line_words.specs.Lines.{ended, line_of}
 use Rattle.slack_report.specs.Entry as line
 use Rattle.slack_report.specs.Text.{entry_text}
 use Rattle.slack_report.specs.declared.words.EndWord.{EndWord}
@@ -17,8 +17,10 @@ use Rattle.explained.specs.declared.row.RowFound.{RowFound}
 use Rattle.explained.specs.Answers.{AreFound, AreRowsFound, IsFindingFound, SettlesWithin, word_of}
 use Rattle.why_report.specs.Text.{Noted, ending_of}
 use Rattle.brief_report.specs.Brief.{AnswersBrief}
-use Rattle.brief_report.specs.Step.{numbered_rows}
-use Rattle.brief_report.specs.Text.{brief_text, rows_text}
+use Rattle.brief_report.specs.Step.{counts_words, numbered_rows}
+use Rattle.brief_report.specs.Table.{header_text}
+use Rattle.brief_report.specs.declared.row_counts.RowCounts.{RowCounts}
+use Rattle.brief_report.specs.Text.{brief_text, count_words, rows_text, runs_text}
 use Rattle.jobs.specs.JobWrote.{Answered}
 
 -- there are no more findings of rows than rows
@@ -33,18 +35,29 @@ few_found drawn budget Consistent found are = few_rows drawn budget _ are.word_a
 few_found drawn budget (Inconsistent set) found are = rw are (omega arith)
 few_found drawn budget Unsettled found are = few_rows drawn budget _ are.word_apart drawn.rows found are.rows
 
-pub brief_is : (noted : Noted) (drawn : Drawn) (finding : Finding) (rows found : List RowFound) (numbered : FindingWord) (word : EndWord) → rows ≡ found → numbered ≡ word_of finding
-    → word ≡ ending_of drawn.rows finding found
-    → ended (codes "itv brief 1") ++ (entry_text (line.finding numbered) ++ (rows_text noted drawn (numbered_rows drawn rows) ++ entry_text (line.ending word))) ≡ brief_text noted drawn finding found
-brief_is noted drawn finding rows found numbered word is_rows is_told is_word = rw (is_rows, is_told, is_word) refl
+-- the lines of rows and the line of their counts
+pub rows_are : (noted : Noted) (drawn : Drawn) (rows found : List RowFound) (counts : RowCounts) → rows ≡ found → counts_words counts ≡ count_words (numbered_rows drawn found)
+    → runs_text false noted drawn (numbered_rows drawn rows) ++ ended (line_of (counts_words counts)) ≡ rows_text noted drawn (numbered_rows drawn found)
+rows_are noted drawn rows found counts is is_counts = ap (λ found. runs_text false noted drawn (numbered_rows drawn found) ++ ended (line_of (counts_words counts))) is
+    ∙ ap (λ words. runs_text false noted drawn (numbered_rows drawn found) ++ ended (line_of words)) is_counts
 
-module _ (noted : Noted) (drawn : Drawn) (budget : ℕ) (finding : Finding) (found : List RowFound) (f : IsFindingFound drawn.net budget finding) (a : AreFound drawn budget finding found) (s : SettlesWithin drawn.net budget finding found) where
+-- the text as a table
+pub table_is : (noted : Noted) (drawn : Drawn) (finding : Finding) (rows found : List RowFound) → rows ≡ found
+    → header_text ++ runs_text true noted drawn (numbered_rows drawn rows) ≡ brief_text true noted drawn finding found
+table_is noted drawn finding rows found is = ap (λ found. header_text ++ runs_text true noted drawn (numbered_rows drawn found)) is
+
+-- the text in lines of words
+pub lines_are : (noted : Noted) (drawn : Drawn) (finding : Finding) (found : List RowFound) (told : FindingWord) (end : EndWord) → told ≡ word_of finding → end ≡ ending_of drawn.rows finding found
+    → ended (codes "itv brief 1") ++ (entry_text (line.finding told) ++ (rows_text noted drawn (numbered_rows drawn found) ++ entry_text (line.ending end))) ≡ brief_text false noted drawn finding found
+lines_are noted drawn finding found told end is_told is_end = rw (is_told, is_end) refl
+
+module _ (noted : Noted) (drawn : Drawn) (budget : ℕ) (csv : Bool) (finding : Finding) (found : List RowFound) (f : IsFindingFound drawn.net budget finding) (a : AreFound drawn budget finding found) (s : SettlesWithin drawn.net budget finding found) where
   -- the text says what was found
-  pub answers_brief : (answer : Answer) → answer ≡ answer_of (ending_of drawn.rows finding found) → AnswersBrief noted drawn budget answer (brief_text noted drawn finding found)
+  pub answers_brief : (answer : Answer) → answer ≡ answer_of (ending_of drawn.rows finding found) → AnswersBrief noted drawn budget csv answer (brief_text csv noted drawn finding found)
   answers_brief answer is = record { finding = finding; found = found; is_finding = f; are_found = a; settles = s; is_text = refl; is_answer = is }
 
   -- and a front of this text is what the job may have begun
-  pub begins_brief : {B E : Type 0} (result : Result B E) (old new : SinkState) → CutShort old new (brief_text noted drawn finding found)
-      → OnErr result ((text : List ℕ) × Answered (AnswersBrief noted drawn budget) text × CutShort old new text)
+  pub begins_brief : {B E : Type 0} (result : Result B E) (old new : SinkState) → CutShort old new (brief_text csv noted drawn finding found)
+      → OnErr result ((text : List ℕ) × Answered (AnswersBrief noted drawn budget csv) text × CutShort old new text)
   begins_brief (Ok x) old new cut = tt
-  begins_brief (Err e) old new cut = (brief_text noted drawn finding found, (answer_of (ending_of drawn.rows finding found), answers_brief _ refl), cut)
+  begins_brief (Err e) old new cut = (brief_text csv noted drawn finding found, (answer_of (ending_of drawn.rows finding found), answers_brief _ refl), cut)

@@ -1,5 +1,5 @@
 -- What job brief answers and writes.
-use Rattle.std.specs.Prelude.{◌≡◌, ℕ, List}
+use Rattle.std.specs.Prelude.{◌≡◌, ℕ, Bool, List}
 use Rattle.drawn.specs.Drawn.{Drawn}
 use Rattle.jobs.specs.Ending.{answer_of}
 use Rattle.jobs.specs.declared.answer.Answer.{Answer}
@@ -9,13 +9,13 @@ use Rattle.explained.specs.Answers.{AreFound, IsFindingFound, SettlesWithin}
 use Rattle.why_report.specs.Text.{Noted, ending_of}
 use Rattle.brief_report.specs.Text.{brief_text}
 
--- The text says what is found of the network and of each row. All that is found is right, and shown by searches within the budget. The word at the end of
--- the text gives the answer.
-pub record AnswersBrief (noted : Noted) (drawn : Drawn) (budget : ℕ) (answer : Answer) (text : List ℕ) : Type 0 where
+-- The text says what is found of each row, and in lines of words also what is found of the network. All that is found is right, and shown by searches
+-- within the budget. The word at the end of the lines gives the answer, of a table too, where it does not stand.
+pub record AnswersBrief (noted : Noted) (drawn : Drawn) (budget : ℕ) (csv : Bool) (answer : Answer) (text : List ℕ) : Type 0 where
   pub finding : Finding
   pub found : List RowFound
   pub is_finding : IsFindingFound drawn.net budget finding
   pub are_found : AreFound drawn budget finding found
   pub settles : SettlesWithin drawn.net budget finding found
-  pub is_text : text ≡ brief_text noted drawn finding found
+  pub is_text : text ≡ brief_text csv noted drawn finding found
   pub is_answer : answer ≡ answer_of (ending_of drawn.rows finding found)

@@ -6,9 +6,11 @@ use itv_base::{EventName, RowKind};
 use requirements::BothBounds;
 use why_report::DrawnBy;
 
-/// What the line of a row says. Bounds are in picoseconds, and rows have their numbers from 0.
+/// What the line of a run of rows says of its first row, with the cycle of its last row. Bounds are in picoseconds, and rows have their numbers from 0.
 #[derive(Clone, Copy)]
 pub struct RowLine<'a> {
+    /// The line is a line of a table.
+    pub csv: bool,
     pub number: u32,
     pub kind: RowKind,
     pub from: EventName<'a>,
@@ -20,12 +22,13 @@ pub struct RowLine<'a> {
     pub by: DrawnBy<'a>,
     /// The verdict rests on the order of a lane.
     pub rests_on_order: bool,
+    pub last_cycle: u32,
 }
 
 /// A line of the text.
 #[derive(Clone, Copy)]
 pub enum Line<'a> {
-    /// A row.
+    /// A run of rows.
     Row(RowLine<'a>),
     /// How many rows there are.
     Counts(RowCounts),

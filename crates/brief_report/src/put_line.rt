@@ -6,10 +6,12 @@ ghost use Rattle.itv_base.specs.Numerals.{end_text, number_text};
 ghost use Rattle.itv_base.specs.Outside.{Puts};
 ghost use Rattle.line_words.specs.Lines.{ended, line_of, spaced};
 ghost use Rattle.slack_report.specs.Text.{bound_words};
-ghost use Rattle.brief_report.specs.Step.{back_words, counts_words, front_words, judgement_words, line_words, order_word, row_line_words};
+ghost use Rattle.brief_report.specs.Lines.{cycle_words};
+ghost use Rattle.brief_report.specs.Step.{back_words, counts_words, front_words, judgement_words, line_text, order_word, row_line_text, row_line_words};
 
 use crate::judged::Judged;
 use crate::line::{Line, RowLine};
+use crate::put_cells::put_cells;
 use crate::row_counts::RowCounts;
 use itoa::Buffer;
 use itv_base::{PutFailed, Sink, end_text, number_text, put_all};
@@ -23,7 +25,7 @@ pub fn put_line<K: Sink>(
     buffer: &mut LineBuffer,
     sink: &mut K,
 ) -> Result<(), PutFailed>
-    ensures puts { Puts (K.state sink.old) (K.state sink.new) (ended (line_of (line_words line.now))) result }
+    ensures puts { Puts (K.state sink.old) (K.state sink.new) (line_text line.now) result }
 {
     buffer.clear();
     match put_pieces(line, buffer) {
@@ -34,11 +36,22 @@ pub fn put_line<K: Sink>(
 
 // Puts a line piece by piece.
 fn put_pieces<K: Sink>(line: &Line<'_>, sink: &mut K) -> Result<(), PutFailed>
-    ensures { Puts (K.state sink.old) (K.state sink.new) (ended (line_of (line_words line.now))) result }
+    ensures { Puts (K.state sink.old) (K.state sink.new) (line_text line.now) result }
 {
     match line {
-        Line::Row(row) => put_row(row, sink),
+        Line::Row(row) => put_run(row, sink),
         Line::Counts(counts) => put_counts(counts, sink),
+    }
+}
+
+// Puts the line of a run, in a table or not.
+fn put_run<K: Sink>(row: &RowLine<'_>, sink: &mut K) -> Result<(), PutFailed>
+    ensures { Puts (K.state sink.old) (K.state sink.new) (row_line_text row.now.csv row.now) result }
+{
+    if row.csv {
+        put_cells(row, sink)
+    } else {
+        put_row(row, sink)
     }
 }
 
@@ -46,7 +59,8 @@ fn put_row<K: Sink>(row: &RowLine<'_>, sink: &mut K) -> Result<(), PutFailed>
     ensures { Puts (K.state sink.old) (K.state sink.new) (ended (line_of (row_line_words row.now))) result }
 {
     put_front(row, sink)?;
-    put_back(row, sink)
+    put_back(row, sink)?;
+    put_cycles(row.from.cycle, row.last_cycle, sink)
 }
 
 // The line of a row up to and with its bounds.
@@ -66,9 +80,9 @@ fn put_bounds<K: Sink>(both: &BothBounds, sink: &mut K) -> Result<(), PutFailed>
     put_bound_words(both.greatest, sink)
 }
 
-// The line of a row behind its bounds, and its end.
+// The line of a row behind its bounds.
 fn put_back<K: Sink>(row: &RowLine<'_>, sink: &mut K) -> Result<(), PutFailed>
-    ensures { Puts (K.state sink.old) (K.state sink.new) (flat_map spaced (back_words row.now) ++ 10 ∷ []) result }
+    ensures { Puts (K.state sink.old) (K.state sink.new) (flat_map spaced (back_words row.now)) result }
 {
     put_judged(row.judged, sink)?;
     put_by(&row.by, sink)?;
@@ -110,15 +124,36 @@ fn put_slack<K: Sink>(slack: &Slack, sink: &mut K) -> Result<(), PutFailed>
     )
 }
 
-// A word for an order that a verdict rests on, and the end of the line.
+// A space and a word for an order that a verdict rests on.
 fn put_order<K: Sink>(rests_on_order: bool, sink: &mut K) -> Result<(), PutFailed>
-    ensures { Puts (K.state sink.old) (K.state sink.new) (flat_map spaced (order_word rests_on_order) ++ 10 ∷ []) result }
+    ensures { Puts (K.state sink.old) (K.state sink.new) (flat_map spaced (order_word rests_on_order)) result }
 {
     if rests_on_order {
-        sink.put(b" order\n")
+        sink.put(b" order")
     } else {
-        sink.put(b"\n")
+        Ok(())
     }
+}
+
+// The cycles of a run of several rows, and the end of the line.
+fn put_cycles<K: Sink>(first: u32, last: u32, sink: &mut K) -> Result<(), PutFailed>
+    ensures { Puts (K.state sink.old) (K.state sink.new) (flat_map spaced (cycle_words first last) ++ 10 ∷ []) result }
+{
+    if first == last {
+        return sink.put(b"\n");
+    }
+    let mut first_digits = Buffer::new();
+    let mut last_digits = Buffer::new();
+    put_all(
+        sink,
+        &[
+            b" cycles ",
+            number_text(u64::from(first), &mut first_digits).as_bytes(),
+            b" to ",
+            number_text(u64::from(last), &mut last_digits).as_bytes(),
+            b"\n",
+        ],
+    )
 }
 
 fn put_counts<K: Sink>(counts: &RowCounts, sink: &mut K) -> Result<(), PutFailed>

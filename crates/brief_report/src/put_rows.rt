@@ -1,18 +1,16 @@
-//! Putting what is found of each row, and how many rows there are.
+//! Putting what is found of each row.
 
-ghost use Rattle.std.specs.Prelude.{◌≡◌, ◌≤◌, All, length, map};
-ghost use Rattle.std.specs.List.{flat_map};
+ghost use Rattle.std.specs.Prelude.{◌≡◌, ◌≤◌, All, length};
 ghost use Rattle.itv_base.specs.Outside.{Puts};
 ghost use Rattle.drawn.specs.Drawn.{IsRowOf};
 ghost use Rattle.explained.specs.Answers.{HasRowTimes};
-ghost use Rattle.brief_report.specs.Step.{place_of, numbered_rows};
-ghost use Rattle.brief_report.specs.Text.{ordered, rows_text, numbered_row_text};
+ghost use Rattle.brief_report.specs.Step.{numbered_rows, row_line_text, run_places};
+ghost use Rattle.brief_report.specs.Text.{run_text, runs_text};
 
 use crate::judged::judged_of;
 use crate::line::{Line, RowLine};
 use crate::put_line::put_line;
-use crate::row_counts::counts_of;
-use crate::row_rank::RowRank;
+use crate::run_place::RunPlace;
 use drawn::{DrawnNetwork, Row};
 use explained::RowFound;
 use itv_base::{PutFailed, Sink};
@@ -21,74 +19,73 @@ use line_words::LineBuffer;
 use notes::Notes;
 use why_report::{DrawnBy, both_of};
 
-/// Puts a line for each row of which something is found, in the order of their places, and how many rows there are.
+/// Puts a line for each run of rows of which something is found, in the order of their places: lines of a table or not.
 pub fn put_rows<N: Notes, K: Sink>(
+    csv: bool,
     notes: &N,
     drawn: &DrawnNetwork,
     found: &[RowFound],
-    places: &[RowRank],
+    places: &[RunPlace],
     buffer: &mut LineBuffer,
     sink: &mut K,
 ) -> Result<(), PutFailed>
     requires count { length found.now ≤ length drawn.now.rows }
     requires times { All HasRowTimes found.now }
-    requires places { places.now ≡ map place_of (ordered (numbered_rows drawn.now found.now)) }
+    requires places { places.now ≡ run_places drawn.now found.now }
     ensures puts { Puts (K.state sink.old) (K.state sink.new)
-        (rows_text (N.noted notes.now) drawn.now (numbered_rows drawn.now found.now)) result }
-{
-    put_each(notes, drawn, found, places, buffer, sink)?;
-    put_line(&Line::Counts(counts_of(places)), buffer, sink)
-}
-
-// A line for each row.
-fn put_each<N: Notes, K: Sink>(
-    notes: &N,
-    drawn: &DrawnNetwork,
-    found: &[RowFound],
-    places: &[RowRank],
-    buffer: &mut LineBuffer,
-    sink: &mut K,
-) -> Result<(), PutFailed>
-    requires count { length found.now ≤ length drawn.now.rows }
-    requires times { All HasRowTimes found.now }
-    requires places { places.now ≡ map place_of (ordered (numbered_rows drawn.now found.now)) }
-    ensures puts { Puts (K.state sink.old) (K.state sink.new)
-        (flat_map (numbered_row_text (N.noted notes.now) drawn.now) (ordered (numbered_rows drawn.now found.now))) result }
+        (runs_text csv (N.noted notes.now) drawn.now (numbered_rows drawn.now found.now)) result }
 {
     for at in 0..places.len() {
-        let number = places[at].number;
+        let number = places[at].first.number;
         let row = row_at(drawn, number);
-        let of_row = &found[number as usize];
-        put_row(number, row, notes, drawn, of_row, buffer, sink)?;
+        let last = row_at(drawn, places[at].last);
+        let line = line_of(
+            csv,
+            number,
+            row,
+            last,
+            notes,
+            drawn,
+            &found[number as usize],
+        );
+        put_line(&Line::Row(line), buffer, sink)?;
     }
     Ok(())
 }
 
-// The line of a row.
-fn put_row<N: Notes, K: Sink>(
+// What the line of a run says, by its first row and its last one.
+fn line_of<'a, N: Notes>(
+    csv: bool,
     number: u32,
     row: &Row,
-    notes: &N,
-    drawn: &DrawnNetwork,
+    last: &Row,
+    notes: &'a N,
+    drawn: &'a DrawnNetwork,
     found: &RowFound,
-    buffer: &mut LineBuffer,
-    sink: &mut K,
-) -> Result<(), PutFailed>
+) -> RowLine<'a>
     requires row { IsRowOf drawn.now.net row.now }
+    requires last { IsRowOf drawn.now.net last.now }
     requires times { HasRowTimes found.now }
-    ensures puts { Puts (K.state sink.old) (K.state sink.new)
-        (numbered_row_text (N.noted notes.now) drawn.now (record { number = number; row = row.now; found = found.now })) result }
+    ensures text { row_line_text result.csv result ≡ run_text csv (N.noted notes.now) drawn.now (record {
+      first = record { number = number; row = row.now; found = found.now };
+      last = record { number = number; row = last.now; found = found.now };
+    }) }
 {
     let from = drawn.name(row.from);
-    let line = RowLine {
+    RowLine {
+        csv,
         number,
         kind: row.kind,
         from,
         to: drawn.name(row.to),
         both: both_of(found),
         judged: judged_of(row.kind, found),
-        by: DrawnBy::of_row(notes, from.part, row.origin),
+        by: DrawnBy {
+            origin: row.origin,
+            note: notes.note(from.part, row.origin),
+            grade: notes.grade(from.part, row.origin),
+        },
         rests_on_order: found.apart.is_some(),
-    };
-    put_line(&Line::Row(line), buffer, sink)
+        last_cycle: drawn.name(last.from).cycle,
+    }
 }

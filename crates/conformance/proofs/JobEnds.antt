@@ -34,7 +34,7 @@ use Rattle.matrix_report.specs.Matrix.{AnswersMatrix, IsMatrixText}
 use Rattle.report_check.specs.Check.{AnswersCheck, refused_text}
 use Rattle.itv_cli.specs.Bounds.{AnswersBounds}
 use Rattle.settle_check.specs.Confirm.{AnswersConfirm}
-use Rattle.settle_report.specs.Settle.{AnswersSettle}
+use Rattle.settle_report.specs.Settle.{AnswersSettle, IsSettleText}
 use Rattle.edits.specs.EditsFile.{edits_of}
 use Rattle.edits.specs.declared.edit.RangeEdit.{RangeEdit}
 use Rattle.edits.specs.declared.fault.EditsFault.{EditsFault}
@@ -162,6 +162,21 @@ file_by files place name limit bytes (Some whole) is e = is ∙ ap (λ all. Some
 file_had : (files : Files) (place : RefusalPlace) (name : List ℕ) (limit : ℕ) (bytes : List ℕ) → end_over files (file_at place name limit) ≡ ready bytes → file_of files name ≡ Some bytes
 file_had files place name limit bytes e = file_by files place name limit bytes (file_of files name) refl e
 
+-- bytes that are read within a limit are no more than the limit
+short_by : (place : RefusalPlace) (limit : ℕ) (file bytes : List ℕ) (test : Bool) → nat_lt limit (length (take (limit + 1) file)) ≡ test → (files : Files)
+    → end_over files (if test then refuses place TooLong else gives (take (limit + 1) file)) ≡ ready bytes → length bytes ≤ limit
+short_by place limit file bytes true is files e = absurd (cc e)
+short_by place limit file bytes false is files e =
+    subst (λ (read : List ℕ). length read ≤ limit) (same_ready (take (limit + 1) file) bytes e) (ltb-false limit (length (take (limit + 1) file)) is)
+
+short_file : (files : Files) (place : RefusalPlace) (name : List ℕ) (limit : ℕ) (bytes : List ℕ) (file : Option (List ℕ))
+    → option_map_or (λ whole. end_over files (within_limit place limit (take (limit + 1) whole))) file (unread place name) ≡ ready bytes → length bytes ≤ limit
+short_file files place name limit bytes None e = absurd (cc e)
+short_file files place name limit bytes (Some whole) e = short_by place limit whole bytes (nat_lt limit (length (take (limit + 1) whole))) refl files e
+
+file_short : (files : Files) (place : RefusalPlace) (name : List ℕ) (limit : ℕ) (bytes : List ℕ) → end_over files (file_at place name limit) ≡ ready bytes → length bytes ≤ limit
+file_short files place name limit bytes e = short_file files place name limit bytes (file_of files name) e
+
 record HasChecked (files : Files) (report : List ℕ) (drawn : Drawn) (answer : Answer) (text : List ℕ) : Type 0 where
   bytes : List ℕ
   is_file : file_of files report ≡ Some bytes
@@ -207,17 +222,40 @@ module _ (call : Call) (files : Files) (report : List ℕ) (drawn : Drawn) (know
 
 -- ---- jobs settle and confirm
 
+record HasConfirmed (files : Files) (report : List ℕ) (drawn : Drawn) (answer : Answer) (text : List ℕ) : Type 0 where
+  bytes : List ℕ
+  is_file : file_of files report ≡ Some bytes
+  short : length bytes ≤ REPORT_LIMIT
+  answers : AnswersConfirm drawn bytes answer text
+
 module _ (call : Call) (files : Files) (report : List ℕ) (drawn : Drawn) (known : call.shelf_before.files ≡ Some files) (asks : AsksConfirm call.words files report drawn) where
-  pub confirm_right : (result : Outcome) → OutcomeMeans call result → result ≡ ends.AllPass → IsSettledFile files report drawn
-  confirm_right result means e =
-      let m = answered_by call result answers.AllPass (λ same. cc same) means e in
-      let a = answer_over call files (confirm asks.design report) answers.AllPass m.text known m refl (record { words = asks.words; own = refl }) in
+  confirm_said : (answer : Answer) (m : HasAnswered call answer) → HasConfirmed files report drawn answer m.text
+  confirm_said answer m =
+      let a = answer_over call files (confirm asks.design report) answer m.text known m refl (record { words = asks.words; own = refl }) in
       let (other, draws, more) = told_behind files (design_at asks.design) (λ d. file_at Report report REPORT_LIMIT >>= (λ bytes. gives (given.Confirm d bytes))) a.given a.reads in
       let (bytes, had, is) = told_then files (file_at Report report REPORT_LIMIT) (λ bytes. given.Confirm other bytes) a.given more in
       let same : other ≡ drawn = same_ready other drawn (sym draws ∙ asks.draws) in
-      let said : AnswersConfirm drawn bytes answers.AllPass m.text =
-      subst (λ (d : Drawn). AnswersConfirm d bytes answers.AllPass m.text) same (subst (λ g. Answers g answers.AllPass m.text) (sym is) a.answers) in
-      record { bytes = bytes; is_file = file_had files Report report REPORT_LIMIT bytes had; is_settled = said.0 }
+      record {
+        bytes = bytes;
+        is_file = file_had files Report report REPORT_LIMIT bytes had;
+        short = file_short files Report report REPORT_LIMIT bytes had;
+        answers = subst (λ (d : Drawn). AnswersConfirm d bytes answer m.text) same (subst (λ g. Answers g answer m.text) (sym is) a.answers);
+      }
+
+  pub confirm_right : (result : Outcome) → OutcomeMeans call result → result ≡ ends.AllPass → IsSettledFile files report drawn
+  confirm_right result means e =
+      let m = answered_by call result answers.AllPass (λ same. cc same) means e in
+      let h = confirm_said answers.AllPass m in
+      record { bytes = h.bytes; is_file = h.is_file; is_settled = h.answers.0 }
+
+  -- no line of a text of job settle is refused
+  pub confirm_accepts : (result : Outcome) → OutcomeMeans call result → IsSettledFile files report drawn → result ≡ ends.CheckRefused → ⊥
+  confirm_accepts result means settled e =
+      let m = answered_by call result answers.CheckRefused (λ same. cc same) means e in
+      let h = confirm_said answers.CheckRefused m in
+      let (line, may, is) = h.answers in
+      let same : settled.bytes ≡ h.bytes = same_Some settled.bytes h.bytes (sym settled.is_file ∙ h.is_file) in
+      may.not_settled (omega (arith, h.short)) (subst (λ (bytes : List ℕ). IsSettleText drawn true bytes) same settled.is_settled)
 
 module _ (call : Call) (files : Files) (budget : ℕ) (cert : Bool) (drawn : Drawn) (known : call.shelf_before.files ≡ Some files) (asks : AsksSettle call.words files budget cert drawn) where
   settle_said : (answer : Answer) (m : HasAnswered call answer) → AnswersSettle drawn (turns_for budget) cert answer m.text

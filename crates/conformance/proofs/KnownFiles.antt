@@ -253,9 +253,9 @@ refused_redraws files (tasks.why design budget) bytes own h =
     let (both, draws, is) = told_then files (planned_at design) (λ p. given.Why p.0 p.1 budget) h.given h.reads in
     let answered : Answers (given.Why both.0 both.1 budget) answers.DesignRefused bytes = subst (λ g. Answers g answers.DesignRefused bytes) (sym is) h.answers in
     absurd (never_refused (explained_ending both.1.rows answered.finding answered.found) answered.is_answer)
-refused_redraws files (tasks.brief design budget) bytes own h =
-    let (both, draws, is) = told_then files (planned_at design) (λ p. given.Brief p.0 p.1 budget) h.given h.reads in
-    let answered : Answers (given.Brief both.0 both.1 budget) answers.DesignRefused bytes = subst (λ g. Answers g answers.DesignRefused bytes) (sym is) h.answers in
+refused_redraws files (tasks.brief design budget csv) bytes own h =
+    let (both, draws, is) = told_then files (planned_at design) (λ p. given.Brief p.0 p.1 budget csv) h.given h.reads in
+    let answered : Answers (given.Brief both.0 both.1 budget csv) answers.DesignRefused bytes = subst (λ g. Answers g answers.DesignRefused bytes) (sym is) h.answers in
     absurd (never_refused (explained_ending both.1.rows answered.finding answered.found) answered.is_answer)
 refused_redraws files (tasks.lint design budget) bytes own h =
     let (both, draws, is) = told_then files (planned_at design) (λ p. given.Lint p.0 p.1 budget) h.given h.reads in

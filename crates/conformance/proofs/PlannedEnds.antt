@@ -164,13 +164,13 @@ module _ (call : Call) (files : Files) (budget : ℕ) (plan : Planned) (drawn : 
 
 -- ---- job brief
 
-module _ (call : Call) (files : Files) (budget : ℕ) (plan : Planned) (drawn : Drawn) (known : call.shelf_before.files ≡ Some files) (asks : AsksBrief call.words files budget plan drawn) where
-  brief_said : (answer : Answer) (m : HasAnswered call answer) → AnswersBrief (plan_notes plan) drawn budget answer m.text
-  brief_said answer m = planned_said tasks.brief (λ p b. given.Brief p.0 p.1 b) (λ design b. refl) (λ design b. refl) call files budget plan drawn known asks answer m
+module _ (call : Call) (files : Files) (budget : ℕ) (csv : Bool) (plan : Planned) (drawn : Drawn) (known : call.shelf_before.files ≡ Some files) (asks : AsksBrief call.words files budget csv plan drawn) where
+  brief_said : (answer : Answer) (m : HasAnswered call answer) → AnswersBrief (plan_notes plan) drawn budget csv answer m.text
+  brief_said answer m = planned_said (λ design b. tasks.brief design b csv) (λ p b. given.Brief p.0 p.1 b csv) (λ design b. refl) (λ design b. refl) call files budget plan drawn known asks answer m
 
   pub brief_wrote : (result : Outcome) → OutcomeMeans call result → (end : IsReportEnd result)
-      → (text : List ℕ) × AnswersBrief (plan_notes plan) drawn budget (answer_of end.0) text × (call.sink_after ≡ grown call.sink_before text)
-  brief_wrote result means end = planned_wrote tasks.brief (λ p b. given.Brief p.0 p.1 b) (λ design b. refl) (λ design b. refl) call files budget plan drawn known asks result means end
+      → (text : List ℕ) × AnswersBrief (plan_notes plan) drawn budget csv (answer_of end.0) text × (call.sink_after ≡ grown call.sink_before text)
+  brief_wrote result means end = planned_wrote (λ design b. tasks.brief design b csv) (λ p b. given.Brief p.0 p.1 b csv) (λ design b. refl) (λ design b. refl) call files budget plan drawn known asks result means end
 
   pub brief_decides : (result : Outcome) → OutcomeMeans call result → result ≡ ends.Undecided → budget < cause_choices drawn.net.constraints
   brief_decides result means e =

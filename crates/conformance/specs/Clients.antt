@@ -151,9 +151,9 @@ pub record AsksPlanned (job : List ℕ → ℕ → Task) (given : List (List ℕ
 abbrev pub AsksWhy : List (List ℕ) → Files → ℕ → Planned → Drawn → Type 0
 AsksWhy given files budget plan drawn = AsksPlanned tasks.why given files budget plan drawn
 
--- the words ask for a line for each row of a design
-abbrev pub AsksBrief : List (List ℕ) → Files → ℕ → Planned → Drawn → Type 0
-AsksBrief given files budget plan drawn = AsksPlanned tasks.brief given files budget plan drawn
+-- the words ask for a line for each row of a design, in a table or not
+abbrev pub AsksBrief : List (List ℕ) → Files → ℕ → Bool → Planned → Drawn → Type 0
+AsksBrief given files budget csv plan drawn = AsksPlanned (λ design budget. tasks.brief design budget csv) given files budget plan drawn
 
 -- the words ask what in a design may say something else than was meant
 abbrev pub AsksLint : List (List ℕ) → Files → ℕ → Planned → Drawn → Type 0
@@ -179,6 +179,11 @@ pub record IsSettledFile (files : Files) (report : List ℕ) (drawn : Drawn) : T
   pub bytes : List ℕ
   pub is_file : file_of files report ≡ Some bytes
   pub is_settled : IsSettleText drawn true bytes
+
+-- the file with a name is what a run wrote into a sink that was empty
+pub record IsWritten (files : Files) (name : List ℕ) (old new : MemSink) : Type 0 where
+  pub empty : old.bytes ≡ []
+  pub is_file : file_of files name ≡ Some new.bytes
 
 -- the file with a name is there, and this line is its one wrong line
 pub record IsWrongFile (files : Files) (report : List ℕ) (drawn : Drawn) (line : ℕ) : Type 0 where

@@ -23,7 +23,7 @@ ghost use Rattle.edits.specs.declared.edit.RangeEdit.{RangeEdit};
 ghost use Rattle.whatif_report.specs.Laws.{with_edits};
 ghost use Rattle.itv_cli.specs.Job.{turns_for};
 ghost use Rattle.jobs.specs.Ending.{answer_of};
-ghost use Rattle.conformance.specs.Clients.{AsksBounds, AsksBrief, AsksCheck, AsksConfirm, AsksLint, AsksMatrix, AsksSettle, AsksWhatif, AsksWhy, HasNoWrong, IsLintClean, IsReportEnd, IsRightFile, IsSettledFile, IsSummaryOf, IsWrongFile, WroteOne};
+ghost use Rattle.conformance.specs.Clients.{AsksBounds, AsksBrief, AsksCheck, AsksConfirm, AsksLint, AsksMatrix, AsksSettle, AsksWhatif, AsksWhy, HasNoWrong, IsLintClean, IsReportEnd, IsRightFile, IsSettledFile, IsSummaryOf, IsWritten, IsWrongFile, WroteOne};
 
 use itv_base::{NoMemory, ShelfMem, SinkMem, Texts};
 use itv_cli::{Outcome, run};
@@ -73,7 +73,8 @@ pub fn settled_of(alloc: Global, words: &Texts, shelf: &mut ShelfMem, sink: &mut
     run(alloc, words, shelf, sink)
 }
 
-/// A run of job confirm. If it passes, the file is a text of job settle with its proofs, whoever wrote it.
+/// A run of job confirm. If it passes, the file is a text of job settle with its proofs, whoever wrote it. It refuses a
+/// line only of a file that is no such text.
 pub fn confirmed_of(
     alloc: Global,
     words: &Texts,
@@ -82,6 +83,8 @@ pub fn confirmed_of(
 ) -> Outcome
     ensures right { (report : List ℕ) (drawn : Drawn) → AsksConfirm words.now shelf.old.files report drawn
         → result ≡ Outcome.AllPass → IsSettledFile shelf.old.files report drawn }
+    ensures accepts { (report : List ℕ) (drawn : Drawn) → AsksConfirm words.now shelf.old.files report drawn
+        → IsSettledFile shelf.old.files report drawn → result ≡ Outcome.CheckRefused → ⊥ }
 {
     run(alloc, words, shelf, sink)
 }
@@ -93,6 +96,26 @@ pub fn edited_of(alloc: Global, words: &Texts, shelf: &mut ShelfMem, sink: &mut 
         → result ≡ Outcome.AllPass → SomeSatisfy (with_edits drawn edits).net × AllMet (with_edits drawn edits) }
 {
     run(alloc, words, shelf, sink)
+}
+
+/// A run of job settle with its proofs, and a run of job confirm whose file is what the first run wrote. Both read the
+/// same design, perhaps on different shelves. If the first run ends with an end of a report, the second refuses no line:
+/// it passes, or the file is too long, or memory, a file or the output fails.
+pub fn settled_confirmed(
+    alloc: Global,
+    words: &Texts,
+    shelf: &mut ShelfMem,
+    sink: &mut SinkMem,
+    again: &Texts,
+    files: &mut ShelfMem,
+    checked: &mut SinkMem,
+) -> (Outcome, Outcome)
+    ensures accepts { (budget : ℕ) (report : List ℕ) (drawn : Drawn) → AsksSettle words.now shelf.old.files budget true drawn → IsReportEnd result.0
+        → AsksConfirm again.now files.old.files report drawn → IsWritten files.old.files report sink.old sink.new → result.1 ≡ Outcome.CheckRefused → ⊥ }
+{
+    let written = run(alloc, words, shelf, sink);
+    let end = run(alloc, again, files, checked);
+    (written, end)
 }
 
 /// A run of job why. With any end of a report it writes what was found of the network and of each row, and what makes
@@ -114,12 +137,12 @@ pub fn explained_of(
     run(alloc, words, shelf, sink)
 }
 
-/// A run of job brief. With any end of a report it writes a line for each row. It ends undecided only if the budget is below the number
+/// A run of job brief. With any end of a report it writes the lines of the rows, as a table where the words want one. It ends undecided only if the budget is below the number
 /// of cause choices.
 pub fn briefed_of(alloc: Global, words: &Texts, shelf: &mut ShelfMem, sink: &mut SinkMem) -> Outcome
-    ensures wrote { (budget : ℕ) (plan : Planned) (drawn : Drawn) → AsksBrief words.now shelf.old.files budget plan drawn
-        → (end : IsReportEnd result) → WroteOne sink.old sink.new (AnswersBrief (plan_notes plan) drawn budget (answer_of end.0)) }
-    ensures decides { (budget : ℕ) (plan : Planned) (drawn : Drawn) → AsksBrief words.now shelf.old.files budget plan drawn
+    ensures wrote { (budget : ℕ) (csv : Bool) (plan : Planned) (drawn : Drawn) → AsksBrief words.now shelf.old.files budget csv plan drawn
+        → (end : IsReportEnd result) → WroteOne sink.old sink.new (AnswersBrief (plan_notes plan) drawn budget csv (answer_of end.0)) }
+    ensures decides { (budget : ℕ) (csv : Bool) (plan : Planned) (drawn : Drawn) → AsksBrief words.now shelf.old.files budget csv plan drawn
         → result ≡ Outcome.Undecided → budget < cause_choices drawn.net.constraints }
 {
     run(alloc, words, shelf, sink)

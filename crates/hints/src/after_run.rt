@@ -90,15 +90,20 @@ fn count_says<H: Shelf, L: NameLook>(
     shelf: &mut H,
     look: &L,
 ) -> Result<String, NoMemory> {
-    match task {
-        Task::Bounds { design, .. }
-        | Task::Settle { design, .. }
-        | Task::Why { design, .. }
-        | Task::Brief { design, .. }
-            if can_read_again(alloc, files_of(task), shelf, look) => {
+    let files = files_of(task);
+    match files.design {
+        Some(design) if has_warnings(task) && can_read_again(alloc, files, shelf, look) => {
             warnings_said(alloc, design, shelf)
         }
         _ => Ok(String::new(alloc)),
+    }
+}
+
+// Whether job lint may warn of the design of a task. Job lint prints its warnings itself, and jobs check and confirm judge a report.
+fn has_warnings(task: Task<'_>) -> bool {
+    match task {
+        Task::Lint { .. } | Task::Check { .. } | Task::Confirm { .. } => false,
+        _ => true,
     }
 }
 

@@ -1,6 +1,6 @@
 //! The texts of edges, and places in them.
 
-use crate::label_fault::misfit_in;
+use crate::label_fault::{high_low_end, misfit_in, wide_end};
 use crate::tree::value_text;
 use crate::written::Quoted;
 use itv_base::NoMemory;
@@ -11,10 +11,15 @@ use std::alloc::Global;
 
 /// The text of element n of the list of edges under a key, or an empty text if there is none.
 pub fn edge_text<'v>(tree: &'v Value, key: &str, n: u64) -> &'v str {
-    match list_at(tree, key) {
-        Some(list) => list.get(n as usize).and_then(Value::as_str).unwrap_or(""),
+    match element_at(tree, key, n) {
+        Some(element) => element.as_str().unwrap_or(""),
         None => "",
     }
+}
+
+// Element n of the list under a key, if it is there.
+fn element_at<'v>(tree: &'v Value, key: &str, n: u64) -> Option<&'v Value> {
+    list_at(tree, key)?.get(n as usize)
 }
 
 /// The label of the text of an edge, which stands behind so many spaces.
@@ -29,15 +34,15 @@ pub fn label_in(text: &str, spaces: u32) -> &str {
     label
 }
 
-/// The column in the text of an edge, from 1, at which the rest of the text stands.
-fn column_of(text: &str, rest: &str) -> usize {
+/// The column in a text, from 1, at which the rest of the text stands.
+pub fn column_of(text: &str, rest: &str) -> usize {
     let before = text.chars().count().saturating_sub(rest.chars().count());
     before.saturating_add(1)
 }
 
 /// Element n of the list of edges under a key is no text.
 pub fn no_text(alloc: Global, tree: &Value, key: &str, n: u64) -> Result<String, NoMemory> {
-    let Some(element) = list_at(tree, key).and_then(|list| list.get(n as usize)) else {
+    let Some(element) = element_at(tree, key, n) else {
         return Ok(String::new(alloc));
     };
     let has = value_text(alloc, element)?;
@@ -60,29 +65,14 @@ pub fn label_refused(
     version: u32,
     fault: LabelFault,
 ) -> Result<String, NoMemory> {
-    match fault {
-        LabelFault::BadLabel => bad_label(alloc, n, text, label_in(text, spaces), version),
-        LabelFault::TooWide => about_edge(alloc, n, text, TOO_WIDE),
-        LabelFault::EmptyRange => about_edge(alloc, n, text, EMPTY_RANGE),
-    }
-}
-
-/// What is said of an end of a label that is too wide.
-pub const TOO_WIDE: &str = "an end is beyond 10,000,000,000,000 ps: an open end is *";
-
-/// What is said of ends that are the wrong way round.
-pub const EMPTY_RANGE: &str = "the low end is above the high end";
-
-// Why a label has not the form of a label of its version.
-fn bad_label(
-    alloc: Global,
-    n: u64,
-    text: &str,
-    label: &str,
-    version: u32,
-) -> Result<String, NoMemory> {
+    let label = label_in(text, spaces);
+    let misfit = match fault {
+        LabelFault::BadLabel => misfit_in(label, version),
+        LabelFault::TooWide => wide_end(label),
+        LabelFault::EmptyRange => high_low_end(label),
+    };
     let edge = Quoted(text);
-    let said = match misfit_in(label, version) {
+    let said = match misfit {
         Some(misfit) => {
             let column = column_of(text, misfit.rest);
             let why = misfit.why;

@@ -1,6 +1,7 @@
 //! Why a file of edits is refused.
 
-use crate::edge::{EMPTY_RANGE, TOO_WIDE};
+use crate::edge::column_of;
+use crate::label_fault::{LabelWhy, Misfit, high_low_end, range_misfit, wide_end};
 use crate::written::Quoted;
 use edits::EditsFault;
 use itv_base::{NoMemory, RangeFault};
@@ -13,22 +14,12 @@ pub fn edits_fault(alloc: Global, bytes: &[u8], fault: EditsFault) -> Result<Str
         EditsFault::TooMany(count) => Ok(format!(in alloc;
             "it has {count} lines, and 1,000 are the limit"
         )?),
-        EditsFault::Line(n) => about_line(alloc, bytes, n, line_says(bytes, n)),
-        EditsFault::Range(n, RangeFault::TooWide) => about_line(alloc, bytes, n, TOO_WIDE),
-        EditsFault::Range(n, RangeFault::EmptyRange) => about_line(alloc, bytes, n, EMPTY_RANGE),
-        EditsFault::NoSuch(n) => about_line(alloc, bytes, n, NO_SUCH),
+        EditsFault::Line(n) | EditsFault::Range(n, _) | EditsFault::NoSuch(n) => {
+            let line = String::from_utf8_lossy(alloc, line_at(bytes, n))?;
+            line_fault(alloc, n, line.as_str(), is_last(bytes, n), fault)
+        }
         EditsFault::NoMemory => Err(NoMemory),
     }
-}
-
-const NO_SUCH: &str =
-    "the design has no such constraint, or the constraint no such cause: --cert prints them with their numbers";
-
-// What is said of a line, counted from 1.
-fn about_line(alloc: Global, bytes: &[u8], n: u64, says: &str) -> Result<String, NoMemory> {
-    let line = String::from_utf8_lossy(alloc, line_at(bytes, n))?;
-    let line = Quoted(line.as_str());
-    Ok(format!(in alloc; "line {n} {line}: {says}")?)
 }
 
 // The line with a number, counted from 1, without its end.
@@ -43,19 +34,81 @@ fn line_at(bytes: &[u8], n: u64) -> &[u8] {
     b""
 }
 
-// Why a line is not of the form.
-fn line_says(bytes: &[u8], n: u64) -> &'static str {
-    if line_at(bytes, n).ends_with(b"\r") {
-        "the line ends with a carriage return: save the file with line feeds alone"
-    } else if is_last(bytes, n) {
-        "the line has no line end"
-    } else {
-        "an edit is set C.I [LOW,HIGH], where C is the number of a constraint and I of its cause, as set 3.0 [0,12000]"
+// Whether nothing stands behind a line, not even a line end.
+fn is_last(bytes: &[u8], n: u64) -> bool {
+    let mut feeds = 0u64;
+    for byte in bytes {
+        if *byte == b'\n' {
+            feeds = feeds.saturating_add(1);
+        }
+    }
+    feeds.saturating_add(1) == n
+}
+
+// What is wrong with a line. `is_cut` says that it has no end.
+fn line_fault(
+    alloc: Global,
+    n: u64,
+    line: &str,
+    is_cut: bool,
+    fault: EditsFault,
+) -> Result<String, NoMemory> {
+    match fault {
+        EditsFault::Range(_, RangeFault::TooWide) => misfit_said(alloc, n, line, wide_end(line)),
+        EditsFault::Range(_, RangeFault::EmptyRange) => {
+            misfit_said(alloc, n, line, high_low_end(line))
+        }
+        EditsFault::NoSuch(_) => about_line(alloc, n, line, missing_in(line)),
+        _ if line.ends_with('\r') => about_line(alloc, n, line, RETURN),
+        _ if is_cut => about_line(alloc, n, line, "the line has no line end"),
+        _ => misfit_said(alloc, n, line, range_misfit(line)),
     }
 }
 
-// Whether nothing stands behind a line, not even a line end.
-fn is_last(bytes: &[u8], n: u64) -> bool {
-    let feeds = bytes.iter().filter(|byte| **byte == b'\n').count() as u64;
-    feeds.saturating_add(1) == n
+const RETURN: &str = "the line ends with a carriage return: save the file with line feeds alone";
+
+const FORM: &str =
+    "an edit is set SUBJECT [LOW,HIGH], where SUBJECT is PART edge N, net N, wire N or C.I, as set RAM edge 0 [3000,15000]";
+
+// What is said of a line, counted from 1.
+fn about_line(alloc: Global, n: u64, line: &str, says: &str) -> Result<String, NoMemory> {
+    let line = Quoted(line);
+    Ok(format!(in alloc; "line {n} {line}: {says}")?)
+}
+
+// What is wrong with the range of a line, or else that the line is not of the form.
+fn misfit_said(
+    alloc: Global,
+    n: u64,
+    line: &str,
+    misfit: Option<Misfit<'_>>,
+) -> Result<String, NoMemory> {
+    match misfit {
+        Some(misfit) => column_said(alloc, n, line, column_of(line, misfit.rest), misfit.why),
+        None => about_line(alloc, n, line, FORM),
+    }
+}
+
+fn column_said(
+    alloc: Global,
+    n: u64,
+    line: &str,
+    column: usize,
+    why: LabelWhy<'_>,
+) -> Result<String, NoMemory> {
+    let line = Quoted(line);
+    Ok(format!(in alloc; "line {n} {line}, column {column}: {why}")?)
+}
+
+// What is said of a line that names nothing of the design.
+fn missing_in(line: &str) -> &'static str {
+    if line.split_once(" edge ").is_some() {
+        "this edge of this part draws no rule: edges count from 0, and @req and @ask draw none"
+    } else if line.starts_with("set net ") {
+        "this net draws no rule: nets count from 0"
+    } else if line.starts_with("set wire ") {
+        "this edge of the netlist draws no rule: edges count from 0, and @req and @ask draw none"
+    } else {
+        "the design has no such constraint, or the constraint no such cause: --cert prints them with their numbers"
+    }
 }

@@ -1,11 +1,10 @@
 //! Why the speed grades of a sheet are refused, or are not what a part or a label wants.
 
-use crate::edge::EMPTY_RANGE;
+use crate::label_fault::EMPTY_RANGE;
 use crate::sheet_fault::RefusedSheet;
-use crate::tree::{ends_fault, value_text};
+use crate::tree::{ends_fault, is_ends, value_text};
 use crate::written::{Quoted, what_there_is};
 use itv_base::{NoMemory, RangeFault, Texts, is_name, split_name};
-use json_tree::{ends_by, list_of};
 use netlist::{Netlist, Part};
 use serde_json::{Map, Value};
 use sheet::GradesFault;
@@ -30,7 +29,7 @@ pub fn grades_fault(alloc: Global, tree: &Value, fault: GradesFault) -> Result<S
 
 // The first thing of the grades that has not their form.
 fn form_fault(alloc: Global, tree: &Value) -> Result<String, NoMemory> {
-    let Some(grades) = tree.get(GRADES).and_then(Value::as_object) else {
+    let Some(grades) = object_of(tree.get(GRADES)) else {
         return Ok(format!(in alloc; "\"{GRADES}\" is no object from names of grades to objects")?);
     };
     for (name, value) in grades.iter() {
@@ -69,7 +68,7 @@ fn parameter_fault(alloc: Global, name: &str, value: &Value) -> Result<String, N
     if !is_name(name) {
         return Ok(format!(in alloc; "the name {parameter}: {NAME}")?);
     }
-    if list_of(value).and_then(ends_by).is_some() {
+    if is_ends(value) {
         return Ok(String::new(alloc));
     }
     let says = ends_fault(alloc, value)?;
@@ -85,14 +84,11 @@ fn limits_fault(
     parameter: usize,
     fault: RangeFault,
 ) -> Result<String, NoMemory> {
-    let grades = tree.get(GRADES).and_then(Value::as_object);
-    let Some((grade, value)) = grades.and_then(|grades| member_at(grades, grade)) else {
+    let grades = object_of(tree.get(GRADES));
+    let Some((grade, value)) = member_at(grades, grade) else {
         return Ok(String::new(alloc));
     };
-    let name = match value
-        .as_object()
-        .and_then(|names| member_at(names, parameter))
-    {
+    let name = match member_at(value.as_object(), parameter) {
         Some((name, _)) => name,
         None => "",
     };
@@ -110,9 +106,13 @@ pub fn range_says(fault: RangeFault) -> &'static str {
     }
 }
 
-// The member of an object with a number, in the order of the names.
-fn member_at(map: &Map<String, Value>, k: usize) -> Option<(&str, &Value)> {
-    for (place, (name, value)) in map.iter().enumerate() {
+fn object_of(value: Option<&Value>) -> Option<&Map<String, Value>> {
+    value?.as_object()
+}
+
+// The member of an object with a number, in the order of the names, if there is such an object.
+fn member_at(map: Option<&Map<String, Value>>, k: usize) -> Option<(&str, &Value)> {
+    for (place, (name, value)) in map?.iter().enumerate() {
         if place == k {
             return Some((name.as_str(), value));
         }
@@ -123,7 +123,7 @@ fn member_at(map: &Map<String, Value>, k: usize) -> Option<(&str, &Value)> {
 // The names of the members of an object.
 fn names_in(alloc: Global, value: Option<&Value>) -> Result<Texts, NoMemory> {
     let mut names = Texts::new(alloc)?;
-    if let Some(map) = value.and_then(Value::as_object) {
+    if let Some(map) = object_of(value) {
         for (name, _) in map.iter() {
             names.push(alloc, name.as_str())?;
         }
@@ -166,9 +166,10 @@ fn grade_of(part: &Part) -> &str {
 // Whether a part names a grade that is not among these.
 fn lacks_grade(part: &Part, grades: Option<&Value>) -> bool {
     match &part.grade {
-        Some(grade) => grades
-            .and_then(|grades| grades.get(grade.as_text()))
-            .is_none(),
+        Some(grade) => match grades {
+            Some(grades) => grades.get(grade.as_text()).is_none(),
+            None => true,
+        },
         None => false,
     }
 }

@@ -4,7 +4,7 @@ use crate::edge::about_edge;
 use crate::lanes::push_mark;
 use crate::part::no_part;
 use crate::sheet_fault::TOO_MANY_CAUSES;
-use crate::written::{Plain, Quoted, ShownMark, listed, what_there_is};
+use crate::written::{Quoted, Short, ShownMark, listed, what_there_is};
 use compose::{JoinFault, SheetKey};
 use itv_base::{NoMemory, Texts};
 use label_grammar::{WireText, read_wire};
@@ -33,7 +33,8 @@ pub fn join_fault(alloc: Global, plan: &Plan, fault: JoinFault) -> Result<String
         },
         JoinFault::MarkCounts(net, pin, _, _) => counts_fault(alloc, plan, net, pin),
         JoinFault::KindsDiffer(net, pin, mark) => kinds_fault(alloc, plan, net, pin, mark),
-        JoinFault::WireNoPart(n) | JoinFault::WireNoMark(n) => wire_fault(alloc, plan, n),
+        JoinFault::WireNoPart(n) => wire_part_fault(alloc, plan, n),
+        JoinFault::WireNoMark(n) => wire_mark_fault(alloc, plan, n),
         JoinFault::TooManyCauses(n) => about_edge(alloc, n, wire_text(plan, n), TOO_MANY_CAUSES),
         JoinFault::NoMemory => Err(NoMemory),
     }
@@ -50,7 +51,7 @@ fn pin_at(plan: &Plan, net: u64, pin: u64) -> Option<&PinText> {
 // What is said of a pin of a net.
 fn about_pin(alloc: Global, net: u64, text: &PinText, says: &str) -> Result<String, NoMemory> {
     let part = text.part.as_text();
-    let lane = Plain(text.lane.as_text());
+    let lane = Short(text.lane.as_text());
     Ok(format!(in alloc; "net {net}, pin {part}.{lane}: {says}")?)
 }
 
@@ -139,7 +140,7 @@ fn with_marks(alloc: Global, plan: &Plan, text: &PinText) -> Result<String, NoMe
     let count = marks.len();
     let word = if count == 1 { "mark" } else { "marks" };
     let part = text.part.as_text();
-    let lane = Plain(text.lane.as_text());
+    let lane = Short(text.lane.as_text());
     Ok(format!(in alloc; "{part}.{lane} has {count} {word}, {names}")?)
 }
 
@@ -173,7 +174,7 @@ fn turning(alloc: Global, plan: &Plan, text: &PinText, mark: u32) -> Result<Stri
         _ => "changes",
     };
     let part = text.part.as_text();
-    let lane = Plain(text.lane.as_text());
+    let lane = Short(text.lane.as_text());
     let mark = ShownMark(mark.name);
     Ok(format!(in alloc; "{part}.{lane} {mark} {turns}")?)
 }
@@ -187,8 +188,27 @@ fn wire_text(plan: &Plan, n: u64) -> &str {
     }
 }
 
-// An edge of the netlist names a part or a mark that is not there.
-fn wire_fault(alloc: Global, plan: &Plan, n: u64) -> Result<String, NoMemory> {
+// An edge of the netlist names a part that is not there.
+fn wire_part_fault(alloc: Global, plan: &Plan, n: u64) -> Result<String, NoMemory> {
+    let text = wire_text(plan, n);
+    let WireText::Timing {
+        from_part,
+        to_part,
+        ..
+    } = read_wire(text)
+    else {
+        return Ok(String::new(alloc));
+    };
+    let part = match part_named(plan, from_part) {
+        Some(_) => to_part,
+        None => from_part,
+    };
+    let says = no_part(alloc, plan.netlist(), part)?;
+    about_edge(alloc, n, text, says.as_str())
+}
+
+// An edge of the netlist names a mark that is not there.
+fn wire_mark_fault(alloc: Global, plan: &Plan, n: u64) -> Result<String, NoMemory> {
     let text = wire_text(plan, n);
     let WireText::Timing {
         from_part,
@@ -200,17 +220,17 @@ fn wire_fault(alloc: Global, plan: &Plan, n: u64) -> Result<String, NoMemory> {
     else {
         return Ok(String::new(alloc));
     };
-    let mut says = end_fault(alloc, plan, from_part, from_mark)?;
+    let mut says = mark_fault(alloc, plan, from_part, from_mark)?;
     if says.is_empty() {
-        says = end_fault(alloc, plan, to_part, to_mark)?;
+        says = mark_fault(alloc, plan, to_part, to_mark)?;
     }
     about_edge(alloc, n, text, says.as_str())
 }
 
-// What is wrong with a mark of a part, or an empty text.
-fn end_fault(alloc: Global, plan: &Plan, part: &str, mark: u8) -> Result<String, NoMemory> {
+// That a part has no mark of a name, and which marks it has; or an empty text if it has one.
+fn mark_fault(alloc: Global, plan: &Plan, part: &str, mark: u8) -> Result<String, NoMemory> {
     let Some(sheet) = sheet_named(alloc, plan, part)? else {
-        return no_part(alloc, plan.netlist(), part);
+        return Ok(String::new(alloc));
     };
     let mut names = Texts::new(alloc)?;
     for found in sheet.marks().as_slice() {

@@ -10,7 +10,11 @@ const STRICT: &str = "tools/strict FILE prints WaveDrom's relaxed spelling as st
 
 const ENDS_EARLY: &str = "the file ends too early: a bracket or a quote is not closed";
 
-/// Why these bytes are no JSON.
+const IN_QUOTES: &str = "texts and keys stand in double quotes";
+
+const NOT_STRICT: &str = "this is no strict JSON";
+
+/// Why these bytes are no JSON. The column counts characters from 1.
 pub fn json_fault(alloc: Global, bytes: &[u8]) -> Result<String, NoMemory> {
     if let Some(says) = whole_fault(bytes) {
         return Ok(format!(in alloc; "{says}")?);
@@ -20,81 +24,141 @@ pub fn json_fault(alloc: Global, bytes: &[u8]) -> Result<String, NoMemory> {
         Err(error) => error,
     };
     let line = error.line();
-    let column = error.column();
+    let place = place_at(bytes, line, error.column());
+    let column = place.column;
     let says = if str::from_utf8(bytes).is_err() {
         "a byte is no UTF-8: save the file as UTF-8"
     } else if error.is_eof() {
         ENDS_EARLY
     } else {
-        place_fault(standing_at(bytes, line, column))
+        place_fault(place)
     };
     Ok(format!(in alloc; "line {line} column {column}: {says}; {STRICT}")?)
 }
 
 // What is wrong with the file as a whole, if its first bytes show it.
 fn whole_fault(bytes: &[u8]) -> Option<&'static str> {
-    if bytes.iter().all(|byte| byte.is_ascii_whitespace()) {
+    if is_blank(bytes) {
         Some("the file is empty")
     } else if bytes.starts_with(b"\xff\xfe") || bytes.starts_with(b"\xfe\xff") {
         Some("the file is UTF-16: save it as UTF-8")
     } else if bytes.starts_with(b"\xef\xbb\xbf") {
-        Some("a byte order mark stands in front of the file: save it as UTF-8 without one")
+        Some(
+            "line 1 column 1: a byte order mark stands in front of the file: save it as UTF-8 without one",
+        )
     } else {
         None
     }
 }
 
-// The byte at a place, and the byte before it that is no blank.
+fn is_blank(bytes: &[u8]) -> bool {
+    bytes.iter().all(|byte| byte.is_ascii_whitespace())
+}
+
+// A place in a file: its column, the byte there, and the byte before it that is no blank.
 #[derive(Clone, Copy)]
-struct Around {
+struct Place {
+    column: u64,
     before: u8,
     here: Option<u8>,
 }
 
-// What stands at a line and a column, both from 1.
-fn standing_at(bytes: &[u8], line: usize, column: usize) -> Around {
+// The place at a line and at a byte of it, both from 1.
+fn place_at(bytes: &[u8], line: usize, column: usize) -> Place {
     let mut before = 0;
     let mut at_line = 1usize;
-    let mut at_column = 1usize;
+    let mut at_byte = 1usize;
+    let mut at_column = 1u64;
     for byte in bytes {
-        if at_line == line && at_column == column {
-            return Around {
+        if at_line == line && at_byte == column {
+            return Place {
+                column: at_column,
                 before,
                 here: Some(*byte),
             };
         }
         if *byte == b'\n' {
             at_line = at_line.saturating_add(1);
+            at_byte = 1;
             at_column = 1;
         } else {
-            at_column = at_column.saturating_add(1);
+            at_byte = at_byte.saturating_add(1);
+            at_column = column_after(at_column, *byte);
         }
         if !byte.is_ascii_whitespace() {
             before = *byte;
         }
     }
-    Around { before, here: None }
+    Place {
+        column: at_column,
+        before,
+        here: None,
+    }
+}
+
+// The column behind a byte: only the first byte of a character counts.
+fn column_after(column: u64, byte: u8) -> u64 {
+    if 0x80 <= byte && byte < 0xc0 {
+        column
+    } else {
+        column.saturating_add(1)
+    }
 }
 
 // What is wrong at a place.
-fn place_fault(around: Around) -> &'static str {
-    let Some(here) = around.here else {
-        return ENDS_EARLY;
-    };
-    match (around.before, here) {
-        (b',', b'}' | b']') => "there may be no comma in front of a closing bracket",
-        (b',', b',') => "there is a comma too many",
-        (_, b'\'' | b'`') => "texts and keys stand in double quotes",
-        (_, b'/') => "there may be no comment",
-        (b'{' | b',' | b'[' | b':', b'a'..=b'z' | b'A'..=b'Z' | b'_' | b'$') => {
-            "texts and keys stand in double quotes"
-        }
-        (b'"' | b'}' | b']' | b'0'..=b'9' | b'a'..=b'z', b'"' | b'{' | b'[' | b'-' | b'0'..=b'9') =>
-            { "a comma or a colon is missing in front of this" }
-        (b'{' | b',' | b'[' | b':', b'"') => {
-            "this text has a line end, a tab or a backslash that may not stand there"
-        }
-        (b'[' | b'{' | b':' | b',', b'[' | b'{') => "the nesting is deeper than 127",
-        _ => "this is no strict JSON",
+fn place_fault(place: Place) -> &'static str {
+    match place.here {
+        Some(here) => byte_fault(place.before, here),
+        None => ENDS_EARLY,
     }
+}
+
+// What is wrong with a byte behind another one.
+fn byte_fault(before: u8, here: u8) -> &'static str {
+    if before == b',' && is_close(here) {
+        "there may be no comma in front of a closing bracket"
+    } else if before == b',' && here == b',' {
+        "there is a comma too many"
+    } else if here == b'\'' || here == b'`' {
+        IN_QUOTES
+    } else if here == b'/' {
+        "there may be no comment"
+    } else if is_open(before) || before == b',' || before == b':' {
+        first_fault(here)
+    } else if ends_value(before) && begins_value(here) {
+        "a comma or a colon is missing in front of this"
+    } else {
+        NOT_STRICT
+    }
+}
+
+// What is wrong with a byte with which a key or a value should begin.
+fn first_fault(here: u8) -> &'static str {
+    if here == b'"' {
+        "this text has a line end, a tab or a backslash that may not stand there"
+    } else if is_open(here) {
+        "the nesting is deeper than 127"
+    } else if here.is_ascii_alphabetic() || here == b'_' || here == b'$' {
+        IN_QUOTES
+    } else if here == b'+' || here == b'.' {
+        "a number begins with a digit or with -"
+    } else {
+        NOT_STRICT
+    }
+}
+
+fn is_open(byte: u8) -> bool {
+    byte == b'{' || byte == b'['
+}
+
+fn is_close(byte: u8) -> bool {
+    byte == b'}' || byte == b']'
+}
+
+fn ends_value(byte: u8) -> bool {
+    byte == b'"' || is_close(byte) || byte.is_ascii_alphanumeric()
+}
+
+fn begins_value(byte: u8) -> bool {
+    byte == b'"' || is_open(byte) || byte == b'-' || byte.is_ascii_digit()
 }

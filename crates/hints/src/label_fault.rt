@@ -1,7 +1,7 @@
 //! Why a text is no label: where it leaves the form `@kind+K:tag [LOW,HIGH] note`, and what is wrong there.
 
 use crate::written::Quoted;
-use itv_base::{MAX_SHIFT, is_name, split_digits, split_name, strip};
+use itv_base::{END_LIMIT, MAX_SHIFT, is_name, split_digits, split_name, strip};
 use std::fmt;
 
 /// The place in a label where its form ends: what is left of the label there, and what is wrong.
@@ -56,6 +56,12 @@ pub enum LabelWhy<'a> {
     NotClosed,
     /// There is no space behind the range.
     NoSpaceBehindRange,
+    /// More stands behind a range that has to stand alone.
+    BehindRange,
+    /// An end is beyond the limit of finite ends.
+    TooWide,
+    /// The low end is above the high end.
+    EmptyRange,
 }
 
 impl fmt::Display for LabelWhy<'_> {
@@ -107,8 +113,62 @@ impl LabelWhy<'_> {
             LabelWhy::ThreeEnds => "a range has two ends and one comma",
             LabelWhy::NotClosed => "a range ends with ]",
             LabelWhy::NoSpaceBehindRange => "behind a range a space is wanted in front of a note",
+            LabelWhy::BehindRange => "nothing may stand behind the range",
+            LabelWhy::TooWide => "an end is beyond 10,000,000,000,000 ps: an open end is *",
+            LabelWhy::EmptyRange => EMPTY_RANGE,
             _ => "the label is not of the form @kind [LOW,HIGH] note",
         }
+    }
+}
+
+/// What is said of ends that are the wrong way round.
+pub const EMPTY_RANGE: &str = "the low end is above the high end";
+
+/// The first end of a text with one range that is beyond the limit, or `None` if there is none.
+pub fn wide_end(text: &str) -> Option<Misfit<'_>> {
+    let (low, high) = ends_in(text)?;
+    let rest = if is_wide(low) { low } else { high };
+    Some(Misfit {
+        rest,
+        why: LabelWhy::TooWide,
+    })
+}
+
+/// The low end of a text with one range whose ends are the wrong way round, or `None` if there is no range.
+pub fn high_low_end(text: &str) -> Option<Misfit<'_>> {
+    let (low, _) = ends_in(text)?;
+    Some(Misfit {
+        rest: low,
+        why: LabelWhy::EmptyRange,
+    })
+}
+
+/// Where the range of a text leaves the form, or what stands behind it, or `None` if the text has no range or nothing is wrong with it.
+pub fn range_misfit(text: &str) -> Option<Misfit<'_>> {
+    let (_, ends) = text.split_once('[')?;
+    match behind_ends(ends) {
+        Ok("") => None,
+        Ok(rest) => Some(Misfit {
+            rest,
+            why: LabelWhy::BehindRange,
+        }),
+        Err(misfit) => Some(misfit),
+    }
+}
+
+// What stands from the low end of the range of a text on, and what from its high end on.
+fn ends_in(text: &str) -> Option<(&str, &str)> {
+    let (_, low) = text.split_once('[')?;
+    let (_, high) = low.split_once(',')?;
+    Some((low, high))
+}
+
+// Whether the end that a text begins with is beyond the limit.
+fn is_wide(text: &str) -> bool {
+    let (end, _) = split_end(text);
+    match strip(end, "-").unwrap_or(end).parse::<i64>() {
+        Ok(number) => END_LIMIT < number,
+        Err(_) => end != "*",
     }
 }
 

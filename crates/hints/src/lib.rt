@@ -1,5 +1,6 @@
 //! What a person is told after a run: why the words, a file or the design was refused, or that job lint warns of it. It is found by reading once
-//! more what the run read. There is no contract here: a hint is not proved, and no answer of a run rests on one.
+//! more what the run read. There is no contract on what is said: a hint is not proved, and no answer of a run rests on one. Each takes time and
+//! memory in proportion to the files.
 #![tactic(auto)]
 
 mod after_run;
@@ -16,6 +17,8 @@ mod json_fault;
 mod label_fault;
 mod lanes;
 mod limit;
+mod lint_cost;
+mod lint_count;
 mod look;
 mod named;
 mod netlist_fault;

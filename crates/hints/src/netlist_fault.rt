@@ -3,10 +3,10 @@
 use crate::edge::{about_edge, edge_text, label_refused, no_text};
 use crate::grades_fault::range_says;
 use crate::part::lane_for_mark;
-use crate::tree::{about_key, ends_fault, value_text};
+use crate::tree::{about_key, ends_fault, is_ends, value_text};
 use crate::written::Quoted;
 use itv_base::{NoMemory, Shelf, is_mark, is_name};
-use json_tree::{ends_by, list_at, list_of, text_at};
+use json_tree::{list_at, text_at};
 use netlist::NetlistFault;
 use serde_json::Value;
 use std::alloc::Global;
@@ -87,7 +87,7 @@ fn part_fault(alloc: Global, tree: &Value, n: u64) -> Result<String, NoMemory> {
     };
     let says = if !part.is_object() {
         format!(in alloc; "it is no object with a name and a sheet")?
-    } else if !text_at(part, "name").is_some_and(is_name) {
+    } else if !has_name(part) {
         about_key(alloc, "name", part.get("name"), NAME)?
     } else if text_at(part, "sheet").is_none() {
         about_key(
@@ -101,6 +101,13 @@ fn part_fault(alloc: Global, tree: &Value, n: u64) -> Result<String, NoMemory> {
     };
     let says = says.as_str();
     Ok(format!(in alloc; "part {n}: {says}")?)
+}
+
+fn has_name(part: &Value) -> bool {
+    match text_at(part, "name") {
+        Some(name) => is_name(name),
+        None => false,
+    }
 }
 
 // What a name is.
@@ -130,7 +137,7 @@ fn net_fault(alloc: Global, tree: &Value, n: u64) -> Result<String, NoMemory> {
     };
     let says = if !net.is_object() {
         format!(in alloc; "it is no object with pins")?
-    } else if !list_at(net, "pins").is_some_and(|pins| !pins.is_empty()) {
+    } else if !has_pins(net) {
         about_key(
             alloc,
             "pins",
@@ -141,6 +148,13 @@ fn net_fault(alloc: Global, tree: &Value, n: u64) -> Result<String, NoMemory> {
         pin_or_delay_fault(alloc, net)?
     };
     about_net(alloc, tree, n, says.as_str())
+}
+
+fn has_pins(net: &Value) -> bool {
+    match list_at(net, "pins") {
+        Some(pins) => !pins.is_empty(),
+        None => false,
+    }
 }
 
 // What is wrong with a pin of a net, or else with its delay.
@@ -167,7 +181,7 @@ fn is_pin(pin: &Value) -> bool {
 }
 
 fn delay_fault(alloc: Global, delay: &Value) -> Result<String, NoMemory> {
-    if list_of(delay).and_then(ends_by).is_some() {
+    if is_ends(delay) {
         return Ok(String::new(alloc));
     }
     let says = ends_fault(alloc, delay)?;

@@ -1,7 +1,7 @@
 //! The parts of a netlist, and the files of their sheets.
 
 use crate::lanes::{drawing_of, marks_of, name_of};
-use crate::written::{Plain, Quoted, what_there_is};
+use crate::written::{Quoted, Short, what_there_is};
 use itv_base::{FILE_LIMIT, NoMemory, Shelf, Texts};
 use json_tree::{list_at, text_at};
 use netlist::{Netlist, read_netlist};
@@ -71,7 +71,7 @@ fn lane_marks(alloc: Global, diagram: &Diagram, name: &str) -> Result<String, No
             let marks = marks_of(alloc, lane)?;
             let marks = what_there_is(alloc, &marks, "mark", "marks")?;
             let marks = marks.as_str();
-            let name = Plain(name);
+            let name = Short(name);
             return Ok(format!(in alloc; ", since {name} is a lane, and of it {marks}")?);
         }
     }

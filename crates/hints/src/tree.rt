@@ -2,7 +2,7 @@
 
 use crate::written::Short;
 use itv_base::NoMemory;
-use json_tree::list_of;
+use json_tree::{ends_by, list_of};
 use serde_json::Value;
 use std::alloc::Global;
 
@@ -27,12 +27,22 @@ pub fn about_key(
     Ok(format!(in alloc; "its \"{key}\" is {has}: {wanted}")?)
 }
 
+/// Whether a value is a list of two ends.
+pub fn is_ends(value: &Value) -> bool {
+    match list_of(value) {
+        Some(list) => ends_by(list).is_some(),
+        None => false,
+    }
+}
+
 /// What a value is or has that should be a list of two ends, and what is wanted.
 pub fn ends_fault(alloc: Global, value: &Value) -> Result<String, NoMemory> {
     let Some([low, high]) = list_of(value) else {
         let has = value_text(alloc, value)?;
         let has = has.as_str();
-        return Ok(format!(in alloc; "is {has}: a list of two ends is wanted, as [100,300]")?);
+        return Ok(format!(in alloc;
+            "is {has}: a list of two ends is wanted, as [100,300], with null for an open end"
+        )?);
     };
     let end = if is_end(low) { high } else { low };
     let wanted = end_wanted(end);

@@ -38,6 +38,7 @@ pub enum WordsOption {
     Edits,
     Size,
     Cert,
+    Csv,
 }
 
 impl WordsOption {
@@ -50,6 +51,7 @@ impl WordsOption {
             "--edits" => Some(WordsOption::Edits),
             "--size" => Some(WordsOption::Size),
             "--cert" => Some(WordsOption::Cert),
+            "--csv" => Some(WordsOption::Csv),
             _ => None,
         }
     }
@@ -62,6 +64,7 @@ impl WordsOption {
             WordsOption::Edits => "--edits",
             WordsOption::Size => "--size",
             WordsOption::Cert => "--cert",
+            WordsOption::Csv => "--csv",
         }
     }
 
@@ -183,6 +186,7 @@ struct Given<'a> {
     has_edits: bool,
     has_size: bool,
     has_cert: bool,
+    has_csv: bool,
     // The option whose value is the next word.
     wanting: Option<WordsOption>,
     // Whether `--` was read, behind which there are no options.
@@ -199,6 +203,7 @@ impl<'a> Given<'a> {
             has_edits: false,
             has_size: false,
             has_cert: false,
+            has_csv: false,
             wanting: None,
             is_plain: false,
         }
@@ -231,7 +236,7 @@ impl<'a> Given<'a> {
         if let Some(option) = WordsOption::of(word) {
             self.note(option)?;
             self.wanting = match option {
-                WordsOption::Cert => None,
+                WordsOption::Cert | WordsOption::Csv => None,
                 _ => Some(option),
             };
             return Ok(());
@@ -250,7 +255,7 @@ impl<'a> Given<'a> {
         value: &'a str,
     ) -> Result<(), WordsFault<'a>> {
         match WordsOption::of(name) {
-            None | Some(WordsOption::Cert) => Err(WordsFault::NoOption(word)),
+            None | Some(WordsOption::Cert | WordsOption::Csv) => { Err(WordsFault::NoOption(word)) }
             Some(option) => {
                 self.note(option)?;
                 self.judge(option, value)
@@ -291,6 +296,7 @@ impl<'a> Given<'a> {
             WordsOption::Edits => replace(&mut self.has_edits),
             WordsOption::Size => replace(&mut self.has_size),
             WordsOption::Cert => replace(&mut self.has_cert),
+            WordsOption::Csv => replace(&mut self.has_csv),
         };
         if stood {
             Err(WordsFault::Twice(option))

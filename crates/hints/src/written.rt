@@ -9,7 +9,7 @@ use std::fmt::Write;
 const MOST_SHOWN: usize = 120;
 
 // The most names of a list that are shown.
-const MOST_NAMED: usize = 20;
+const MOST_NAMED: usize = 100;
 
 /// A short text in quotes.
 #[derive(Clone, Copy)]
@@ -74,7 +74,7 @@ pub fn listed(alloc: Global, names: &Texts) -> Result<String, NoMemory> {
             break;
         }
         list.push_str(joint(k, names.len()))?;
-        list.push_str(format!(in alloc; "{}", Plain(name.as_text()))?.as_str())?;
+        list.push_str(format!(in alloc; "{}", Short(name.as_text()))?.as_str())?;
     }
     Ok(list)
 }

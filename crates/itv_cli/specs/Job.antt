@@ -91,9 +91,9 @@ opening (redraw design budget) = do
 opening (why design budget) = do
   both ← planned_at design
   gives (ready.Why both.0 both.1 budget)
-opening (brief design budget) = do
+opening (brief design budget csv) = do
   both ← planned_at design
-  gives (ready.Brief both.0 both.1 budget)
+  gives (ready.Brief both.0 both.1 budget csv)
 opening (lint design budget) = do
   both ← planned_at design
   gives (ready.Lint both.0 both.1 budget)
@@ -132,7 +132,7 @@ Answers (ready.Fall drawn view budget cert) answer text = AnswersFall drawn budg
 Answers (ready.Settle drawn budget cert) answer text = AnswersSettle drawn (turns_for budget) cert answer text
 Answers (ready.Redraw drawn budget) answer text = AnswersRedraw drawn budget answer text × DecidesWithin drawn budget answer
 Answers (ready.Why plan drawn budget) answer text = AnswersWhy (plan_notes plan) drawn budget answer text
-Answers (ready.Brief plan drawn budget) answer text = AnswersBrief (plan_notes plan) drawn budget answer text
+Answers (ready.Brief plan drawn budget csv) answer text = AnswersBrief (plan_notes plan) drawn budget csv answer text
 Answers (ready.Lint plan drawn budget) answer text = AnswersLint plan drawn budget answer text
 Answers (ready.Matrix drawn) answer text = AnswersMatrix drawn answer text
 Answers (ready.Check drawn report) answer text = AnswersCheck drawn report answer text

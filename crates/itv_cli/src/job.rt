@@ -58,7 +58,8 @@ pub fn answer<K: Sink>(alloc: Global, given: &Ready, sink: &mut K) -> Result<Ans
             plan,
             drawn,
             budget,
-        } => write_brief(alloc, plan, drawn, *budget, sink),
+            csv,
+        } => write_brief(alloc, plan, drawn, *budget, *csv, sink),
         Ready::Lint {
             plan,
             drawn,

@@ -46,7 +46,11 @@ pub fn open<H: Shelf>(alloc: Global, task: Task<'_>, shelf: &mut H) -> Result<Re
         } => open_settle(alloc, design, budget, cert, shelf),
         Task::Redraw { design, budget } => open_redraw(alloc, design, budget, shelf),
         Task::Why { design, budget } => open_why(alloc, design, budget, shelf),
-        Task::Brief { design, budget } => open_brief(alloc, design, budget, shelf),
+        Task::Brief {
+            design,
+            budget,
+            csv,
+        } => open_brief(alloc, design, budget, csv, shelf),
         Task::Lint { design, budget } => open_lint(alloc, design, budget, shelf),
         Task::Matrix { design } => open_matrix(alloc, design, shelf),
         Task::Check { design, report } => open_check(alloc, design, report, shelf),
@@ -178,11 +182,12 @@ fn open_brief<H: Shelf>(
     alloc: Global,
     design: &str,
     budget: u64,
+    csv: bool,
     shelf: &mut H,
 ) -> Result<Ready, Stop>
     requires budget { IsBudget budget }
     ensures opens { Opens (λ given. given) (H.state shelf.old) (H.state shelf.new)
-        (opening (said.brief design.now budget)) result }
+        (opening (said.brief design.now budget csv)) result }
     ensures allowed { IfOk result IsAllowed }
 {
     let PlannedNetwork { plan, drawn } = open_planned(alloc, design, shelf)?;
@@ -190,6 +195,7 @@ fn open_brief<H: Shelf>(
         plan,
         drawn,
         budget,
+        csv,
     })
 }
 

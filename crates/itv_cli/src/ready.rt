@@ -42,11 +42,13 @@ pub enum Ready {
         drawn: DrawnNetwork,
         budget: u64,
     },
-    /// To report each row of a drawn network on one line: the plan that draws it, and the cases that each search may close.
+    /// To report each row of a drawn network on one line: the plan that draws it, the cases that each search may close, and whether the
+    /// lines are a table.
     Brief {
         plan: Plan,
         drawn: DrawnNetwork,
         budget: u64,
+        csv: bool,
     },
     /// To warn of what in a plan may say something else than was meant: the network that it draws, and the cases that each search may
     /// close.

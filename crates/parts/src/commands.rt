@@ -38,9 +38,9 @@ fn texts_of(alloc: Global, row: &str) -> Result<Texts, Unfit> {
     Ok(texts)
 }
 
-// Writes the job, its design and its other file, its budget, and whether it writes proofs, as far as the job has them.
+// Writes the job, its design and its other file, its budget, and whether it writes proofs or a table, as far as the job has them.
 fn put_task(task: Task<'_>, out: &mut String) -> Result<(), AllocError> {
-    let (job, design, budget, cert) = match task {
+    let (job, design, budget, flag) = match task {
         Task::Matrix { design } => return write!(out, "matrix {design}"),
         Task::Check { design, report } => return write!(out, "check {design} {report}"),
         Task::Confirm { design, report } => return write!(out, "confirm {design} {report}"),
@@ -67,11 +67,15 @@ fn put_task(task: Task<'_>, out: &mut String) -> Result<(), AllocError> {
         } => ("settle", design, budget, Some(cert)),
         Task::Redraw { design, budget } => ("redraw", design, budget, None),
         Task::Why { design, budget } => ("why", design, budget, None),
-        Task::Brief { design, budget } => ("brief", design, budget, None),
+        Task::Brief {
+            design,
+            budget,
+            csv,
+        } => ("brief", design, budget, Some(csv)),
         Task::Lint { design, budget } => ("lint", design, budget, None),
     };
     write!(out, "{job} {design} {budget}")?;
-    out.push_str(match cert {
+    out.push_str(match flag {
         Some(true) => " true",
         Some(false) => " false",
         None => "",

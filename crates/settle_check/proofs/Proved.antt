@@ -9,6 +9,7 @@ use Rattle.event_graph.specs.Times.{separation, time_of}
 use Rattle.falling.specs.declared.view.View.{View}
 use Rattle.falling.specs.declared.view.View.TheVariants.{Plain, Negated}
 use Rattle.falling.specs.Cap.{far_line}
+use Rattle.line_words.specs.Numbers.{IsLong}
 use Rattle.clauses.proofs.Proving.{clause_proof_bounds, clause_proof_of_nothing, negated_proof_bounds, negated_proof_of_nothing}
 use Rattle.settle.specs.declared.line.StoredLine.{StoredLine}
 use Rattle.settle.specs.Proofs.{IsProofAs, lines_of}
@@ -67,11 +68,12 @@ nothing : (view : View) (net : Net) (event : EventId) (claim : ℤ) (lines : Lis
 nothing Plain net event claim lines is_net within low proof = clause_proof_of_nothing net (record { from = event; to = event; claim = claim }) (lines_of lines) is_net within within low proof
 nothing Negated net event claim lines is_net within low proof = negated_proof_of_nothing net (record { from = event; to = event; claim = claim }) (lines_of lines) is_net within within low proof
 
--- a proof of a claim below minus the far line shows that no times satisfy
-pub is_refuted : (net : Net) (proof : Proof) → IsNet net → 0 < net.events → proof.claim <ℤ neg_ℤ (pos (far_line net))
+-- a proof of a claim of 64 bits below minus the far line shows that no times satisfy
+pub is_refuted : (net : Net) (proof : Proof) → IsNet net → 0 < net.events → proof.claim <ℤ neg_ℤ (pos (far_line net)) → IsLong proof.claim
     → IsProofAs proof.view net first_event first_event proof.claim proof.lines.items → IsRefuted true net proof
-is_refuted net proof is_net some low proves = record {
+is_refuted net proof is_net some low long proves = record {
   none = nothing proof.view net first_event proof.claim proof.lines.items is_net some low proves;
   low = low;
+  fits = long;
   proves = (refl, λ wanted. proves);
 }

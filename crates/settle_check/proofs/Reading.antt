@@ -1,5 +1,5 @@
 -- Rows that were read, one behind another.
-use Rattle.std.proofs.Common.{◌≡◌, ◌<◌, ◌+◌, ℕ, true, List, [], ◌∷◌, ◌++◌, length, take, Some, slice_get, sym, subst, ap, ◌∙◌, append_assoc, inl, inr, arith}
+use Rattle.std.proofs.Common.{◌≡◌, ◌<◌, ◌≤◌, ◌+◌, ℕ, true, List, [], ◌∷◌, ◌++◌, length, take, Some, slice_get, refl, sym, subst, ap, ◌∙◌, append_assoc, inl, inr, arith}
 use Rattle.std.proofs.lemmas.List.{length-take-le}
 use Rattle.std.proofs.lemmas.Option.{slice_get_cases, slice_get_within}
 use Rattle.event_graph.specs.Network.{Net}
@@ -10,7 +10,7 @@ use Rattle.settle_report.specs.declared.row.RowFound.{RowFound}
 use Rattle.settle_report.specs.Answers.{AreRowsFound, IsRowFound}
 use Rattle.settle_report.specs.Text.{row_text, rows_text}
 use Rattle.settle_check.specs.Step.{IsPieceAt}
-use Rattle.settle_check.proofs.Passing.{append_none, behind_then}
+use Rattle.settle_check.proofs.Passing.{append_none, behind_none, behind_then}
 
 rows_push : (net : Net) (rows : List Row) (found : List RowFound) (row : Row) (of_row : RowFound) → AreRowsFound true net rows found → IsRowFound true net row of_row
     → AreRowsFound true net (rows ++ row ∷ []) (found ++ of_row ∷ [])
@@ -68,3 +68,15 @@ read_row drawn text start number found after place next of_row within read is be
     let (row, at) = row_there drawn.rows number within in
     subst (λ (rows : List RowFound). AreRead drawn text start (number + 1) rows next) (sym pushed)
     (read_next drawn text start number found place next row of_row at read (is row at) (behind row at))
+
+none_taken : (rows : List Row) → take 0 rows ≡ []
+none_taken [] = refl
+none_taken (r ∷ rows) = refl
+
+-- no row was read yet
+pub start_read : (drawn : Drawn) (text : List ℕ) (start : ℕ) (found : List RowFound) → found ≡ [] → start ≤ length text → AreRead drawn text start 0 found start
+start_read drawn text start found none within =
+    subst (λ (fs : List RowFound). AreRead drawn text start 0 fs start) (sym none) (record {
+      are_found = subst (λ (rows : List Row). AreRowsFound true drawn.net rows []) (sym (none_taken drawn.rows)) tt;
+      behind = subst (λ (rows : List Row). IsPieceAt text start (rows_text drawn true 0 rows []) start) (sym (none_taken drawn.rows)) (behind_none text start within);
+    })

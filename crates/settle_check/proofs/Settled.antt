@@ -1,5 +1,6 @@
 -- A row and a whole text, part by part.
 use Rattle.std.proofs.Common.{◌≡◌, ◌≤◌, ℕ, true, List, length, Some, slice_get, refl, sym, subst, ◌∙◌}
+use Rattle.std.specs.Prelude.{IfOk, Result, Ok, Err}
 use Rattle.std.proofs.lemmas.List.{take_all}
 use Rattle.std.proofs.lemmas.Option.{same_Some}
 use Rattle.event_graph.specs.Network.{Net}
@@ -10,16 +11,18 @@ use Rattle.drawn.specs.Drawn.{Drawn, name_of}
 use Rattle.drawn.specs.declared.row.Row.{Row}
 use Rattle.jobs.specs.Ending.{answer_of}
 use Rattle.settle_report.specs.declared.finding.Finding.{Finding}
+use Rattle.settle_report.specs.declared.bound.SettledBound.{SettledBound}
 use Rattle.settle_report.specs.declared.row.RowFound.{RowFound}
 use Rattle.settle_report.specs.Answers.{AreFound, IsBound, IsFinding, IsPastOf, IsRowFound}
 use Rattle.settle_report.specs.Settle.{IsSettleText}
 use Rattle.settle_report.specs.Text.{behind_text, bound_text, ending_of, finding_text, front_text, judged_text, row_text}
+use Rattle.settle_check.specs.declared.check_stop.CheckStop.{CheckStop}
 use Rattle.settle_check.specs.Step.{IsPieceAt}
 use Rattle.settle_check.proofs.Passing.{behind_then}
 use Rattle.settle_check.proofs.Turns.{some_turns}
 
 -- two rows with one number are the same row
-row_same : (rows : List Row) (number : ℕ) (at row : Row) → slice_get rows number ≡ Some at → slice_get rows number ≡ Some row → at ≡ row
+pub row_same : (rows : List Row) (number : ℕ) (at row : Row) → slice_get rows number ≡ Some at → slice_get rows number ≡ Some row → at ≡ row
 row_same rows number at row is other = same_Some at row (sym is ∙ other)
 
 pub row_is_found : (net : Net) (rows : List Row) (number : ℕ) (at : Row) (found : RowFound) → slice_get rows number ≡ Some at → IsBound true net Max at found.greatest
@@ -60,3 +63,27 @@ module _ (drawn : Drawn) (text : List ℕ) where
           },
         ),
       )
+
+-- ---- a row whose last part was read
+
+module _ {A : Type 0} (found_of : A → RowFound) (place_of : A → ℕ) (drawn : Drawn) (text : List ℕ) (number : ℕ) (at : Row) (greatest least : SettledBound) (is : slice_get drawn.rows number ≡ Some at) where
+  -- what was found of the row is right
+  pub row_found : (net : Net) (r : Result A CheckStop) → net ≡ drawn.net → IsBound true net Max at greatest → IsBound true net Min at least
+      → IfOk r (λ read. (found_of read).greatest ≡ greatest) → IfOk r (λ read. (found_of read).least ≡ least) → IfOk r (λ read. IsPastOf net at at.kind (found_of read))
+      → IfOk r (λ read. (row : Row) → slice_get drawn.rows number ≡ Some row → IsRowFound true drawn.net row (found_of read))
+  row_found net (Err stop) same is_greatest is_least of_greatest of_least past = tt
+  row_found net (Ok read) same is_greatest is_least of_greatest of_least past =
+      subst (λ (n : Net). (row : Row) → slice_get drawn.rows number ≡ Some row → IsRowFound true n row (found_of read)) same
+      (row_is_found net drawn.rows number at (found_of read) is (subst (IsBound true net Max at) (sym of_greatest) is_greatest) (subst (IsBound true net Min at) (sym of_least) is_least) past)
+
+  -- its parts stand one behind another
+  pub row_behind : (place line_end max_end min_end : ℕ) (r : Result A CheckStop) → IsPieceAt text place (entry_text (line.row number at.kind (name_of drawn at.from) (name_of drawn at.to))) line_end
+      → IsPieceAt text line_end (bound_text true Max greatest) max_end → IsPieceAt text max_end (bound_text true Min least) min_end
+      → IfOk r (λ read. (found_of read).greatest ≡ greatest) → IfOk r (λ read. (found_of read).least ≡ least)
+      → IfOk r (λ read. IsPieceAt text min_end (judged_text at.kind (found_of read)) (place_of read))
+      → IfOk r (λ read. (row : Row) → slice_get drawn.rows number ≡ Some row → IsPieceAt text place (row_text drawn true number row (found_of read)) (place_of read))
+  row_behind place line_end max_end min_end (Err stop) a b c of_greatest of_least d = tt
+  row_behind place line_end max_end min_end (Ok read) a b c of_greatest of_least d =
+      behind_parts drawn text number place line_end max_end min_end (place_of read) at (found_of read) is a
+      (subst (λ (bound : SettledBound). IsPieceAt text line_end (bound_text true Max bound) max_end) (sym of_greatest) b)
+      (subst (λ (bound : SettledBound). IsPieceAt text max_end (bound_text true Min bound) min_end) (sym of_least) c) d

@@ -1,14 +1,32 @@
 -- What the steps of a check promise one another.
-use Rattle.std.specs.Prelude.{◌≡◌, ◌≤◌, ◌<◌, ◌++◌, ℕ, ℤ, neg_ℤ, List, All, Some, length, take}
+use Rattle.std.specs.Prelude.{◌≡◌, ◌≤◌, ◌<◌, ◌++◌, ◌∷◌, ◌^◌, ℕ, ℤ, neg_ℤ, true, false, List, [], All, Option, Some, None, Result, Ok, Err, length, take}
+use Rattle.std.specs.List.{AllByRecursion}
+use Rattle.std.specs.Str.{IsUtf8}
+use denote.Ref.{Bor}
 use Rattle.itv_base.specs.Outside.{SinkState}
+use Rattle.line_words.specs.Lines.{ended, is_feed, line_of}
+use Rattle.line_words.specs.Numbers.{IsLong}
+use Rattle.line_words.specs.Words.{Word, split_words}
 use Rattle.event_graph.specs.Limits.{IsPrintedTime}
 use Rattle.event_graph.specs.Network.{Net}
 use Rattle.event_graph.specs.Satisfying.{Satisfies}
 use Rattle.falling.specs.DerivationEnds.{AreLimits}
 use Rattle.falling.specs.Kinds.{negated}
+use Rattle.clauses.specs.Lines.{ClauseLine}
+use Rattle.settle.specs.Proofs.{IsProofAs, lines_of}
+use Rattle.settle_lines.specs.Text.{SpellsClause}
 use Rattle.slack_report.specs.declared.words.Which.{Which}
 use Rattle.slack_report.specs.declared.words.Which.TheVariants.{Max, Min}
 use Rattle.drawn.specs.declared.row.Row.{Row}
+use Rattle.settle_report.specs.declared.finding.Finding.{Finding}
+use Rattle.settle_report.specs.declared.finding.Finding.TheVariants.{Consistent, Inconsistent, Spent}
+use Rattle.settle_report.specs.declared.proof.Proof.{Proof}
+use Rattle.settle_report.specs.declared.bound.SettledBound.{SettledBound}
+use Rattle.settle_report.specs.declared.bound.SettledBound.TheVariants as settled
+use Rattle.settle_report.specs.declared.row.RowFound.{RowFound}
+use Rattle.settle_report.specs.Answers.{AreRowsFound, IsRowFound}
+use Rattle.settle_check.specs.declared.check_stop.CheckStop.{CheckStop}
+use Rattle.settle_check.specs.declared.check_stop.CheckStop.TheVariants.{Refused, NoMemory}
 use Rattle.settle_check.specs.declared.draft.Draft.{Draft}
 use Rattle.settle_check.specs.declared.pair.Pair.{Pair}
 use Rattle.settle_check.specs.declared.views.Views.{Views}
@@ -56,3 +74,119 @@ turned pair = record { from = pair.to; to = pair.from }
 abbrev pub claim_of : Which → ℤ → ℤ
 claim_of Max value = value
 claim_of Min value = neg_ℤ value
+
+-- ---- what a check gives for a text that is right
+
+-- memory ran out; no line is refused
+abbrev pub IsWant : CheckStop → Type 0
+IsWant (Refused left) = ⊥
+IsWant NoMemory = Unit {0}
+
+-- something was read of which a fact holds, unless memory ran out
+abbrev pub Gives : {A : Type 0} → (A → Type 0) → Result A CheckStop → Type 0
+Gives P (Ok x) = P x
+Gives P (Err stop) = IsWant stop
+
+-- no line is refused
+abbrev pub GivesSome : {A : Type 0} → Result A CheckStop → Type 0
+GivesSome result = Gives (λ found. Unit {0}) result
+
+-- ---- lines that stand next
+
+-- the text begins with this line, and `more` stands after the line's end
+pub record Begins (text line more : List ℕ) : Type 0 where
+  pub is_line : AllByRecursion (λ b. is_feed b ≡ false) line
+  pub text_is : text ≡ ended line ++ more
+
+-- the text begins with the line of these words, which is cut into just these words
+pub record BeginsWith (text : List ℕ) (words : List Word) (more : List ℕ) : Type 0 where
+  pub begins : Begins text (line_of words) more
+  pub parts : split_words (line_of words) ≡ words
+  pub is_text : IsUtf8 (line_of words)
+
+-- the text begins with a line that is no line of a proof
+pub record BeginsOther (text : List ℕ) : Type 0 where
+  pub line : List ℕ
+  pub more : List ℕ
+  pub begins : Begins text line more
+  pub other : (l : ClauseLine) → SpellsClause line l → ⊥
+
+-- the parts are this line and the text after its end
+abbrev pub IsCutAs : Option (Bor (List ℕ) × Bor (List ℕ)) → List ℕ → List ℕ → Type 0
+IsCutAs None line more = ⊥
+IsCutAs (Some parts) line more = (parts.0.now ≡ line) × (parts.1.now ≡ more)
+
+-- ---- the same data, wherever it lies in memory
+
+-- the proofs have one view, one claim and the same lines
+pub record IsSameProof (a b : Proof) : Type 0 where
+  pub view : a.view ≡ b.view
+  pub claim : a.claim ≡ b.claim
+  pub lines : lines_of a.lines.items ≡ lines_of b.lines.items
+
+abbrev pub IsSameFinding : Finding → Finding → Type 0
+IsSameFinding (Consistent a) (Consistent b) = a.items ≡ b.items
+IsSameFinding (Consistent a) (Inconsistent b) = ⊥
+IsSameFinding (Consistent a) Spent = ⊥
+IsSameFinding (Inconsistent a) (Consistent b) = ⊥
+IsSameFinding (Inconsistent a) (Inconsistent b) = IsSameProof a b
+IsSameFinding (Inconsistent a) Spent = ⊥
+IsSameFinding Spent (Consistent b) = ⊥
+IsSameFinding Spent (Inconsistent b) = ⊥
+IsSameFinding Spent Spent = Unit {0}
+
+abbrev pub IsSameBound : SettledBound → SettledBound → Type 0
+IsSameBound (settled.Closed value times proof) (settled.Closed other others also) = (value ≡ other) × (times.items ≡ others.items) × IsSameProof proof also
+IsSameBound (settled.Closed value times proof) (settled.Unbounded others set) = ⊥
+IsSameBound (settled.Closed value times proof) settled.Spent = ⊥
+IsSameBound (settled.Unbounded times ray) (settled.Closed other others also) = ⊥
+IsSameBound (settled.Unbounded times ray) (settled.Unbounded others set) = (times.items ≡ others.items) × (ray.items ≡ set.items)
+IsSameBound (settled.Unbounded times ray) settled.Spent = ⊥
+IsSameBound settled.Spent (settled.Closed other others also) = ⊥
+IsSameBound settled.Spent (settled.Unbounded others set) = ⊥
+IsSameBound settled.Spent settled.Spent = Unit {0}
+
+pub record IsSameRow (a b : RowFound) : Type 0 where
+  pub greatest : IsSameBound a.greatest b.greatest
+  pub least : IsSameBound a.least b.least
+  pub past : a.past.items ≡ b.past.items
+
+abbrev pub AreSameRows : List RowFound → List RowFound → Type 0
+AreSameRows [] [] = Unit {0}
+AreSameRows [] (other ∷ others) = ⊥
+AreSameRows (row ∷ rows) [] = ⊥
+AreSameRows (row ∷ rows) (other ∷ others) = IsSameRow row other × AreSameRows rows others
+
+-- ---- proofs that stand next
+
+-- a proof for a pair, whose claim has 64 bits and whose lines can be numbered by 32 bits
+pub record IsShownProof (net : Net) (pair : Pair) (proof : Proof) : Type 0 where
+  pub proves : IsProofAs proof.view net pair.from pair.to proof.claim proof.lines.items
+  pub fits : IsLong proof.claim
+  pub few : length proof.lines.items < 2 ^ 32
+
+-- the proof of a finding, if it has one, can be numbered by 32 bits
+abbrev pub HasFewLines : Finding → Type 0
+HasFewLines (Consistent times) = Unit {0}
+HasFewLines (Inconsistent proof) = length proof.lines.items < 2 ^ 32
+HasFewLines Spent = Unit {0}
+
+-- the proof of a bound, if it has one, can be numbered by 32 bits
+abbrev pub HasFewLinesIn : SettledBound → Type 0
+HasFewLinesIn (settled.Closed value times proof) = length proof.lines.items < 2 ^ 32
+HasFewLinesIn (settled.Unbounded times ray) = Unit {0}
+HasFewLinesIn settled.Spent = Unit {0}
+
+-- the proofs of both bounds of a row can be numbered by 32 bits
+abbrev pub HasFewRows : RowFound → Type 0
+HasFewRows found = HasFewLinesIn found.greatest × HasFewLinesIn found.least
+
+-- what was found of a row, with proofs that can be numbered by 32 bits
+pub record IsShownRow (net : Net) (row : Row) (found : RowFound) : Type 0 where
+  pub is_found : IsRowFound true net row found
+  pub few : HasFewRows found
+
+-- what was found of each row, with such proofs
+pub record AreShownRows (net : Net) (rows : List Row) (found : List RowFound) : Type 0 where
+  pub are_found : AreRowsFound true net rows found
+  pub few : All HasFewRows found

@@ -1,14 +1,23 @@
 //! Checking a bound of a row.
 
-ghost use Rattle.std.specs.Prelude.{◌≡◌, ◌<ℤ◌, pos, true, IfOk, IsTrue};
+ghost use Rattle.std.specs.Prelude.{◌≡◌, ◌∷◌, ◌<ℤ◌, ◌<◌, ◌^◌, ◌++◌, ◌↔◌, ℕ, ℤ, pos, true, [], IfOk, Bool, IsTrue, List, codes, length};
+ghost use Rattle.std.specs.Global.{Vec};
+ghost use Rattle.line_words.specs.Lines.{line_of};
 ghost use Rattle.event_graph.specs.Network.{Net};
 ghost use Rattle.event_graph.specs.Times.{separation};
 ghost use Rattle.requirements.specs.Bounds.{HasTimes};
 ghost use Rattle.drawn.specs.Drawn.{IsRowOf};
 ghost use Rattle.falling.specs.Cap.{far_line};
 ghost use Rattle.settle.specs.Proofs.{IsProofAs};
-ghost use Rattle.settle_report.specs.Answers.{ArePrintedTimes, IsBound, bound_of};
-ghost use Rattle.settle_check.specs.Step.{AreViewsOf, claim_of, pair_of};
+ghost use Rattle.requirements.specs.declared.bound.Bound.TheVariants as bounds;
+ghost use Rattle.slack_report.specs.Entry.{bound as entry_bound, raise, times as entry_times};
+ghost use Rattle.slack_report.specs.Text.{entry_line, entry_text, which_word};
+ghost use Rattle.settle_report.specs.declared.bound.SettledBound.{SettledBound};
+ghost use Rattle.settle_report.specs.declared.bound.SettledBound.TheVariants.{Closed, Unbounded};
+ghost use Rattle.settle_report.specs.declared.proof.Proof.{Proof};
+ghost use Rattle.settle_report.specs.Answers.{ArePrintedTimes, IsBound, IsEndless, IsNumber, bound_of};
+ghost use Rattle.settle_report.specs.Text.{bound_text, shown_text};
+ghost use Rattle.settle_check.specs.Step.{AreViewsOf, Gives, HasFewLinesIn, IsSameBound, claim_of, pair_of};
 
 use crate::check_stop::CheckStop;
 use crate::pair::Pair;
@@ -36,6 +45,8 @@ pub fn bound_next(
     requires row { IsRowOf net.now row.now }
     ensures bound { IfOk result (IsBound true net.now which row.now) }
     ensures times { IfOk result (λ found. HasTimes (bound_of found)) }
+    ensures read { (shown : SettledBound) → (more : List ℕ) → IsBound true net.now which row.now shown → HasFewLinesIn shown
+        → reader.old.rest.now ≡ bound_text true which shown ++ more → Gives (IsSameBound shown) result }
 {
     if reader.passes(spent_line(which)) {
         return Ok(SettledBound::Spent);
@@ -46,14 +57,18 @@ pub fn bound_next(
     number_next(alloc, which, row, net, views, reader)
 }
 
-fn spent_line(which: Which) -> &'static [u8] {
+fn spent_line(which: Which) -> &'static [u8]
+    ensures { result.now ≡ line_of (which_word which ∷ codes "spent" ∷ []) }
+{
     match which {
         Which::Max => b"max spent",
         Which::Min => b"min spent",
     }
 }
 
-fn unbounded_line(which: Which) -> &'static [u8] {
+fn unbounded_line(which: Which) -> &'static [u8]
+    ensures { result.now ≡ line_of (which_word which ∷ codes "unbounded" ∷ []) }
+{
     match which {
         Which::Max => b"max unbounded",
         Which::Min => b"min unbounded",
@@ -71,6 +86,8 @@ fn endless_next(
     requires row { IsRowOf net.now row.now }
     ensures bound { IfOk result (IsBound true net.now which row.now) }
     ensures times { IfOk result (λ found. HasTimes (bound_of found)) }
+    ensures read { (times : Vec ℤ) → (ray : Vec Bool) → (more : List ℕ) → IsEndless net.now which row.now times.items ray.items
+        → reader.old.rest.now ≡ entry_text (entry_times times.items) ++ (entry_text (raise ray.items) ++ more) → Gives (IsSameBound (Unbounded times ray)) result }
 {
     let times = row_times_next(alloc, net, row, reader)?;
     reader.pass();
@@ -95,10 +112,19 @@ fn number_next(
     requires row { IsRowOf net.now row.now }
     ensures bound { IfOk result (IsBound true net.now which row.now) }
     ensures times { IfOk result (λ found. HasTimes (bound_of found)) }
+    ensures read { (value : ℤ) → (times : Vec ℤ) → (proof : Proof) → (more : List ℕ) → IsNumber true net.now which row.now value times.items proof
+        → length proof.lines.items < 2 ^ 32
+        → reader.old.rest.now ≡ shown_text true proof ++ (entry_text (entry_bound which (bounds.Closed value)) ++ (entry_text (entry_times times.items) ++ more))
+        → Gives (IsSameBound (Closed value times proof)) result }
 {
+    // The network is within its limits.
+    let _events = net.events();
     let proof = proof_next(alloc, net, views, Pair::of(which, row), reader)?;
     let value = reader.number(alloc, which)?;
-    if !is_claimed(which, value, proof.claim) || !is_near(views, proof.claim) {
+    if !is_claimed(which, value, proof.claim) {
+        return Err(reader.refused());
+    }
+    if !is_near(views, proof.claim) {
         return Err(reader.refused());
     }
     reader.pass();
@@ -113,6 +139,7 @@ fn number_next(
 // Whether a claim is the greatest separation of the bound's pair, for this number of the bound.
 fn is_claimed(which: Which, value: i64, claim: i64) -> bool
     ensures claimed { IsTrue result → claim ≡ claim_of which value }
+    ensures given { claim ≡ claim_of which value → IsTrue result }
 {
     match which {
         Which::Max => claim == value,
@@ -122,7 +149,7 @@ fn is_claimed(which: Which, value: i64, claim: i64) -> bool
 
 // Whether a claim is below the far line. A proof of such a claim bounds the separation.
 fn is_near(views: &Views, claim: i64) -> bool
-    ensures near { (net : Net) → AreViewsOf net views.now → IsTrue result → claim <ℤ pos (far_line net) }
+    ensures near { (net : Net) → AreViewsOf net views.now → IsTrue result ↔ (claim <ℤ pos (far_line net)) }
 {
     claim < views.limits.far
 }
@@ -144,6 +171,7 @@ fn number_of(
     requires proof { let pair = pair_of which row.now in IsProofAs proof.view net.now pair.from pair.to proof.claim proof.lines.items }
     ensures bound { IsBound true net.now which row.now result }
     ensures times { HasTimes (bound_of result) }
+    ensures is { result ≡ Closed value times proof }
 {
     // The network is within its limits.
     let _events = net.events();

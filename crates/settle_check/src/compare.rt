@@ -1,7 +1,7 @@
 //! Writing each part of a text again from what was read of it, and comparing both. The functions return the place
 //! behind the part, and refuse the line of the first byte that differs.
 
-ghost use Rattle.std.specs.Prelude.{◌≡◌, ◌<◌, ◌≤◌, true, Some, IfOk, length, slice_get};
+ghost use Rattle.std.specs.Prelude.{◌≡◌, ◌<◌, ◌≤◌, ◌++◌, ℕ, List, true, Some, IfOk, drop, length, slice_get};
 ghost use Rattle.itv_base.specs.Outside.{Puts};
 ghost use Rattle.requirements.specs.Bounds.{HasTimes};
 ghost use Rattle.slack_report.specs.Entry.{ending, row, rows};
@@ -9,7 +9,7 @@ ghost use Rattle.slack_report.specs.Text.{entry_text};
 ghost use Rattle.drawn.specs.Drawn.{IsRowOf, name_of};
 ghost use Rattle.settle_report.specs.Answers.{AreFound, bound_of};
 ghost use Rattle.settle_report.specs.Text.{bound_text, ending_of, finding_text, front_text, judged_text};
-ghost use Rattle.settle_check.specs.Step.{IsPieceAt};
+ghost use Rattle.settle_check.specs.Step.{Gives, IsPieceAt};
 
 use crate::check_stop::CheckStop;
 use crate::draft::Draft;
@@ -31,6 +31,7 @@ pub fn behind_front(
     buffer: &mut LineBuffer,
 ) -> Result<usize, CheckStop>
     ensures behind { IfOk result (IsPieceAt text.now 0 (front_text drawn.now)) }
+    ensures whole { (more : List ℕ) → text.now ≡ front_text drawn.now ++ more → Gives (λ behind. drop behind text.now ≡ more) result }
 {
     let mut draft = Draft::new(alloc);
     put_front(drawn, buffer, &mut draft)?;
@@ -47,6 +48,7 @@ pub fn behind_finding(
 ) -> Result<usize, CheckStop>
     requires place { place ≤ length text.now }
     ensures behind { IfOk result (IsPieceAt text.now place (finding_text true finding.now)) }
+    ensures whole { (more : List ℕ) → drop place text.now ≡ finding_text true finding.now ++ more → Gives (λ behind. drop behind text.now ≡ more) result }
 {
     let mut draft = Draft::new(alloc);
     put_finding(true, finding, buffer, &mut draft)?;
@@ -63,6 +65,7 @@ pub fn behind_count(
 ) -> Result<usize, CheckStop>
     requires place { place ≤ length text.now }
     ensures behind { IfOk result (IsPieceAt text.now place (entry_text (rows (length drawn.now.rows)))) }
+    ensures whole { (more : List ℕ) → drop place text.now ≡ entry_text (rows (length drawn.now.rows)) ++ more → Gives (λ behind. drop behind text.now ≡ more) result }
 {
     let mut draft = Draft::new(alloc);
     put_count(drawn, buffer, &mut draft)?;
@@ -94,6 +97,7 @@ pub fn behind_row(
     requires row { IsRowOf drawn.now.net asked.now }
     ensures behind { IfOk result (IsPieceAt text.now place
         (entry_text (row number asked.now.kind (name_of drawn.now asked.now.from) (name_of drawn.now asked.now.to)))) }
+    ensures whole { (more : List ℕ) → drop place text.now ≡ entry_text (row number asked.now.kind (name_of drawn.now asked.now.from) (name_of drawn.now asked.now.to)) ++ more → Gives (λ behind. drop behind text.now ≡ more) result }
 {
     let mut draft = Draft::new(alloc);
     put_row(number, asked, drawn, buffer, &mut draft)?;
@@ -111,6 +115,7 @@ pub fn behind_bound(
 ) -> Result<usize, CheckStop>
     requires place { place ≤ length text.now }
     ensures behind { IfOk result (IsPieceAt text.now place (bound_text true which found.now)) }
+    ensures whole { (more : List ℕ) → drop place text.now ≡ bound_text true which found.now ++ more → Gives (λ behind. drop behind text.now ≡ more) result }
 {
     let mut draft = Draft::new(alloc);
     put_bound(true, which, found, buffer, &mut draft)?;
@@ -130,6 +135,7 @@ pub fn behind_judged(
     requires greatest { HasTimes (bound_of found.now.greatest) }
     requires least { HasTimes (bound_of found.now.least) }
     ensures behind { IfOk result (IsPieceAt text.now place (judged_text kind found.now)) }
+    ensures whole { (more : List ℕ) → drop place text.now ≡ judged_text kind found.now ++ more → Gives (λ behind. drop behind text.now ≡ more) result }
 {
     let mut draft = Draft::new(alloc);
     put_judged(kind, found, buffer, &mut draft)?;
@@ -149,6 +155,7 @@ pub fn behind_ending(
     requires place { place ≤ length text.now }
     requires found { AreFound true drawn.now.net drawn.now.rows finding.now found.now }
     ensures behind { IfOk result (IsPieceAt text.now place (entry_text (ending (ending_of drawn.now.rows finding.now found.now)))) }
+    ensures whole { (more : List ℕ) → drop place text.now ≡ entry_text (ending (ending_of drawn.now.rows finding.now found.now)) ++ more → Gives (λ behind. drop behind text.now ≡ more) result }
 {
     let mut draft = Draft::new(alloc);
     put_ending(ending_of(drawn, finding, found), buffer, &mut draft)?;

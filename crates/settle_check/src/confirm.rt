@@ -1,7 +1,11 @@
 //! Checking a text from its front to its end.
 
-ghost use Rattle.std.specs.Prelude.{◌≡◌, true, OnOk};
+ghost use Rattle.std.specs.Prelude.{◌≡◌, ◌<◌, ◌≤◌, ◌^◌, ◌++◌, ℕ, true, IfOk, List, OnOk, drop, length};
+ghost use Rattle.settle_report.specs.declared.finding.Finding.{Finding};
+ghost use Rattle.settle_report.specs.Answers.{IsFinding};
 ghost use Rattle.settle_report.specs.Settle.{IsSettleText};
+ghost use Rattle.settle_report.specs.Text.{finding_text};
+ghost use Rattle.settle_check.specs.Step.{AreViewsOf, Gives, HasFewLines, GivesSome, IsPieceAt, IsSameFinding};
 
 use crate::check_stop::CheckStop;
 use crate::compare::{behind_ending, behind_finding, behind_front};
@@ -10,25 +14,35 @@ use crate::reader::Reader;
 use crate::rows::rows_behind;
 use crate::views::Views;
 use drawn::DrawnNetwork;
+use event_graph::Network;
 use line_words::LineBuffer;
+use settle_report::Finding;
 use slack_report::LINE_ROOM;
 use std::alloc::Global;
 
 /// Checks a text against a drawn network, part by part. Each part is read, checked, written again and compared.
 pub fn confirm_text(alloc: Global, drawn: &DrawnNetwork, text: &[u8]) -> Result<(), CheckStop>
     ensures confirmed { OnOk result (IsSettleText drawn.now true text.now) }
+    ensures whole { length text.now < 2 ^ 32 → IsSettleText drawn.now true text.now → GivesSome result }
 {
     let net = drawn.network();
     let views = Views::new(alloc, net)?;
     let mut buffer = LineBuffer::new(alloc, LINE_ROOM)?;
     let place = behind_front(alloc, drawn, text, &mut buffer)?;
-    let finding = finding_next(alloc, net, &views, &mut Reader::new(text, place))?;
-    let place = behind_finding(alloc, &finding, text, place, &mut buffer)?;
-    let rows = rows_behind(alloc, drawn, &finding, &views, text, place, &mut buffer)?;
+    let read = finding_read(alloc, net, &views, text, place, &mut buffer)?;
+    let rows = rows_behind(
+        alloc,
+        drawn,
+        &read.finding,
+        &views,
+        text,
+        read.place,
+        &mut buffer,
+    )?;
     let place = behind_ending(
         alloc,
         drawn,
-        &finding,
+        &read.finding,
         &rows.found,
         text,
         rows.place,
@@ -40,4 +54,32 @@ pub fn confirm_text(alloc: Global, drawn: &DrawnNetwork, text: &[u8]) -> Result<
         });
     }
     Ok(())
+}
+
+// The finding that was read, and the place behind it.
+#[derive(Drop)]
+struct FindingRead {
+    finding: Finding,
+    place: usize,
+}
+
+// Reads and checks the finding at a place.
+fn finding_read(
+    alloc: Global,
+    net: &Network,
+    views: &Views,
+    text: &[u8],
+    place: usize,
+    buffer: &mut LineBuffer,
+) -> Result<FindingRead, CheckStop>
+    requires views { AreViewsOf net.now views.now }
+    requires place { place ≤ length text.now }
+    ensures finding { IfOk result (λ read. IsFinding true net.now read.finding) }
+    ensures behind { IfOk result (λ read. IsPieceAt text.now place (finding_text true read.finding) read.place) }
+    ensures read { (shown : Finding) → (more : List ℕ) → IsFinding true net.now shown → HasFewLines shown → drop place text.now ≡ finding_text true shown ++ more
+        → Gives (λ read. IsSameFinding shown read.finding × (drop read.place text.now ≡ more)) result }
+{
+    let finding = finding_next(alloc, net, views, &mut Reader::new(text, place))?;
+    let place = behind_finding(alloc, &finding, text, place, buffer)?;
+    Ok(FindingRead { finding, place })
 }

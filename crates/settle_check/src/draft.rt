@@ -1,8 +1,8 @@
 //! A part of a text, written again.
 
-ghost use Rattle.std.specs.Prelude.{◌≡◌, ◌≤◌, [], Some, IfOk, length, take};
+ghost use Rattle.std.specs.Prelude.{◌≡◌, ◌≤◌, ◌++◌, ℕ, List, [], Some, IfOk, drop, length, take};
 ghost use Rattle.itv_base.specs.Outside.{Puts};
-ghost use Rattle.settle_check.specs.Step.{IsPieceAt, draft_state};
+ghost use Rattle.settle_check.specs.Step.{Gives, IsPieceAt, draft_state};
 
 use crate::check_stop::CheckStop;
 use itv_base::{PutFailed, Sink};
@@ -31,6 +31,7 @@ impl Draft {
     pub fn place_behind(&self, text: &[u8], place: usize) -> Result<usize, CheckStop>
         requires place { place ≤ length text.now }
         ensures behind { IfOk result (IsPieceAt text.now place self.now.bytes.items) }
+        ensures whole { (more : List ℕ) → drop place text.now ≡ self.now.bytes.items ++ more → Gives (λ behind. drop behind text.now ≡ more) result }
     {
         let same = same_len(&text[place..], &self.bytes);
         if same < self.bytes.len() {
@@ -61,6 +62,7 @@ fn same_len(text: &[u8], other: &[u8]) -> usize
     ensures text { result ≤ length text.now }
     ensures other { result ≤ length other.now }
     ensures same { take result text.now ≡ take result other.now }
+    ensures most { (more : List ℕ) → text.now ≡ other.now ++ more → result ≡ length other.now }
 {
     let most = text.len().min(other.len());
     for place in 0..most {

@@ -1,11 +1,20 @@
 //! Checking the finding.
 
-ghost use Rattle.std.specs.Prelude.{◌<◌, ◌<ℤ◌, neg_ℤ, pos, true, IfOk, IsTrue};
+ghost use Rattle.std.specs.Prelude.{◌≡◌, ◌<◌, ◌<ℤ◌, ◌^◌, ◌++◌, ◌↔◌, ℕ, ℤ, neg_ℤ, pos, true, IfOk, IsTrue, List, length};
+ghost use Rattle.std.specs.Global.{Vec};
+ghost use Rattle.line_words.specs.Numbers.{IsLong};
+ghost use Rattle.slack_report.specs.declared.words.FindingWord.TheVariants.{Inconsistent as IsInconsistentWord};
+ghost use Rattle.slack_report.specs.Entry.{finding as entry_finding, times as entry_times};
+ghost use Rattle.slack_report.specs.Text.{entry_text};
 ghost use Rattle.event_graph.specs.Network.{Net};
 ghost use Rattle.falling.specs.Cap.{far_line};
 ghost use Rattle.settle.specs.Proofs.{IsProofAs};
-ghost use Rattle.settle_report.specs.Answers.{ArePrintedTimes, IsFinding, first_event};
-ghost use Rattle.settle_check.specs.Step.{AreViewsOf};
+ghost use Rattle.settle_report.specs.declared.finding.Finding.{Finding};
+ghost use Rattle.settle_report.specs.declared.finding.Finding.TheVariants.{Consistent, Inconsistent};
+ghost use Rattle.settle_report.specs.declared.proof.Proof.{Proof};
+ghost use Rattle.settle_report.specs.Answers.{ArePrintedTimes, IsFinding, IsRefuted, first_event};
+ghost use Rattle.settle_report.specs.Text.{finding_text, shown_text};
+ghost use Rattle.settle_check.specs.Step.{AreViewsOf, Gives, HasFewLines, IsSameFinding};
 
 use crate::check_stop::CheckStop;
 use crate::pair::Pair;
@@ -31,6 +40,8 @@ pub fn finding_next(
 ) -> Result<Finding, CheckStop>
     requires views { AreViewsOf net.now views.now }
     ensures finding { IfOk result (IsFinding true net.now) }
+    ensures read { (shown : Finding) → (more : List ℕ) → IsFinding true net.now shown → HasFewLines shown → reader.old.rest.now ≡ finding_text true shown ++ more
+        → Gives (IsSameFinding shown) result }
 {
     if reader.passes(b"finding spent") {
         return Ok(Finding::Spent);
@@ -48,6 +59,8 @@ fn consistent_next(
     reader: &mut Reader<'_>,
 ) -> Result<Finding, CheckStop>
     ensures finding { IfOk result (IsFinding true net.now) }
+    ensures read { (shown : Vec ℤ) → (more : List ℕ) → ArePrintedTimes net.now first_event shown.items → reader.old.rest.now ≡ entry_text (entry_times shown.items) ++ more
+        → Gives (IsSameFinding (Consistent shown)) result }
 {
     let times = reader.times(alloc)?;
     if !are_first(net, &times) {
@@ -59,7 +72,7 @@ fn consistent_next(
 
 // Whether times can be printed and satisfy, with event 0 at 0.
 fn are_first(net: &Network, times: &[i64]) -> bool
-    ensures first { IsTrue result → ArePrintedTimes net.now first_event times.now }
+    ensures first { IsTrue result ↔ ArePrintedTimes net.now first_event times.now }
 {
     are_printed(net, times) && time_of(times, FIRST) == 0
 }
@@ -73,6 +86,8 @@ fn refuted_next(
 ) -> Result<Finding, CheckStop>
     requires views { AreViewsOf net.now views.now }
     ensures finding { IfOk result (IsFinding true net.now) }
+    ensures read { (shown : Proof) → (more : List ℕ) → IsRefuted true net.now shown → length shown.lines.items < 2 ^ 32
+        → reader.old.rest.now ≡ shown_text true shown ++ (entry_text (entry_finding IsInconsistentWord) ++ more) → Gives (IsSameFinding (Inconsistent shown)) result }
 {
     if net.events() == 0 {
         return Err(reader.refused());
@@ -82,7 +97,10 @@ fn refuted_next(
         to: FIRST,
     };
     let proof = proof_next(alloc, net, views, pair, reader)?;
-    if !is_low(views, proof.claim) || !reader.passes(b"finding inconsistent") {
+    if !is_low(views, proof.claim) {
+        return Err(reader.refused());
+    }
+    if !reader.passes(b"finding inconsistent") {
         return Err(reader.refused());
     }
     Ok(refuted_by(net, proof))
@@ -90,7 +108,7 @@ fn refuted_next(
 
 // Whether a claim is below minus the far line. A proof of such a claim shows that no times satisfy.
 fn is_low(views: &Views, claim: i64) -> bool
-    ensures low { (net : Net) → AreViewsOf net views.now → IsTrue result → claim <ℤ neg_ℤ (pos (far_line net)) }
+    ensures low { (net : Net) → AreViewsOf net views.now → IsTrue result ↔ (claim <ℤ neg_ℤ (pos (far_line net))) }
 {
     claim < views.limits.lowest
 }
@@ -99,8 +117,10 @@ fn is_low(views: &Views, claim: i64) -> bool
 fn refuted_by(net: &Network, proof: Proof) -> Finding
     requires some { 0 < net.now.events }
     requires low { proof.claim <ℤ neg_ℤ (pos (far_line net.now)) }
+    requires fits { IsLong proof.claim }
     requires proof { IsProofAs proof.view net.now first_event first_event proof.claim proof.lines.items }
     ensures finding { IsFinding true net.now result }
+    ensures is { result ≡ Inconsistent proof }
 {
     // The network is within its limits.
     let _events = net.events();

@@ -1,5 +1,6 @@
-//! Job confirm: whether a text of job settle is right, without any search. The contract of the crate: an accepted text
-//! is a text of job settle with its proofs, whoever wrote it. A checker has taken each proof.
+//! Job confirm: whether a text of job settle is right, without any search. The contract of the crate: a text is accepted
+//! exactly where it is a text of job settle with its proofs, whoever wrote it, unless memory runs out. A checker has
+//! taken each proof of an accepted text.
 #![tactic(auto)]
 
 mod answer;

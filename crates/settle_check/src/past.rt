@@ -1,8 +1,14 @@
 //! Checking the times behind a verdict.
 
-ghost use Rattle.std.specs.Prelude.{◌≡◌, IfOk};
+ghost use Rattle.std.specs.Prelude.{◌≡◌, ◌++◌, ℕ, ℤ, [], if◌then◌else◌, IfOk, List, codes};
+ghost use Rattle.requirements.specs.declared.verdict.Verdict.TheVariants.{FailHigh, FailLow};
+ghost use Rattle.slack_report.specs.Entry.{times as entry_times, verdict as entry_verdict};
+ghost use Rattle.slack_report.specs.Text.{entry_text};
+ghost use Rattle.right_report.specs.Right.ReportState.{is_fail as is_fail_word};
 ghost use Rattle.settle_report.specs.Answers.{IsViolation, IsPastOf};
+ghost use Rattle.settle_report.specs.Text.{judged_text};
 ghost use Rattle.settle_report.specs.declared.row.RowFound.{RowFound};
+ghost use Rattle.settle_check.specs.Step.{Gives, IsSameBound};
 
 use crate::check_stop::CheckStop;
 use crate::reader::Reader;
@@ -26,6 +32,8 @@ pub fn past_next(
     reader: &mut Reader<'_>,
 ) -> Result<Vec<i64>, CheckStop>
     ensures past { IfOk result (λ past. (of_row : RowFound) → of_row ≡ record { greatest = greatest.now; least = least.now; past = past } → IsPastOf net.now row.now row.now.kind of_row) }
+    ensures read { (shown : RowFound) → (more : List ℕ) → IsPastOf net.now row.now row.now.kind shown → IsSameBound shown.greatest greatest.now
+        → IsSameBound shown.least least.now → reader.old.rest.now ≡ judged_text row.now.kind shown ++ more → Gives (λ past. past.items ≡ shown.past.items) result }
 {
     match row.kind {
         RowKind::Ask => Ok(Vec::new(alloc)),
@@ -46,6 +54,9 @@ fn broken_next(
     reader: &mut Reader<'_>,
 ) -> Result<Vec<i64>, CheckStop>
     ensures past { IfOk result (λ past. IsViolation net.now row.now range word past.items) }
+    ensures read { (past : List ℤ) → (more : List ℕ) → IsViolation net.now row.now range word past
+        → reader.old.rest.now ≡ entry_text (entry_verdict word) ++ ((if is_fail_word word then entry_text (entry_times past) else []) ++ more)
+        → Gives (λ found. found.items ≡ past) result }
 {
     if !is_fail(word) {
         return Ok(Vec::new(alloc));
@@ -60,7 +71,11 @@ fn broken_next(
     Ok(times)
 }
 
-fn fail_line(word: Verdict) -> &'static [u8] {
+// The line of a verdict that is a fail.
+fn fail_line(word: Verdict) -> &'static [u8]
+    ensures low { word ≡ FailLow → result.now ≡ codes "verdict fail low" }
+    ensures high { word ≡ FailHigh → result.now ≡ codes "verdict fail high" }
+{
     match word {
         Verdict::FailLow => b"verdict fail low",
         _ => b"verdict fail high",

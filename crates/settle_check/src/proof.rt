@@ -1,9 +1,15 @@
 //! Checking the proof of a pair, line by line.
 
-ghost use Rattle.std.specs.Prelude.{◌≡◌, ◌<◌, IfOk, IsTrue};
-ghost use Rattle.clauses.specs.Lines.{IsClauseProof};
+ghost use Rattle.std.specs.Prelude.{◌≡◌, ◌<◌, ◌^◌, ◌++◌, ℕ, IfOk, List, OnOk, length};
+ghost use Rattle.std.specs.List.{flat_map};
+ghost use Rattle.clauses.specs.Checking.{IsChecking};
+ghost use Rattle.clauses.specs.Lines.{IsClauseProof, IsOver};
+ghost use Rattle.line_words.specs.Numbers.{IsLong};
+ghost use Rattle.settle.specs.declared.line.StoredLine.{StoredLine};
 ghost use Rattle.settle.specs.Proofs.{IsProofAs, lines_of};
-ghost use Rattle.settle_check.specs.Step.{AreViewsOf, IsPairOf};
+ghost use Rattle.settle_lines.specs.Text.{clause_line_text, proof_text};
+ghost use Rattle.settle_report.specs.declared.proof.Proof.{Proof};
+ghost use Rattle.settle_check.specs.Step.{AreViewsOf, BeginsOther, Gives, IsPairOf, IsSameProof, IsShownProof};
 
 use crate::check_stop::CheckStop;
 use crate::pair::Pair;
@@ -28,6 +34,10 @@ pub fn proof_next(
     requires views { AreViewsOf net.now views.now }
     requires pair { IsPairOf net.now pair }
     ensures proof { IfOk result (λ proof. IsProofAs proof.view net.now pair.from pair.to proof.claim proof.lines.items) }
+    ensures fits { IfOk result (λ proof. IsLong proof.claim) }
+    ensures read { (shown : Proof) → (more : List ℕ) → IsShownProof net.now pair shown → BeginsOther more
+        → reader.old.rest.now ≡ proof_text shown.view shown.claim (lines_of shown.lines.items) ++ more
+        → Gives (λ proof. IsSameProof shown proof × (reader.new.rest.now ≡ more)) result }
 {
     let view = reader.view()?;
     reader.pass();
@@ -54,6 +64,9 @@ fn lines_as(
     requires views { AreViewsOf net.now views.now }
     requires pair { IsPairOf net.now pair }
     ensures proof { IfOk result (λ lines. IsProofAs view net.now pair.from pair.to claim.value lines.items) }
+    ensures read { (shown : List StoredLine) → (more : List ℕ) → IsProofAs view net.now pair.from pair.to claim.value shown → length shown < 2 ^ 32 → BeginsOther more
+        → reader.old.rest.now ≡ flat_map clause_line_text (lines_of shown) ++ more
+        → Gives (λ lines. (lines_of shown ≡ lines_of lines.items) × (reader.new.rest.now ≡ more)) result }
 {
     match view {
         View::Plain => lines_next(alloc, net, pair, claim, reader),
@@ -72,12 +85,17 @@ fn lines_next(
     requires pair { IsPairOf net.now pair }
     ensures proof { IfOk result (λ lines. IsClauseProof net.now (record { from = pair.from; to = pair.to; claim = claim.value })
         (lines_of lines.items)) }
+    ensures read { (shown : List StoredLine) → (more : List ℕ) → IsClauseProof net.now (record { from = pair.from; to = pair.to; claim = claim.value }) (lines_of shown)
+        → length shown < 2 ^ 32 → BeginsOther more → reader.old.rest.now ≡ flat_map clause_line_text (lines_of shown) ++ more
+        → Gives (λ lines. (lines_of shown ≡ lines_of lines.items) × (reader.new.rest.now ≡ more)) result }
 {
+    // The network is within its limits.
+    let _events = net.events();
     let mut checker = ClauseChecker::new(alloc, net, pair.from, pair.to, claim)?;
     let mut lines = Vec::new(alloc);
-    for _ in 0..reader.left() {
+    for _number in 0..reader.left() {
         let Some(line) = reader.clause(alloc)? else {
-            break;
+            return ended(net, &checker, lines, reader);
         };
         if !take_line(alloc, net, &mut checker, &line)? {
             return Err(reader.refused());
@@ -85,6 +103,21 @@ fn lines_next(
         lines.push(line)?;
         reader.pass();
     }
+    ended(net, &checker, lines, reader)
+}
+
+// The lines that a checker has taken, if they are a proof. Otherwise the line that stands next is refused.
+fn ended(
+    net: &Network,
+    checker: &ClauseChecker,
+    lines: Vec<StoredLine>,
+    reader: &Reader<'_>,
+) -> Result<Vec<StoredLine>, CheckStop>
+    requires checking { IsChecking net.now checker.now }
+    ensures over { OnOk result (IsOver net.now checker.now.goal checker.now.state) }
+    ensures same { IfOk result (λ found. found.items ≡ lines.items) }
+    ensures given { IsOver net.now checker.now.goal checker.now.state → Gives (λ found. found.items ≡ lines.items) result }
+{
     if !checker.is_over(net) {
         return Err(reader.refused());
     }

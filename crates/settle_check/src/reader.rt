@@ -1,11 +1,29 @@
 //! Reading the lines of a text, one after another.
 
+ghost use Rattle.std.specs.Prelude.{◌≡◌, ◌∷◌, ◌↔◌, ◌≤◌, ℕ, ℤ, [], All, Bool, IfOk, IfSome, IsFalse, IsSomeAnd, IsTrue, List, Some, codes, drop, length, map, option_map};
+ghost use Rattle.std.specs.List.{position_or_len};
+ghost use Rattle.std.specs.Str.{IsUtf8};
+ghost use Rattle.itv_base.specs.Numerals.{number_text, signed_text};
+ghost use Rattle.line_words.specs.Lines.{ended, is_feed};
+ghost use Rattle.line_words.specs.Numbers.{IsLong, long_in};
+ghost use Rattle.line_words.specs.Views.{texts};
+ghost use Rattle.line_words.specs.Words.{Word, is_word, keyed, many, one};
+ghost use Rattle.falling.specs.declared.view.View.{View};
+ghost use Rattle.clauses.specs.Lines.{ClauseLine};
+ghost use Rattle.settle.specs.Proofs.{line_of};
+ghost use Rattle.settle_lines.specs.Text.{SpellsClause, claim_text, view_text};
+ghost use Rattle.slack_report.specs.Reading.{flags_in};
+ghost use Rattle.slack_report.specs.Step.Cuts.{stands_first};
+ghost use Rattle.slack_report.specs.Text.{members_from, which_word};
+ghost use Rattle.settle_check.specs.Step.{Begins, BeginsWith, Gives, IsCutAs};
+
 use crate::check_stop::CheckStop;
 use certificate::LineFault;
 use clauses::Claim;
 use falling::View;
-use itv_base::NoMemory;
-use line_words::{behind_word, long_in, only_word, short_in, split_words};
+use itoa::Buffer;
+use itv_base::{NoMemory, number_text};
+use line_words::{behind_word, long_in, only_word, split_words};
 use settle::StoredLine;
 use settle_lines::{read_claim, read_clause_line, read_view};
 use slack_report::Which;
@@ -20,14 +38,18 @@ pub struct Reader<'a> {
 
 impl<'a> Reader<'a> {
     /// A reader from a place of a text on.
-    pub fn new(text: &'a [u8], place: usize) -> Reader<'a> {
+    pub fn new(text: &'a [u8], place: usize) -> Reader<'a>
+        ensures rest { place ≤ length text.now → result.rest.now ≡ drop place text.now }
+    {
         Reader {
             rest: text.get(place..).unwrap_or(b""),
         }
     }
 
     /// How many bytes are left. There are at most as many lines.
-    pub fn left(&self) -> usize {
+    pub fn left(&self) -> usize
+        ensures left { result ≡ length self.now.rest.now }
+    {
         self.rest.len()
     }
 
@@ -37,32 +59,51 @@ impl<'a> Reader<'a> {
     }
 
     /// Goes behind the line that stands next.
-    pub fn pass(&mut self) {
-        self.rest = match cut_line(self.rest) {
-            Some((_, behind)) => behind,
-            None => b"",
-        };
+    pub fn pass(&mut self)
+        ensures passed { (line more : List ℕ) → Begins self.old.rest.now line more → self.new.rest.now ≡ more }
+    {
+        self.rest = after_line(self.rest);
     }
 
     /// Whether this line stands next. If it does, goes behind it.
-    pub fn passes(&mut self, line: &[u8]) -> bool {
-        let is_next = cut_line(self.rest).is_some_and(|(next, _)| next == line);
-        if is_next {
-            self.pass();
+    pub fn passes(&mut self, line: &[u8]) -> bool
+        ensures stands { (next more : List ℕ) → Begins self.old.rest.now next more → IsTrue result ↔ (next ≡ line.now) }
+        ensures passed { (next more : List ℕ) → Begins self.old.rest.now next more → IsTrue result → self.new.rest.now ≡ more }
+        ensures stays { IsFalse result → self.new.rest.now ≡ self.old.rest.now }
+    {
+        if !self.stands(line) {
+            return false;
         }
-        is_next
+        self.pass();
+        true
+    }
+
+    // Whether this line stands next.
+    fn stands(&self, line: &[u8]) -> bool
+        ensures stands { (next more : List ℕ) → Begins self.now.rest.now next more → IsTrue result ↔ (next ≡ line.now) }
+    {
+        match next_line(self.rest) {
+            Some(next) => next == line,
+            None => false,
+        }
     }
 
     /// The line that stands next, if it is a line of a proof.
-    pub fn clause(&self, alloc: Global) -> Result<Option<StoredLine>, NoMemory> {
-        match cut_line(self.rest) {
-            Some((line, _)) => clause_in(alloc, line),
+    pub fn clause(&self, alloc: Global) -> Result<Option<StoredLine>, NoMemory>
+        ensures some { (text more : List ℕ) → Begins self.now.rest.now text more → IfOk result (λ o. IfSome o (λ line. SpellsClause text (line_of line))) }
+        ensures read { (text more : List ℕ) → (line : ClauseLine) → Begins self.now.rest.now text more → SpellsClause text line
+            → IfOk result (λ o. IsSomeAnd o (λ read. line_of read ≡ line)) }
+    {
+        match next_line(self.rest) {
+            Some(line) => clause_in(alloc, line),
             None => Ok(None),
         }
     }
 
     /// The view that stands next, at the front of a proof.
-    pub fn view(&self) -> Result<View, CheckStop> {
+    pub fn view(&self) -> Result<View, CheckStop>
+        ensures read { (text more : List ℕ) → (view : View) → Begins self.now.rest.now text more → ended text ≡ view_text view → Gives (λ found. found ≡ view) result }
+    {
         match view_in(self.rest) {
             Some(view) => Ok(view),
             None => Err(self.refused()),
@@ -70,7 +111,11 @@ impl<'a> Reader<'a> {
     }
 
     /// The claim that stands next, in picoseconds.
-    pub fn claim(&self) -> Result<Claim, CheckStop> {
+    pub fn claim(&self) -> Result<Claim, CheckStop>
+        ensures read { (text more : List ℕ) → (claim : ℤ) → Begins self.now.rest.now text more → ended text ≡ claim_text claim → IsLong claim
+            → Gives (λ found. found.value ≡ claim) result }
+        ensures fits { IfOk result (λ found. IsLong found.value) }
+    {
         match claim_in(self.rest) {
             Some(claim) => Ok(claim),
             None => Err(self.refused()),
@@ -78,7 +123,10 @@ impl<'a> Reader<'a> {
     }
 
     /// The number of the bound that stands next, in picoseconds.
-    pub fn number(&self, alloc: Global, which: Which) -> Result<i64, CheckStop> {
+    pub fn number(&self, alloc: Global, which: Which) -> Result<i64, CheckStop>
+        ensures read { (value : ℤ) → (more : List ℕ) → BeginsWith self.now.rest.now (which_word which ∷ signed_text value ∷ []) more → IsLong value
+            → Gives (λ found. found ≡ value) result }
+    {
         let words = self.words(alloc)?;
         match number_behind(&words, which_word(which)) {
             Some(value) => Ok(value),
@@ -87,7 +135,10 @@ impl<'a> Reader<'a> {
     }
 
     /// The times that stand next, in picoseconds.
-    pub fn times(&self, alloc: Global) -> Result<Vec<i64>, CheckStop> {
+    pub fn times(&self, alloc: Global) -> Result<Vec<i64>, CheckStop>
+        ensures read { (times : List ℤ) → (more : List ℕ) → BeginsWith self.now.rest.now (codes "times" ∷ map signed_text times) more → All IsLong times
+            → Gives (λ found. found.items ≡ times) result }
+    {
         let words = self.words(alloc)?;
         match times_in(alloc, &words)? {
             Some(times) => Ok(times),
@@ -96,7 +147,10 @@ impl<'a> Reader<'a> {
     }
 
     /// For each event whether it is in the set to raise that stands next.
-    pub fn raised(&self, alloc: Global, events: u32) -> Result<Vec<bool>, CheckStop> {
+    pub fn raised(&self, alloc: Global, events: u32) -> Result<Vec<bool>, CheckStop>
+        ensures read { (set : List Bool) → (more : List ℕ) → BeginsWith self.now.rest.now (codes "raise" ∷ members_from 0 set) more → length set ≡ events
+            → Gives (λ found. found.items ≡ set) result }
+    {
         let words = self.words(alloc)?;
         match raised_in(alloc, events, &words)? {
             Some(set) => Ok(set),
@@ -105,7 +159,9 @@ impl<'a> Reader<'a> {
     }
 
     // The words of the line that stands next.
-    fn words(&self, alloc: Global) -> Result<Vec<&'a str>, CheckStop> {
+    fn words(&self, alloc: Global) -> Result<Vec<&'a str>, CheckStop>
+        ensures words { (words : List Word) → (more : List ℕ) → BeginsWith self.now.rest.now words more → Gives (λ found. texts found.items ≡ words) result }
+    {
         match text_line(self.rest) {
             Some(line) => Ok(split_words(alloc, line)?),
             None => Err(self.refused()),
@@ -113,23 +169,60 @@ impl<'a> Reader<'a> {
     }
 }
 
+// How many bytes stand before the first line end.
+fn line_len(text: &[u8]) -> usize
+    ensures len { result ≡ position_or_len is_feed text.now }
+    ensures within { result ≤ length text.now }
+{
+    text.iter().take_while(|b| **b != b'\n').count()
+}
+
 // The first line of a text without its end, and the text behind it. None if no line ends.
-fn cut_line(text: &[u8]) -> Option<(&[u8], &[u8])> {
-    let len = text.iter().take_while(|b| **b != b'\n').count();
+fn cut_line(text: &[u8]) -> Option<(&[u8], &[u8])>
+    ensures cut { (line more : List ℕ) → Begins text.now line more → IsCutAs result line more }
+{
+    let len = line_len(text);
     if len == text.len() {
         return None;
     }
     Some((&text[..len], &text[len + 1..]))
 }
 
+// The first line of a text without its end.
+fn next_line(text: &[u8]) -> Option<&[u8]>
+    ensures next { (line more : List ℕ) → Begins text.now line more → IsSomeAnd result (λ next. next.now ≡ line) }
+{
+    match cut_line(text) {
+        Some((line, _)) => Some(line),
+        None => None,
+    }
+}
+
+// The text behind its first line.
+fn after_line(text: &[u8]) -> &[u8]
+    ensures after { (line more : List ℕ) → Begins text.now line more → result.now ≡ more }
+{
+    match cut_line(text) {
+        Some((_, behind)) => behind,
+        None => b"",
+    }
+}
+
 // The first line of bytes, if it is UTF-8.
-fn text_line(bytes: &[u8]) -> Option<&str> {
-    let (line, _) = cut_line(bytes)?;
-    str::from_utf8(line).ok()
+fn text_line(bytes: &[u8]) -> Option<&str>
+    ensures line { (line more : List ℕ) → Begins bytes.now line more → IsUtf8 line → IsSomeAnd result (λ text. text.now ≡ line) }
+{
+    match str::from_utf8(next_line(bytes)?) {
+        Ok(line) => Some(line),
+        Err(_) => None,
+    }
 }
 
 // The line of a proof, if the text is one.
-fn clause_in(alloc: Global, line: &[u8]) -> Result<Option<StoredLine>, NoMemory> {
+fn clause_in(alloc: Global, line: &[u8]) -> Result<Option<StoredLine>, NoMemory>
+    ensures some { IfOk result (λ o. IfSome o (λ read. SpellsClause line.now (line_of read))) }
+    ensures read { (l : ClauseLine) → SpellsClause line.now l → IfOk result (λ o. IsSomeAnd o (λ read. line_of read ≡ l)) }
+{
     match read_clause_line(alloc, line) {
         Ok(line) => Ok(Some(line)),
         Err(LineFault::BadLine) => Ok(None),
@@ -138,18 +231,30 @@ fn clause_in(alloc: Global, line: &[u8]) -> Result<Option<StoredLine>, NoMemory>
 }
 
 // The view, if the first line of a text is one.
-fn view_in(text: &[u8]) -> Option<View> {
-    let (line, _) = cut_line(text)?;
-    read_view(line)
+fn view_in(text: &[u8]) -> Option<View>
+    ensures view { (line more : List ℕ) → (view : View) → Begins text.now line more → ended line ≡ view_text view → result ≡ Some view }
+{
+    match next_line(text) {
+        Some(line) => read_view(line),
+        None => None,
+    }
 }
 
 // The claim, if the first line of a text is one.
-fn claim_in(text: &[u8]) -> Option<Claim> {
-    let (line, _) = cut_line(text)?;
-    read_claim(line)
+fn claim_in(text: &[u8]) -> Option<Claim>
+    ensures claim { (line more : List ℕ) → (claim : ℤ) → Begins text.now line more → ended line ≡ claim_text claim → IsLong claim
+        → IsSomeAnd result (λ found. found.value ≡ claim) }
+    ensures fits { IfSome result (λ found. IsLong found.value) }
+{
+    match next_line(text) {
+        Some(line) => read_claim(line),
+        None => None,
+    }
 }
 
-fn which_word(which: Which) -> &'static str {
+fn which_word(which: Which) -> &'static str
+    ensures { result.now ≡ which_word which }
+{
     match which {
         Which::Max => "max",
         Which::Min => "min",
@@ -157,19 +262,25 @@ fn which_word(which: Which) -> &'static str {
 }
 
 // The number behind a word, if there are no other words.
-fn number_behind(words: &[&str], key: &str) -> Option<i64> {
+fn number_behind(words: &[&str], key: &str) -> Option<i64>
+    ensures { result ≡ keyed key.now (one long_in) (texts words.now) }
+{
     long_in(only_word(behind_word(words, key)?)?)
 }
 
 // The numbers behind the word `times`.
-fn times_in(alloc: Global, words: &[&str]) -> Result<Option<Vec<i64>>, NoMemory> {
+fn times_in(alloc: Global, words: &[&str]) -> Result<Option<Vec<i64>>, NoMemory>
+    ensures { IfOk result (λ o. option_map (λ v. v.items) o ≡ keyed (codes "times") (many long_in) (texts words.now)) }
+{
     match behind_word(words, "times") {
         Some(words) => numbers_in(alloc, words),
         None => Ok(None),
     }
 }
 
-fn numbers_in(alloc: Global, words: &[&str]) -> Result<Option<Vec<i64>>, NoMemory> {
+fn numbers_in(alloc: Global, words: &[&str]) -> Result<Option<Vec<i64>>, NoMemory>
+    ensures { IfOk result (λ o. option_map (λ v. v.items) o ≡ many long_in (texts words.now)) }
+{
     let mut numbers = Vec::new(alloc);
     for word in words {
         let Some(number) = long_in(word) else {
@@ -180,24 +291,48 @@ fn numbers_in(alloc: Global, words: &[&str]) -> Result<Option<Vec<i64>>, NoMemor
     Ok(Some(numbers))
 }
 
-// The set of the events behind the word `raise`. Each number is below the number of events.
-fn raised_in(alloc: Global, events: u32, words: &[&str]) -> Result<Option<Vec<bool>>, NoMemory> {
+// The set of the events behind the word `raise`.
+fn raised_in(alloc: Global, events: u32, words: &[&str]) -> Result<Option<Vec<bool>>, NoMemory>
+    ensures { IfOk result (λ o. option_map (λ v. v.items) o ≡ keyed (codes "raise") (flags_in events 0) (texts words.now)) }
+{
     match behind_word(words, "raise") {
         Some(words) => flags_in(alloc, events, words),
         None => Ok(None),
     }
 }
 
-fn flags_in(alloc: Global, events: u32, words: &[&str]) -> Result<Option<Vec<bool>>, NoMemory> {
-    let mut set = vec![in alloc; false; events as usize]?;
-    for word in words {
-        let Some(event) = short_in(word) else {
-            return Ok(None);
-        };
-        match set.get_mut(event as usize) {
-            Some(is_in) => *is_in = true,
-            None => return Ok(None),
+// For each of `count` events whether it is in a set. The words are the numbers of the events in the set, in their
+// order. None if a word is left.
+fn flags_in(alloc: Global, count: u32, words: &[&str]) -> Result<Option<Vec<bool>>, NoMemory>
+    ensures { IfOk result (λ o. option_map (λ v. v.items) o ≡ flags_in count 0 (texts words.now)) }
+{
+    let mut set = Vec::new(alloc);
+    let mut at = 0;
+    for number in 0..count {
+        let is_in = stands_at(words, at, number);
+        set.push(is_in)?;
+        if is_in {
+            at += 1;
         }
     }
+    if at < words.len() {
+        return Ok(None);
+    }
     Ok(Some(set))
+}
+
+// Whether the word at a place is the text of a number.
+fn stands_at(words: &[&str], at: usize, number: u32) -> bool
+    requires { at ≤ length words.now }
+    ensures { result ≡ stands_first (number_text number) (texts (drop at words.now)) }
+{
+    at < words.len() && is_number(words[at], number)
+}
+
+// Whether a word is the text of a number.
+fn is_number(word: &str, number: u32) -> bool
+    ensures { result ≡ is_word word.now (number_text number) }
+{
+    let mut digits = Buffer::new();
+    word == number_text(u64::from(number), &mut digits)
 }

@@ -1,13 +1,15 @@
 //! Times, and checks of them.
 
-ghost use Rattle.std.specs.Prelude.{◌≡◌, ◌↔◌, pos, IsTrue, IfOk, All, length};
+ghost use Rattle.std.specs.Prelude.{◌≡◌, ◌↔◌, ◌++◌, ℕ, ℤ, List, pos, IsTrue, IfOk, All, length};
 ghost use Rattle.event_graph.specs.Limits.{IsPrintedTime};
 ghost use Rattle.event_graph.specs.Satisfying.{Satisfies};
 ghost use Rattle.event_graph.specs.Times.{separation, time_of};
 ghost use Rattle.drawn.specs.Drawn.{IsRowOf};
 ghost use Rattle.right_report.specs.Right.LineClaims.{BreaksEnd};
 ghost use Rattle.settle_report.specs.Answers.{ArePrintedTimes, CanRise};
-ghost use Rattle.settle_check.specs.Step.{AreShownTimes};
+ghost use Rattle.slack_report.specs.Entry.{times as entry_times};
+ghost use Rattle.slack_report.specs.Text.{entry_text};
+ghost use Rattle.settle_check.specs.Step.{AreShownTimes, Gives};
 
 use crate::check_stop::CheckStop;
 use crate::reader::Reader;
@@ -29,6 +31,8 @@ pub fn row_times_next(
     reader: &Reader<'_>,
 ) -> Result<Vec<i64>, CheckStop>
     ensures times { IfOk result (λ times. ArePrintedTimes net.now row.now.from times.items) }
+    ensures read { (times : List ℤ) → (more : List ℕ) → ArePrintedTimes net.now row.now.from times → reader.now.rest.now ≡ entry_text (entry_times times) ++ more
+        → Gives (λ found. found.items ≡ times) result }
 {
     let times = reader.times(alloc)?;
     if !are_row_times(net, row, &times) {
@@ -39,14 +43,14 @@ pub fn row_times_next(
 
 // Whether times can be printed, satisfy the network, and have the from-event of a row at 0.
 fn are_row_times(net: &Network, row: &Row, times: &[i64]) -> bool
-    ensures times { IsTrue result → ArePrintedTimes net.now row.now.from times.now }
+    ensures times { IsTrue result ↔ ArePrintedTimes net.now row.now.from times.now }
 {
     are_printed(net, times) && time_of(times, row.from) == 0
 }
 
 /// Whether times can be printed and satisfy a network.
 pub fn are_printed(net: &Network, times: &[i64]) -> bool
-    ensures printed { IsTrue result → AreShownTimes net.now times.now }
+    ensures printed { IsTrue result ↔ AreShownTimes net.now times.now }
 {
     times.len() == net.events() as usize && are_within(times) && satisfy(net, times)
 }
@@ -67,7 +71,7 @@ fn is_within(time: i64) -> bool
 fn satisfy(net: &Network, times: &[i64]) -> bool
     requires count { length times.now ≡ net.now.events }
     requires printed { All IsPrintedTime times.now }
-    ensures satisfied { IsTrue result → Satisfies times.now net.now }
+    ensures satisfied { IsTrue result ↔ Satisfies times.now net.now }
 {
     net.broken(times).is_none()
 }
@@ -75,7 +79,7 @@ fn satisfy(net: &Network, times: &[i64]) -> bool
 /// Whether times of a row have this separation, in picoseconds.
 pub fn attain(row: &Row, value: i64, times: &[i64]) -> bool
     requires zero { time_of times.now row.now.from ≡ pos 0 }
-    ensures attained { IsTrue result → separation times.now row.now.from row.now.to ≡ value }
+    ensures attained { IsTrue result ↔ (separation times.now row.now.from row.now.to ≡ value) }
 {
     separation(row, times) == value
 }
@@ -83,7 +87,7 @@ pub fn attain(row: &Row, value: i64, times: &[i64]) -> bool
 /// Whether times of a row break the end of a range that a verdict names.
 pub fn break_end(row: &Row, range: Range, word: Verdict, times: &[i64]) -> bool
     requires zero { time_of times.now row.now.from ≡ pos 0 }
-    ensures breaks { IsTrue result → BreaksEnd row.now range word times.now }
+    ensures breaks { IsTrue result ↔ BreaksEnd row.now range word times.now }
 {
     let reached = separation(row, times);
     match word {
@@ -106,7 +110,7 @@ fn separation(row: &Row, times: &[i64]) -> i64
 pub fn can_rise(net: &Network, which: Which, row: &Row, times: &[i64], set: &[bool]) -> bool
     requires row { IsRowOf net.now row.now }
     requires times { ArePrintedTimes net.now row.now.from times.now }
-    ensures raised { IsTrue result → CanRise which net.now row.now times.now set.now }
+    ensures raised { IsTrue result ↔ CanRise which net.now row.now times.now set.now }
 {
     if set.len() != net.events() as usize {
         return false;

@@ -10,7 +10,7 @@ use Rattle.clap.specs.declared.error.kind.ErrorKind.{ErrorKind}
 use Rattle.clap.specs.declared.error.kind.ErrorKind.TheVariants.{DisplayHelp}
 use Rattle.itv_base.specs.declared.limits.TheConstants.{DEFAULT_BUDGET, MAX_BUDGET, MAX_SELF_SIZE}
 use Rattle.words.specs.Command.{command}
-use Rattle.words.specs.Task.{IsBudget, IsSize, IsWithinLimits, KeepsLimits, Task, answer_by, answer_for, bounds, brief, budget_of, check, confirm, fall, generated, generated_of, lint, matrix, matrix_of, number_in, reading, redraw, refusal_for, searching, searching_only, settle, size_of, taken, task_named, task_of, wants_proofs, whatif, whatif_of, why}
+use Rattle.words.specs.Task.{IsBudget, IsSize, IsWithinLimits, KeepsLimits, Task, answer_by, answer_for, bounds, brief, budget_of, check, confirm, fall, generated, generated_of, has_flag, lint, matrix, matrix_of, number_in, reading, redraw, refusal_for, searching, searching_if, searching_only, settle, size_of, taken, task_named, task_of, whatif, whatif_of, why}
 use Rattle.words.proofs.Numbers.{number_limits}
 
 budget_limits : (given : Option Text) → IfSome (option_map_or (number_in MAX_BUDGET) given (Some DEFAULT_BUDGET)) IsBudget
@@ -30,11 +30,11 @@ size_limits (Some text) = go (number_in MAX_SELF_SIZE text) (number_limits MAX_S
     go (Some n) h = record { low = h.0; high = h.1 }
 
 -- ---- the tasks
-searching_limits : (job : Text → ℕ → Bool → Task) (proofs : Bool) (design : Option Text) (budget : Option ℕ) → ((d : Text) (b : ℕ) → IsBudget b → IsWithinLimits (job d b proofs))
-    → IfSome budget IsBudget → IfSome (option_and_then (λ (d : Text). option_map (λ (b : ℕ). job d b proofs) budget) design) IsWithinLimits
-searching_limits job proofs None budget by within = tt
-searching_limits job proofs (Some d) None by within = tt
-searching_limits job proofs (Some d) (Some b) by within = by d b within
+searching_limits : (job : Text → ℕ → Task) (design : Option Text) (budget : Option ℕ) → ((d : Text) (b : ℕ) → IsBudget b → IsWithinLimits (job d b))
+    → IfSome budget IsBudget → IfSome (option_and_then (λ (d : Text). option_map (job d) budget) design) IsWithinLimits
+searching_limits job None budget by within = tt
+searching_limits job (Some d) None by within = tt
+searching_limits job (Some d) (Some b) by within = by d b within
 
 matrix_limits : (design : Option Text) → IfSome (option_map matrix design) IsWithinLimits
 matrix_limits None = tt
@@ -66,18 +66,18 @@ named_limits : (rows : List Row) (name : Option Text) → IfSome (option_and_the
 named_limits rows None = tt
 named_limits rows (Some name) =
     let budgets : IfSome (budget_of rows) IsBudget = budget_limits (first_of (codes "budget") rows) in
-    by_name (bytes_eq name (codes "bounds")) (searching bounds rows) _ (searching_limits bounds (wants_proofs rows) (first_of (codes "design") rows) (budget_of rows) (λ d b within. within) budgets)
+    by_name (bytes_eq name (codes "bounds")) (searching bounds rows) _ (searching_limits (λ d b. bounds d b (has_flag (codes "cert") rows)) (first_of (codes "design") rows) (budget_of rows) (λ d b within. within) budgets)
     (by_name (bytes_eq name (codes "matrix")) (matrix_of rows) _ (matrix_limits (first_of (codes "design") rows))
     (by_name (bytes_eq name (codes "check")) (reading check rows) _ (reading_limits check (first_of (codes "design") rows) (first_of (codes "report") rows) (λ d r. tt))
     (by_name (bytes_eq name (codes "self")) (generated_of rows) _ (generated_limits (size_of rows) (budget_of rows) (size_limits (first_of (codes "size") rows)) budgets)
-    (by_name (bytes_eq name (codes "fall")) (searching fall rows) _ (searching_limits fall (wants_proofs rows) (first_of (codes "design") rows) (budget_of rows) (λ d b within. within) budgets)
-    (by_name (bytes_eq name (codes "redraw")) (searching_only redraw rows) _ (searching_limits (λ d b proofs. redraw d b) (wants_proofs rows) (first_of (codes "design") rows) (budget_of rows) (λ d b within. within) budgets)
+    (by_name (bytes_eq name (codes "fall")) (searching fall rows) _ (searching_limits (λ d b. fall d b (has_flag (codes "cert") rows)) (first_of (codes "design") rows) (budget_of rows) (λ d b within. within) budgets)
+    (by_name (bytes_eq name (codes "redraw")) (searching_only redraw rows) _ (searching_limits redraw (first_of (codes "design") rows) (budget_of rows) (λ d b within. within) budgets)
     (by_name (bytes_eq name (codes "whatif")) (whatif_of rows) _ (whatif_limits (first_of (codes "design") rows) (first_of (codes "edits") rows) (budget_of rows) budgets)
-    (by_name (bytes_eq name (codes "settle")) (searching settle rows) _ (searching_limits settle (wants_proofs rows) (first_of (codes "design") rows) (budget_of rows) (λ d b within. within) budgets)
+    (by_name (bytes_eq name (codes "settle")) (searching settle rows) _ (searching_limits (λ d b. settle d b (has_flag (codes "cert") rows)) (first_of (codes "design") rows) (budget_of rows) (λ d b within. within) budgets)
     (by_name (bytes_eq name (codes "confirm")) (reading confirm rows) _ (reading_limits confirm (first_of (codes "design") rows) (first_of (codes "report") rows) (λ d r. tt))
-    (by_name (bytes_eq name (codes "why")) (searching_only why rows) _ (searching_limits (λ d b proofs. why d b) (wants_proofs rows) (first_of (codes "design") rows) (budget_of rows) (λ d b within. within) budgets)
-    (by_name (bytes_eq name (codes "brief")) (searching_only brief rows) _ (searching_limits (λ d b proofs. brief d b) (wants_proofs rows) (first_of (codes "design") rows) (budget_of rows) (λ d b within. within) budgets)
-    (by_name (bytes_eq name (codes "lint")) (searching_only lint rows) None (searching_limits (λ d b proofs. lint d b) (wants_proofs rows) (first_of (codes "design") rows) (budget_of rows) (λ d b within. within) budgets) tt)))))))))))
+    (by_name (bytes_eq name (codes "why")) (searching_only why rows) _ (searching_limits why (first_of (codes "design") rows) (budget_of rows) (λ d b within. within) budgets)
+    (by_name (bytes_eq name (codes "brief")) (searching_if (codes "csv") brief rows) _ (searching_limits (λ d b. brief d b (has_flag (codes "csv") rows)) (first_of (codes "design") rows) (budget_of rows) (λ d b within. within) budgets)
+    (by_name (bytes_eq name (codes "lint")) (searching_only lint rows) None (searching_limits lint (first_of (codes "design") rows) (budget_of rows) (λ d b within. within) budgets) tt)))))))))))
 
 task_limits : (task : Option Task) → IfSome task IsWithinLimits → KeepsLimits (answer_for task)
 task_limits None within = tt

@@ -1,4 +1,4 @@
--- The command line of the program, as `clap` gets it: `itv [--job JOB] [--budget N] [--cert] [--report FILE] [--edits FILE] [--size N] [DESIGN]`.
+-- The command line of the program, as `clap` gets it: `itv [--job JOB] [--budget N] [--cert] [--csv] [--report FILE] [--edits FILE] [--size N] [DESIGN]`.
 use Rattle.std.specs.Prelude.{ℕ, List, [], ◌∷◌, Some, true, codes}
 use Rattle.itv_base.specs.declared.limits.TheConstants.{MAX_BUDGET, MAX_SELF_SIZE}
 use Rattle.clap.specs.Simple.{App, new_app, new_rule, on_top, with_rule}
@@ -20,8 +20,15 @@ job_rule = record (text_rule (codes "job")) { defaults = codes "bounds" ∷ [] }
 abbrev pub budget_rule : Rule
 budget_rule = number_rule (codes "budget") MAX_BUDGET
 
+-- an option without a value
+abbrev pub flag_rule : List ℕ → Rule
+flag_rule name = record (new_rule name) { long = Some name; action = Some SetTrue }
+
 abbrev pub cert_rule : Rule
-cert_rule = record (new_rule (codes "cert")) { long = Some (codes "cert"); action = Some SetTrue }
+cert_rule = flag_rule (codes "cert")
+
+abbrev pub csv_rule : Rule
+csv_rule = flag_rule (codes "csv")
 
 abbrev pub report_rule : Rule
 report_rule = text_rule (codes "report")
@@ -40,4 +47,6 @@ abbrev pub bare_command : App
 bare_command = on_top (λ top. record top { no_binary_name = true }) (new_app (codes "itv"))
 
 abbrev pub command : App
-command = with_rule (with_rule (with_rule (with_rule (with_rule (with_rule (with_rule bare_command job_rule) budget_rule) cert_rule) report_rule) edits_rule) size_rule) design_rule
+command =
+    with_rule (with_rule (with_rule (with_rule (with_rule (with_rule (with_rule (with_rule bare_command job_rule) budget_rule) cert_rule) csv_rule) report_rule) edits_rule)
+    size_rule) design_rule

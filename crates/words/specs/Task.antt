@@ -14,14 +14,14 @@ use Rattle.clap.specs.declared.error.kind.ErrorKind.TheVariants.{DisplayHelp}
 use Rattle.words.specs.Command.{command}
 
 -- a job with what it needs, in this order: the name of the design and of the report or the edits, or the size of the generated design; the budget of
--- each search; and whether proofs are wanted
+-- each search; and whether proofs are wanted, or of job brief whether a table is
 pub data Task : Type 0 where
   bounds : Text → ℕ → Bool → Task
   fall : Text → ℕ → Bool → Task
   settle : Text → ℕ → Bool → Task
   redraw : Text → ℕ → Task
   why : Text → ℕ → Task
-  brief : Text → ℕ → Task
+  brief : Text → ℕ → Bool → Task
   lint : Text → ℕ → Task
   matrix : Text → Task
   check : Text → Text → Task
@@ -47,16 +47,21 @@ budget_of rows = option_map_or (number_in MAX_BUDGET) (first_of (codes "budget")
 abbrev pub size_of : List Row → Option ℕ
 size_of rows = option_and_then (number_in MAX_SELF_SIZE) (first_of (codes "size") rows)
 
-abbrev pub wants_proofs : List Row → Bool
-wants_proofs rows = option_map_or (λ text. bytes_eq text (codes "true")) (first_of (codes "cert") rows) false
+-- an option without a value is there
+abbrev pub has_flag : Text → List Row → Bool
+has_flag name rows = option_map_or (λ text. bytes_eq text (codes "true")) (first_of name rows) false
+
+-- a job with the name of the design and the budget
+abbrev pub searching_only : (Text → ℕ → Task) → List Row → Option Task
+searching_only job rows = option_and_then (λ design. option_map (job design) (budget_of rows)) (first_of (codes "design") rows)
+
+-- the same with whether an option is there
+abbrev pub searching_if : Text → (Text → ℕ → Bool → Task) → List Row → Option Task
+searching_if name job rows = searching_only (λ design budget. job design budget (has_flag name rows)) rows
 
 -- a job with the name of the design, the budget and whether proofs are wanted
 abbrev pub searching : (Text → ℕ → Bool → Task) → List Row → Option Task
-searching job rows = option_and_then (λ design. option_map (λ budget. job design budget (wants_proofs rows)) (budget_of rows)) (first_of (codes "design") rows)
-
--- a job with the name of the design and the budget; whether proofs are wanted is passed over
-abbrev pub searching_only : (Text → ℕ → Task) → List Row → Option Task
-searching_only job rows = searching (λ design budget proofs. job design budget) rows
+searching job rows = searching_if (codes "cert") job rows
 
 abbrev pub matrix_of : List Row → Option Task
 matrix_of rows = option_map matrix (first_of (codes "design") rows)
@@ -85,7 +90,7 @@ task_named rows name =
     else (if bytes_eq name (codes "settle") then searching settle rows
     else (if bytes_eq name (codes "confirm") then reading confirm rows
     else (if bytes_eq name (codes "why") then searching_only why rows
-    else (if bytes_eq name (codes "brief") then searching_only brief rows
+    else (if bytes_eq name (codes "brief") then searching_if (codes "csv") brief rows
     else (if bytes_eq name (codes "lint") then searching_only lint rows
     else None)))))))))))
 
@@ -130,7 +135,7 @@ IsWithinLimits (fall design budget proofs) = IsBudget budget
 IsWithinLimits (settle design budget proofs) = IsBudget budget
 IsWithinLimits (redraw design budget) = IsBudget budget
 IsWithinLimits (why design budget) = IsBudget budget
-IsWithinLimits (brief design budget) = IsBudget budget
+IsWithinLimits (brief design budget csv) = IsBudget budget
 IsWithinLimits (lint design budget) = IsBudget budget
 IsWithinLimits (matrix design) = Unit {0}
 IsWithinLimits (check design report) = Unit {0}

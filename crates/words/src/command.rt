@@ -3,7 +3,7 @@
 ghost use Rattle.std.specs.Prelude.{◌≡◌, IfOk, false, codes};
 ghost use Rattle.clap.specs.Simple.{app_of};
 ghost use Rattle.clap.specs.Walk.{rule_of};
-ghost use Rattle.words.specs.Command.{bare_command, cert_rule, command, design_rule, job_rule, number_rule, text_rule};
+ghost use Rattle.words.specs.Command.{bare_command, command, design_rule, flag_rule, job_rule, number_rule, text_rule};
 
 use clap::builder::ValueParser;
 use clap::{Arg, ArgAction, Command};
@@ -79,14 +79,15 @@ fn job_option<'a>(alloc: Global) -> Arg<'a>
     .default_value("bounds")
 }
 
-fn cert_flag<'a>(alloc: Global) -> Arg<'a>
-    ensures rule { rule_of result ≡ cert_rule }
+// An option without a value.
+fn flag<'a>(alloc: Global, name: &'a str, help: &'a str) -> Arg<'a>
+    ensures rule { rule_of result ≡ flag_rule name.entry.now }
     ensures own { result.global ≡ false }
 {
-    Arg::new(alloc, "cert")
-        .long("cert")
+    Arg::new(alloc, name)
+        .long(name)
         .action(ArgAction::SetTrue)
-        .help("Write proofs into the report")
+        .help(help)
 }
 
 fn design_argument<'a>(alloc: Global) -> Arg<'a>
@@ -120,7 +121,12 @@ pub fn command<'a>(alloc: Global) -> Result<Command<'a>, AllocError>
             MAX_BUDGET,
             "Cases that each search may close, lines of each derivation, or thousands of turns [default: 100000]",
         ))?
-        .arg(cert_flag(alloc))?
+        .arg(flag(alloc, "cert", "Write proofs into the report"))?
+        .arg(flag(
+            alloc,
+            "csv",
+            "Write the lines of job brief as a table of comma-separated values",
+        ))?
         .arg(text_option(
             alloc,
             "report",

@@ -1,11 +1,11 @@
 //! Reading the words.
 
-ghost use Rattle.std.specs.Prelude.{◌≡◌, ◌≢◌, ◌≤◌, IfOk, IfSome, option_map};
+ghost use Rattle.std.specs.Prelude.{◌≡◌, ◌≢◌, ◌≤◌, IfOk, IfSome, codes, option_map};
 ghost use Rattle.clap.specs.Matches.{found_of};
 ghost use Rattle.clap.specs.Values.{kind_of};
 ghost use Rattle.clap.specs.Walk.{first_of, rows_of};
 ghost use Rattle.clap.specs.declared.error.kind.ErrorKind.{ErrorKind};
-ghost use Rattle.words.specs.Task.{KeepsLimits, answer_for, bounds, brief, budget_of, check, confirm, fall, generated_of, lint, matrix_of, number_in, reading, redraw, refusal_for, searching, searching_only, settle, size_of, taken, task_named, task_of, wants_proofs, whatif_of, why};
+ghost use Rattle.words.specs.Task.{KeepsLimits, answer_for, bounds, brief, budget_of, check, confirm, fall, generated_of, has_flag, lint, matrix_of, number_in, reading, redraw, refusal_for, searching, searching_if, searching_only, settle, size_of, taken, task_named, task_of, whatif_of, why};
 ghost use Rattle.words.specs.View.{answer_view, task_view};
 
 use crate::command::command;
@@ -96,7 +96,7 @@ fn bounds_task<'a>(matches: &ArgMatches<'a>) -> Option<Task<'a>>
     Some(Task::Bounds {
         design,
         budget,
-        cert: wants_proofs(matches),
+        cert: has_flag(matches, "cert"),
     })
 }
 
@@ -108,7 +108,7 @@ fn fall_task<'a>(matches: &ArgMatches<'a>) -> Option<Task<'a>>
     Some(Task::Fall {
         design,
         budget,
-        cert: wants_proofs(matches),
+        cert: has_flag(matches, "cert"),
     })
 }
 
@@ -120,7 +120,7 @@ fn settle_task<'a>(matches: &ArgMatches<'a>) -> Option<Task<'a>>
     Some(Task::Settle {
         design,
         budget,
-        cert: wants_proofs(matches),
+        cert: has_flag(matches, "cert"),
     })
 }
 
@@ -141,11 +141,15 @@ fn why_task<'a>(matches: &ArgMatches<'a>) -> Option<Task<'a>>
 }
 
 fn brief_task<'a>(matches: &ArgMatches<'a>) -> Option<Task<'a>>
-    ensures { option_map task_view result ≡ searching_only brief (rows_of (found_of matches.now)) }
+    ensures { option_map task_view result ≡ searching_if (codes "csv") brief (rows_of (found_of matches.now)) }
 {
     let design = text_of(matches, "design")?;
     let budget = budget_of(matches)?;
-    Some(Task::Brief { design, budget })
+    Some(Task::Brief {
+        design,
+        budget,
+        csv: has_flag(matches, "csv"),
+    })
 }
 
 fn lint_task<'a>(matches: &ArgMatches<'a>) -> Option<Task<'a>>
@@ -216,10 +220,11 @@ fn size_of(matches: &ArgMatches<'_>) -> Option<u32>
     Some(size as u32)
 }
 
-fn wants_proofs(matches: &ArgMatches<'_>) -> bool
-    ensures { result ≡ wants_proofs (rows_of (found_of matches.now)) }
+// Whether an option without a value is there.
+fn has_flag(matches: &ArgMatches<'_>, name: &str) -> bool
+    ensures { result ≡ has_flag name.now (rows_of (found_of matches.now)) }
 {
-    match text_of(matches, "cert") {
+    match text_of(matches, name) {
         Some(text) => text == "true",
         None => false,
     }

@@ -35,10 +35,12 @@ pub enum Task<'a> {
         design: &'a str,
         budget: u64,
     },
-    /// To print each row of a design on one line: the name of its file, and the cases that each search may close.
+    /// To print each row of a design on one line: the name of its file, the cases that each search may close, and whether the
+    /// lines are a table.
     Brief {
         design: &'a str,
         budget: u64,
+        csv: bool,
     },
     /// To report what in a design may say something else than was meant: the name of its file, and the cases that each
     /// search may close.

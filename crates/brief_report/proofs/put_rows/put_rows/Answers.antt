@@ -1,19 +1,47 @@
-use Rattle.std.proofs.Common.{ap, ◌++◌}
-use Rattle.std.specs.List.{flat_map}
-use Rattle.itv_base.proofs.Written.{puts_same, puts_then}
-use Rattle.line_words.specs.Lines.{ended, line_of}
-use Rattle.brief_report.specs.Step.{numbered_rows}
-use Rattle.brief_report.specs.Text.{ordered, numbered_row_text}
-use Rattle.brief_report.proofs.RowLines.{counts_are}
+use Rattle.std.proofs.lemmas.Result.{err_from_is_err_and}
+use Rattle.std.proofs.Common.{◌<◌, ◌∙◌, ap, length, subst, sym, arith}
+use Rattle.itv_base.proofs.Written.{left_after, left_cut}
+use Rattle.itv_base.specs.Outside.{CutShort, grown}
+use Rattle.explained.specs.Answers.{HasRowTimes}
+use Rattle.brief_report.proofs.RowLines.{next_is}
 use Rattle.brief_report.proofs.put_rows.put_rows.Goals as goal
 
-pub returns : goal.returns
-returns g c =
-    let numbered = numbered_rows c.args.drawn.now c.args.found.now in
-    let lines = flat_map (numbered_row_text (g.N.Notes.noted c.args.notes.now) c.args.drawn.now) (ordered numbered) in
+pub row_at-row-requires : goal.row_at-row-requires
+row_at-row-requires g c =
+    let within : c.loop-at.at < length c.args.places.now = grind arith in
+    record { number = (next_is c.args.csv (g.N.Notes.noted c.args.notes.now) c.args.drawn.now c.args.found.now c.args.places.now c.loop-at.at _ c.requires.places within).first_in_rows }
+
+pub row_at-last-requires : goal.row_at-last-requires
+row_at-last-requires g c =
+    let within : c.loop-at.at < length c.args.places.now = grind arith in
+    record { number = (next_is c.args.csv (g.N.Notes.noted c.args.notes.now) c.args.drawn.now c.args.found.now c.args.places.now c.loop-at.at _ c.requires.places within).last_in_rows }
+
+pub bounds-found-number : goal.bounds-found-number
+bounds-found-number g c =
+    let within : c.loop-at.at < length c.args.places.now = grind arith in
+    (next_is c.args.csv (g.N.Notes.noted c.args.notes.now) c.args.drawn.now c.args.found.now c.args.places.now c.loop-at.at _ c.requires.places within).in_found
+
+pub line_of-line-requires-clause-times : goal.line_of-line-requires-clause-times
+line_of-line-requires-clause-times g c =
+    let within : c.loop-at.at < length c.args.places.now = grind arith in
+    subst HasRowTimes (sym c.index-found-number.is) (c.requires.times _ _
+    (next_is c.args.csv (g.N.Notes.noted c.args.notes.now) c.args.drawn.now c.args.found.now c.args.places.now c.loop-at.at _ c.requires.places within).in_found)
+
+pub returns-in_err-put_line : goal.returns-in_err-put_line
+returns-in_err-put_line g c =
+    let p = err_from_is_err_and c.from_residual.result c.from_residual.ensures.1 in
+    let within : c.loop-at.at < length c.args.places.now = grind arith in
     record {
-      puts = puts_same _ _ _ _ c.put_line.result
-          (ap (λ words. lines ++ ended (line_of words)) (counts_are numbered c.args.places.now c.counts_of.result c.requires.places c.counts_of.ensures.rows c.counts_of.ensures.pass
-          c.counts_of.ensures.fail c.counts_of.ensures.undecided))
-          (puts_then _ _ _ _ _ _ c.in_ok-put_each.ensures.puts c.put_line.ensures.puts);
+      puts = rw p.1 (left_cut _ _ _ _ _ _ _ c.loop-at.invariant
+          ((next_is c.args.csv (g.N.Notes.noted c.args.notes.now) c.args.drawn.now c.args.found.now c.args.places.now c.loop-at.at _ c.requires.places within).left c.row_at-row.result.now c.row_at-last.result.now
+          c.index-found-number.result c.index-found-number.result c.row_at-row.ensures.row c.row_at-last.ensures.row c.index-found-number.is)
+          (subst (CutShort _ _) c.line_of-line.ensures.text c.in_err-put_line.ensures.puts));
     }
+
+pub loop-at-preserved : goal.loop-at-preserved
+loop-at-preserved g c =
+    let within : c.loop-at.at < length c.args.places.now = grind arith in
+    left_after _ _ _ _ _ _ _ c.loop-at.invariant
+    ((next_is c.args.csv (g.N.Notes.noted c.args.notes.now) c.args.drawn.now c.args.found.now c.args.places.now c.loop-at.at _ c.requires.places within).left c.row_at-row.result.now c.row_at-last.result.now
+    c.index-found-number.result c.index-found-number.result c.row_at-row.ensures.row c.row_at-last.ensures.row c.index-found-number.is)
+    (c.in_ok-put_line.ensures.puts ∙ ap (grown _) c.line_of-line.ensures.text)

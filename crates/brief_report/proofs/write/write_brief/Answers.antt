@@ -1,5 +1,4 @@
 use Rattle.std.proofs.lemmas.Result.{err_from_is_err_and}
-use Rattle.brief_report.proofs.Whole.{few_found}
 use Rattle.brief_report.proofs.write.write_brief.Goals as goal
 
 pub returns-in_err-put_found : goal.returns-in_err-put_found
@@ -10,8 +9,8 @@ returns-in_err-put_found g c =
 pub returns : goal.returns
 returns g c = record { works = c.in_ok-put_found.ensures.answers c.args.budget c.in_ok-found.ensures.finding c.in_ok-found.ensures.rows c.in_ok-found.ensures.settles }
 
-pub places_of-requires-clause-count : goal.places_of-requires-clause-count
-places_of-requires-clause-count g c = rw c.deref.ensures.value (few_found c.args.drawn.now c.args.budget c.in_ok-found.found.finding c.in_ok-found.found.rows.items c.in_ok-found.ensures.rows)
+pub outline_of-requires-clause-found : goal.outline_of-requires-clause-found
+outline_of-requires-clause-found g c = (c.args.budget, rw c.deref.ensures.value c.in_ok-found.ensures.rows)
 
 pub put_found-requires-clause-rows : goal.put_found-requires-clause-rows
 put_found-requires-clause-rows g c = (c.args.budget, c.in_ok-found.ensures.rows)

@@ -9,8 +9,8 @@ pub returns : goal.returns
 returns c =
     let call : Call = call_of c.args.words.now (shelf_state c.args.shelf.now) (shelf_state c.run.new.shelf) (sink_state c.args.sink.now) (sink_state c.run.new.sink) in
     record {
-      wrote = λ budget plan drawn asks end.
-          let (text, is, wrote) = brief_wrote call c.args.shelf.now.files budget plan drawn refl asks c.run.result c.run.ensures.means end in
+      wrote = λ budget csv plan drawn asks end.
+          let (text, is, wrote) = brief_wrote call c.args.shelf.now.files budget csv plan drawn refl asks c.run.result c.run.ensures.means end in
           (text, is, sink_bytes c.args.sink.now c.run.new.sink text wrote);
-      decides = λ budget plan drawn asks e. brief_decides call c.args.shelf.now.files budget plan drawn refl asks c.run.result c.run.ensures.means e;
+      decides = λ budget csv plan drawn asks e. brief_decides call c.args.shelf.now.files budget csv plan drawn refl asks c.run.result c.run.ensures.means e;
     }

@@ -29,7 +29,7 @@ returns-in-Why-clause-opens g c =
 
 pub returns-in-Brief-clause-opens : goal.returns-in-Brief-clause-opens
 returns-in-Brief-clause-opens g c =
-    rw c.in-Brief.is (opens_shelf (g.H.Shelf.state c.args.shelf.now) (g.H.Shelf.state c.open_brief.new.shelf) (brief c.in-Brief.design.now c.in-Brief.budget) c.open_brief.result refl c.open_brief.ensures.opens)
+    rw c.in-Brief.is (opens_shelf (g.H.Shelf.state c.args.shelf.now) (g.H.Shelf.state c.open_brief.new.shelf) (brief c.in-Brief.design.now c.in-Brief.budget c.in-Brief.csv) c.open_brief.result refl c.open_brief.ensures.opens)
 
 pub returns-in-Lint-clause-opens : goal.returns-in-Lint-clause-opens
 returns-in-Lint-clause-opens g c =

@@ -5,9 +5,9 @@ use Rattle.itv_cli.proofs.opening.open_brief.Goals as goal
 
 pub returns-in_err-plan-clause-opens : goal.returns-in_err-plan-clause-opens
 returns-in_err-plan-clause-opens g c =
-    planned_up c.args.design.now (λ both. gives (Brief both.0 both.1 c.args.budget)) (g.H.Shelf.state c.args.shelf.now) (g.H.Shelf.state c.open_planned.new.shelf) c.in_err-plan.field-0.0 c.from_residual.result
+    planned_up c.args.design.now (λ both. gives (Brief both.0 both.1 c.args.budget c.args.csv)) (g.H.Shelf.state c.args.shelf.now) (g.H.Shelf.state c.open_planned.new.shelf) c.in_err-plan.field-0.0 c.from_residual.result
     c.from_residual.ensures.1 c.in_err-plan.ensures.opens
 
 pub returns-clause-opens : goal.returns-clause-opens
 returns-clause-opens g c =
-    planned_ready c.args.design.now (λ both. Brief both.0 both.1 c.args.budget) (g.H.Shelf.state c.args.shelf.now) (g.H.Shelf.state c.open_planned.new.shelf) c.in_ok-plan.field-0 c.in_ok-plan.ensures.opens
+    planned_ready c.args.design.now (λ both. Brief both.0 both.1 c.args.budget c.args.csv) (g.H.Shelf.state c.args.shelf.now) (g.H.Shelf.state c.open_planned.new.shelf) c.in_ok-plan.field-0 c.in_ok-plan.ensures.opens

@@ -3,5 +3,10 @@ use Rattle.jobs.specs.declared.answer.Answer.TheVariants.{CheckRefused}
 use Rattle.report_check.specs.Check.{refused_text}
 use Rattle.settle_check.proofs.answer.refuse.Goals as goal
 
+pub returns-in-Ok : goal.returns-in-Ok
+returns-in-Ok g c = record { works = λ drawn text not. (refused_text c.args.line, (c.args.line, record { counted = c.requires.line; not_settled = not }, refl), c.in-Ok.ensures.puts) }
+
 pub returns-in-Err : goal.returns-in-Err
-returns-in-Err g c = record { works = λ drawn text. (refused_text c.args.line, (CheckRefused, (c.args.line, c.requires.line, refl)), c.in-Err.ensures.puts) }
+returns-in-Err g c = record {
+  works = λ drawn text not. (refused_text c.args.line, (CheckRefused, (c.args.line, record { counted = c.requires.line; not_settled = not }, refl)), c.in-Err.ensures.puts);
+}

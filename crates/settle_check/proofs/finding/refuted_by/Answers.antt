@@ -1,5 +1,6 @@
+use Rattle.std.proofs.Common.{refl}
 use Rattle.settle_check.proofs.Proved.{is_refuted}
 use Rattle.settle_check.proofs.finding.refuted_by.Goals as goal
 
 pub returns : goal.returns
-returns c = record { finding = is_refuted c.args.net.now c.args.proof c.events-events.ensures.net c.requires.some c.requires.low c.requires.proof }
+returns c = record { finding = is_refuted c.args.net.now c.args.proof c.events-events.ensures.net c.requires.some c.requires.low c.requires.fits c.requires.proof; is = refl }

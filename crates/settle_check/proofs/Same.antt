@@ -1,0 +1,116 @@
+-- The same data have the same text, wherever they lie in memory.
+use Rattle.std.proofs.Common.{◌≡◌, ℕ, ℤ, true, if◌then◌else◌, List, [], ◌∷◌, ◌++◌, refl, sym, ap, ◌∙◌}
+use Rattle.itv_base.specs.Range.{Ends}
+use Rattle.itv_base.specs.declared.row_kind.RowKind.{RowKind}
+use Rattle.itv_base.specs.declared.row_kind.RowKind.TheVariants as kinds
+use Rattle.requirements.specs.Slacks.{slack_of}
+use Rattle.requirements.specs.Verdicts.{verdict_of}
+use Rattle.requirements.specs.declared.bound.Bound.{Bound}
+use Rattle.requirements.specs.declared.bound.Bound.TheVariants as bounds
+use Rattle.slack_report.specs.declared.words.FindingWord.TheVariants as findings
+use Rattle.slack_report.specs.declared.words.Which.{Which}
+use Rattle.slack_report.specs.Entry as line
+use Rattle.slack_report.specs.Text.{entry_text}
+use Rattle.right_report.specs.Right.ReportState.{ReportTally, end_word, is_fail, tally_of, with_bounds, with_verdict}
+use Rattle.drawn.specs.declared.row.Row.{Row}
+use Rattle.settle.specs.Proofs.{lines_of}
+use Rattle.settle_lines.specs.Text.{proof_text}
+use Rattle.settle_report.specs.declared.finding.Finding.{Finding}
+use Rattle.settle_report.specs.declared.finding.Finding.TheVariants.{Consistent, Inconsistent, Spent}
+use Rattle.settle_report.specs.declared.proof.Proof.{Proof}
+use Rattle.settle_report.specs.declared.bound.SettledBound.{SettledBound}
+use Rattle.settle_report.specs.declared.bound.SettledBound.TheVariants as settled
+use Rattle.settle_report.specs.declared.row.RowFound.{RowFound}
+use Rattle.settle_report.specs.Answers.{bound_of}
+use Rattle.settle_report.specs.Text.{bound_text, ending_of, finding_text, judged_text, shown_text, with_row, with_rows}
+use Rattle.settle_check.specs.Step.{AreSameRows, IsSameBound, IsSameFinding, IsSameProof, IsSameRow}
+
+pub proof_same : (a b : Proof) → IsSameProof a b → shown_text true a ≡ shown_text true b
+proof_same a b s =
+    ap (λ view. proof_text view a.claim (lines_of a.lines.items)) s.view
+    ∙ (ap (λ claim. proof_text b.view claim (lines_of a.lines.items)) s.claim ∙ ap (λ lines. proof_text b.view b.claim lines) s.lines)
+
+pub finding_same : (a b : Finding) → IsSameFinding a b → finding_text true a ≡ finding_text true b
+finding_same (Consistent a) (Consistent b) s = ap (λ times. entry_text (line.finding findings.Consistent) ++ entry_text (line.times times)) s
+finding_same (Consistent a) (Inconsistent b) s = absurd s
+finding_same (Consistent a) Spent s = absurd s
+finding_same (Inconsistent a) (Consistent b) s = absurd s
+finding_same (Inconsistent a) (Inconsistent b) s = ap (λ text. text ++ entry_text (line.finding findings.Inconsistent)) (proof_same a b s)
+finding_same (Inconsistent a) Spent s = absurd s
+finding_same Spent (Consistent b) s = absurd s
+finding_same Spent (Inconsistent b) s = absurd s
+finding_same Spent Spent s = refl
+
+abbrev closed_text : Which → ℤ → List ℤ → List ℕ → List ℕ
+closed_text which value times proof = proof ++ (entry_text (line.bound which (bounds.Closed value)) ++ entry_text (line.times times))
+
+pub bound_same : (which : Which) (a b : SettledBound) → IsSameBound a b → bound_text true which a ≡ bound_text true which b
+bound_same which (settled.Closed value times proof) (settled.Closed other others also) s =
+    ap (λ v. closed_text which v times.items (shown_text true proof)) s.0
+    ∙ (ap (λ ts. closed_text which other ts (shown_text true proof)) s.1 ∙ ap (λ text. closed_text which other others.items text) (proof_same proof also s.2))
+bound_same which (settled.Closed value times proof) (settled.Unbounded others set) s = absurd s
+bound_same which (settled.Closed value times proof) settled.Spent s = absurd s
+bound_same which (settled.Unbounded times ray) (settled.Closed other others also) s = absurd s
+bound_same which (settled.Unbounded times ray) (settled.Unbounded others set) s =
+    ap (λ ts. entry_text (line.bound which bounds.Unbounded) ++ (entry_text (line.times ts) ++ entry_text (line.raise ray.items))) s.0
+    ∙ ap (λ r. entry_text (line.bound which bounds.Unbounded) ++ (entry_text (line.times others.items) ++ entry_text (line.raise r))) s.1
+bound_same which (settled.Unbounded times ray) settled.Spent s = absurd s
+bound_same which settled.Spent (settled.Closed other others also) s = absurd s
+bound_same which settled.Spent (settled.Unbounded others set) s = absurd s
+bound_same which settled.Spent settled.Spent s = refl
+
+pub bound_of_same : (a b : SettledBound) → IsSameBound a b → bound_of a ≡ bound_of b
+bound_of_same (settled.Closed value times proof) (settled.Closed other others also) s = ap bounds.Closed s.0
+bound_of_same (settled.Closed value times proof) (settled.Unbounded others set) s = absurd s
+bound_of_same (settled.Closed value times proof) settled.Spent s = absurd s
+bound_of_same (settled.Unbounded times ray) (settled.Closed other others also) s = absurd s
+bound_of_same (settled.Unbounded times ray) (settled.Unbounded others set) s = refl
+bound_of_same (settled.Unbounded times ray) settled.Spent s = absurd s
+bound_of_same settled.Spent (settled.Closed other others also) s = absurd s
+bound_of_same settled.Spent (settled.Unbounded others set) s = absurd s
+bound_of_same settled.Spent settled.Spent s = refl
+
+abbrev judged_as : Ends → Bound → Bound → List ℤ → List ℕ
+judged_as range least greatest past =
+    entry_text (line.verdict (verdict_of range least greatest))
+    ++ ((if is_fail (verdict_of range least greatest) then entry_text (line.times past) else []) ++ entry_text (line.slack (slack_of range least greatest)))
+
+pub judged_same : (kind : RowKind) (a b : RowFound) → IsSameRow a b → judged_text kind a ≡ judged_text kind b
+judged_same kinds.Ask a b s = refl
+judged_same (kinds.Req range) a b s =
+    ap (λ bound. judged_as range bound (bound_of a.greatest) a.past.items) (bound_of_same a.least b.least s.least)
+    ∙ (ap (λ bound. judged_as range (bound_of b.least) bound a.past.items) (bound_of_same a.greatest b.greatest s.greatest)
+    ∙ ap (λ past. judged_as range (bound_of b.least) (bound_of b.greatest) past) s.past)
+
+abbrev tally_as : RowKind → ReportTally → Bound → Bound → ReportTally
+tally_as kinds.Ask tally least greatest = with_bounds tally least greatest
+tally_as (kinds.Req range) tally least greatest = with_verdict (with_bounds tally least greatest) (verdict_of range least greatest)
+
+row_tally : (kind : RowKind) (tally : ReportTally) (found : RowFound) → with_row tally kind found ≡ tally_as kind tally (bound_of found.least) (bound_of found.greatest)
+row_tally kinds.Ask tally found = refl
+row_tally (kinds.Req range) tally found = refl
+
+row_tally_same : (kind : RowKind) (tally : ReportTally) (a b : RowFound) → IsSameRow a b → with_row tally kind a ≡ with_row tally kind b
+row_tally_same kind tally a b s =
+    row_tally kind tally a
+    ∙ (ap (λ bound. tally_as kind tally bound (bound_of a.greatest)) (bound_of_same a.least b.least s.least)
+    ∙ (ap (λ bound. tally_as kind tally (bound_of b.least) bound) (bound_of_same a.greatest b.greatest s.greatest) ∙ sym (row_tally kind tally b)))
+
+tally_same : (rows : List Row) (tally : ReportTally) (found other : List RowFound) → AreSameRows found other → with_rows tally rows found ≡ with_rows tally rows other
+tally_same [] tally found other s = refl
+tally_same (row ∷ rows) tally [] [] s = refl
+tally_same (row ∷ rows) tally [] (o ∷ others) s = absurd s
+tally_same (row ∷ rows) tally (f ∷ found) [] s = absurd s
+tally_same (row ∷ rows) tally (f ∷ found) (o ∷ others) s =
+    ap (λ t. with_rows t rows found) (row_tally_same row.kind tally f o s.0) ∙ tally_same rows (with_row tally row.kind o) found others s.1
+
+pub ending_same : (rows : List Row) (a b : Finding) (found other : List RowFound) → IsSameFinding a b → AreSameRows found other → ending_of rows a found ≡ ending_of rows b other
+ending_same rows (Consistent a) (Consistent b) found other s r = ap end_word (tally_same rows (tally_of findings.Consistent) found other r)
+ending_same rows (Consistent a) (Inconsistent b) found other s r = absurd s
+ending_same rows (Consistent a) Spent found other s r = absurd s
+ending_same rows (Inconsistent a) (Consistent b) found other s r = absurd s
+ending_same rows (Inconsistent a) (Inconsistent b) found other s r = refl
+ending_same rows (Inconsistent a) Spent found other s r = absurd s
+ending_same rows Spent (Consistent b) found other s r = absurd s
+ending_same rows Spent (Inconsistent b) found other s r = absurd s
+ending_same rows Spent Spent found other s r = refl
