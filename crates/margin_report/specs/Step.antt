@@ -13,18 +13,20 @@ use Rattle.moves.specs.declared.span.Border.{Border}
 use Rattle.moves.specs.declared.span.Border.TheVariants as borders
 use Rattle.moves.specs.declared.span.SpanFound.{SpanFound}
 use Rattle.moves.specs.declared.span.SpanFound.TheVariants as spans
+use Rattle.margins.specs.Ends.{are_ends_spent}
+use Rattle.margin_report.specs.declared.number_found.NumberFound.{NumberFound}
 use Rattle.margin_report.specs.declared.margin_found.MarginFound.{MarginFound}
 use Rattle.margin_report.specs.declared.put_line.NumberLine.{NumberLine}
-use Rattle.margin_report.specs.Found.{AreNumbersFound, is_number_spent}
+use Rattle.margin_report.specs.Found.{AreNumbersFound}
 use Rattle.margin_report.specs.Text.{amount_word, note_words, row_words}
-use Rattle.margin_report.specs.Together.{IsTogetherFound, is_together_spent, range_drawn}
+use Rattle.margin_report.specs.Together.{IsTogetherFound, range_drawn}
 use Rattle.margin_report.specs.declared.together.TogetherFound.{TogetherFound}
 
 -- all that is found is right
 pub record IsMarginFound (drawn : Drawn) (budget : ℕ) (found : MarginFound) : Type 0 where
   pub base : IsNetFound drawn found.base
   pub numbers : AreNumbersFound drawn found.base found.numbers.items
-  pub settles : IsEnough drawn budget → (is_net_open found.base ≡ false) × (list_any is_number_spent found.numbers.items ≡ false)
+  pub settles : IsEnough drawn budget → (is_net_open found.base ≡ false) × (list_any (λ (f : NumberFound). are_ends_spent f.ends) found.numbers.items ≡ false)
 
 -- the words of the line of a number
 abbrev pub line_words : NumberLine → List Word
@@ -55,4 +57,4 @@ AreRangesOf drawn numbers ranges = ranges ≡ map (range_drawn drawn) numbers
 pub record IsTogetherAll (drawn : Drawn) (numbers : List DrawnNumber) (budget : ℕ) (found : TogetherFound) : Type 0 where
   pub base : IsNetFound drawn found.base
   pub span : IsTogetherFound drawn numbers found.base found.span
-  pub settles : IsEnough drawn budget → (is_net_open found.base ≡ false) × (is_together_spent found.span ≡ false)
+  pub settles : IsEnough drawn budget → is_net_open found.base ≡ false

@@ -85,6 +85,6 @@ pub record AnswersTogether (noted : NotesKept) (drawn : Drawn) (numbers : List D
   pub found : Option SpanFound
   pub is_base : IsNetFound drawn base
   pub is_found : IsTogetherFound drawn numbers base found
-  pub settles : IsEnough drawn budget → (is_net_open base ≡ false) × (is_together_spent found ≡ false)
+  pub settles : IsEnough drawn budget → is_net_open base ≡ false
   pub is_text : text ≡ together_text noted drawn numbers base found (ending_of base (is_together_spent found))
   pub is_answer : answer ≡ answer_of (ending_of base (is_together_spent found))

@@ -5,7 +5,9 @@ ghost use Rattle.std.specs.List.{list_any};
 ghost use Rattle.itv_base.specs.declared.limits.TheConstants.{MAX_BUDGET};
 ghost use Rattle.moves.specs.Found.{IsEnough, IsNetFound, is_net_open};
 ghost use Rattle.moves.specs.Listed.{numbers_of};
-ghost use Rattle.margin_report.specs.Found.{AreNumbersFound, is_number_spent, is_single};
+ghost use Rattle.margins.specs.Ends.{are_ends_spent};
+ghost use Rattle.margin_report.specs.Found.{AreNumbersFound, is_single};
+ghost use Rattle.margin_report.specs.declared.number_found.NumberFound.{NumberFound as FoundView};
 
 use crate::margin_found::MarginFound;
 use crate::number_found::NumberFound;
@@ -27,7 +29,7 @@ pub fn find_all(alloc: Global, drawn: &DrawnNetwork, budget: u64) -> Result<Marg
     ensures base { IfOk result (λ found. IsNetFound drawn.now found.base) }
     ensures seen { IfOk result (λ found. found.seen.items ≡ numbers_of drawn.now) }
     ensures numbers { IfOk result (λ found. AreNumbersFound drawn.now found.base found.numbers.items) }
-    ensures settles { IfOk result (λ found. IsEnough drawn.now budget → (is_net_open found.base ≡ false) × (list_any is_number_spent found.numbers.items ≡ false)) }
+    ensures settles { IfOk result (λ found. IsEnough drawn.now budget → (is_net_open found.base ≡ false) × (list_any (λ (f : FoundView). are_ends_spent f.ends) found.numbers.items ≡ false)) }
 {
     let effort = effort_of(budget);
     let base = base_of(alloc, drawn, effort)?;

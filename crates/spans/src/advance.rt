@@ -8,6 +8,9 @@ use moves::NetFound;
 use std::alloc::Global;
 use std::cmp::min;
 
+// Covers that are tried for a border. A border that takes more is left open.
+const MOST_COVERS: u32 = 1_000;
+
 /// How far a span was shown.
 #[derive(Clone, Copy)]
 pub enum Advance {
@@ -15,7 +18,7 @@ pub enum Advance {
     Reached,
     /// No requirement breaks up to this value, and with the next one the row with this number does.
     Breaks { last: i64, row: u32 },
-    /// No requirement breaks up to this value. A search was left open.
+    /// No requirement breaks up to this value. A search was left open, or too many covers were tried.
     Spent(i64),
 }
 
@@ -30,7 +33,10 @@ pub fn advance(
 ) -> Result<Advance, NoMemory> {
     let mut done: i64 = from;
     let mut size = distance(done, goal);
-    while distance(done, goal) > 0 {
+    for _ in 0..MOST_COVERS {
+        if done == goal {
+            return Ok(Advance::Reached);
+        }
         size = min(size, distance(done, goal));
         let end = moved(done, size, direction);
         if sought.is_covered(alloc, between(done, end, direction))? {
@@ -49,7 +55,11 @@ pub fn advance(
             }
         }
     }
-    Ok(Advance::Reached)
+    if done == goal {
+        Ok(Advance::Reached)
+    } else {
+        Ok(Advance::Spent(done))
+    }
 }
 
 // How far two values are apart.

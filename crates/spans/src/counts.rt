@@ -47,6 +47,17 @@ pub fn counts_of(
     Ok(counts)
 }
 
+/// No event counts from any value.
+pub fn no_counts(alloc: Global, drawn: &DrawnNetwork) -> Result<Vec<i64>, NoMemory>
+    ensures counts { IfOk result (λ counts. AreCounts drawn.now.net counts.items) }
+{
+    let mut counts = Vec::new(alloc);
+    for _ in 0..drawn.network().events() {
+        counts.push(0)?;
+    }
+    Ok(counts)
+}
+
 // Each event by itself.
 fn groups_of(alloc: Global, events: u32) -> Result<Groups, NoMemory> {
     let mut group = Vec::new(alloc);

@@ -1,12 +1,11 @@
 //! Finding the span of numbers.
 
 ghost use Rattle.std.specs.Prelude.{◌≡◌, ◌≤◌, IfOk, false};
-ghost use Rattle.event_graph.specs.Edges.{cause_choices};
-ghost use Rattle.moves.specs.Found.{IsNetFound, IsSpanFound, is_span_spent};
+ghost use Rattle.moves.specs.Found.{IsNetFound, IsSpanFound};
 ghost use Rattle.moves.specs.Step.{lent};
 
 use crate::bordering::border_of;
-use crate::counts::counts_of;
+use crate::counts::{counts_of, no_counts};
 use crate::looking::{Direction, step_of, value_on};
 use crate::shift_reach::{ShiftReach, shift_reach_of};
 use crate::sought::SpanSought;
@@ -21,7 +20,7 @@ use std::alloc::Global;
 const GUIDED_ROUNDS: u32 = 20;
 
 /// Finds the values of some numbers around the drawn ones with which no requirement breaks; the base is what was found of the network as drawn. All of the
-/// numbers move as one. Nothing is left open where the budget is no less than the number of cause choices.
+/// numbers move as one. A border is left open where a search is, or where it takes too many covers to come to it.
 pub fn find_span(
     alloc: Global,
     drawn: &DrawnNetwork,
@@ -32,13 +31,14 @@ pub fn find_span(
     requires base { IsNetFound drawn.now base.now.found }
     requires budget { 1 ≤ effort.budget }
     ensures found { IfOk result (IsSpanFound drawn.now (lent numbers.now)) }
-    ensures settles { IfOk result (λ found. cause_choices drawn.now.net.constraints ≤ effort.budget → is_span_spent found ≡ false) }
 {
     let counts = counts_of(alloc, drawn, numbers)?;
+    let zeros = no_counts(alloc, drawn)?;
     let sought = SpanSought {
         drawn,
         numbers,
         counts: &counts,
+        zeros: &zeros,
         effort,
     };
     let reach = shift_reach_of(drawn, numbers);

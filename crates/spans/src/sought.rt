@@ -5,7 +5,7 @@ ghost use Rattle.moves.specs.Found.{IsNetFound};
 ghost use Rattle.moves.specs.Moving.{shifted_at};
 ghost use Rattle.moves.specs.Passing.{NoneBreaks};
 ghost use Rattle.moves.specs.Step.{IsMoveBy, lent};
-ghost use Rattle.spans.specs.Step.{IsIn, IsInterval};
+ghost use Rattle.spans.specs.Step.{AreCounts, IsIn, IsInterval};
 
 use crate::cover::cover_of;
 use crate::interval::Interval;
@@ -16,12 +16,13 @@ use numbers::DrawnNumber;
 use probing::{Effort, Probed, SideChain, Step, excess, probe, room};
 use std::alloc::Global;
 
-/// Numbers whose span is sought, how many values each event counts from, and how long each search may go on.
+/// Numbers whose span is sought, how many values each event counts from, as many zeros, and how long each search may go on.
 #[derive(Clone, Copy)]
 pub struct SpanSought<'a> {
     pub drawn: &'a DrawnNetwork,
     pub numbers: &'a [&'a DrawnNumber],
     pub counts: &'a [i64],
+    pub zeros: &'a [i64],
     pub effort: Effort,
 }
 
@@ -41,13 +42,32 @@ impl SpanSought<'_> {
         Ok(Some(probe(alloc, &net, &rows, self.effort)?))
     }
 
-    /// Whether a cover shows that no requirement breaks with any value of an interval.
+    /// Whether a cover shows that no requirement breaks with any value of an interval: one in which events count from values, or else one in which none
+    /// does.
     pub fn is_covered(&self, alloc: Global, interval: Interval) -> Result<bool, NoMemory>
         requires interval { IsInterval interval }
         ensures covered { IfOk result (λ covered. IsTrue covered → (value : ℤ) → IsIn interval value
             → NoneBreaks (shifted_at self.now.drawn.now (lent self.now.numbers.now) value)) }
     {
-        let covered = cover_of(alloc, self.drawn, self.numbers, self.counts, interval)?;
+        if self.is_covered_by(alloc, self.counts, interval)? {
+            return Ok(true);
+        }
+        self.is_covered_by(alloc, self.zeros, interval)
+    }
+
+    // Whether a cover shows that no requirement breaks with any value of an interval, where each event counts from so many values.
+    fn is_covered_by(
+        &self,
+        alloc: Global,
+        counts: &[i64],
+        interval: Interval,
+    ) -> Result<bool, NoMemory>
+        requires counts { AreCounts self.now.drawn.now.net counts.now }
+        requires interval { IsInterval interval }
+        ensures covered { IfOk result (λ covered. IsTrue covered → (value : ℤ) → IsIn interval value
+            → NoneBreaks (shifted_at self.now.drawn.now (lent self.now.numbers.now) value)) }
+    {
+        let covered = cover_of(alloc, self.drawn, self.numbers, counts, interval)?;
         let Some(cover) = covered else {
             return Ok(false);
         };
