@@ -87,7 +87,9 @@ fn find_times(alloc: Global, net: &Network, budget: u64) -> Result<Consistency, 
     ensures settles { IfOk result (λ found. cause_choices net.now.constraints ≤ budget → found ≡ Consistency.Open → ⊥) }
 {
     let mut extremes = Extremes::new(alloc, net, budget, turns_of(budget))?;
-    extremes.find(alloc, net)
+    let found = extremes.find(alloc, net);
+    drop(extremes);
+    found
 }
 
 /// Looks for times that satisfy the network apart, where some times satisfy the drawn network.
@@ -125,8 +127,13 @@ fn find_in(
     // The drawn network is within its limits.
     let _events = drawn.network().events();
     let mut extremes = Extremes::new(alloc, &net, budget, turns_of(budget))?;
-    let found = extremes.find(alloc, &net)?;
-    Ok(found_apart(drawn, net, extremes, found))
+    match extremes.find(alloc, &net) {
+        Ok(found) => Ok(found_apart(drawn, net, extremes, found)),
+        Err(NoMemory) => {
+            drop(extremes);
+            Err(NoMemory)
+        }
+    }
 }
 
 // What is known of the network apart after the search for times.
@@ -149,7 +156,11 @@ fn found_apart(
         Consistency::Consistent => WithoutOrder::Ready(ApartSearch { net, extremes }),
         // Times that satisfy the drawn network satisfy the network apart.
         Consistency::Inconsistent => unreachable!(),
-        Consistency::Open => WithoutOrder::Open,
+        Consistency::Open => {
+            drop(net);
+            drop(extremes);
+            WithoutOrder::Open
+        }
     }
 }
 

@@ -82,7 +82,14 @@ fn find_behind(
     ensures settles { IfOk result (LeavesNothingOpen drawn.now budget) }
 {
     let mut extremes = extremes;
-    let ends = find_narrow(alloc, drawn, &mut extremes)?;
-    let rows = see_rows(alloc, drawn, budget, extremes)?;
-    Ok(LintFound::Consistent { ends, rows })
+    match find_narrow(alloc, drawn, &mut extremes) {
+        Ok(ends) => {
+            let rows = see_rows(alloc, drawn, budget, extremes)?;
+            Ok(LintFound::Consistent { ends, rows })
+        }
+        Err(NoMemory) => {
+            drop(extremes);
+            Err(NoMemory)
+        }
+    }
 }

@@ -5,7 +5,8 @@ ghost use Rattle.std.specs.List.{AllZip, list_any};
 ghost use Rattle.drawn.specs.Drawn.{IsRowOf};
 ghost use Rattle.event_graph.specs.Edges.{cause_choices};
 ghost use Rattle.explained.specs.Apart.{keeps_order};
-ghost use Rattle.extremes.specs.Found.{IsAttainedBy};
+ghost use Rattle.extremes.specs.Found.{IsAttainedBy, IsConsistency};
+ghost use Rattle.extremes.specs.declared.found.Consistency.TheVariants.{Consistent};
 ghost use Rattle.extremes.specs.Ready.{IsReady};
 ghost use Rattle.itv_base.specs.declared.limits.TheConstants.{MAX_BUDGET};
 ghost use Rattle.event_graph.specs.Network.{Net};
@@ -56,12 +57,54 @@ pub fn see_rows(
         drop(extremes);
         return Ok(Vec::new(alloc));
     }
+    match more_memory(alloc, drawn, budget) {
+        Ok(more) => see_all(alloc, drawn, extremes, more),
+        Err(NoMemory) => {
+            drop(extremes);
+            Err(NoMemory)
+        }
+    }
+}
+
+// What the searches of rows need beside the search of a drawn network.
+#[derive(Drop)]
+struct MoreMemory {
+    chains: Chains,
+    apart: WithoutOrder,
+}
+
+// The memory for chains, and the network apart from the order of lanes.
+fn more_memory(alloc: Global, drawn: &DrawnNetwork, budget: u64) -> Result<MoreMemory, NoMemory>
+    requires some { IsConsistency drawn.now.net Consistent }
+    requires least { 1 ≤ budget }
+    requires most { budget ≤ MAX_BUDGET }
+    ensures chains { IfOk result (λ more. more.chains.events ≡ drawn.now.net.events) }
+    ensures apart { IfOk result (λ more. IsApartFor drawn.now more.apart) }
+    ensures enough { IfOk result (λ more. cause_choices drawn.now.net.constraints ≤ budget → IsApartEnough drawn.now more.apart) }
+{
     let chains = Chains::new(alloc, drawn.network())?;
     let apart = find_apart(alloc, drawn, budget)?;
+    Ok(MoreMemory { chains, apart })
+}
+
+// What is found of each row with this memory.
+fn see_all(
+    alloc: Global,
+    drawn: &DrawnNetwork,
+    extremes: Extremes,
+    more: MoreMemory,
+) -> Result<Vec<RowSeen>, NoMemory>
+    requires ready { IsReady drawn.now.net extremes }
+    requires chains { more.chains.events ≡ drawn.now.net.events }
+    requires apart { IsApartFor drawn.now more.apart }
+    ensures rows { IfOk result (λ rows. AllZip (IsRowSeen drawn.now) drawn.now.rows rows.items) }
+    ensures settles { IfOk result (λ rows. cause_choices drawn.now.net.constraints ≤ extremes.budget → IsApartEnough drawn.now more.apart
+        → All (λ (row : RowIsSeen). is_row_open row ≡ false) rows.items) }
+{
     let mut search = RowSearch {
         extremes,
-        chains,
-        apart,
+        chains: more.chains,
+        apart: more.apart,
     };
     let rows = see_each(alloc, drawn, &mut search);
     drop(search);

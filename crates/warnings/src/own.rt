@@ -1,7 +1,7 @@
 //! Marks that follow a driver, and that an edge of their own sheet holds from above, after another mark.
 
 ghost use Rattle.std.specs.Prelude.{◌≡◌, ◌<◌, ◌++◌, OnOk, find, length};
-ghost use Rattle.std.specs.List.{flat_map};
+ghost use Rattle.std.specs.List.{flat_map, list_any};
 ghost use Rattle.std.specs.Option.{option_copied};
 ghost use Rattle.compose.specs.Joins.{pin_joins};
 ghost use Rattle.warnings.specs.Driven.{holds, is_high_from_other, own_join, own_warnings};
@@ -69,12 +69,16 @@ fn first_holding(mark: u32, rules: &[Rule]) -> Option<&Rule>
 fn holds(mark: u32, rule: &Rule) -> bool
     ensures { result ≡ holds mark rule.now }
 {
-    rule.target() == mark
-        && rule
-            .causes()
-            .as_slice()
-            .iter()
-            .any(|cause| is_high_from_other(mark, cause))
+    rule.target() == mark && has_high_from_other(mark, rule)
+}
+
+fn has_high_from_other(mark: u32, rule: &Rule) -> bool
+    ensures { result ≡ list_any (is_high_from_other mark) rule.now.causes }
+{
+    rule.causes()
+        .as_slice()
+        .iter()
+        .any(|cause| is_high_from_other(mark, cause))
 }
 
 fn is_high_from_other(mark: u32, cause: &Source) -> bool

@@ -5,9 +5,7 @@ use Rattle.lint_report.proofs.rows.see_rows.Goals as goal
 
 pub returns-clause-settles : goal.returns-clause-settles
 returns-clause-settles c =
-    IfOk-weaker c.see_each.result _ _
-    (λ rows settles. λ enough. settles (record {
-      whole = subst (λ (b : ℕ). cause_choices c.args.drawn.now.net.constraints ≤ b) (sym c.requires.same) enough;
-      apart = c.in_ok-apart.ensures.enough enough;
-    }))
-    c.see_each.ensures.settles
+    IfOk-weaker c.see_all.result _ _
+    (λ rows settles. λ enough. settles (subst (λ (b : ℕ). cause_choices c.args.drawn.now.net.constraints ≤ b) (sym c.requires.same) enough)
+    (c.in-Ok.ensures.enough enough))
+    c.see_all.ensures.settles
