@@ -4,7 +4,8 @@ use Rattle.itv_base.specs.Outside.{SinkState}
 use Rattle.requirements.specs.declared.verdict.Verdict.{Verdict}
 use Rattle.slack_report.specs.declared.words.FindingWord.{FindingWord}
 use Rattle.slack_report.specs.declared.words.FindingWord.TheVariants as findings
-use Rattle.right_report.specs.Right.ReportState.{ReportTally, at_end, at_row, at_rows, tally_of, end_word}
+use Rattle.right_report.specs.Right.ReportState.{at_end, at_row, at_rows, tally_of, end_word}
+use Rattle.right_report.specs.declared.tally.ReportTally.{ReportTally}
 use Rattle.drawn.specs.Drawn.{Drawn}
 use Rattle.right_report.specs.Right.Following.{LineClaims}
 use Rattle.drawn.specs.declared.row.Row.{Row}

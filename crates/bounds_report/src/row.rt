@@ -3,7 +3,8 @@
 ghost use Rattle.std.specs.Prelude.{◌≡◌, ◌<◌, ◌+◌, ◌||◌, ◌∷◌, ℕ, ℤ, Bool, [], List, IfOk, IsSomeAnd, OnOk};
 ghost use Rattle.std.specs.Option.{option_to_list};
 ghost use Rattle.requirements.specs.Bounds.{HasTimes};
-ghost use Rattle.right_report.specs.Right.ReportState.{ReportTally, CurrentRow, at_bound, at_row, bounded, greatest, is_within, judged, least_by, with_bounds};
+ghost use Rattle.right_report.specs.Right.ReportState.{CurrentRow, at_bound, at_row, bounded, greatest, is_within, judged, least_by, with_bounds};
+ghost use Rattle.right_report.specs.declared.tally.ReportTally.{ReportTally};
 ghost use Rattle.drawn.specs.Drawn.{Drawn, IsRowOf};
 ghost use Rattle.drawn.specs.declared.row.Row.{Row};
 ghost use Rattle.bounds_report.specs.Step.Witness.{HasFoundValue, IsWitness};

@@ -8,6 +8,7 @@ ghost use Rattle.slack_report.specs.declared.words.FindingWord.{FindingWord as F
 ghost use Rattle.right_report.specs.Right.ReportState.{tally_of, end_word};
 
 use requirements::Verdict;
+use right_report::ReportTally;
 use slack_report::{EndWord, FindingWord};
 
 /// The result of a row: its verdict, if it has one, and whether one of its bounds is `Within`.
@@ -78,14 +79,17 @@ impl Tally {
     pub fn end_word(self, found: FindingWord) -> EndWord
         ensures word { result ≡ end_word (tally_behind found self) }
     {
-        if self.fails > 0 {
-            return EndWord::Fail;
-        }
-        match found {
-            FindingWord::Consistent if self.is_within => EndWord::Undecided,
-            FindingWord::Consistent => EndWord::Pass,
-            FindingWord::Inconsistent => EndWord::Inconsistent,
-            FindingWord::Unsettled => EndWord::Undecided,
+        self.report_tally(found).end_word()
+    }
+
+    // What decides the word at the end.
+    fn report_tally(self, found: FindingWord) -> ReportTally
+        ensures tally { result ≡ tally_behind found self }
+    {
+        ReportTally {
+            found,
+            fails: self.fails > 0,
+            within: self.is_within,
         }
     }
 }

@@ -11,6 +11,7 @@ use Rattle.branch.specs.declared.answer.SearchFinding.{SearchFinding}
 use Rattle.branch.specs.declared.answer.SearchFinding.TheVariants as founds
 use Rattle.requirements.specs.Bounds.{reversed}
 use Rattle.requirements.specs.Verdicts.{verdict_of}
+use Rattle.requirements.specs.declared.bound.BothBounds.{BothBounds}
 use Rattle.requirements.specs.declared.bound.Bound.{Bound}
 use Rattle.requirements.specs.declared.bound.Bound.TheVariants as bounds
 use Rattle.slack_report.specs.Entry.{ending, finding}
@@ -18,7 +19,8 @@ use Rattle.slack_report.specs.Text.{bound_words, entry_text, range_word, verdict
 use Rattle.slack_report.specs.declared.words.EndWord.{EndWord}
 use Rattle.slack_report.specs.declared.words.FindingWord.{FindingWord}
 use Rattle.slack_report.specs.declared.words.FindingWord.TheVariants as findings
-use Rattle.right_report.specs.Right.ReportState.{ReportTally, tally_of, end_word, with_bounds, with_verdict}
+use Rattle.right_report.specs.Right.ReportState.{tally_of, end_word}
+use Rattle.right_report.specs.RowTally.{with_rows}
 use Rattle.edits.specs.Subject.{subject_text}
 use Rattle.edits.specs.declared.edit.RangeEdit.{RangeEdit}
 use Rattle.whatif.specs.Runs.{Note}
@@ -34,6 +36,10 @@ greatest_bound (answers.Enclosed upper attained) = bounds.Within upper (Some att
 -- the least bound of a pair, from the answer for the reversed pair
 abbrev pub least_bound : GreatestAnswer → Bound
 least_bound answer = reversed (greatest_bound answer)
+
+-- both bounds of a pair, from the answers for it and for the reversed pair
+abbrev pub both_of : GreatestAnswer → GreatestAnswer → BothBounds
+both_of most least = record { least = least_bound least; greatest = greatest_bound most }
 
 -- the words of the verdict on a requirement. A question has no verdict
 abbrev pub judged_words : RowKind → Bound → Bound → List Word
@@ -79,20 +85,15 @@ states_text number rows (e ∷ edits) (note ∷ notes) =
 
 -- ---- the end
 
--- the tally of the rows so far and one more
-abbrev pub judged_row : ReportTally → RowKind → Bound → Bound → ReportTally
-judged_row tally kinds.Ask least most = with_bounds tally least most
-judged_row tally (kinds.Req range) least most = with_verdict (with_bounds tally least most) (verdict_of range least most)
-
-abbrev pub judged_rows : ReportTally → List RowKind → List GreatestAnswer → ReportTally
-judged_rows tally [] found = tally
-judged_rows tally (kind ∷ others) [] = tally
-judged_rows tally (kind ∷ others) (most ∷ []) = tally
-judged_rows tally (kind ∷ others) (most ∷ least ∷ found) = judged_rows (judged_row tally kind (least_bound least) (greatest_bound most)) others found
+-- both bounds of each row; there are two answers for a row
+abbrev pub bounds_of : List GreatestAnswer → List BothBounds
+bounds_of [] = []
+bounds_of (most ∷ []) = []
+bounds_of (most ∷ least ∷ found) = both_of most least ∷ bounds_of found
 
 -- the word at the end, according to a finding and the answers for rows. A report of that state ends with the same word
 abbrev pub ending_of : List RowKind → SearchFinding → List GreatestAnswer → EndWord
-ending_of rows found list = end_word (judged_rows (tally_of (found_word found)) rows list)
+ending_of rows found list = end_word (with_rows (tally_of (found_word found)) rows (bounds_of list))
 
 -- the note of the last state, after all others
 abbrev pub last_note : Note → List Note → Note

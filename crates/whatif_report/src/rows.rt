@@ -7,7 +7,7 @@ ghost use Rattle.requirements.specs.Bounds.{HasTimes};
 ghost use Rattle.slack_report.specs.Text.{bound_words};
 ghost use Rattle.whatif.specs.declared.session.TheConstants.{MAX_PAIRS};
 ghost use Rattle.whatif_report.specs.Step.{IsCountFor, IsTimed};
-ghost use Rattle.whatif_report.specs.Text.{greatest_bound, judged_words, least_bound, row_words, rows_text};
+ghost use Rattle.whatif_report.specs.Text.{both_of, greatest_bound, judged_words, least_bound, row_words, rows_text};
 
 use crate::words::{add, add_bound, add_number, add_spaced, add_verdict};
 use branch::GreatestAnswer;
@@ -42,6 +42,7 @@ pub fn both_of(most: GreatestAnswer, least: GreatestAnswer) -> BothBounds
     requires least { IsTimed least }
     ensures greatest { result.greatest ≡ greatest_bound most }
     ensures least { result.least ≡ least_bound least }
+    ensures both { result ≡ both_of most least }
     ensures most_times { HasTimes result.greatest }
     ensures least_times { HasTimes result.least }
 {

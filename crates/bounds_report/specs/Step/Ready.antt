@@ -12,7 +12,8 @@ use Rattle.requirements.specs.declared.verdict.Verdict.{Verdict}
 use Rattle.slack_report.specs.declared.words.EndWord.TheVariants as endings
 use Rattle.slack_report.specs.declared.words.FindingWord.{FindingWord}
 use Rattle.slack_report.specs.declared.words.FindingWord.TheVariants as findings
-use Rattle.right_report.specs.Right.ReportState.{ReportState, ReportTally, at_end, at_row, at_rows, end_word, is_fail, with_verdict}
+use Rattle.right_report.specs.Right.ReportState.{ReportState, at_end, at_row, at_rows, end_word, is_fail, with_verdict}
+use Rattle.right_report.specs.declared.tally.ReportTally.{ReportTally}
 use Rattle.bounds_report.specs.Reports.{is_pass, is_undecided}
 use Rattle.bounds_report.specs.declared.desk.Desk.{Desk}
 use Rattle.bounds_report.specs.declared.tally.RowEnd.{RowEnd}

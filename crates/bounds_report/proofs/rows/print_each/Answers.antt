@@ -1,7 +1,8 @@
 use Rattle.std.proofs.Common.{◌+◌, ◌++◌, [], drop, length, ap, refl, sym, ◌∙◌, arith}
 use Rattle.std.specs.Option.{option_to_list}
 use Rattle.slack_report.specs.Entry.{rows}
-use Rattle.right_report.specs.Right.ReportState.{ReportTally, at_row, tally_of}
+use Rattle.right_report.specs.Right.ReportState.{at_row, tally_of}
+use Rattle.right_report.specs.declared.tally.ReportTally.{ReportTally}
 use Rattle.right_report.proofs.Leading.{stopped_line}
 use Rattle.bounds_report.specs.Step.Ready.{tally_behind}
 use Rattle.bounds_report.specs.Step.Searched.{printed_known}
