@@ -10,6 +10,7 @@ use Rattle.event_graph.specs.Network.{Net}
 use Rattle.event_graph.specs.Satisfying.{Satisfies}
 use Rattle.event_graph.proofs.Rays.{ray_is_unbounded}
 use Rattle.branch.specs.Answers.{Evidence, IsGreatestAnswer, PairSearch}
+use Rattle.branch.specs.AnswerBound.{greatest_bound}
 use Rattle.branch.specs.declared.answer.GreatestAnswer.{GreatestAnswer}
 use Rattle.branch.specs.declared.answer.GreatestAnswer.TheVariants.{Closed, Unbounded, Enclosed}
 use Rattle.branch.specs.declared.answer.SearchFinding.{SearchFinding}
@@ -42,7 +43,7 @@ use Rattle.whatif.specs.declared.pair.Pair.{Pair}
 use Rattle.whatif.specs.Runs.{EditedSession, Note, Runs, edited, last_of, note_of, notes_of}
 use Rattle.whatif.specs.Session.{IsRight, IsRightBound, IsRightFinding, KeptBound, SessionView, answers_of, both_ways, left_by, pair_search}
 use Rattle.whatif_report.specs.Laws.{PassedEditsAreMet}
-use Rattle.whatif_report.specs.Text.{both_of, bounds_of, ending_of, greatest_bound, last_note, least_bound}
+use Rattle.whatif_report.specs.Text.{both_of, bounds_of, ending_of, last_note, least_bound}
 use Rattle.whatif_report.specs.Whatif.{AnswersWhatif, no_change, pair_of, pairs_of}
 
 -- ---- the last session

@@ -8,6 +8,7 @@ use Rattle.itv_base.specs.declared.row_kind.RowKind.{RowKind}
 use Rattle.line_words.specs.Words.{Word}
 use Rattle.line_words.specs.Lines.{ended, line_of, spaced}
 use Rattle.line_words.proofs.Printing.{join_spaced}
+use Rattle.branch.specs.AnswerBound.{greatest_bound}
 use Rattle.branch.specs.declared.answer.GreatestAnswer.{GreatestAnswer}
 use Rattle.requirements.specs.declared.bound.BothBounds.{BothBounds}
 use Rattle.requirements.specs.declared.bound.Bound.{Bound}
@@ -17,7 +18,7 @@ use Rattle.right_report.specs.declared.tally.ReportTally.{ReportTally}
 use Rattle.edits.specs.declared.edit.RangeEdit.{RangeEdit}
 use Rattle.whatif.specs.Runs.{Note}
 use Rattle.whatif_report.specs.Step.{IsCountFor}
-use Rattle.whatif_report.specs.Text.{both_of, bounds_of, found_text, greatest_bound, judged_words, last_note, least_bound, row_words, rows_text, state_words, states_text}
+use Rattle.whatif_report.specs.Text.{both_of, bounds_of, found_text, judged_words, last_note, least_bound, row_words, rows_text, state_words, states_text}
 
 -- ---- the line of a row
 

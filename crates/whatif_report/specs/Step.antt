@@ -1,10 +1,10 @@
 -- Words of contracts within this crate.
 use Rattle.std.specs.Prelude.{◌≡◌, ◌+◌, ◌⊎◌, List, length, All}
 use Rattle.itv_base.specs.declared.row_kind.RowKind.{RowKind}
+use Rattle.branch.specs.AnswerBound.{greatest_bound}
 use Rattle.branch.specs.declared.answer.GreatestAnswer.{GreatestAnswer}
 use Rattle.requirements.specs.Bounds.{HasTimes}
 use Rattle.whatif.specs.Runs.{Note}
-use Rattle.whatif_report.specs.Text.{greatest_bound}
 
 -- the numbers of an answer are below 2^61 in absolute value
 abbrev pub IsTimed : GreatestAnswer → Type 0

@@ -1,37 +1,28 @@
 -- The text of job whatif: the states of a network after edits of its ranges.
-use Rattle.std.specs.Prelude.{◌+◌, ℕ, List, [], ◌∷◌, ◌++◌, codes, Some}
+use Rattle.std.specs.Prelude.{◌+◌, ℕ, List, [], ◌∷◌, ◌++◌, codes}
 use Rattle.itv_base.specs.Numerals.{number_text}
 use Rattle.itv_base.specs.declared.row_kind.RowKind.{RowKind}
 use Rattle.itv_base.specs.declared.row_kind.RowKind.TheVariants as kinds
 use Rattle.line_words.specs.Words.{Word}
 use Rattle.line_words.specs.Lines.{ended, line_of}
+use Rattle.branch.specs.AnswerBound.{greatest_bound}
 use Rattle.branch.specs.declared.answer.GreatestAnswer.{GreatestAnswer}
-use Rattle.branch.specs.declared.answer.GreatestAnswer.TheVariants as answers
 use Rattle.branch.specs.declared.answer.SearchFinding.{SearchFinding}
-use Rattle.branch.specs.declared.answer.SearchFinding.TheVariants as founds
 use Rattle.requirements.specs.Bounds.{reversed}
 use Rattle.requirements.specs.Verdicts.{verdict_of}
 use Rattle.requirements.specs.declared.bound.BothBounds.{BothBounds}
 use Rattle.requirements.specs.declared.bound.Bound.{Bound}
-use Rattle.requirements.specs.declared.bound.Bound.TheVariants as bounds
 use Rattle.slack_report.specs.Entry.{ending, finding}
 use Rattle.slack_report.specs.Text.{bound_words, entry_text, range_word, verdict_words}
 use Rattle.slack_report.specs.declared.words.EndWord.{EndWord}
-use Rattle.slack_report.specs.declared.words.FindingWord.{FindingWord}
-use Rattle.slack_report.specs.declared.words.FindingWord.TheVariants as findings
 use Rattle.right_report.specs.Right.ReportState.{tally_of, end_word}
 use Rattle.right_report.specs.RowTally.{with_rows}
+use Rattle.jobs.specs.Found.{found_word}
 use Rattle.edits.specs.Subject.{subject_text}
 use Rattle.edits.specs.declared.edit.RangeEdit.{RangeEdit}
 use Rattle.whatif.specs.Runs.{Note}
 
 -- ---- a row
-
--- the greatest bound of an answer for a pair
-abbrev pub greatest_bound : GreatestAnswer → Bound
-greatest_bound (answers.Closed value) = bounds.Closed value
-greatest_bound answers.Unbounded = bounds.Unbounded
-greatest_bound (answers.Enclosed upper attained) = bounds.Within upper (Some attained)
 
 -- the least bound of a pair, from the answer for the reversed pair
 abbrev pub least_bound : GreatestAnswer → Bound
@@ -60,11 +51,6 @@ rows_text number (kind ∷ others) (most ∷ least ∷ found) =
     ended (line_of (row_words number kind (least_bound least) (greatest_bound most))) ++ rows_text (number + 1) others found
 
 -- ---- a state
-
-abbrev pub found_word : SearchFinding → FindingWord
-found_word founds.Consistent = findings.Consistent
-found_word founds.Inconsistent = findings.Inconsistent
-found_word founds.Unsettled = findings.Unsettled
 
 -- the finding and the rows. If the finding is not consistent, there are no answers, and so no rows
 abbrev pub found_text : List RowKind → SearchFinding → List GreatestAnswer → List ℕ

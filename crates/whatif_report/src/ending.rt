@@ -7,12 +7,13 @@ ghost use Rattle.right_report.specs.Right.ReportState.{tally_of};
 ghost use Rattle.right_report.specs.RowTally.{with_rows};
 ghost use Rattle.whatif.specs.declared.session.TheConstants.{MAX_PAIRS};
 ghost use Rattle.whatif_report.specs.Step.{IsCountFor, IsNoteOf, IsTimed};
-ghost use Rattle.whatif_report.specs.Text.{bounds_of, ending_of, found_word, last_note};
+ghost use Rattle.whatif_report.specs.Text.{bounds_of, ending_of, last_note};
 
 use crate::rows::both_of;
 use crate::words::add;
-use branch::{GreatestAnswer, SearchFinding};
+use branch::GreatestAnswer;
 use itv_base::{NoMemory, RowKind};
+use jobs::found_word;
 use right_report::ReportTally;
 use slack_report::{EndWord, FindingWord};
 use whatif::Note;
@@ -52,17 +53,6 @@ fn tally_rows(word: FindingWord, kinds: &[RowKind], answers: &[GreatestAnswer]) 
         tally = tally.with_row(kinds[k], &both);
     }
     tally
-}
-
-// The word of a finding.
-fn found_word(found: SearchFinding) -> FindingWord
-    ensures { result ≡ found_word found }
-{
-    match found {
-        SearchFinding::Consistent => FindingWord::Consistent,
-        SearchFinding::Inconsistent => FindingWord::Inconsistent,
-        SearchFinding::Unsettled => FindingWord::Unsettled,
-    }
 }
 
 /// Adds the line of the word at the end.

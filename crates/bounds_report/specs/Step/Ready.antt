@@ -1,7 +1,5 @@
 -- When all that the rows need is ready.
 use Rattle.std.specs.Prelude.{◌≡◌, ◌||◌, ℕ, ℤ, pos, All, List, [], Option, Some, None, IsSomeAnd, count_by, nat_lt}
-use Rattle.branch.specs.declared.answer.SearchFinding.{SearchFinding}
-use Rattle.branch.specs.declared.answer.SearchFinding.TheVariants as founds
 use Rattle.branch.specs.Work.{IsMadeFor}
 use Rattle.event_graph.specs.Limits.{IsPrintedTime}
 use Rattle.event_graph.specs.Network.{Net}
@@ -55,12 +53,6 @@ pub record IsTally (tally : Tally) (words : List Verdict) : Type 0 where
 -- the tally of a report after a finding and some rows
 abbrev pub tally_behind : FindingWord → Tally → ReportTally
 tally_behind word tally = record { found = word; fails = nat_lt 0 tally.fails; within = tally.is_within }
-
--- the word for a finding
-abbrev pub word_of : SearchFinding → FindingWord
-word_of founds.Consistent = findings.Consistent
-word_of founds.Inconsistent = findings.Inconsistent
-word_of founds.Unsettled = findings.Unsettled
 
 -- times that may be printed after a consistent finding: they satisfy, and event 0 is at 0
 abbrev pub AreKnown : Net → List ℤ → Type 0
