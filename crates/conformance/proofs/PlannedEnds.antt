@@ -84,8 +84,8 @@ rows_keep tally (kind ∷ rows) [] = refl
 rows_keep tally (kind ∷ rows) (both ∷ found) = rows_keep (with_row tally kind both) rows found ∙ row_keeps tally kind both
 
 -- the tally of rows after a finding
-abbrev tally_behind : FindingWord → List Row → List RowFound → ReportTally
-tally_behind word rows found = with_rows (tally_of word) (kinds_of rows) (map both_of found)
+abbrev rows_tally : FindingWord → List Row → List RowFound → ReportTally
+rows_tally word rows found = with_rows (tally_of word) (kinds_of rows) (map both_of found)
 
 never_none : (fails : Bool) (found : FindingWord) (within : Bool) → (found ≡ findings.Inconsistent → ⊥)
     → answers.Inconsistent ≡ answer_of (if fails then endings.Fail else undecided_or_pass found within) → ⊥
@@ -96,9 +96,9 @@ never_none false findings.Inconsistent within other e = other refl
 never_none false findings.Unsettled within other e = cc e
 
 no_end : (word : FindingWord) (rows : List Row) (found : List RowFound) → (word ≡ findings.Inconsistent → ⊥)
-    → answers.Inconsistent ≡ answer_of (end_word (tally_behind word rows found)) → ⊥
+    → answers.Inconsistent ≡ answer_of (end_word (rows_tally word rows found)) → ⊥
 no_end word rows found other e =
-    let tally : ReportTally = tally_behind word rows found in
+    let tally : ReportTally = rows_tally word rows found in
     never_none tally.fails tally.found tally.within (λ same. other (sym (rows_keep (tally_of word) (kinds_of rows) (map both_of found)) ∙ same)) e
 
 -- if the answer is that the network is inconsistent, it is
@@ -134,9 +134,9 @@ never_open true within none e = cc e
 never_open false true none e = cc none
 never_open false false none e = cc e
 
-consistent_end : (rows : List Row) (found : List RowFound) → All IsRowSettled found → answers.Undecided ≡ answer_of (end_word (tally_behind findings.Consistent rows found)) → ⊥
+consistent_end : (rows : List Row) (found : List RowFound) → All IsRowSettled found → answers.Undecided ≡ answer_of (end_word (rows_tally findings.Consistent rows found)) → ⊥
 consistent_end rows found all e =
-    let tally : ReportTally = tally_behind findings.Consistent rows found in
+    let tally : ReportTally = rows_tally findings.Consistent rows found in
     never_open tally.fails tally.within (rows_within (tally_of findings.Consistent) rows found all refl)
     (subst (λ (w : FindingWord). answers.Undecided ≡ answer_of (if tally.fails then endings.Fail else undecided_or_pass w tally.within))
     (rows_keep (tally_of findings.Consistent) (kinds_of rows) (map both_of found)) e)
