@@ -50,7 +50,7 @@ fn put_demand<K: Sink>(
 // Puts the line of a row up to its names, with a word for its kind.
 fn put_between<K: Sink>(
     number: u32,
-    word: &[u8],
+    word: &'static [u8],
     from: EventName<'_>,
     to: EventName<'_>,
     sink: &mut K,
