@@ -7,4 +7,4 @@ use Rattle.why_report.proofs.ending.tally_rows.Given as goal
 -- the tally of the first rows, with the rows that are left, is the tally of all rows
 abbrev pub invariant-loop-number : goal.invariant-loop-number
 invariant-loop-number l =
-    with_rows l.tally (kinds_of (drop l.number l.drawn.rows)) (map both_of (drop l.number l.found)) ≡ with_rows (tally_of l.word) (kinds_of l.drawn.rows) (map both_of l.found)
+    with_rows l.tally (kinds_of (drop l.number l.drawn.rows)) (map both_of (drop l.number l.found)) ≡ with_rows (tally_of l.fn.word) (kinds_of l.drawn.rows) (map both_of l.found)
