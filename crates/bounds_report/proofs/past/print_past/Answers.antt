@@ -19,14 +19,14 @@ pub print_passed-requires-clause-kept : goal.print_passed-requires-clause-kept
 print_passed-requires-clause-kept g c =
     c.requires.greatest (past_high c.args.range c.args.both.now.least c.args.both.now.greatest c.broken_high.result (sym c.requires.word ∙ c.in-FailHigh.is) c.broken_high.ensures.end).1
 
-pub print_passed-in-FailLow-requires-clause-beyond : goal.print_passed-in-FailLow-requires-clause-beyond
-print_passed-in-FailLow-requires-clause-beyond g c =
+pub print_passed-requires-in-FailLow-clause-beyond : goal.print_passed-requires-in-FailLow-clause-beyond
+print_passed-requires-in-FailLow-clause-beyond g c =
     let limit = c.broken_low.result in
     subst (λ z. IsBeyond sorts.Min c.args.both.now.least z) (sym (read_time limit (end_time limit c.broken_low.ensures.limit)))
     (past_low c.args.range c.args.both.now.least c.args.both.now.greatest limit (sym c.requires.word ∙ c.in-FailLow.is) c.broken_low.ensures.end).0
 
-pub print_passed-in-FailLow-requires-clause-kept : goal.print_passed-in-FailLow-requires-clause-kept
-print_passed-in-FailLow-requires-clause-kept g c =
+pub print_passed-requires-in-FailLow-clause-kept : goal.print_passed-requires-in-FailLow-clause-kept
+print_passed-requires-in-FailLow-clause-kept g c =
     c.requires.least (past_low c.args.range c.args.both.now.least c.args.both.now.greatest c.broken_low.result (sym c.requires.word ∙ c.in-FailLow.is) c.broken_low.ensures.end).1
 
 pub returns-in-FailHigh-clause-goes : goal.returns-in-FailHigh-clause-goes

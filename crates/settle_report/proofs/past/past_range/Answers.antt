@@ -13,8 +13,8 @@ past_limit-requires-clause-beyond c =
     (past_high c.args.range c.both_of-both.result.least c.both_of-both.result.greatest c.args.greatest.now limit c.both_of-both.ensures.greatest
     (sym c.judge.ensures ∙ c.in-FailHigh.is) c.broken_high-limit.ensures.end)
 
-pub past_limit-in-FailLow-requires-clause-beyond : goal.past_limit-in-FailLow-requires-clause-beyond
-past_limit-in-FailLow-requires-clause-beyond c =
+pub past_limit-requires-in-FailLow-clause-beyond : goal.past_limit-requires-in-FailLow-clause-beyond
+past_limit-requires-in-FailLow-clause-beyond c =
     let limit = c.broken_low-limit.result in
     subst (λ z. IsBeyond Min c.args.least.now z) (sym (read_time limit (end_time limit c.broken_low-limit.ensures.limit)))
     (past_low c.args.range c.both_of-both.result.least c.both_of-both.result.greatest c.args.least.now limit c.both_of-both.ensures.least
