@@ -2,6 +2,7 @@
 use Rattle.std.proofs.Common.{◌≡◌, ◌<◌, ◌≤◌, ℕ, zero, suc, ℤ, pos, neg_ℤ, ◌-ℤ◌, Bool, List, [], ◌∷◌, length, get_or, All, Option, Some, None, option_map, ◌⊎◌, inl, inr, refl, sym, subst, ap, ◌∙◌, arith}
 use Rattle.std.proofs.lemmas.Int.{ints}
 use Rattle.itv_base.specs.declared.names.EventId.{EventId}
+use Rattle.branch.specs.AnswerBound.{greatest_bound}
 use Rattle.branch.specs.Answers.{IsGreatestAnswer, Evidence, PairSearch}
 use Rattle.branch.specs.Work.{IsClose, IsKnownReach}
 use Rattle.branch.specs.declared.answer.GreatestAnswer.{GreatestAnswer}
@@ -27,7 +28,7 @@ use Rattle.right_report.specs.Right.LineClaims.{IsBoundOf}
 use Rattle.right_report.specs.Shown.{ShowsBound}
 use Rattle.bounds_report.specs.declared.pair.Pair.{Pair}
 use Rattle.bounds_report.specs.Step.Witness.{AreNearby, Attain, IsWitness, IsShiftedTo, searched_pair}
-use Rattle.bounds_report.specs.Step.Searched.{bound_of, greatest_of, search_of}
+use Rattle.bounds_report.specs.Step.Searched.{bound_of, search_of}
 use Rattle.bounds_report.specs.Written.{HasPrintedTimes}
 use Rattle.bounds_report.proofs.Printed.{bound_times, bound_turned}
 use Rattle.bounds_report.proofs.Shifted.{at_zero, nearby-shifted, nearby_close, ray-shifted, satisfies-shifted, separation-shifted}
@@ -53,17 +54,17 @@ separation_printed times from to close = apart (time_of times from) (time_of tim
     apart a b h k = (omega (arith, ints, h.0, h.1, k.0, k.1), omega (arith, ints, h.0, h.1, k.0, k.1))
 
 -- the numbers of the bound that an answer gives
-greatest_printed : (search : PairSearch) (left : Evidence) (answer : GreatestAnswer) → IsGreatestAnswer search left answer → All IsClose left.times → HasPrintedTimes (greatest_of answer)
+greatest_printed : (search : PairSearch) (left : Evidence) (answer : GreatestAnswer) → IsGreatestAnswer search left answer → All IsClose left.times → HasPrintedTimes (greatest_bound answer)
 greatest_printed search left (answers.Closed value) a close = subst IsPrintedTime a.attained (separation_printed left.times search.from search.to close)
 greatest_printed search left answers.Unbounded a close = tt
 greatest_printed search left (answers.Enclosed upper found) a close = (a.within, subst IsPrintedTime a.attains (separation_printed left.times search.from search.to close))
 
 pub has_printed : (search : PairSearch) (left : Evidence) (answer : GreatestAnswer) (which : Which) → IsGreatestAnswer search left answer → All IsClose left.times → HasPrintedTimes (bound_of which answer)
 has_printed search left answer sorts.Max a close = greatest_printed search left answer a close
-has_printed search left answer sorts.Min a close = bound_turned (greatest_of answer) (greatest_printed search left answer a close)
+has_printed search left answer sorts.Min a close = bound_turned (greatest_bound answer) (greatest_printed search left answer a close)
 
-pub has_times : (search : PairSearch) (left : Evidence) (answer : GreatestAnswer) → IsGreatestAnswer search left answer → All IsClose left.times → HasTimes (greatest_of answer)
-has_times search left answer a close = bound_times (greatest_of answer) (greatest_printed search left answer a close)
+pub has_times : (search : PairSearch) (left : Evidence) (answer : GreatestAnswer) → IsGreatestAnswer search left answer → All IsClose left.times → HasTimes (greatest_bound answer)
+has_times search left answer a close = bound_times (greatest_bound answer) (greatest_printed search left answer a close)
 
 -- ---- what the lines show
 
@@ -80,7 +81,7 @@ pair_is from to pair f t = rw (f, t) refl
 
 -- in a greatest bound
 shows_greatest : (net : Net) (most : ℕ) (r : Row) (left : Evidence) (answer : GreatestAnswer) → IsGreatestAnswer (search_of net (row_pair r) most) left answer → left.leaves ≤ most
-    → IsBoundOf net findings.Consistent r greatest (greatest_of answer) × ShowsBound net most left.lines r greatest (greatest_of answer)
+    → IsBoundOf net findings.Consistent r greatest (greatest_bound answer) × ShowsBound net most left.lines r greatest (greatest_bound answer)
 shows_greatest net most r left (answers.Closed value) a count = ((refl, a.greatest), (a.proof, omega (arith, a.count, count)))
 shows_greatest net most r left answers.Unbounded a count =
     let s = a.stopped in
@@ -91,7 +92,7 @@ shows_greatest net most r left (answers.Enclosed upper found) a count =
 -- in a least bound
 shows_least : (net : Net) (most : ℕ) (r : Row) (first : Bound) (left : Evidence) (answer : GreatestAnswer) → IsGreatestAnswer (search_of net (searched_pair sorts.Min (row_pair r)) most) left answer
     → left.leaves ≤ most
-    → IsBoundOf net findings.Consistent r (least_by first) (reversed (greatest_of answer)) × ShowsBound net most left.lines r (least_by first) (reversed (greatest_of answer))
+    → IsBoundOf net findings.Consistent r (least_by first) (reversed (greatest_bound answer)) × ShowsBound net most left.lines r (least_by first) (reversed (greatest_bound answer))
 shows_least net most r first left (answers.Closed value) a count = (
   (refl, (least_is_reversed_greatest net r.from r.to (neg_ℤ value)).1 (subst (IsGreatest net r.to r.from) (sym (neg_neg value)) a.greatest)),
   (subst (λ z. IsProof net (BoundGoal r.to r.from z) left.lines) (sym (neg_neg value)) a.proof, omega (arith, a.count, count)),

@@ -21,22 +21,23 @@ use Rattle.right_report.specs.Right.Following.{MayFollow}
 use Rattle.right_report.specs.Shown.{ShowsFinding}
 use Rattle.right_report.proofs.Leading.{behind_proof}
 use Rattle.bounds_report.specs.Step.Witness.{AreNearby, IsShiftedTo}
-use Rattle.bounds_report.specs.Step.Ready.{AreKnown, HasFound, behind_known, word_of}
+use Rattle.jobs.specs.Found.{found_word}
+use Rattle.bounds_report.specs.Step.Ready.{AreKnown, HasFound, behind_known}
 use Rattle.bounds_report.specs.Step.Searched.{printed_known, sized}
 use Rattle.bounds_report.specs.Written.{printed}
 use Rattle.bounds_report.proofs.Shifted.{at_zero, length-shifted, nearby-shifted, nearby_close, satisfies-shifted, separation-shifted, times_nearby}
 
 -- what the search shows
 shows : (net : Net) (most : ℕ) (lines : List ProofLine) (leaves : ℕ) (known : Option (List ℤ)) (found : SearchFinding) → Finds net most lines leaves known found → leaves ≤ most
-    → IsFinding net (word_of found) × ShowsFinding net most lines (word_of found)
+    → IsFinding net (found_word found) × ShowsFinding net most lines (found_word found)
 shows net most lines leaves known founds.Consistent f count = let s = f.stopped in (tt, (s.0, omega (arith, s.2, count), s.1))
 shows net most lines leaves known founds.Inconsistent f count = (f.none, (f.proof, omega (arith, f.count, count)))
 shows net most lines leaves known founds.Unsettled f count = (f.always, subst (λ n. IsStoppedProof net Nothing lines n) f.used f.stopped)
 
-pub finding_fact : (net : Net) (most : ℕ) (cert : Bool) (basis : List ℤ) (lines : List ProofLine) (leaves : ℕ) (known : Option (List ℤ)) (found : SearchFinding) (word : FindingWord) → word ≡ word_of found
+pub finding_fact : (net : Net) (most : ℕ) (cert : Bool) (basis : List ℤ) (lines : List ProofLine) (leaves : ℕ) (known : Option (List ℤ)) (found : SearchFinding) (word : FindingWord) → word ≡ found_word found
     → Finds net most lines leaves known found → AtEachSplit net (IsNeededToFind net) lines → leaves ≤ most → (sized net most cert basis).finding (printed cert lines) word
 finding_fact net most cert basis lines leaves known found word e f needed count =
-    let s : IsFinding net (word_of found) × ShowsFinding net most lines (word_of found) = shows net most lines leaves known found f count in
+    let s : IsFinding net (found_word found) × ShowsFinding net most lines (found_word found) = shows net most lines leaves known found f count in
     subst (λ (w : FindingWord). (sized net most cert basis).finding (printed cert lines) w) (sym e) (s.0, (lines, refl, (s.1, needed)))
 
 pub finding_may : (net : Net) (most : ℕ) (cert : Bool) (basis : List ℤ) (drawn : Drawn) (number : ℕ) (lines : List ProofLine) (word : FindingWord) → (sized net most cert basis).finding lines word
@@ -45,11 +46,11 @@ finding_may net most cert basis drawn number [] word fact = inr (word, refl, fac
 finding_may net most cert basis drawn number (line ∷ lines) word fact = inr (word, refl, fact, refl)
 
 -- what it leaves
-pub found_is : (net : Net) (most : ℕ) (lines : List ProofLine) (leaves : ℕ) (known : Option (List ℤ)) (found : SearchFinding) (word : FindingWord) → word ≡ word_of found
+pub found_is : (net : Net) (most : ℕ) (lines : List ProofLine) (leaves : ℕ) (known : Option (List ℤ)) (found : SearchFinding) (word : FindingWord) → word ≡ found_word found
     → Finds net most lines leaves known found → HasFound net word known
 found_is net most lines leaves known found word e f = subst (λ (w : FindingWord). HasFound net w known) (sym e) (leaves_known found f)
   where
-    leaves_known : (found : SearchFinding) → Finds net most lines leaves known found → HasFound net (word_of found) known
+    leaves_known : (found : SearchFinding) → Finds net most lines leaves known found → HasFound net (found_word found) known
     leaves_known founds.Consistent f = f.satisfies
     leaves_known founds.Inconsistent f = tt
     leaves_known founds.Unsettled f = f.always

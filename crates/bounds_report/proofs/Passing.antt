@@ -1,5 +1,5 @@
 -- Times past an end of a range.
-use Rattle.std.proofs.Common.{◌≡◌, ◌<◌, ◌+◌, ◌*◌, ◌⊎◌, ℕ, zero, suc, ℤ, pos, neg_ℤ, ◌+ℤ◌, ◌-ℤ◌, ◌≤ℤ◌, ◌<ℤ◌, Bool, true, false, ◌&&◌, cond, List, [], ◌∷◌, length, get_or, All, Option, Some, None, slice_get, refl, sym, subst, ap, ◌∙◌, inl, inr, arith}
+use Rattle.std.proofs.Common.{◌≡◌, ◌<◌, ◌+◌, ◌*◌, ◌⊎◌, ℕ, zero, suc, ℤ, pos, neg_ℤ, ◌+ℤ◌, ◌-ℤ◌, ◌≤ℤ◌, ◌<ℤ◌, Bool, true, false, List, [], ◌∷◌, length, get_or, All, Option, Some, None, slice_get, refl, sym, subst, ap, ◌∙◌, inl, inr, arith}
 use Rattle.std.specs.Prelude.{IsSomeAnd, int_lt}
 use Rattle.std.proofs.lemmas.Int.{ints}
 use Rattle.itv_base.specs.Range.{Ends, IsEnd}
@@ -12,7 +12,8 @@ use Rattle.event_graph.specs.Satisfying.{Satisfies}
 use Rattle.event_graph.specs.Times.{IsTime, raised, separation, shifted, time_of}
 use Rattle.event_graph.proofs.Rays.{length-raised, separation-raised}
 use Rattle.requirements.specs.Raising.{RaisesPast}
-use Rattle.requirements.specs.Verdicts.{breaks_high, breaks_low, meets_high, meets_low, verdict_of}
+use Rattle.requirements.proofs.Breaking.{high_breaks, low_breaks}
+use Rattle.requirements.specs.Verdicts.{breaks_high, breaks_low, verdict_of}
 use Rattle.requirements.specs.declared.bound.Bound.{Bound}
 use Rattle.requirements.specs.declared.bound.Bound.TheVariants as bounds
 use Rattle.requirements.specs.declared.verdict.Verdict.{Verdict}
@@ -184,47 +185,30 @@ past_kept net pair which value limit list set n beyond kept = record {
 
 -- ---- which end a fail breaks
 
-fail_high : (high low fine : Bool) → cond high verdicts.FailHigh (cond low verdicts.FailLow (cond fine verdicts.Pass verdicts.Undecided)) ≡ verdicts.FailHigh → high ≡ true
-fail_high true low fine e = refl
-fail_high false true fine e = absurd (cc e)
-fail_high false false true e = absurd (cc e)
-fail_high false false false e = absurd (cc e)
-
-fail_low : (high low fine : Bool) → cond high verdicts.FailHigh (cond low verdicts.FailLow (cond fine verdicts.Pass verdicts.Undecided)) ≡ verdicts.FailLow → low ≡ true
-fail_low true low fine e = absurd (cc e)
-fail_low false true fine e = refl
-fail_low false false true e = absurd (cc e)
-fail_low false false false e = absurd (cc e)
-
-pub high_breaks : (range : Ends) (least most : Bound) → verdict_of range least most ≡ verdicts.FailHigh → breaks_high range.high most ≡ true
-high_breaks range least most e = fail_high (breaks_high range.high most) (breaks_low range.low least) (meets_high range.high most && meets_low range.low least) e
-
-pub low_breaks : (range : Ends) (least most : Bound) → verdict_of range least most ≡ verdicts.FailLow → breaks_low range.low least ≡ true
-low_breaks range least most e = fail_low (breaks_high range.high most) (breaks_low range.low least) (meets_high range.high most && meets_low range.low least) e
-
 below : (a b : ℤ) → int_lt a b ≡ true → a <ℤ b
 below a b h = omega (arith, ints)
 
-turned : (a b : ℤ) → int_lt a b ≡ true → neg_ℤ b <ℤ neg_ℤ a
-turned a b h = omega (arith, ints)
+turned : (value limit : ℤ) → int_lt value (neg_ℤ limit) ≡ true → limit <ℤ neg_ℤ value
+turned value limit h = omega (arith, ints)
 
-pub none_high : (most : Bound) → breaks_high None most ≡ true → ⊥
-none_high most e = cc e
+beyond_high : (limit : ℤ) (most : Bound) → breaks_high (Some limit) most ≡ true → IsBeyond sorts.Max most limit × HasFoundValue most
+beyond_high limit (bounds.Closed value) e = (below limit value e, tt)
+beyond_high limit bounds.Unbounded e = (tt, tt)
+beyond_high limit (bounds.Within upper None) e = absurd (cc e)
+beyond_high limit (bounds.Within upper (Some found)) e = (below limit found e, tt)
 
-pub none_low : (least : Bound) → breaks_low None least ≡ true → ⊥
-none_low least e = cc e
+beyond_low : (limit : ℤ) (least : Bound) → breaks_low (Some (neg_ℤ limit)) least ≡ true → IsBeyond sorts.Min least limit × HasFoundValue least
+beyond_low limit (bounds.Closed value) e = (turned value limit e, tt)
+beyond_low limit bounds.Unbounded e = (tt, tt)
+beyond_low limit (bounds.Within upper None) e = absurd (cc e)
+beyond_low limit (bounds.Within upper (Some found)) e = (turned found limit e, tt)
 
-pub beyond_high : (high : ℤ) (most : Bound) → breaks_high (Some high) most ≡ true → IsBeyond sorts.Max most high × HasFoundValue most
-beyond_high high (bounds.Closed value) e = (below high value e, tt)
-beyond_high high bounds.Unbounded e = (tt, tt)
-beyond_high high (bounds.Within limit None) e = absurd (cc e)
-beyond_high high (bounds.Within limit (Some found)) e = (below high found e, tt)
+-- a bound that breaks an end goes past it
+pub past_high : (range : Ends) (least most : Bound) (limit : ℤ) → verdict_of range least most ≡ verdicts.FailHigh → range.high ≡ Some limit → IsBeyond sorts.Max most limit × HasFoundValue most
+past_high range least most limit word end = beyond_high limit most (subst (λ (high : Option ℤ). breaks_high high most ≡ true) end (high_breaks range least most word))
 
-pub beyond_low : (low : ℤ) (least : Bound) → breaks_low (Some low) least ≡ true → IsBeyond sorts.Min least (neg_ℤ low) × HasFoundValue least
-beyond_low low (bounds.Closed value) e = (turned value low e, tt)
-beyond_low low bounds.Unbounded e = (tt, tt)
-beyond_low low (bounds.Within limit None) e = absurd (cc e)
-beyond_low low (bounds.Within limit (Some found)) e = (turned found low e, tt)
+pub past_low : (range : Ends) (least most : Bound) (limit : ℤ) → verdict_of range least most ≡ verdicts.FailLow → range.low ≡ Some (neg_ℤ limit) → IsBeyond sorts.Min least limit × HasFoundValue least
+past_low range least most limit word end = beyond_low limit least (subst (λ (low : Option ℤ). breaks_low low least ≡ true) end (low_breaks range least most word))
 
 -- ---- the lines of a verdict
 

@@ -24,7 +24,7 @@ use Rattle.bounds_report.specs.Reports.{MayHaveBegun, HasRowRanges, Reports, is_
 use Rattle.bounds_report.specs.Written.{written}
 use Rattle.bounds_report.specs.declared.summary.Summary.{Summary}
 use Rattle.bounds_report.specs.declared.tally.Tally.{Tally}
-use Rattle.bounds_report.specs.Step.Ready.{IsTally, behind_rows, tally_behind}
+use Rattle.bounds_report.specs.Step.Ready.{IsTally, behind_rows}
 use Rattle.bounds_report.specs.Step.Searched.{sized}
 use Rattle.bounds_report.specs.Step.Writing.{WritesVerdicts, WroteVerdicts, verdicts_in}
 use Rattle.bounds_report.proofs.WriterSteps.{end_in-append, verdicts-append}
@@ -91,7 +91,7 @@ begins_rest drawn most cert basis old now new put s = (
 
 -- ---- the end
 
-pub end_may : (claims : LineClaims) (drawn : Drawn) (found : FindingWord) (tally : Tally) (count : ℕ) (word : EndWord) → word ≡ end_word (tally_behind found tally)
+pub end_may : (claims : LineClaims) (drawn : Drawn) (found : FindingWord) (tally : Tally) (count : ℕ) (word : EndWord) → word ≡ end_word tally.report
     → MayFollow claims drawn (behind_rows found tally count) (ending word) at_last
 end_may claims drawn findings.Consistent tally count word e = (ap ending e, refl)
 end_may claims drawn findings.Inconsistent tally count word e = (ap ending e, refl)
@@ -103,7 +103,7 @@ summary_by word tally = record { end = word; passes = tally.passes; fails = tall
 
 module _ (drawn : Drawn) (most : ℕ) (cert : Bool) (basis : List ℤ) (old now mid new : SinkState) (found : FindingWord) (tally : Tally) (count : ℕ) (words : List Verdict) (word : EndWord)
     (put : now ≡ grown old (report_text (front most))) (t : WroteVerdicts (sized drawn.net most cert basis) drawn at_events (behind_rows found tally count) words now mid)
-    (end : new ≡ grown mid (entry_text (ending word))) (word_is : word ≡ end_word (tally_behind found tally)) (counted : IsTally tally words)
+    (end : new ≡ grown mid (entry_text (ending word))) (word_is : word ≡ end_word tally.report) (counted : IsTally tally words)
     (entries : (lines : List Entry) → LinesLead (sized drawn.net most cert basis) drawn at_events lines at_last → All IsName drawn.names → HasRowRanges drawn → All (IsReportEntry (length drawn.names)) (front most ++ lines)) where
   rest : List Entry
   rest = t.lines ++ ending word ∷ []

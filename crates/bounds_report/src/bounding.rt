@@ -1,6 +1,7 @@
 //! Writing one bound of a row.
 
 ghost use Rattle.std.specs.Prelude.{◌≡◌, ◌<◌, ℕ, ℤ, Bool, [], List, All, IfOk, IsSomeAnd, OnOk};
+ghost use Rattle.branch.specs.AnswerBound.{greatest_bound};
 ghost use Rattle.branch.specs.Answers.{IsGreatestAnswer, evidence};
 ghost use Rattle.branch.specs.Work.{IsClose, IsMadeFor, IsKnownReach};
 ghost use Rattle.event_graph.specs.Network.{Net};
@@ -12,7 +13,7 @@ ghost use Rattle.right_report.specs.Right.ReportState.{NextBound, CurrentRow, at
 ghost use Rattle.drawn.specs.Drawn.{Drawn};
 ghost use Rattle.slack_report.specs.declared.words.FindingWord.{FindingWord};
 ghost use Rattle.bounds_report.specs.Step.Witness.{IsWitness, IsRoomFor, searched_pair};
-ghost use Rattle.bounds_report.specs.Step.Searched.{bound_of, greatest_of as greatest_by, printed_known, search_of, sized};
+ghost use Rattle.bounds_report.specs.Step.Searched.{bound_of, printed_known, search_of, sized};
 ghost use Rattle.bounds_report.specs.Step.Writing.{WritesVerdicts, IsOf};
 
 use crate::bound_witness::{BoundWitness, take_times};
@@ -93,28 +94,14 @@ fn keep(
 
 // The bound of a pair from the answer of the search on its searched pair.
 fn bound_of(which: Which, answer: GreatestAnswer) -> Bound
-    requires times { HasTimes (greatest_by answer) }
+    requires times { HasTimes (greatest_bound answer) }
     ensures bound { result ≡ bound_of which answer }
     ensures times { HasTimes result }
 {
-    let greatest = greatest_in(answer);
+    let greatest = answer.bound();
     match which {
         Which::Max => greatest,
         Which::Min => greatest.reversed(),
-    }
-}
-
-// The greatest bound that an answer gives.
-fn greatest_in(answer: GreatestAnswer) -> Bound
-    ensures { result ≡ greatest_by answer }
-{
-    match answer {
-        GreatestAnswer::Closed(value) => Bound::Closed(value),
-        GreatestAnswer::Unbounded => Bound::Unbounded,
-        GreatestAnswer::Enclosed { upper, attained } => Bound::Within {
-            limit: upper,
-            attained: Some(attained),
-        },
     }
 }
 

@@ -6,7 +6,7 @@ ghost use Rattle.event_graph.specs.Satisfying.{Satisfies};
 ghost use Rattle.right_report.specs.Right.ReportState.{at_event, behind_finding};
 ghost use Rattle.drawn.specs.Drawn.{Drawn};
 ghost use Rattle.bounds_report.specs.Step.Witness.{IsRoomFor};
-ghost use Rattle.bounds_report.specs.Step.Ready.{AreKnown, IsReady, IsSet, behind_known, word_of};
+ghost use Rattle.bounds_report.specs.Step.Ready.{AreKnown, IsReady, IsSet, behind_known};
 ghost use Rattle.bounds_report.specs.Step.Searched.{printed_known, sized};
 ghost use Rattle.bounds_report.specs.Step.Writing.{WritesVerdicts};
 
@@ -14,9 +14,10 @@ use crate::bound_witness::{BoundWitness, take_times};
 use crate::desk::Desk;
 use crate::search::find_times;
 use crate::wanted::Wanted;
-use branch::{SearchFinding, Work};
+use branch::Work;
 use event_graph::Network;
 use itv_base::{EventId, PutFailed, Sink};
+use jobs::found_word;
 use slack_report::{FindingWord, Item, write_item};
 
 /// Looks for times that satisfy a network. Writes the finding and the times, if there are any.
@@ -34,21 +35,10 @@ pub fn print_finding<K: Sink>(
         (K.state sink.old) (K.state sink.new) result }
 {
     let found = find_times(&mut desk.work, net, wanted, &mut desk.buffer, sink)?;
-    let word = word_of(found);
+    let word = found_word(found);
     write_item(&Item::Finding(word), &mut desk.buffer, sink)?;
     print_times(word, net, desk, sink)?;
     Ok(word)
-}
-
-// The word for a finding.
-fn word_of(found: SearchFinding) -> FindingWord
-    ensures { result ≡ word_of found }
-{
-    match found {
-        SearchFinding::Consistent => FindingWord::Consistent,
-        SearchFinding::Inconsistent => FindingWord::Inconsistent,
-        SearchFinding::Unsettled => FindingWord::Unsettled,
-    }
 }
 
 // Writes the known times after a consistent finding.

@@ -1,6 +1,6 @@
 //! Times past an end of a range.
 
-ghost use Rattle.std.specs.Prelude.{◌≡◌, ◌<◌, ℕ, ℤ, Bool, [], List, Some, neg_ℤ};
+ghost use Rattle.std.specs.Prelude.{◌≡◌, ◌<◌, ℕ, ℤ, Bool, [], List, Some};
 ghost use Rattle.event_graph.specs.Network.{IsNet};
 ghost use Rattle.itv_base.specs.Outside.{Puts};
 ghost use Rattle.itv_base.specs.Range.{IsEnd};
@@ -52,7 +52,7 @@ pub fn print_past<K: Sink>(
                 which: Which::Max,
                 pair,
             },
-            broken_high(range, both),
+            both.broken_high(range),
             both.greatest,
             net,
             &mut desk.greatest,
@@ -64,7 +64,7 @@ pub fn print_past<K: Sink>(
                 which: Which::Min,
                 pair,
             },
-            broken_low(range, both),
+            both.broken_low(range),
             both.least,
             net,
             &mut desk.least,
@@ -73,43 +73,6 @@ pub fn print_past<K: Sink>(
         ),
         Verdict::Pass | Verdict::Undecided => Ok(()),
     }
-}
-
-// The high end of a range that the greatest bound breaks.
-fn broken_high(range: Range, both: &BothBounds) -> i64
-    requires word { verdict_of range both.now.least both.now.greatest ≡ Verdict.FailHigh }
-    ensures end { range.high ≡ Some result }
-    ensures limit { IsEnd (Some result) }
-    ensures beyond { IsBeyond Which.Max both.now.greatest result }
-    ensures found { HasFoundValue both.now.greatest }
-{
-    match range.high() {
-        Some(high) => high,
-        None => unreachable!(),
-    }
-}
-
-// Minus the low end of a range that the least bound breaks.
-fn broken_low(range: Range, both: &BothBounds) -> i64
-    requires word { verdict_of range both.now.least both.now.greatest ≡ Verdict.FailLow }
-    ensures end { range.low ≡ Some (neg_ℤ result) }
-    ensures limit { IsEnd (Some result) }
-    ensures beyond { IsBeyond Which.Min both.now.least result }
-    ensures found { HasFoundValue both.now.least }
-{
-    match range.low() {
-        Some(low) => negated(low),
-        None => unreachable!(),
-    }
-}
-
-// Minus an end of a range.
-fn negated(end: i64) -> i64
-    requires end { IsEnd (Some end) }
-    ensures value { result ≡ neg_ℤ end }
-    ensures end { IsEnd (Some result) }
-{
-    -end
 }
 
 // Writes times past a limit on the separation of the searched pair.

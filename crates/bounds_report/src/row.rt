@@ -1,9 +1,10 @@
 //! Writing a row.
 
-ghost use Rattle.std.specs.Prelude.{◌≡◌, ◌<◌, ◌+◌, ◌||◌, ◌∷◌, ℕ, ℤ, Bool, [], List, IfOk, IsSomeAnd, OnOk};
+ghost use Rattle.std.specs.Prelude.{◌≡◌, ◌<◌, ◌+◌, ◌∷◌, ℕ, ℤ, Bool, [], List, IfOk, IsSomeAnd, OnOk};
 ghost use Rattle.std.specs.Option.{option_to_list};
 ghost use Rattle.requirements.specs.Bounds.{HasTimes};
-ghost use Rattle.right_report.specs.Right.ReportState.{ReportTally, CurrentRow, at_bound, at_row, bounded, greatest, is_within, judged, least_by, with_bounds};
+ghost use Rattle.right_report.specs.Right.ReportState.{CurrentRow, at_bound, at_row, bounded, greatest, judged, least_by, with_bounds};
+ghost use Rattle.right_report.specs.declared.tally.ReportTally.{ReportTally};
 ghost use Rattle.drawn.specs.Drawn.{Drawn, IsRowOf};
 ghost use Rattle.drawn.specs.declared.row.Row.{Row};
 ghost use Rattle.bounds_report.specs.Step.Witness.{HasFoundValue, IsWitness};
@@ -24,7 +25,6 @@ use event_graph::Network;
 use itv_base::{PutFailed, RowKind, Sink};
 use jobs::put_row;
 use requirements::{BothBounds, Verdict};
-use right_report::is_within;
 use slack_report::{FindingWord, Which};
 
 /// Writes a row: its own line, both bounds, and for a requirement the verdict.
@@ -55,10 +55,7 @@ pub fn print_row<K: Sink>(
     };
     let both = print_bounds(found, pair, drawn.network(), wanted, desk, sink)?;
     let verdict = print_demand(&row.kind, pair, drawn.network(), &both, desk, sink)?;
-    Ok(RowEnd {
-        verdict,
-        is_within: is_left_open(&both),
-    })
+    Ok(RowEnd { verdict, both })
 }
 
 // Writes the verdict of a row, if the row is a requirement.
@@ -91,13 +88,6 @@ fn print_demand<K: Sink>(
             Ok(Some(word))
         }
     }
-}
-
-// Whether one of two bounds is `Within`.
-fn is_left_open(both: &BothBounds) -> bool
-    ensures { result ≡ (is_within both.now.least || is_within both.now.greatest) }
-{
-    is_within(both.least) || is_within(both.greatest)
 }
 
 // Writes both bounds of a pair.

@@ -4,7 +4,7 @@ ghost use Rattle.std.specs.Prelude.{◌≡◌, ◌<◌, [], List, IfOk, OnErr, l
 ghost use Rattle.requirements.specs.declared.verdict.Verdict.{Verdict};
 ghost use Rattle.right_report.specs.Writing.{WroteFront};
 ghost use Rattle.right_report.specs.Right.ReportState.{at_row, at_rows};
-ghost use Rattle.bounds_report.specs.Step.Ready.{IsReady, IsTally, behind_known, behind_rows, tally_behind};
+ghost use Rattle.bounds_report.specs.Step.Ready.{IsReady, IsTally, behind_known, behind_rows};
 ghost use Rattle.bounds_report.specs.Step.Searched.{printed_known, sized};
 ghost use Rattle.bounds_report.specs.Step.Writing.{WroteVerdicts};
 
@@ -34,7 +34,7 @@ pub fn print_rows<K: Sink>(
         (K.state sink.old) (K.state sink.new)) }
 {
     match found {
-        FindingWord::Inconsistent => Ok(Tally::start()),
+        FindingWord::Inconsistent => Ok(Tally::start(found)),
         FindingWord::Consistent | FindingWord::Unsettled => {
             print_each(found, drawn, wanted, desk, sink)
         }
@@ -54,13 +54,13 @@ fn print_each<K: Sink>(
     requires ready { IsReady drawn.now.net found desk.old }
     ensures counts { IfOk result (λ tally. (words : List Verdict) × IsTally tally words
         × WroteVerdicts (sized drawn.now.net wanted.budget wanted.cert (printed_known desk.old.work.known)) drawn.now (at_rows found)
-        (at_row (tally_behind found tally) (length drawn.now.rows) []) words (K.state sink.old) (K.state sink.new)) }
+        (at_row tally.report (length drawn.now.rows) []) words (K.state sink.old) (K.state sink.new)) }
     ensures stops { OnErr result (WroteFront (sized drawn.now.net wanted.budget wanted.cert (printed_known desk.old.work.known)) drawn.now (at_rows found)
         (K.state sink.old) (K.state sink.new)) }
 {
     let count = drawn.rows().len() as u32;
     write_item(&Item::Rows { count }, &mut desk.buffer, sink)?;
-    let mut tally = Tally::start();
+    let mut tally = Tally::start(found);
     for number in 0..count {
         let row = row_at(drawn, number);
         let end = print_row(number, row, found, drawn, wanted, desk, sink)?;

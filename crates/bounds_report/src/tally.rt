@@ -1,43 +1,43 @@
-//! Counts of verdicts.
+//! Counts of verdicts, and what decides the word at the end.
 
 ghost use Rattle.std.specs.Prelude.{◌≡◌, ◌<◌, ◌≤◌, ◌+◌, ◌-◌, ◌^◌, ◌++◌, [], List};
 ghost use Rattle.std.specs.Option.{option_to_list};
-ghost use Rattle.bounds_report.specs.Step.Ready.{IsTally, tally_after, tally_behind};
+ghost use Rattle.bounds_report.specs.Step.Ready.{IsTally, tally_after};
 ghost use Rattle.requirements.specs.declared.verdict.Verdict.{Verdict as Word};
-ghost use Rattle.slack_report.specs.declared.words.FindingWord.{FindingWord as Found};
-ghost use Rattle.right_report.specs.Right.ReportState.{tally_of, end_word};
+ghost use Rattle.right_report.specs.Right.ReportState.{tally_of};
 
-use requirements::Verdict;
-use slack_report::{EndWord, FindingWord};
+use requirements::{BothBounds, Verdict};
+use right_report::ReportTally;
+use slack_report::FindingWord;
 
-/// The result of a row: its verdict, if it has one, and whether one of its bounds is `Within`.
+/// The result of a row: its verdict, if it has one, and both bounds.
 #[derive(Clone, Copy)]
 pub struct RowEnd {
     pub verdict: Option<Verdict>,
-    pub is_within: bool,
+    pub both: BothBounds,
 }
 
-/// How many requirements pass, fail and are undecided so far, and whether some bound is `Within`.
+/// How many requirements pass, fail and are undecided so far, and what decides the word at the end.
 #[derive(Clone, Copy)]
 pub struct Tally {
+    pub report: ReportTally,
     pub passes: u32,
     pub fails: u32,
     pub undecided: u32,
-    pub is_within: bool,
 }
 
 impl Tally {
-    /// Before the first row.
-    pub fn start() -> Tally
+    /// After a finding, before the first row.
+    pub fn start(found: FindingWord) -> Tally
         ensures counted { IsTally result [] }
-        ensures report_tally { (found : Found) → tally_behind found result ≡ tally_of found }
+        ensures report { result.report ≡ tally_of found }
         ensures none { result.passes + result.fails + result.undecided ≡ 0 }
     {
         Tally {
+            report: ReportTally::new(found),
             passes: 0,
             fails: 0,
             undecided: 0,
-            is_within: false,
         }
     }
 
@@ -46,46 +46,39 @@ impl Tally {
         requires room { self.passes + self.fails + self.undecided < 2 ^ 32 - 1 }
         ensures counted { (words : List Word) → IsTally self words
             → IsTally result (words ++ option_to_list end.verdict) }
-        ensures report_tally { (found : Found) → tally_behind found result ≡ tally_after (tally_behind found self) end }
+        ensures report { result.report ≡ tally_after self.report end }
         ensures most { result.passes + result.fails + result.undecided
             ≤ self.passes + self.fails + self.undecided + 1 }
     {
-        let open = self.is_within || end.is_within;
+        let report = report_after(self.report, &end);
         match end.verdict {
-            None => Tally {
-                is_within: open,
-                ..self
-            },
+            None => Tally { report, ..self },
             Some(Verdict::Pass) => Tally {
+                report,
                 passes: self.passes + 1,
-                is_within: open,
                 ..self
             },
             Some(Verdict::FailHigh | Verdict::FailLow) => Tally {
+                report,
                 fails: self.fails + 1,
-                is_within: open,
                 ..self
             },
             Some(Verdict::Undecided) => Tally {
+                report,
                 undecided: self.undecided + 1,
-                is_within: open,
                 ..self
             },
         }
     }
+}
 
-    /// The word at the end of a report with this finding and these rows.
-    pub fn end_word(self, found: FindingWord) -> EndWord
-        ensures word { result ≡ end_word (tally_behind found self) }
-    {
-        if self.fails > 0 {
-            return EndWord::Fail;
-        }
-        match found {
-            FindingWord::Consistent if self.is_within => EndWord::Undecided,
-            FindingWord::Consistent => EndWord::Pass,
-            FindingWord::Inconsistent => EndWord::Inconsistent,
-            FindingWord::Unsettled => EndWord::Undecided,
-        }
+// What decides the word at the end, with one more row.
+fn report_after(report: ReportTally, end: &RowEnd) -> ReportTally
+    ensures tally { result ≡ tally_after report end.now }
+{
+    let bounded = report.with_bounds(&end.both);
+    match end.verdict {
+        None => bounded,
+        Some(word) => bounded.with_verdict(word),
     }
 }

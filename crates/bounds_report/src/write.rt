@@ -68,7 +68,7 @@ fn print_report<K: Sink>(
     put_events(drawn, &mut desk.buffer, sink)?;
     let found = print_finding(drawn.network(), wanted, desk, sink)?;
     let tally = print_rows(found, drawn, wanted, desk, sink)?;
-    let word = tally.end_word(found);
+    let word = tally.report.end_word();
     write_item(&Item::End(word), &mut desk.buffer, sink)?;
     Ok(Summary {
         end: word,

@@ -2,6 +2,7 @@
 pub mod Lines
 pub mod Needed
 pub mod Answers
+pub mod AnswerBound
 pub mod ChoiceEdges
 pub mod Splits
 pub mod Work

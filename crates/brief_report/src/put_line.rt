@@ -17,7 +17,8 @@ use itoa::Buffer;
 use itv_base::{PutFailed, Sink, end_text, number_text, put_all};
 use line_words::LineBuffer;
 use requirements::{BothBounds, Slack};
-use why_report::{put_asked, put_bound_words, put_by, put_verdict_words};
+use slack_report::{put_asked, put_bound_words, put_verdict_words};
+use why_report::put_by;
 
 /// Puts a line and its end. A line that fits the buffer is put at once, and any other line piece by piece. What the buffer held before is lost.
 pub fn put_line<K: Sink>(

@@ -42,7 +42,8 @@ use Rattle.itv_base.specs.declared.row_kind.RowKind.{RowKind}
 use Rattle.unroll.specs.declared.limit.TheConstants.{MAX_SESSION_ROWS}
 use Rattle.whatif.specs.Session.{SessionView}
 use Rattle.whatif_report.specs.Text.{ending_of, last_note}
-use Rattle.whatif_report.specs.Whatif.{AnswersFrom, kinds_of}
+use Rattle.right_report.specs.RowTally.{kinds_of}
+use Rattle.whatif_report.specs.Whatif.{AnswersFrom}
 use Rattle.reading.specs.declared.refusal.Refusal.{Refusal}
 use Rattle.reading.specs.Design.{design_at}
 use Rattle.reading.specs.FileReading.{FileReading, gives, refuses, fetches, at, file_at, ◌>>=◌, End, RunsToEnd, ready, refused, unread, end_over}

@@ -1,5 +1,5 @@
 -- What the ends of runs of jobs why, brief and lint say over known files.
-use Rattle.std.proofs.Common.{◌≡◌, ◌∙◌, ◌==◌, ◌<◌, ◌≤◌, ℕ, All, Bool, true, false, List, [], ◌∷◌, length, Some, None, Result, Ok, refl, sym, subst, arith}
+use Rattle.std.proofs.Common.{◌≡◌, ◌∙◌, ◌==◌, ◌<◌, ◌≤◌, ℕ, All, Bool, true, false, List, [], ◌∷◌, length, map, Some, None, Result, Ok, refl, sym, subst, arith}
 use Rattle.std.specs.Prelude.{◌&&◌, ◌||◌, if◌then◌else◌, not}
 use Rattle.std.proofs.lemmas.List.Elements.{All-head, All-tail}
 use Rattle.itv_base.specs.declared.row_kind.RowKind.{RowKind}
@@ -19,16 +19,19 @@ use Rattle.jobs.specs.declared.answer.Answer.TheVariants as answers
 use Rattle.slack_report.specs.declared.words.EndWord.TheVariants as endings
 use Rattle.slack_report.specs.declared.words.FindingWord.{FindingWord}
 use Rattle.slack_report.specs.declared.words.FindingWord.TheVariants as findings
+use Rattle.requirements.specs.declared.bound.BothBounds.{BothBounds}
 use Rattle.requirements.specs.declared.bound.Bound.{Bound}
 use Rattle.requirements.specs.declared.bound.Bound.TheVariants as bounds
-use Rattle.right_report.specs.Right.ReportState.{ReportTally, tally_of, end_word, is_within, undecided_or_pass}
+use Rattle.right_report.specs.Right.ReportState.{tally_of, end_word, is_within, undecided_or_pass}
+use Rattle.right_report.specs.RowTally.{kinds_of, with_row, with_rows}
+use Rattle.right_report.specs.declared.tally.ReportTally.{ReportTally}
 use Rattle.plan.specs.Notes.{plan_notes}
 use Rattle.plan.specs.Plan.{Planned, sheets_on}
 use Rattle.explained.specs.declared.finding.Finding.{Finding}
 use Rattle.explained.specs.declared.finding.Finding.TheVariants.{Consistent, Inconsistent, Unsettled}
 use Rattle.explained.specs.declared.row.RowFound.{RowFound}
-use Rattle.explained.specs.Answers.{IsBoundSettled, IsFindingFound, IsRowSettled, bound_of}
-use Rattle.why_report.specs.Text.{ending_of, with_row, with_rows}
+use Rattle.explained.specs.Answers.{IsBoundSettled, IsFindingFound, IsRowSettled, both_of, bound_of}
+use Rattle.why_report.specs.Text.{ending_of}
 use Rattle.why_report.specs.Why.{AnswersWhy}
 use Rattle.brief_report.specs.Brief.{AnswersBrief}
 use Rattle.warnings.specs.Warnings.{warnings_of}
@@ -71,14 +74,18 @@ module _ (job : List ℕ → ℕ → Task) (made : Planned × Drawn → ℕ → 
 -- ---- job why
 
 -- rows leave the finding as it is
-row_keeps : (tally : ReportTally) (kind : RowKind) (found : RowFound) → (with_row tally kind found).found ≡ tally.found
-row_keeps tally kinds.Ask found = refl
-row_keeps tally (kinds.Req range) found = refl
+row_keeps : (tally : ReportTally) (kind : RowKind) (both : BothBounds) → (with_row tally kind both).found ≡ tally.found
+row_keeps tally kinds.Ask both = refl
+row_keeps tally (kinds.Req range) both = refl
 
-rows_keep : (tally : ReportTally) (rows : List Row) (found : List RowFound) → (with_rows tally rows found).found ≡ tally.found
+rows_keep : (tally : ReportTally) (rows : List RowKind) (found : List BothBounds) → (with_rows tally rows found).found ≡ tally.found
 rows_keep tally [] found = refl
-rows_keep tally (row ∷ rows) [] = refl
-rows_keep tally (row ∷ rows) (found ∷ others) = rows_keep (with_row tally row.kind found) rows others ∙ row_keeps tally row.kind found
+rows_keep tally (kind ∷ rows) [] = refl
+rows_keep tally (kind ∷ rows) (both ∷ found) = rows_keep (with_row tally kind both) rows found ∙ row_keeps tally kind both
+
+-- the tally of rows after a finding
+abbrev rows_tally : FindingWord → List Row → List RowFound → ReportTally
+rows_tally word rows found = with_rows (tally_of word) (kinds_of rows) (map both_of found)
 
 never_none : (fails : Bool) (found : FindingWord) (within : Bool) → (found ≡ findings.Inconsistent → ⊥)
     → answers.Inconsistent ≡ answer_of (if fails then endings.Fail else undecided_or_pass found within) → ⊥
@@ -89,10 +96,10 @@ never_none false findings.Inconsistent within other e = other refl
 never_none false findings.Unsettled within other e = cc e
 
 no_end : (word : FindingWord) (rows : List Row) (found : List RowFound) → (word ≡ findings.Inconsistent → ⊥)
-    → answers.Inconsistent ≡ answer_of (end_word (with_rows (tally_of word) rows found)) → ⊥
+    → answers.Inconsistent ≡ answer_of (end_word (rows_tally word rows found)) → ⊥
 no_end word rows found other e =
-    let tally : ReportTally = with_rows (tally_of word) rows found in
-    never_none tally.fails tally.found tally.within (λ same. other (sym (rows_keep (tally_of word) rows found) ∙ same)) e
+    let tally : ReportTally = rows_tally word rows found in
+    never_none tally.fails tally.found tally.within (λ same. other (sym (rows_keep (tally_of word) (kinds_of rows) (map both_of found)) ∙ same)) e
 
 -- if the answer is that the network is inconsistent, it is
 none_found : (net : Net) (budget : ℕ) (rows : List Row) (finding : Finding) (found : List RowFound) → IsFindingFound net budget finding → answers.Inconsistent ≡ answer_of (ending_of rows finding found)
@@ -111,26 +118,28 @@ within_none bounds.Unbounded (bounds.Within limit attained) l m = absurd m
 within_none bounds.Unbounded (bounds.Closed other) l m = refl
 within_none bounds.Unbounded bounds.Unbounded l m = refl
 
-row_within : (tally : ReportTally) (kind : RowKind) (found : RowFound) → IsRowSettled found → tally.within ≡ false → (with_row tally kind found).within ≡ false
+row_within : (tally : ReportTally) (kind : RowKind) (found : RowFound) → IsRowSettled found → tally.within ≡ false → (with_row tally kind (both_of found)).within ≡ false
 row_within tally kinds.Ask found settled none = rw (none, within_none (bound_of found.least) (bound_of found.greatest) settled.least settled.greatest) refl
 row_within tally (kinds.Req range) found settled none = rw (none, within_none (bound_of found.least) (bound_of found.greatest) settled.least settled.greatest) refl
 
-rows_within : (tally : ReportTally) (rows : List Row) (found : List RowFound) → All IsRowSettled found → tally.within ≡ false → (with_rows tally rows found).within ≡ false
+rows_within : (tally : ReportTally) (rows : List Row) (found : List RowFound) → All IsRowSettled found → tally.within ≡ false → (with_rows tally (kinds_of rows) (map both_of found)).within ≡ false
 rows_within tally [] found all none = none
 rows_within tally (row ∷ rows) [] all none = none
 rows_within tally (row ∷ rows) (found ∷ others) all none =
-    rows_within (with_row tally row.kind found) rows others (All-tail IsRowSettled found others all) (row_within tally row.kind found (All-head IsRowSettled found others all) none)
+    rows_within (with_row tally row.kind (both_of found)) rows others (All-tail IsRowSettled found others all)
+    (row_within tally row.kind found (All-head IsRowSettled found others all) none)
 
 never_open : (fails within : Bool) → within ≡ false → answers.Undecided ≡ answer_of (if fails then endings.Fail else undecided_or_pass findings.Consistent within) → ⊥
 never_open true within none e = cc e
 never_open false true none e = cc none
 never_open false false none e = cc e
 
-consistent_end : (rows : List Row) (found : List RowFound) → All IsRowSettled found → answers.Undecided ≡ answer_of (end_word (with_rows (tally_of findings.Consistent) rows found)) → ⊥
+consistent_end : (rows : List Row) (found : List RowFound) → All IsRowSettled found → answers.Undecided ≡ answer_of (end_word (rows_tally findings.Consistent rows found)) → ⊥
 consistent_end rows found all e =
-    let tally : ReportTally = with_rows (tally_of findings.Consistent) rows found in
+    let tally : ReportTally = rows_tally findings.Consistent rows found in
     never_open tally.fails tally.within (rows_within (tally_of findings.Consistent) rows found all refl)
-    (subst (λ (w : FindingWord). answers.Undecided ≡ answer_of (if tally.fails then endings.Fail else undecided_or_pass w tally.within)) (rows_keep (tally_of findings.Consistent) rows found) e)
+    (subst (λ (w : FindingWord). answers.Undecided ≡ answer_of (if tally.fails then endings.Fail else undecided_or_pass w tally.within))
+    (rows_keep (tally_of findings.Consistent) (kinds_of rows) (map both_of found)) e)
 
 -- if all is settled, the answer is not that something is undecided
 settled_end : (rows : List Row) (finding : Finding) (found : List RowFound) → (finding ≡ Unsettled → ⊥) → All IsRowSettled found → answers.Undecided ≡ answer_of (ending_of rows finding found) → ⊥

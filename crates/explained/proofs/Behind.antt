@@ -11,6 +11,7 @@ use Rattle.event_graph.specs.Satisfying.{Satisfies}
 use Rattle.event_graph.specs.Times.{IsTime, separation, time_of}
 use Rattle.event_graph.proofs.Rays.{ray_is_unbounded}
 use Rattle.event_graph.proofs.Reversing.{least_is_reversed_greatest}
+use Rattle.branch.specs.AnswerBound.{greatest_bound}
 use Rattle.branch.specs.Answers.{IsGreatestAnswer, Evidence, PairSearch}
 use Rattle.branch.specs.Work.{IsClose}
 use Rattle.branch.specs.declared.answer.GreatestAnswer.{GreatestAnswer}
@@ -29,7 +30,7 @@ use Rattle.explained.specs.Answers.{AreRowBounds, Explains, IsBehind, IsBoundFou
 use Rattle.explained.specs.declared.bound.BoundFound.{BoundFound}
 use Rattle.explained.specs.declared.bound.BoundFound.TheVariants.{Closed, Unbounded, Within}
 use Rattle.explained.specs.declared.pair.Pair.{Pair}
-use Rattle.explained.specs.Step.Bounding.{IsClosedBy, IsExplained, IsGreatestBy, IsGreatestShown, bound_by, reversed_found}
+use Rattle.explained.specs.Step.Bounding.{IsClosedBy, IsExplained, IsGreatestBy, IsGreatestShown, reversed_found}
 use Rattle.explained.proofs.Numbers.{neg_neg, no_neg}
 use Rattle.explained.proofs.Shown.{greatest_shown, least_shown}
 
@@ -62,7 +63,7 @@ limit_time (Some sum) h = reach_time sum h
 -- ---- what a search answers
 
 pub answered : (search : PairSearch) (left : Evidence) (answer : GreatestAnswer) → IsGreatestAnswer search left answer → Satisfies left.times search.net → All IsClose left.times
-    → IsGreatestBy search.net findings.Consistent (record { from = search.from; to = search.to }) (bound_by answer) left.times left.ray
+    → IsGreatestBy search.net findings.Consistent (record { from = search.from; to = search.to }) (greatest_bound answer) left.times left.ray
 answered search left (answers.Closed value) a sat close = record {
   found = refl;
   greatest = a.greatest;
@@ -73,7 +74,7 @@ answered search left (answers.Closed value) a sat close = record {
 answered search left answers.Unbounded a sat close = record { found = refl; satisfied = sat; ray = a.raised }
 answered search left (answers.Enclosed upper found) a sat close = record { root = a.root; rests = refl; attained = (left.times, sat, a.attains) }
 
-pub answer_times : (search : PairSearch) (left : Evidence) (answer : GreatestAnswer) → IsGreatestAnswer search left answer → All IsClose left.times → HasTimes (bound_by answer)
+pub answer_times : (search : PairSearch) (left : Evidence) (answer : GreatestAnswer) → IsGreatestAnswer search left answer → All IsClose left.times → HasTimes (greatest_bound answer)
 answer_times search left (answers.Closed value) a close = subst IsTime a.attained (separation_time left.times search.from search.to close)
 answer_times search left answers.Unbounded a close = tt
 answer_times search left (answers.Enclosed upper found) a close =

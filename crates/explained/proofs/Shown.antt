@@ -3,6 +3,7 @@ use Rattle.std.proofs.Common.{◌≡◌, ◌≤◌, ℕ, ℤ, neg_ℤ, List, [],
 use Rattle.event_graph.specs.Network.{Net}
 use Rattle.event_graph.specs.Proof.{IsStoppedProof, Nothing, ProofLine}
 use Rattle.event_graph.specs.Proof.{Bound as BoundGoal}
+use Rattle.branch.specs.AnswerBound.{greatest_bound}
 use Rattle.branch.specs.Answers.{IsGreatestAnswer, Evidence, Finds, PairSearch}
 use Rattle.branch.specs.declared.answer.GreatestAnswer.{GreatestAnswer}
 use Rattle.branch.specs.declared.answer.GreatestAnswer.TheVariants as answers
@@ -16,20 +17,20 @@ use Rattle.right_report.specs.Right.ReportState.{greatest, least_by}
 use Rattle.right_report.specs.Shown.{IsProofWithin, IsStoppedWithin, ShowsFinding}
 use Rattle.drawn.specs.declared.row.Row.{Row}
 use Rattle.explained.specs.Answers.{IsBoundShown, IsFindingShown}
-use Rattle.explained.specs.Step.Bounding.{IsGreatestShown, bound_by}
-use Rattle.explained.specs.Step.Standing.{word_of_found}
+use Rattle.jobs.specs.Found.{found_word}
+use Rattle.explained.specs.Step.Bounding.{IsGreatestShown}
 use Rattle.explained.proofs.Numbers.{neg_neg}
 
 -- ---- a finding
 
 shows_finding : (net : Net) (budget leaves : ℕ) (lines : List ProofLine) (known : Option (List ℤ)) (found : SearchFinding) → Finds net budget lines leaves known found → leaves ≤ budget
-    → ShowsFinding net budget lines (word_of_found found)
+    → ShowsFinding net budget lines (found_word found)
 shows_finding net budget leaves lines known founds.Consistent f count = let s = f.stopped in (s.0, omega (arith, s.2, count), s.1)
 shows_finding net budget leaves lines known founds.Inconsistent f count = (f.proof, omega (arith, f.count, count))
 shows_finding net budget leaves lines known founds.Unsettled f count = subst (λ n. IsStoppedProof net Nothing lines n) f.used f.stopped
 
 -- a search for times shows its finding
-pub finding_shown : (net : Net) (budget leaves : ℕ) (lines : List ProofLine) (known : Option (List ℤ)) (found : SearchFinding) (word : FindingWord) → word ≡ word_of_found found
+pub finding_shown : (net : Net) (budget leaves : ℕ) (lines : List ProofLine) (known : Option (List ℤ)) (found : SearchFinding) (word : FindingWord) → word ≡ found_word found
     → Finds net budget lines leaves known found → leaves ≤ budget → IsFindingShown net budget word
 finding_shown net budget leaves lines known found word is finds count =
     (lines, subst (ShowsFinding net budget lines) (sym is) (shows_finding net budget leaves lines known found finds count))
@@ -38,7 +39,7 @@ finding_shown net budget leaves lines known found word is finds count =
 
 -- a search for a greatest separation shows its bound
 pub answer_shown : (search : PairSearch) (left : Evidence) (answer : GreatestAnswer) → IsGreatestAnswer search left answer → left.leaves ≤ search.budget
-    → IsGreatestShown search.net search.budget (record { from = search.from; to = search.to }) (bound_by answer)
+    → IsGreatestShown search.net search.budget (record { from = search.from; to = search.to }) (greatest_bound answer)
 answer_shown search left (answers.Closed value) a count = (left.lines, (a.proof, omega (arith, a.count, count)))
 answer_shown search left answers.Unbounded a count =
     let s = a.stopped in

@@ -26,12 +26,13 @@ use Rattle.explained.specs.declared.finding.Finding.{Finding}
 use Rattle.explained.specs.Apart.{net_apart}
 use Rattle.explained.specs.declared.desk.Apart.{Apart}
 use Rattle.explained.specs.Step.Resting.{AreBoundsApart}
-use Rattle.explained.specs.Step.Standing.{FindingAllows, HasFound, HasSameBudget, IsSettledApart, net_in, word_in, word_of_found}
+use Rattle.jobs.specs.Found.{found_word}
+use Rattle.explained.specs.Step.Standing.{FindingAllows, HasFound, HasSameBudget, IsSettledApart, net_in, word_in}
 use Rattle.explained.proofs.Wider.{always_is_wider, apart_is_wider}
 
 -- what the search for times finds
 pub has_found : (net : Net) (budget leaves : ℕ) (lines : List ProofLine) (known : Option (List ℤ)) (found : SearchFinding) → Finds net budget lines leaves known found
-    → HasFound net (word_of_found found) known
+    → HasFound net (found_word found) known
 has_found net budget leaves lines known founds.Consistent f = f.satisfies
 has_found net budget leaves lines known founds.Inconsistent f = f.none
 has_found net budget leaves lines known founds.Unsettled f = f.always
@@ -121,7 +122,7 @@ finding_apart drawn budget word (Some a) is allows shown settled = subst (λ (n 
 
 -- ---- marks
 
-not_word : (found : SearchFinding) → word_of_found found ≡ findings.Inconsistent → found ≡ founds.Inconsistent
+not_word : (found : SearchFinding) → found_word found ≡ findings.Inconsistent → found ≡ founds.Inconsistent
 not_word founds.Consistent is = absurd (cc is)
 not_word founds.Inconsistent is = refl
 not_word founds.Unsettled is = absurd (cc is)
@@ -135,7 +136,7 @@ none_in count number is_in = elim (cases_lt number count) [
 
 -- where a search found no times, the constraints that its lines name refute the network
 pub marks_refute : (net : Net) (budget leaves : ℕ) (lines : List ProofLine) (known : Option (List ℤ)) (found : SearchFinding) (word : FindingWord) (old new : List Bool)
-    → word ≡ word_of_found found → Finds net budget lines leaves known found → old ≡ replicate (length net.constraints) false → HasMarked old lines new
+    → word ≡ found_word found → Finds net budget lines leaves known found → old ≡ replicate (length net.constraints) false → HasMarked old lines new
     → word ≡ findings.Inconsistent → IsRefuting net new
 marks_refute net budget leaves lines known found word old new is finds fresh marked none =
     let found_none : found ≡ founds.Inconsistent = not_word found (sym is ∙ none) in

@@ -105,6 +105,10 @@ pub record IsBoundFound (net : Net) (budget : ℕ) (word : FindingWord) (row : R
 
 -- ---- a row
 
+-- both bounds of a row, without their reasons
+abbrev pub both_of : RowFound → BothBounds
+both_of found = record { least = bound_of found.least; greatest = bound_of found.greatest }
+
 abbrev pub verdict_in : Ends → RowFound → Verdict
 verdict_in range found = verdict_of range (bound_of found.least) (bound_of found.greatest)
 

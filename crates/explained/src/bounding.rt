@@ -7,12 +7,12 @@ ghost use Rattle.branch.specs.Work.{IsMadeFor};
 ghost use Rattle.requirements.specs.Bounds.{HasTimes};
 ghost use Rattle.drawn.specs.declared.row.Row.{Row};
 ghost use Rattle.explained.specs.Answers.{AreRowBounds};
-ghost use Rattle.explained.specs.Step.Bounding.{IsGreatestBy, IsGreatestShown, bound_by};
+ghost use Rattle.explained.specs.Step.Bounding.{IsGreatestBy, IsGreatestShown};
 ghost use Rattle.explained.specs.Step.Standing.{IsNotInconsistent, KeepsFinding};
 
 use crate::pair::Pair;
 use crate::searches::{Searches, greatest_of};
-use branch::{GreatestAnswer, Root, Work, root_bound};
+use branch::{Root, Work, root_bound};
 use event_graph::Network;
 use requirements::{BothBounds, Bound};
 use slack_report::FindingWord;
@@ -52,21 +52,7 @@ fn searched_bound(net: &Network, pair: Pair, budget: u64, work: &mut Work) -> Bo
     ensures times { HasTimes result }
 {
     let answer = greatest_of(net, pair, budget, work);
-    bound_by(answer)
-}
-
-// The greatest bound that an answer gives.
-fn bound_by(answer: GreatestAnswer) -> Bound
-    ensures { result ≡ bound_by answer }
-{
-    match answer {
-        GreatestAnswer::Closed(value) => Bound::Closed(value),
-        GreatestAnswer::Unbounded => Bound::Unbounded,
-        GreatestAnswer::Enclosed { upper, attained } => Bound::Within {
-            limit: upper,
-            attained: Some(attained),
-        },
-    }
+    answer.bound()
 }
 
 // The root bound of a pair, without a search.

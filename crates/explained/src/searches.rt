@@ -7,13 +7,14 @@ ghost use Rattle.branch.specs.Answers.{IsGreatestAnswer, evidence};
 ghost use Rattle.branch.specs.Work.{IsClose, IsMadeFor};
 ghost use Rattle.chains.specs.Named.{IsRefuting};
 ghost use Rattle.explained.specs.Answers.{IsFindingShown};
-ghost use Rattle.explained.specs.Step.Standing.{HasFound, IsFor, IsFresh, word_of_found};
+ghost use Rattle.explained.specs.Step.Standing.{HasFound, IsFor, IsFresh};
 
 use crate::pair::Pair;
-use branch::{GreatestAnswer, Quiet, ScribeFailed, SearchFinding, Work, find, greatest};
+use branch::{GreatestAnswer, Quiet, ScribeFailed, Work, find, greatest};
 use chains::Marking;
 use event_graph::Network;
 use itv_base::NoMemory;
+use jobs::found_word;
 use slack_report::FindingWord;
 use std::alloc::Global;
 
@@ -53,7 +54,7 @@ pub fn find_marking(net: &Network, searches: &mut Searches, marking: &mut Markin
     ensures marks { searches.new.word ≡ FindingWord.Inconsistent → IsRefuting net.now marking.new }
 {
     match find(&mut searches.work, net, searches.budget, marking) {
-        Ok(found) => searches.word = word_of(found),
+        Ok(found) => searches.word = found_word(found),
         Err(ScribeFailed) => unreachable!(),
     }
 }
@@ -67,19 +68,8 @@ pub fn find_quietly(net: &Network, searches: &mut Searches)
     ensures shown { IsFindingShown net.now searches.old.budget searches.new.word }
 {
     match find(&mut searches.work, net, searches.budget, &mut Quiet) {
-        Ok(found) => searches.word = word_of(found),
+        Ok(found) => searches.word = found_word(found),
         Err(ScribeFailed) => unreachable!(),
-    }
-}
-
-// The word for a finding.
-fn word_of(found: SearchFinding) -> FindingWord
-    ensures { result ≡ word_of_found found }
-{
-    match found {
-        SearchFinding::Consistent => FindingWord::Consistent,
-        SearchFinding::Inconsistent => FindingWord::Inconsistent,
-        SearchFinding::Unsettled => FindingWord::Unsettled,
     }
 }
 

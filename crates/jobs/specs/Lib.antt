@@ -2,3 +2,4 @@
 pub mod JobWrote
 pub mod Ending
 pub mod Events
+pub mod Found

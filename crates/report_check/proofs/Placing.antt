@@ -8,11 +8,11 @@ use Rattle.drawn.specs.declared.row.Row.{Row}
 use Rattle.slack_report.specs.Entry as lines
 use Rattle.slack_report.specs.Entry.{Entry}
 use Rattle.right_report.specs.Right.ReportState.{at_end, at_row, end_word}
-use Rattle.report_check.specs.declared.stage.ReportTally.{ReportTally}
+use Rattle.right_report.specs.declared.tally.ReportTally.{ReportTally}
 use Rattle.report_check.specs.declared.stage.NextBound.TheVariants.{Greatest}
 use Rattle.report_check.specs.declared.stage.Stage.{Stage}
 use Rattle.report_check.specs.declared.stage.Stage.TheVariants as stages
-use Rattle.report_check.specs.Step.Stages.{Decides, at_of, tally_in, is_proof}
+use Rattle.report_check.specs.Step.Stages.{Decides, at_of, is_proof}
 
 -- the name of an event that is there
 unwrapped : (o : Option Name) (name : Name) → (n : Name) × (o ≡ Some n) → unwrap_or o nameless ≡ name → o ≡ Some name
@@ -50,9 +50,9 @@ module _ (drawn : Drawn) (number : ℕ) (name : Name) (line : Entry) (test : Boo
 
 -- after all rows the end comes
 pub end_decides : (drawn : Drawn) (tally : ReportTally) (number : ℕ) (left : List Row) (line : Entry) (o : Option Stage) → left ≡ []
-    → Decides drawn (at_end (end_word (tally_in tally))) line o → Decides drawn (at_row (tally_in tally) number left) line o
-end_decides drawn tally number left line None none d = subst (λ xs. Decides drawn (at_row (tally_in tally) number xs) line None) (sym none) d
-end_decides drawn tally number left line (Some stage) none d = subst (λ xs. Decides drawn (at_row (tally_in tally) number xs) line (Some stage)) (sym none) d
+    → Decides drawn (at_end (end_word tally)) line o → Decides drawn (at_row tally number left) line o
+end_decides drawn tally number left line None none d = subst (λ xs. Decides drawn (at_row tally number xs) line None) (sym none) d
+end_decides drawn tally number left line (Some stage) none d = subst (λ xs. Decides drawn (at_row tally number xs) line (Some stage)) (sym none) d
 
 -- ---- rows
 

@@ -11,13 +11,12 @@ ghost use Rattle.drawn.specs.Drawn.{Drawn, IsRowOf, name_of};
 ghost use Rattle.report_check.specs.Step.Stages.{AreBounded, Decides, Fits, IsLineStage, IsNextBound, IsCurrentRow, at_of, next_in, current_in};
 
 use crate::names::{same_kind, same_name};
-use crate::stage::{
-    CurrentRow, NextBound, ReportTally, Stage, behind_past, behind_verdict, bounded,
-};
+use crate::stage::{CurrentRow, NextBound, Stage, behind_past, behind_verdict, bounded};
 use crate::times::{are_known, are_times, attains, breaks, can_rise};
 use drawn::{DrawnNetwork, Row};
 use itv_base::{EventId, EventName, Range};
 use requirements::{BothBounds, Bound, judge as verdict_of, slack as slack_of};
+use right_report::ReportTally;
 use slack_report::{EndWord, FindingWord, Item};
 
 /// The next stage after a line, or none if the line may not follow. No proof line may come at the stage.

@@ -2,24 +2,15 @@
 
 ghost use Rattle.std.specs.Prelude.{◌≡◌, ◌<◌, ◌^◌, length};
 ghost use Rattle.requirements.specs.Bounds.{HasTimes};
-ghost use Rattle.right_report.specs.Right.ReportState.{behind_bound, behind_finding, behind_past, behind_verdict, bounded, tally_of, end_word, which_of, with_bounds, with_verdict};
+ghost use Rattle.right_report.specs.Right.ReportState.{behind_bound, behind_finding, behind_past, behind_verdict, bounded, which_of};
 ghost use Rattle.drawn.specs.Drawn.{Drawn};
-ghost use Rattle.report_check.specs.Step.Stages.{AreBounded, Fits, IsNextBound, IsCurrentRow, at_of, tally_in, next_in, current_in};
+ghost use Rattle.report_check.specs.Step.Stages.{AreBounded, Fits, IsNextBound, IsCurrentRow, at_of, next_in, current_in};
 
 use drawn::Row;
 use itv_base::{Range, RowKind};
 use requirements::{BothBounds, Bound, Verdict};
-use right_report::{is_fail, is_within};
+use right_report::{ReportTally, is_fail};
 use slack_report::{EndWord, FindingWord, Which};
-
-/// What decides the word at the end: the finding, whether some verdict was a fail, and whether some bound was left
-/// open.
-#[derive(Clone, Copy)]
-pub struct ReportTally {
-    pub found: FindingWord,
-    pub fails: bool,
-    pub within: bool,
-}
 
 /// Which bound of a row comes next: the greatest, or the least after the greatest.
 #[derive(Clone, Copy)]
@@ -90,50 +81,6 @@ pub enum Stage<'a> {
     End(EndWord),
     /// After the last line.
     Done,
-}
-
-impl ReportTally {
-    /// The tally after a finding.
-    pub fn new(found: FindingWord) -> ReportTally
-        ensures tally { tally_in result ≡ tally_of found }
-    {
-        ReportTally {
-            found,
-            fails: false,
-            within: false,
-        }
-    }
-
-    fn with_bounds(self, both: &BothBounds) -> ReportTally
-        ensures tally { tally_in result ≡ with_bounds (tally_in self) both.now.least both.now.greatest }
-    {
-        let within = self.within || is_within(both.least) || is_within(both.greatest);
-        ReportTally { within, ..self }
-    }
-
-    fn with_verdict(self, word: Verdict) -> ReportTally
-        ensures tally { tally_in result ≡ with_verdict (tally_in self) word }
-    {
-        ReportTally {
-            fails: self.fails || is_fail(word),
-            ..self
-        }
-    }
-
-    /// The word at the end.
-    pub fn end_word(self) -> EndWord
-        ensures word { result ≡ end_word (tally_in self) }
-    {
-        if self.fails {
-            return EndWord::Fail;
-        }
-        match self.found {
-            FindingWord::Consistent if self.within => EndWord::Undecided,
-            FindingWord::Consistent => EndWord::Pass,
-            FindingWord::Inconsistent => EndWord::Inconsistent,
-            FindingWord::Unsettled => EndWord::Undecided,
-        }
-    }
 }
 
 impl NextBound {

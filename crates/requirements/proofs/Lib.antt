@@ -1,3 +1,4 @@
 pub mod Judging
+pub mod Breaking
 pub mod Distances
 pub mod Rising

@@ -4,6 +4,7 @@
 #![tactic(auto)]
 
 mod bound;
+mod broken;
 pub mod laws;
 mod raising;
 mod slacks;

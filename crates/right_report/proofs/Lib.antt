@@ -12,3 +12,4 @@ pub mod Refusing
 pub mod Ending
 pub mod Undecided
 pub mod RowSets
+pub mod RowTally

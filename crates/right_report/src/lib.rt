@@ -5,5 +5,7 @@
 
 mod judging;
 pub mod laws;
+mod tally;
 
-pub use judging::{is_fail, is_within};
+pub use judging::is_fail;
+pub use tally::ReportTally;

@@ -1,17 +1,19 @@
 -- The same data have the same text, wherever they lie in memory.
-use Rattle.std.proofs.Common.{◌≡◌, ℕ, ℤ, true, if◌then◌else◌, List, [], ◌∷◌, ◌++◌, refl, sym, ap, ◌∙◌}
+use Rattle.std.proofs.Common.{◌≡◌, ℕ, ℤ, true, if◌then◌else◌, List, [], ◌∷◌, ◌++◌, map, refl, sym, ap, ◌∙◌}
 use Rattle.itv_base.specs.Range.{Ends}
 use Rattle.itv_base.specs.declared.row_kind.RowKind.{RowKind}
 use Rattle.itv_base.specs.declared.row_kind.RowKind.TheVariants as kinds
 use Rattle.requirements.specs.Slacks.{slack_of}
 use Rattle.requirements.specs.Verdicts.{verdict_of}
+use Rattle.requirements.specs.declared.bound.BothBounds.{BothBounds}
 use Rattle.requirements.specs.declared.bound.Bound.{Bound}
 use Rattle.requirements.specs.declared.bound.Bound.TheVariants as bounds
 use Rattle.slack_report.specs.declared.words.FindingWord.TheVariants as findings
 use Rattle.slack_report.specs.declared.words.Which.{Which}
 use Rattle.slack_report.specs.Entry as line
 use Rattle.slack_report.specs.Text.{entry_text}
-use Rattle.right_report.specs.Right.ReportState.{ReportTally, end_word, is_fail, tally_of, with_bounds, with_verdict}
+use Rattle.right_report.specs.Right.ReportState.{end_word, is_fail, tally_of}
+use Rattle.right_report.specs.RowTally.{kinds_of, with_rows}
 use Rattle.drawn.specs.declared.row.Row.{Row}
 use Rattle.settle.specs.Proofs.{lines_of}
 use Rattle.settle_lines.specs.Text.{proof_text}
@@ -21,8 +23,8 @@ use Rattle.settle_report.specs.declared.proof.Proof.{Proof}
 use Rattle.settle_report.specs.declared.bound.SettledBound.{SettledBound}
 use Rattle.settle_report.specs.declared.bound.SettledBound.TheVariants as settled
 use Rattle.settle_report.specs.declared.row.RowFound.{RowFound}
-use Rattle.settle_report.specs.Answers.{bound_of}
-use Rattle.settle_report.specs.Text.{bound_text, ending_of, finding_text, judged_text, shown_text, with_row, with_rows}
+use Rattle.settle_report.specs.Answers.{both_of, bound_of}
+use Rattle.settle_report.specs.Text.{bound_text, ending_of, finding_text, judged_text, shown_text}
 use Rattle.settle_check.specs.Step.{AreSameRows, IsSameBound, IsSameFinding, IsSameProof, IsSameRow}
 
 pub proof_same : (a b : Proof) → IsSameProof a b → shown_text true a ≡ shown_text true b
@@ -82,30 +84,23 @@ judged_same (kinds.Req range) a b s =
     ∙ (ap (λ bound. judged_as range (bound_of b.least) bound a.past.items) (bound_of_same a.greatest b.greatest s.greatest)
     ∙ ap (λ past. judged_as range (bound_of b.least) (bound_of b.greatest) past) s.past)
 
-abbrev tally_as : RowKind → ReportTally → Bound → Bound → ReportTally
-tally_as kinds.Ask tally least greatest = with_bounds tally least greatest
-tally_as (kinds.Req range) tally least greatest = with_verdict (with_bounds tally least greatest) (verdict_of range least greatest)
+abbrev both_as : Bound → Bound → BothBounds
+both_as least greatest = record { least = least; greatest = greatest }
 
-row_tally : (kind : RowKind) (tally : ReportTally) (found : RowFound) → with_row tally kind found ≡ tally_as kind tally (bound_of found.least) (bound_of found.greatest)
-row_tally kinds.Ask tally found = refl
-row_tally (kinds.Req range) tally found = refl
+both_same : (a b : RowFound) → IsSameRow a b → both_of a ≡ both_of b
+both_same a b s =
+    ap (λ bound. both_as bound (bound_of a.greatest)) (bound_of_same a.least b.least s.least)
+    ∙ ap (λ bound. both_as (bound_of b.least) bound) (bound_of_same a.greatest b.greatest s.greatest)
 
-row_tally_same : (kind : RowKind) (tally : ReportTally) (a b : RowFound) → IsSameRow a b → with_row tally kind a ≡ with_row tally kind b
-row_tally_same kind tally a b s =
-    row_tally kind tally a
-    ∙ (ap (λ bound. tally_as kind tally bound (bound_of a.greatest)) (bound_of_same a.least b.least s.least)
-    ∙ (ap (λ bound. tally_as kind tally (bound_of b.least) bound) (bound_of_same a.greatest b.greatest s.greatest) ∙ sym (row_tally kind tally b)))
-
-tally_same : (rows : List Row) (tally : ReportTally) (found other : List RowFound) → AreSameRows found other → with_rows tally rows found ≡ with_rows tally rows other
-tally_same [] tally found other s = refl
-tally_same (row ∷ rows) tally [] [] s = refl
-tally_same (row ∷ rows) tally [] (o ∷ others) s = absurd s
-tally_same (row ∷ rows) tally (f ∷ found) [] s = absurd s
-tally_same (row ∷ rows) tally (f ∷ found) (o ∷ others) s =
-    ap (λ t. with_rows t rows found) (row_tally_same row.kind tally f o s.0) ∙ tally_same rows (with_row tally row.kind o) found others s.1
+bounds_same : (found other : List RowFound) → AreSameRows found other → map both_of found ≡ map both_of other
+bounds_same [] [] s = refl
+bounds_same [] (o ∷ others) s = absurd s
+bounds_same (f ∷ found) [] s = absurd s
+bounds_same (f ∷ found) (o ∷ others) s = ap (λ b. b ∷ map both_of found) (both_same f o s.0) ∙ ap (λ bs. both_of o ∷ bs) (bounds_same found others s.1)
 
 pub ending_same : (rows : List Row) (a b : Finding) (found other : List RowFound) → IsSameFinding a b → AreSameRows found other → ending_of rows a found ≡ ending_of rows b other
-ending_same rows (Consistent a) (Consistent b) found other s r = ap end_word (tally_same rows (tally_of findings.Consistent) found other r)
+ending_same rows (Consistent a) (Consistent b) found other s r =
+    ap (λ bs. end_word (with_rows (tally_of findings.Consistent) (kinds_of rows) bs)) (bounds_same found other r)
 ending_same rows (Consistent a) (Inconsistent b) found other s r = absurd s
 ending_same rows (Consistent a) Spent found other s r = absurd s
 ending_same rows (Inconsistent a) (Consistent b) found other s r = absurd s

@@ -5,7 +5,6 @@ use Rattle.std.proofs.lemmas.Option.{same_Some}
 use Rattle.event_graph.specs.Network.{Net}
 use Rattle.event_graph.specs.Times.{IsTime, time_of}
 use Rattle.requirements.specs.Bounds.{HasTimes}
-use Rattle.right_report.specs.Right.ReportState.{ReportTally}
 use Rattle.slack_report.specs.declared.words.Which.{Which}
 use Rattle.slack_report.specs.declared.words.Which.TheVariants.{Max, Min}
 use Rattle.drawn.specs.Drawn.{Drawn, IsRowOf}
@@ -14,7 +13,7 @@ use Rattle.settle_report.specs.declared.bound.SettledBound.{SettledBound}
 use Rattle.settle_report.specs.declared.bound.SettledBound.TheVariants as settled
 use Rattle.settle_report.specs.declared.row.RowFound.{RowFound}
 use Rattle.settle_report.specs.Answers.{AreRowsFound, IsBound, IsRowFound, bound_of}
-use Rattle.settle_report.specs.Text.{row_text, rows_text, with_row, with_rows}
+use Rattle.settle_report.specs.Text.{row_text, rows_text}
 use Rattle.settle_report.proofs.Moving.{printed_time}
 
 -- ---- the numbers of bounds
@@ -89,12 +88,3 @@ pub rows_more : (drawn : Drawn) (cert : Bool) (rows : List Row) (found : List Ro
     → of_row ≡ get_or found k d
     → rows_text drawn cert k (drop k rows) (drop k found) ≡ row_text drawn cert k row of_row ++ rows_text drawn cert (k + 1) (drop (k + 1) rows) (drop (k + 1) found)
 rows_more drawn cert rows found k row of_row d e h is = rw (drop_row rows k row e, drop_found found k of_row d h is) refl
-
-pub marks_more : (tally next whole : ReportTally) (rows : List Row) (found : List RowFound) (k : ℕ) (row : Row) (of_row d : RowFound) → slice_get rows k ≡ Some row → k < length found
-    → of_row ≡ get_or found k d → with_row tally row.kind of_row ≡ next → with_rows tally (drop k rows) (drop k found) ≡ whole
-    → with_rows next (drop (k + 1) rows) (drop (k + 1) found) ≡ whole
-marks_more tally next whole rows found k row of_row d e h is step before =
-    ap (λ c. with_rows c (drop (k + 1) rows) (drop (k + 1) found)) (sym step) ∙ (sym more ∙ before)
-  where
-    more : with_rows tally (drop k rows) (drop k found) ≡ with_rows (with_row tally row.kind of_row) (drop (k + 1) rows) (drop (k + 1) found)
-    more = rw (drop_row rows k row e, drop_found found k of_row d h is) refl

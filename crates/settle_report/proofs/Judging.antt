@@ -1,11 +1,12 @@
 -- Which end a verdict reports as broken, and times that break it.
-use Rattle.std.proofs.Common.{◌≡◌, ℤ, neg_ℤ, ◌-ℤ◌, ◌<ℤ◌, Bool, true, false, ◌&&◌, cond, List, Option, Some, None, refl, sym, subst, arith}
+use Rattle.std.proofs.Common.{◌≡◌, ℤ, neg_ℤ, ◌-ℤ◌, ◌<ℤ◌, Bool, true, List, Option, Some, sym, subst, arith}
 use Rattle.std.specs.Prelude.{IsSomeAnd, int_lt}
 use Rattle.std.proofs.lemmas.Int.{ints}
 use Rattle.itv_base.specs.Range.{Ends}
 use Rattle.event_graph.specs.Network.{Net}
 use Rattle.event_graph.specs.Times.{separation, time_of}
-use Rattle.requirements.specs.Verdicts.{breaks_high, breaks_low, meets_high, meets_low, verdict_of}
+use Rattle.requirements.proofs.Breaking.{high_breaks, low_breaks}
+use Rattle.requirements.specs.Verdicts.{breaks_high, breaks_low, verdict_of}
 use Rattle.requirements.specs.declared.bound.Bound.{Bound}
 use Rattle.requirements.specs.declared.verdict.Verdict.TheVariants as verdicts
 use Rattle.right_report.specs.Right.LineClaims.{BreaksEnd}
@@ -20,45 +21,34 @@ use Rattle.settle_report.specs.Step.{ArePast, IsBeyond, shown_by, source, target
 
 -- ---- which end is broken
 
-fail_high : (high low fine : Bool) → cond high verdicts.FailHigh (cond low verdicts.FailLow (cond fine verdicts.Pass verdicts.Undecided)) ≡ verdicts.FailHigh → high ≡ true
-fail_high true low fine e = refl
-fail_high false true fine e = absurd (cc e)
-fail_high false false true e = absurd (cc e)
-fail_high false false false e = absurd (cc e)
-
-fail_low : (high low fine : Bool) → cond high verdicts.FailHigh (cond low verdicts.FailLow (cond fine verdicts.Pass verdicts.Undecided)) ≡ verdicts.FailLow → low ≡ true
-fail_low true low fine e = absurd (cc e)
-fail_low false true fine e = refl
-fail_low false false true e = absurd (cc e)
-fail_low false false false e = absurd (cc e)
-
-pub high_breaks : (range : Ends) (least most : Bound) → verdict_of range least most ≡ verdicts.FailHigh → breaks_high range.high most ≡ true
-high_breaks range least most e = fail_high (breaks_high range.high most) (breaks_low range.low least) (meets_high range.high most && meets_low range.low least) e
-
-pub low_breaks : (range : Ends) (least most : Bound) → verdict_of range least most ≡ verdicts.FailLow → breaks_low range.low least ≡ true
-low_breaks range least most e = fail_low (breaks_high range.high most) (breaks_low range.low least) (meets_high range.high most && meets_low range.low least) e
-
-pub none_high : (most : Bound) → breaks_high None most ≡ true → ⊥
-none_high most e = cc e
-
-pub none_low : (least : Bound) → breaks_low None least ≡ true → ⊥
-none_low least e = cc e
-
 below : (a b : ℤ) → int_lt a b ≡ true → a <ℤ b
 below a b h = omega (arith, ints)
 
-turned : (a b : ℤ) → int_lt a b ≡ true → neg_ℤ b <ℤ neg_ℤ a
-turned a b h = omega (arith, ints)
+turned : (value limit : ℤ) → int_lt value (neg_ℤ limit) ≡ true → limit <ℤ neg_ℤ value
+turned value limit h = omega (arith, ints)
 
-pub beyond_high : (high : ℤ) (found : SettledBound) → breaks_high (Some high) (bound_of found) ≡ true → IsBeyond Max found high
-beyond_high high (settled.Closed value times proof) e = below high value e
-beyond_high high (settled.Unbounded times ray) e = tt
-beyond_high high settled.Spent e = cc e
+beyond_high : (limit : ℤ) (found : SettledBound) → breaks_high (Some limit) (bound_of found) ≡ true → IsBeyond Max found limit
+beyond_high limit (settled.Closed value times proof) e = below limit value e
+beyond_high limit (settled.Unbounded times ray) e = tt
+beyond_high limit settled.Spent e = cc e
 
-pub beyond_low : (low : ℤ) (found : SettledBound) → breaks_low (Some low) (bound_of found) ≡ true → IsBeyond Min found (neg_ℤ low)
-beyond_low low (settled.Closed value times proof) e = turned value low e
-beyond_low low (settled.Unbounded times ray) e = tt
-beyond_low low settled.Spent e = cc e
+beyond_low : (limit : ℤ) (found : SettledBound) → breaks_low (Some (neg_ℤ limit)) (bound_of found) ≡ true → IsBeyond Min found limit
+beyond_low limit (settled.Closed value times proof) e = turned value limit e
+beyond_low limit (settled.Unbounded times ray) e = tt
+beyond_low limit settled.Spent e = cc e
+
+-- a bound that breaks an end exceeds it
+pub past_high : (range : Ends) (least most : Bound) (found : SettledBound) (limit : ℤ) → most ≡ bound_of found → verdict_of range least most ≡ verdicts.FailHigh → range.high ≡ Some limit
+    → IsBeyond Max found limit
+past_high range least most found limit is word end =
+    beyond_high limit found (subst (λ b. breaks_high (Some limit) b ≡ true) is
+    (subst (λ (high : Option ℤ). breaks_high high most ≡ true) end (high_breaks range least most word)))
+
+pub past_low : (range : Ends) (least most : Bound) (found : SettledBound) (limit : ℤ) → least ≡ bound_of found → verdict_of range least most ≡ verdicts.FailLow → range.low ≡ Some (neg_ℤ limit)
+    → IsBeyond Min found limit
+past_low range least most found limit is word end =
+    beyond_low limit found (subst (λ b. breaks_low (Some (neg_ℤ limit)) b ≡ true) is
+    (subst (λ (low : Option ℤ). breaks_low low least ≡ true) end (low_breaks range least most word)))
 
 -- ---- times that break the end
 

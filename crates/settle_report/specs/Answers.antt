@@ -13,6 +13,7 @@ use Rattle.line_words.specs.Numbers.{IsLong}
 use Rattle.falling.specs.Cap.{far_line}
 use Rattle.settle.specs.Proofs.{IsProofAs}
 use Rattle.requirements.specs.Verdicts.{verdict_of}
+use Rattle.requirements.specs.declared.bound.BothBounds.{BothBounds}
 use Rattle.requirements.specs.declared.bound.Bound.{Bound}
 use Rattle.requirements.specs.declared.bound.Bound.TheVariants as bounds
 use Rattle.requirements.specs.declared.verdict.Verdict.{Verdict}
@@ -94,6 +95,10 @@ bound_of (settled.Unbounded times ray) = bounds.Unbounded
 bound_of settled.Spent = bounds.Within None None
 
 -- ---- a row
+
+-- both bounds of a row, as verdicts and slacks use them
+abbrev pub both_of : RowFound → BothBounds
+both_of found = record { least = bound_of found.least; greatest = bound_of found.greatest }
 
 abbrev pub verdict_in : Ends → RowFound → Verdict
 verdict_in range found = verdict_of range (bound_of found.least) (bound_of found.greatest)

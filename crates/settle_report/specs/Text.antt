@@ -1,5 +1,5 @@
 -- The text of job settle.
-use Rattle.std.specs.Prelude.{◌+◌, ℕ, Bool, true, false, if◌then◌else◌, List, [], ◌∷◌, ◌++◌, length, codes}
+use Rattle.std.specs.Prelude.{◌+◌, ℕ, Bool, true, false, if◌then◌else◌, List, [], ◌∷◌, ◌++◌, length, map, codes}
 use Rattle.itv_base.specs.declared.row_kind.RowKind.{RowKind}
 use Rattle.itv_base.specs.declared.row_kind.RowKind.TheVariants as kinds
 use Rattle.line_words.specs.Lines.{ended, line_of}
@@ -12,7 +12,8 @@ use Rattle.slack_report.specs.declared.words.Which.{Which}
 use Rattle.slack_report.specs.declared.words.Which.TheVariants.{Max, Min}
 use Rattle.slack_report.specs.Entry as line
 use Rattle.slack_report.specs.Text.{entry_text, report_text, which_word}
-use Rattle.right_report.specs.Right.ReportState.{ReportTally, tally_of, end_word, is_fail, with_bounds, with_verdict}
+use Rattle.right_report.specs.Right.ReportState.{tally_of, end_word, is_fail}
+use Rattle.right_report.specs.RowTally.{kinds_of, with_rows}
 use Rattle.drawn.specs.Drawn.{Drawn, name_of}
 use Rattle.drawn.specs.declared.row.Row.{Row}
 use Rattle.jobs.specs.Events.{event_lines}
@@ -24,7 +25,7 @@ use Rattle.settle_report.specs.declared.proof.Proof.{Proof}
 use Rattle.settle_report.specs.declared.bound.SettledBound.{SettledBound}
 use Rattle.settle_report.specs.declared.bound.SettledBound.TheVariants as settled
 use Rattle.settle_report.specs.declared.row.RowFound.{RowFound}
-use Rattle.settle_report.specs.Answers.{bound_of, verdict_in}
+use Rattle.settle_report.specs.Answers.{both_of, bound_of, verdict_in}
 
 -- the heading, and the events by their names
 abbrev pub front_text : Drawn → List ℕ
@@ -72,19 +73,9 @@ behind_text drawn cert (Consistent times) found = entry_text (line.rows (length 
 behind_text drawn cert (Inconsistent proof) found = []
 behind_text drawn cert Spent found = []
 
--- the tally of the rows so far and one more
-abbrev pub with_row : ReportTally → RowKind → RowFound → ReportTally
-with_row tally kinds.Ask found = with_bounds tally (bound_of found.least) (bound_of found.greatest)
-with_row tally (kinds.Req range) found = with_verdict (with_bounds tally (bound_of found.least) (bound_of found.greatest)) (verdict_in range found)
-
-abbrev pub with_rows : ReportTally → List Row → List RowFound → ReportTally
-with_rows tally [] found = tally
-with_rows tally (row ∷ rows) [] = tally
-with_rows tally (row ∷ rows) (found ∷ others) = with_rows (with_row tally row.kind found) rows others
-
 -- the word at the end, as a report with these bounds has it
 abbrev pub ending_of : List Row → Finding → List RowFound → EndWord
-ending_of rows (Consistent times) found = end_word (with_rows (tally_of findings.Consistent) rows found)
+ending_of rows (Consistent times) found = end_word (with_rows (tally_of findings.Consistent) (kinds_of rows) (map both_of found))
 ending_of rows (Inconsistent proof) found = endings.Inconsistent
 ending_of rows Spent found = endings.Undecided
 

@@ -35,6 +35,7 @@ pub fn bound_of(found: &SettledBound) -> Bound
 pub fn both_of(least: &SettledBound, greatest: &SettledBound) -> BothBounds
     ensures least { result.least ≡ bound_of least.now }
     ensures greatest { result.greatest ≡ bound_of greatest.now }
+    ensures both { result ≡ record { least = bound_of least.now; greatest = bound_of greatest.now } }
 {
     BothBounds {
         least: bound_of(least),

@@ -1,6 +1,6 @@
 //! Times that break a requirement.
 
-ghost use Rattle.std.specs.Prelude.{◌≡◌, neg_ℤ, All, Some, IfOk};
+ghost use Rattle.std.specs.Prelude.{◌≡◌, All, Some, IfOk};
 ghost use Rattle.itv_base.specs.Range.{IsEnd};
 ghost use Rattle.event_graph.specs.Bounds.{IsRay};
 ghost use Rattle.event_graph.specs.Network.{IsNet};
@@ -51,52 +51,18 @@ fn past_range(
     requires greatest { IsFoundBound net.now Which.Max row.now greatest.now }
     ensures past { IfOk result (λ past. IsViolation net.now row.now range (verdict_of range (bound_of least.now) (bound_of greatest.now)) past.items) }
 {
-    match judge(range, &both_of(least, greatest)) {
+    let both = both_of(least, greatest);
+    match judge(range, &both) {
         Verdict::FailHigh => {
-            let limit = broken_high(range, least, greatest);
+            let limit = both.broken_high(range);
             past_limit(alloc, Which::Max, limit, row, net, greatest)
         }
         Verdict::FailLow => {
-            let limit = broken_low(range, least, greatest);
+            let limit = both.broken_low(range);
             past_limit(alloc, Which::Min, limit, row, net, least)
         }
         Verdict::Pass | Verdict::Undecided => Ok(Vec::new(alloc)),
     }
-}
-
-// The high end of a range that the greatest bound breaks.
-fn broken_high(range: Range, least: &SettledBound, greatest: &SettledBound) -> i64
-    requires word { verdict_of range (bound_of least.now) (bound_of greatest.now) ≡ Verdict.FailHigh }
-    ensures end { range.high ≡ Some result }
-    ensures limit { IsEnd (Some result) }
-    ensures beyond { IsBeyond Which.Max greatest.now result }
-{
-    match range.high() {
-        Some(high) => high,
-        None => unreachable!(),
-    }
-}
-
-// Minus the low end of a range that the least bound breaks.
-fn broken_low(range: Range, least: &SettledBound, greatest: &SettledBound) -> i64
-    requires word { verdict_of range (bound_of least.now) (bound_of greatest.now) ≡ Verdict.FailLow }
-    ensures end { range.low ≡ Some (neg_ℤ result) }
-    ensures limit { IsEnd (Some result) }
-    ensures beyond { IsBeyond Which.Min least.now result }
-{
-    match range.low() {
-        Some(low) => negated(low),
-        None => unreachable!(),
-    }
-}
-
-// Minus an end of a range.
-fn negated(end: i64) -> i64
-    requires end { IsEnd (Some end) }
-    ensures value { result ≡ neg_ℤ end }
-    ensures end { IsEnd (Some result) }
-{
-    -end
 }
 
 // Times past a limit on the separation of the searched pair of a bound; the bound shows that some separation exceeds the limit.

@@ -1,4 +1,5 @@
-//! Reports: their lines as items, the text of each line, and reading a text back line by line.
+//! Reports: their lines as items, the text of each line, and reading a text back line by line. The words of rows, bounds and verdicts
+//! can be put by themselves too, for lines of other texts.
 //! The contract: `write_item` writes the text of an item. `read_report` reads a report from its text, or returns the
 //! first line at which no report can continue.
 #![tactic(auto)]
@@ -10,6 +11,7 @@ pub mod laws;
 mod order;
 mod owned;
 mod place;
+mod put_words;
 mod read;
 mod read_list;
 mod read_word;
@@ -22,6 +24,7 @@ pub use fault::ReportFault;
 pub use item::Item;
 pub use items::Items;
 pub use place::{Place, Spot};
+pub use put_words::{put_asked, put_bound_words, put_range, put_verdict_words};
 pub use report::{Report, read_report};
 pub use words::{EndWord, FindingWord, Which};
 pub use write::{LINE_ROOM, write_item};

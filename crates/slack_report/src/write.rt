@@ -1,25 +1,23 @@
 //! Writing the lines of a report.
 #![tactic(auto, unfolding(crate::specs::Text::words_of))]
 
-ghost use Rattle.std.specs.Prelude.{◌≡◌, ◌∷◌, ◌++◌, [], List, codes, map};
+ghost use Rattle.std.specs.Prelude.{◌∷◌, [], List, codes, map};
 ghost use Rattle.std.specs.List.{flat_map};
 ghost use Rattle.itv_base.specs.Names.{name_view};
 ghost use Rattle.itv_base.specs.Numerals.{number_text, signed_text};
 ghost use Rattle.itv_base.specs.Outside.{Puts};
 ghost use Rattle.line_words.specs.Lines.{ended, line_of, spaced};
-ghost use Rattle.itv_base.specs.declared.row_kind.RowKind.TheVariants.{Ask, Req};
 ghost use Rattle.slack_report.specs.Entry.{bound, ending, event, finding, raise, row, slack, times, verdict};
 ghost use Rattle.slack_report.specs.Items.{item_view};
 ghost use Rattle.slack_report.specs.Step.Printed.{member_text};
-ghost use Rattle.slack_report.specs.Text.{entry_text, members_from, name_word, range_word, which_word};
+ghost use Rattle.slack_report.specs.Text.{entry_text, members_from, which_word};
 
 use crate::item::Item;
+use crate::put_words::{put_asked, put_bound_words, put_verdict_words};
 use crate::words::{EndWord, FindingWord, Which};
 use certificate::write_line;
 use itoa::Buffer;
-use itv_base::{
-    EventName, PutFailed, Range, RowKind, Sink, end_text, number_text, put_all, signed_text,
-};
+use itv_base::{EventName, PutFailed, RowKind, Sink, end_text, number_text, put_all, signed_text};
 use line_words::{LineBuffer, put_spaced, put_words};
 use requirements::{Bound, Slack, Verdict};
 
@@ -50,12 +48,9 @@ fn put_finding<K: Sink>(word: FindingWord, sink: &mut K) -> Result<(), PutFailed
 fn put_verdict<K: Sink>(word: Verdict, sink: &mut K) -> Result<(), PutFailed>
     ensures { Puts (K.state sink.old) (K.state sink.new) (entry_text (verdict word)) result }
 {
-    match word {
-        Verdict::Pass => put_words(b"verdict", &[b"pass"], sink),
-        Verdict::FailHigh => put_words(b"verdict", &[b"fail", b"high"], sink),
-        Verdict::FailLow => put_words(b"verdict", &[b"fail", b"low"], sink),
-        Verdict::Undecided => put_words(b"verdict", &[b"undecided"], sink),
-    }
+    sink.put(b"verdict")?;
+    put_verdict_words(word, sink)?;
+    sink.put(b"\n")
 }
 
 fn put_slack<K: Sink>(value: Slack, sink: &mut K) -> Result<(), PutFailed>
@@ -84,48 +79,21 @@ fn put_end<K: Sink>(word: EndWord, sink: &mut K) -> Result<(), PutFailed>
     }
 }
 
-fn which_word(which: Which) -> &'static [u8]
-    ensures { result.now ≡ which_word which }
+fn put_which<K: Sink>(which: Which, sink: &mut K) -> Result<(), PutFailed>
+    ensures { Puts (K.state sink.old) (K.state sink.new) (which_word which) result }
 {
     match which {
-        Which::Max => b"max",
-        Which::Min => b"min",
+        Which::Max => sink.put(b"max"),
+        Which::Min => sink.put(b"min"),
     }
 }
 
 fn put_bound<K: Sink>(which: Which, value: Bound, sink: &mut K) -> Result<(), PutFailed>
     ensures { Puts (K.state sink.old) (K.state sink.new) (entry_text (bound which value)) result }
 {
-    let mut limit_digits = Buffer::new();
-    let mut digits = Buffer::new();
-    let first = which_word(which);
-    match value {
-        Bound::Closed(value) => {
-            put_words(first, &[signed_text(value, &mut digits).as_bytes()], sink)
-        }
-        Bound::Unbounded => put_words(first, &[b"unbounded"], sink),
-        Bound::Within {
-            limit,
-            attained: None,
-        } => put_words(
-            first,
-            &[b"within", end_text(limit, &mut limit_digits).as_bytes()],
-            sink,
-        ),
-        Bound::Within {
-            limit,
-            attained: Some(found),
-        } => put_words(
-            first,
-            &[
-                b"within",
-                end_text(limit, &mut limit_digits).as_bytes(),
-                b"found",
-                signed_text(found, &mut digits).as_bytes(),
-            ],
-            sink,
-        ),
-    }
+    put_which(which, sink)?;
+    put_bound_words(value, sink)?;
+    sink.put(b"\n")
 }
 
 // ---- lines with names
@@ -151,106 +119,6 @@ fn put_event<K: Sink>(number: u32, name: EventName<'_>, sink: &mut K) -> Result<
     )
 }
 
-fn put_ask<K: Sink>(
-    number: u32,
-    from: EventName<'_>,
-    to: EventName<'_>,
-    sink: &mut K,
-) -> Result<(), PutFailed>
-    ensures { Puts (K.state sink.old) (K.state sink.new)
-        (entry_text (row number Ask (name_view from.entry) (name_view to.entry))) result }
-{
-    let mut digits = Buffer::new();
-    let mut from_cycle = Buffer::new();
-    let mut to_cycle = Buffer::new();
-    put_all(
-        sink,
-        &[
-            b"row ",
-            number_text(u64::from(number), &mut digits).as_bytes(),
-            b" ask ",
-            from.part.as_bytes(),
-            b".",
-            &[from.mark],
-            b"@",
-            number_text(u64::from(from.cycle), &mut from_cycle).as_bytes(),
-            b" ",
-            to.part.as_bytes(),
-            b".",
-            &[to.mark],
-            b"@",
-            number_text(u64::from(to.cycle), &mut to_cycle).as_bytes(),
-            b"\n",
-        ],
-    )
-}
-
-// The line of a requirement up to its names.
-fn put_demand_names<K: Sink>(
-    number: u32,
-    from: EventName<'_>,
-    to: EventName<'_>,
-    sink: &mut K,
-) -> Result<(), PutFailed>
-    ensures { Puts (K.state sink.old) (K.state sink.new) (line_of (codes "row" ∷ number_text number ∷ codes "req"
-        ∷ name_word (name_view from.entry) ∷ name_word (name_view to.entry) ∷ [])) result }
-{
-    let mut digits = Buffer::new();
-    let mut from_cycle = Buffer::new();
-    let mut to_cycle = Buffer::new();
-    put_all(
-        sink,
-        &[
-            b"row ",
-            number_text(u64::from(number), &mut digits).as_bytes(),
-            b" req ",
-            from.part.as_bytes(),
-            b".",
-            &[from.mark],
-            b"@",
-            number_text(u64::from(from.cycle), &mut from_cycle).as_bytes(),
-            b" ",
-            to.part.as_bytes(),
-            b".",
-            &[to.mark],
-            b"@",
-            number_text(u64::from(to.cycle), &mut to_cycle).as_bytes(),
-        ],
-    )
-}
-
-// The range of a requirement, and the end of its line.
-fn put_range<K: Sink>(range: &Range, sink: &mut K) -> Result<(), PutFailed>
-    ensures { Puts (K.state sink.old) (K.state sink.new) (ended (spaced (range_word range.now))) result }
-{
-    let mut low = Buffer::new();
-    let mut high = Buffer::new();
-    put_all(
-        sink,
-        &[
-            b" [",
-            end_text(range.low(), &mut low).as_bytes(),
-            b",",
-            end_text(range.high(), &mut high).as_bytes(),
-            b"]\n",
-        ],
-    )
-}
-
-fn put_demand<K: Sink>(
-    number: u32,
-    range: &Range,
-    from: EventName<'_>,
-    to: EventName<'_>,
-    sink: &mut K,
-) -> Result<(), PutFailed>
-    ensures { Puts (K.state sink.old) (K.state sink.new)
-        (entry_text (row number (Req range.now) (name_view from.entry) (name_view to.entry))) result }
-{
-    put_demand_names(number, from, to, sink)?;
-    put_range(range, sink)
-}
-
 fn put_row<K: Sink>(
     number: u32,
     kind: &RowKind,
@@ -261,10 +129,8 @@ fn put_row<K: Sink>(
     ensures { Puts (K.state sink.old) (K.state sink.new)
         (entry_text (row number kind.now (name_view from.entry) (name_view to.entry))) result }
 {
-    match kind {
-        RowKind::Ask => put_ask(number, from, to, sink),
-        RowKind::Req(range) => put_demand(number, range, from, to, sink),
-    }
+    put_asked(number, kind, from, to, sink)?;
+    sink.put(b"\n")
 }
 
 // ---- lines of many words

@@ -10,6 +10,7 @@ use Rattle.event_graph.specs.Network.{Net}
 use Rattle.event_graph.specs.Satisfying.{Satisfies}
 use Rattle.event_graph.proofs.Rays.{ray_is_unbounded}
 use Rattle.branch.specs.Answers.{Evidence, IsGreatestAnswer, PairSearch}
+use Rattle.branch.specs.AnswerBound.{greatest_bound}
 use Rattle.branch.specs.declared.answer.GreatestAnswer.{GreatestAnswer}
 use Rattle.branch.specs.declared.answer.GreatestAnswer.TheVariants.{Closed, Unbounded, Enclosed}
 use Rattle.branch.specs.declared.answer.SearchFinding.{SearchFinding}
@@ -17,6 +18,7 @@ use Rattle.branch.specs.declared.answer.SearchFinding.TheVariants.{Consistent, I
 use Rattle.requirements.specs.Bounds.{IsGreatestBound, IsLeastBound}
 use Rattle.requirements.specs.Laws.{IsMet, IsWithin}
 use Rattle.requirements.specs.Verdicts.{verdict_of}
+use Rattle.requirements.specs.declared.bound.BothBounds.{BothBounds}
 use Rattle.requirements.specs.declared.bound.Bound.{Bound}
 use Rattle.requirements.specs.declared.bound.Bound.TheVariants as bounds
 use Rattle.requirements.specs.declared.verdict.Verdict.{Verdict}
@@ -27,7 +29,9 @@ use Rattle.slack_report.specs.declared.words.EndWord.TheVariants as endings
 use Rattle.slack_report.specs.declared.words.FindingWord.{FindingWord}
 use Rattle.slack_report.specs.declared.words.FindingWord.TheVariants as findings
 use Rattle.right_report.specs.Laws.{AllMet, SomeSatisfy}
-use Rattle.right_report.specs.Right.ReportState.{ReportTally, end_word, is_fail, is_within, tally_of}
+use Rattle.right_report.specs.Right.ReportState.{end_word, is_fail, is_within, tally_of}
+use Rattle.right_report.specs.RowTally.{kinds_of, with_row, with_rows}
+use Rattle.right_report.specs.declared.tally.ReportTally.{ReportTally}
 use Rattle.jobs.specs.Ending.{answer_of}
 use Rattle.jobs.specs.declared.answer.Answer.{Answer}
 use Rattle.jobs.specs.declared.answer.Answer.TheVariants.{AllPass}
@@ -39,8 +43,8 @@ use Rattle.whatif.specs.declared.pair.Pair.{Pair}
 use Rattle.whatif.specs.Runs.{EditedSession, Note, Runs, edited, last_of, note_of, notes_of}
 use Rattle.whatif.specs.Session.{IsRight, IsRightBound, IsRightFinding, KeptBound, SessionView, answers_of, both_ways, left_by, pair_search}
 use Rattle.whatif_report.specs.Laws.{PassedEditsAreMet}
-use Rattle.whatif_report.specs.Text.{ending_of, greatest_bound, judged_row, judged_rows, last_note, least_bound}
-use Rattle.whatif_report.specs.Whatif.{AnswersWhatif, kinds_of, no_change, pair_of, pairs_of}
+use Rattle.whatif_report.specs.Text.{both_of, bounds_of, ending_of, last_note, least_bound}
+use Rattle.whatif_report.specs.Whatif.{AnswersWhatif, no_change, pair_of, pairs_of}
 
 -- ---- the last session
 
@@ -94,24 +98,21 @@ record CleanRow (tally : ReportTally) (kind : RowKind) (least most : Bound) : Ty
   high : is_within most ≡ false
   fine : NoFail kind least most
 
-clean_row : (tally : ReportTally) (kind : RowKind) (least most : Bound) → Clean (judged_row tally kind least most) → CleanRow tally kind least most
-clean_row tally kinds.Ask least most clean =
-    let w = or_parts tally.within (is_within least || is_within most) clean.1 in
-    let b = or_parts (is_within least) (is_within most) w.1 in
+clean_row : (tally : ReportTally) (kind : RowKind) (both : BothBounds) → Clean (with_row tally kind both) → CleanRow tally kind both.least both.greatest
+clean_row tally kinds.Ask both clean =
+    let w = or_parts tally.within (is_within both.least || is_within both.greatest) clean.1 in
+    let b = or_parts (is_within both.least) (is_within both.greatest) w.1 in
     record { before = (clean.0, w.0); low = b.0; high = b.1; fine = tt }
-clean_row tally (kinds.Req range) least most clean =
-    let f = or_parts tally.fails (is_fail (verdict_of range least most)) clean.0 in
-    let w = or_parts tally.within (is_within least || is_within most) clean.1 in
-    let b = or_parts (is_within least) (is_within most) w.1 in
+clean_row tally (kinds.Req range) both clean =
+    let f = or_parts tally.fails (is_fail (verdict_of range both.least both.greatest)) clean.0 in
+    let w = or_parts tally.within (is_within both.least || is_within both.greatest) clean.1 in
+    let b = or_parts (is_within both.least) (is_within both.greatest) w.1 in
     record { before = (f.0, w.0); low = b.0; high = b.1; fine = f.1 }
 
-clean_rows : (tally : ReportTally) (rows : List RowKind) (list : List GreatestAnswer) → Clean (judged_rows tally rows list) → Clean tally
-clean_rows tally [] list clean = clean
+clean_rows : (tally : ReportTally) (rows : List RowKind) (found : List BothBounds) → Clean (with_rows tally rows found) → Clean tally
+clean_rows tally [] found clean = clean
 clean_rows tally (kind ∷ rows) [] clean = clean
-clean_rows tally (kind ∷ rows) (most ∷ []) clean = clean
-clean_rows tally (kind ∷ rows) (most ∷ least ∷ list) clean =
-    (clean_row tally kind (least_bound least) (greatest_bound most)
-    (clean_rows (judged_row tally kind (least_bound least) (greatest_bound most)) rows list clean)).before
+clean_rows tally (kind ∷ rows) (both ∷ found) clean = (clean_row tally kind both (clean_rows (with_row tally kind both) rows found clean)).before
 
 -- ---- a requirement
 
@@ -159,7 +160,7 @@ module _ (net : Net) (budget : ℕ) where
 
   -- all rows with a clean tally are met
   rows_met : (rows : List Row) (kept : List KeptBound) (tally : ReportTally) → map (λ (b : KeptBound). b.pair) kept ≡ both_ways (pairs_of rows) → All (IsRightBound net budget) kept
-      → Clean (judged_rows tally (kinds_of rows) (map (λ (b : KeptBound). b.answer) kept)) → (number : ℕ) (r : Row) (range : Ends) → slice_get rows number ≡ Some r
+      → Clean (with_rows tally (kinds_of rows) (bounds_of (map (λ (b : KeptBound). b.answer) kept))) → (number : ℕ) (r : Row) (range : Ends) → slice_get rows number ≡ Some r
       → r.kind ≡ kinds.Req range → IsMet net r.from r.to range
   rows_met [] kept tally pairs right clean number r range at kind = absurd (cc at)
   rows_met (row ∷ rows) [] tally pairs right clean number r range at kind = absurd (cc pairs)
@@ -168,15 +169,15 @@ module _ (net : Net) (budget : ℕ) where
       let same : row ≡ r = cc at in
       let is_a : a.pair ≡ pair_of row = cc pairs in
       let is_b : b.pair ≡ record { from = row.to; to = row.from } = cc pairs in
-      let c = clean_row tally row.kind (least_bound b.answer) (greatest_bound a.answer)
-      (clean_rows (judged_row tally row.kind (least_bound b.answer) (greatest_bound a.answer)) (kinds_of rows) (map (λ (d : KeptBound). d.answer) kept) clean) in
+      let c = clean_row tally row.kind (both_of a.answer b.answer)
+      (clean_rows (with_row tally row.kind (both_of a.answer b.answer)) (kinds_of rows) (bounds_of (map (λ (d : KeptBound). d.answer) kept)) clean) in
       let own : row.kind ≡ kinds.Req range = ap (λ (x : Row). x.kind) same ∙ kind in
       subst (λ (x : Row). IsMet net x.from x.to range) same
       (row_met row range a b is_a is_b (All-head (IsRightBound net budget) a (b ∷ kept) right)
       (All-head (IsRightBound net budget) b kept (All-tail (IsRightBound net budget) a (b ∷ kept) right)) own c.low c.high c.fine)
   rows_met (row ∷ rows) (a ∷ b ∷ kept) tally pairs right clean (suc number) r range at kind =
       let rest : map (λ (d : KeptBound). d.pair) kept ≡ both_ways (pairs_of rows) = cc pairs in
-      rows_met rows kept (judged_row tally row.kind (least_bound b.answer) (greatest_bound a.answer)) rest
+      rows_met rows kept (with_row tally row.kind (both_of a.answer b.answer)) rest
       (All-tail (IsRightBound net budget) b kept (All-tail (IsRightBound net budget) a (b ∷ kept) right)) clean number r range at kind
 
 -- ---- the whole
@@ -185,7 +186,7 @@ some_of : (net : Net) (known : Option (List ℤ)) → IsSomeAnd known (λ times.
 some_of net None h = absurd h
 some_of net (Some times) h = (times, h)
 
-none_judged : (tally : ReportTally) (rows : List RowKind) → judged_rows tally rows [] ≡ tally
+none_judged : (tally : ReportTally) (rows : List RowKind) → with_rows tally rows [] ≡ tally
 none_judged tally [] = refl
 none_judged tally (kind ∷ rows) = refl
 
@@ -193,7 +194,7 @@ met_by : (drawn : Drawn) (last : SessionView) (found : SearchFinding) → last.f
     → ending_of (kinds_of drawn.rows) found (answers_of found last.bounds) ≡ endings.Pass → SomeSatisfy last.net × AllMet (record drawn { net = last.net })
 met_by drawn last Consistent is right pairs word =
     let finding : IsRightFinding last.net last.budget Consistent = subst (IsRightFinding last.net last.budget) is right.finding in
-    let clean = pass_is_clean (judged_rows (tally_of findings.Consistent) (kinds_of drawn.rows) (map (λ (b : KeptBound). b.answer) last.bounds)) word in (
+    let clean = pass_is_clean (with_rows (tally_of findings.Consistent) (kinds_of drawn.rows) (bounds_of (map (λ (b : KeptBound). b.answer) last.bounds))) word in (
       some_of last.net finding.2 finding.3.satisfies,
       λ number r range at kind.
           rows_met last.net last.budget drawn.rows last.bounds (tally_of findings.Consistent) (right.pairs ∙ ap both_ways pairs) (right.bounds is) clean number r range at kind,

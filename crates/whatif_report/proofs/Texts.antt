@@ -1,23 +1,24 @@
 -- The text of rows and states from a place on, and the tally of the rows.
-use Rattle.std.proofs.Common.{◌≡◌, ◌+◌, ◌*◌, ◌-◌, ◌<◌, ◌==◌, ◌⊎◌, ℕ, suc, Bool, true, false, ◌||◌, List, [], ◌∷◌, ◌++◌, length, get_or, drop, codes, Some, slice_get, inl, inr, refl, sym, ap, ◌∙◌, arith, add-one, drop-cons, append_assoc}
+use Rattle.std.proofs.Common.{◌≡◌, ◌+◌, ◌*◌, ◌-◌, ◌<◌, ◌==◌, ◌⊎◌, ℕ, suc, true, false, List, [], ◌∷◌, ◌++◌, length, get_or, drop, codes, Some, slice_get, inl, inr, refl, sym, ap, ◌∙◌, arith, add-one, drop-cons, append_assoc}
 use Rattle.std.specs.List.{flat_map}
 use Rattle.std.proofs.lemmas.Bool.{eqb-true}
 use Rattle.std.proofs.lemmas.Grind.{flat_map-append}
 use Rattle.itv_base.specs.Numerals.{number_text}
 use Rattle.itv_base.specs.declared.row_kind.RowKind.{RowKind}
-use Rattle.itv_base.specs.declared.row_kind.RowKind.TheVariants as kinds
 use Rattle.line_words.specs.Words.{Word}
 use Rattle.line_words.specs.Lines.{ended, line_of, spaced}
 use Rattle.line_words.proofs.Printing.{join_spaced}
+use Rattle.branch.specs.AnswerBound.{greatest_bound}
 use Rattle.branch.specs.declared.answer.GreatestAnswer.{GreatestAnswer}
+use Rattle.requirements.specs.declared.bound.BothBounds.{BothBounds}
 use Rattle.requirements.specs.declared.bound.Bound.{Bound}
 use Rattle.slack_report.specs.Text.{bound_words}
-use Rattle.slack_report.specs.declared.words.FindingWord.{FindingWord}
-use Rattle.right_report.specs.Right.ReportState.{tally_of, is_within}
+use Rattle.right_report.specs.RowTally.{with_row, with_rows}
+use Rattle.right_report.specs.declared.tally.ReportTally.{ReportTally}
 use Rattle.edits.specs.declared.edit.RangeEdit.{RangeEdit}
 use Rattle.whatif.specs.Runs.{Note}
-use Rattle.whatif_report.specs.Step.{IsCountFor, is_broken}
-use Rattle.whatif_report.specs.Text.{found_text, greatest_bound, judged_row, judged_rows, judged_words, last_note, least_bound, row_words, rows_text, state_words, states_text}
+use Rattle.whatif_report.specs.Step.{IsCountFor}
+use Rattle.whatif_report.specs.Text.{both_of, bounds_of, found_text, judged_words, last_note, least_bound, row_words, rows_text, state_words, states_text}
 
 -- ---- the line of a row
 
@@ -99,33 +100,21 @@ states_step whole text begun next rows edits notes k e f note g within noted is_
 
 -- ---- the tally of the rows
 
-or_false : (b : Bool) → (b || false) ≡ b
-or_false true = refl
-or_false false = refl
-
-pub judged_none : (w : FindingWord) (rows : List RowKind) (list : List GreatestAnswer) → length list ≡ 0 → judged_rows (tally_of w) rows list ≡ tally_of w
-judged_none w [] list none = refl
-judged_none w (kind ∷ rows) [] none = refl
-judged_none w (kind ∷ rows) (a ∷ list) none = absurd (omega (arith, none))
-
-judged_row_is : (w : FindingWord) (fails within : Bool) (kind : RowKind) (least most : Bound) → judged_row (record { found = w; fails = fails; within = within }) kind least most
-    ≡ record { found = w; fails = fails || is_broken kind least most; within = within || (is_within least || is_within most) }
-judged_row_is w fails within kinds.Ask least most = rw (or_false fails) refl
-judged_row_is w fails within (kinds.Req range) least most = refl
+pub none_judged : (tally : ReportTally) (rows : List RowKind) (list : List GreatestAnswer) → length list ≡ 0 → with_rows tally rows (bounds_of list) ≡ tally
+none_judged tally [] list none = refl
+none_judged tally (kind ∷ rows) [] none = refl
+none_judged tally (kind ∷ rows) (a ∷ list) none = absurd (omega (arith, none))
 
 -- the row at a place is added to the tally
-pub judged_step : (w : FindingWord) (fails within fails_now within_now : Bool) (rows : List RowKind) (list : List GreatestAnswer) (k : ℕ) (kind c : RowKind) (most least d e : GreatestAnswer)
-    (low high : Bound) → k < length rows → 2 * k + 1 < length list → kind ≡ get_or rows k c → most ≡ get_or list (2 * k) d → least ≡ get_or list (2 * k + 1) e
-    → low ≡ least_bound least → high ≡ greatest_bound most → fails_now ≡ (fails || is_broken kind low high) → within_now ≡ (within || (is_within low || is_within high))
-    → judged_rows (record { found = w; fails = fails; within = within }) (drop k rows) (drop (2 * k) list) ≡ judged_rows (tally_of w) rows list
-    → judged_rows (record { found = w; fails = fails_now; within = within_now }) (drop (k + 1) rows) (drop (2 * (k + 1)) list) ≡ judged_rows (tally_of w) rows list
-judged_step w fails within fails_now within_now rows list k kind c most least d e low high here enough is_kind is_most is_least is_low is_high is_fails is_within_now before =
-    let row : judged_row (record { found = w; fails = fails; within = within }) kind low high ≡ record { found = w; fails = fails_now; within = within_now } =
-    judged_row_is w fails within kind low high ∙ sym (rw (is_fails, is_within_now) refl) in
-    let more : judged_rows (record { found = w; fails = fails; within = within }) (drop k rows) (drop (2 * k) list)
-    ≡ judged_rows (judged_row (record { found = w; fails = fails; within = within }) kind low high) (drop (k + 1) rows) (drop (2 * (k + 1)) list) =
-    rw (drop_one rows k kind c here is_kind, drop_two list k most least d e enough is_most is_least, is_low, is_high) refl in
-    ap (λ t. judged_rows t (drop (k + 1) rows) (drop (2 * (k + 1)) list)) (sym row) ∙ (sym more ∙ before)
+pub tally_step : (tally next whole : ReportTally) (rows : List RowKind) (list : List GreatestAnswer) (k : ℕ) (kind c : RowKind) (most least d e : GreatestAnswer) (both : BothBounds)
+    → k < length rows → 2 * k + 1 < length list → kind ≡ get_or rows k c → most ≡ get_or list (2 * k) d → least ≡ get_or list (2 * k + 1) e → both ≡ both_of most least
+    → next ≡ with_row tally kind both → with_rows tally (drop k rows) (bounds_of (drop (2 * k) list)) ≡ whole
+    → with_rows next (drop (k + 1) rows) (bounds_of (drop (2 * (k + 1)) list)) ≡ whole
+tally_step tally next whole rows list k kind c most least d e both here enough is_kind is_most is_least is_both is_next before =
+    let more : with_rows tally (drop k rows) (bounds_of (drop (2 * k) list))
+    ≡ with_rows (with_row tally kind (both_of most least)) (drop (k + 1) rows) (bounds_of (drop (2 * (k + 1)) list)) =
+    rw (drop_one rows k kind c here is_kind, drop_two list k most least d e enough is_most is_least) refl in
+    ap (λ t. with_rows t (drop (k + 1) rows) (bounds_of (drop (2 * (k + 1)) list))) (is_next ∙ ap (with_row tally kind) is_both) ∙ (sym more ∙ before)
 
 -- ---- the last note
 

@@ -1,39 +1,36 @@
 -- The text of job whatif: the states of a network after edits of its ranges.
-use Rattle.std.specs.Prelude.{◌+◌, ℕ, List, [], ◌∷◌, ◌++◌, codes, Some}
+use Rattle.std.specs.Prelude.{◌+◌, ℕ, List, [], ◌∷◌, ◌++◌, codes}
 use Rattle.itv_base.specs.Numerals.{number_text}
 use Rattle.itv_base.specs.declared.row_kind.RowKind.{RowKind}
 use Rattle.itv_base.specs.declared.row_kind.RowKind.TheVariants as kinds
 use Rattle.line_words.specs.Words.{Word}
 use Rattle.line_words.specs.Lines.{ended, line_of}
+use Rattle.branch.specs.AnswerBound.{greatest_bound}
 use Rattle.branch.specs.declared.answer.GreatestAnswer.{GreatestAnswer}
-use Rattle.branch.specs.declared.answer.GreatestAnswer.TheVariants as answers
 use Rattle.branch.specs.declared.answer.SearchFinding.{SearchFinding}
-use Rattle.branch.specs.declared.answer.SearchFinding.TheVariants as founds
 use Rattle.requirements.specs.Bounds.{reversed}
 use Rattle.requirements.specs.Verdicts.{verdict_of}
+use Rattle.requirements.specs.declared.bound.BothBounds.{BothBounds}
 use Rattle.requirements.specs.declared.bound.Bound.{Bound}
-use Rattle.requirements.specs.declared.bound.Bound.TheVariants as bounds
 use Rattle.slack_report.specs.Entry.{ending, finding}
 use Rattle.slack_report.specs.Text.{bound_words, entry_text, range_word, verdict_words}
 use Rattle.slack_report.specs.declared.words.EndWord.{EndWord}
-use Rattle.slack_report.specs.declared.words.FindingWord.{FindingWord}
-use Rattle.slack_report.specs.declared.words.FindingWord.TheVariants as findings
-use Rattle.right_report.specs.Right.ReportState.{ReportTally, tally_of, end_word, with_bounds, with_verdict}
+use Rattle.right_report.specs.Right.ReportState.{tally_of, end_word}
+use Rattle.right_report.specs.RowTally.{with_rows}
+use Rattle.jobs.specs.Found.{found_word}
 use Rattle.edits.specs.Subject.{subject_text}
 use Rattle.edits.specs.declared.edit.RangeEdit.{RangeEdit}
 use Rattle.whatif.specs.Runs.{Note}
 
 -- ---- a row
 
--- the greatest bound of an answer for a pair
-abbrev pub greatest_bound : GreatestAnswer → Bound
-greatest_bound (answers.Closed value) = bounds.Closed value
-greatest_bound answers.Unbounded = bounds.Unbounded
-greatest_bound (answers.Enclosed upper attained) = bounds.Within upper (Some attained)
-
 -- the least bound of a pair, from the answer for the reversed pair
 abbrev pub least_bound : GreatestAnswer → Bound
 least_bound answer = reversed (greatest_bound answer)
+
+-- both bounds of a pair, from the answers for it and for the reversed pair
+abbrev pub both_of : GreatestAnswer → GreatestAnswer → BothBounds
+both_of most least = record { least = least_bound least; greatest = greatest_bound most }
 
 -- the words of the verdict on a requirement. A question has no verdict
 abbrev pub judged_words : RowKind → Bound → Bound → List Word
@@ -55,11 +52,6 @@ rows_text number (kind ∷ others) (most ∷ least ∷ found) =
 
 -- ---- a state
 
-abbrev pub found_word : SearchFinding → FindingWord
-found_word founds.Consistent = findings.Consistent
-found_word founds.Inconsistent = findings.Inconsistent
-found_word founds.Unsettled = findings.Unsettled
-
 -- the finding and the rows. If the finding is not consistent, there are no answers, and so no rows
 abbrev pub found_text : List RowKind → SearchFinding → List GreatestAnswer → List ℕ
 found_text rows found list = entry_text (finding (found_word found)) ++ rows_text 0 rows list
@@ -79,20 +71,15 @@ states_text number rows (e ∷ edits) (note ∷ notes) =
 
 -- ---- the end
 
--- the tally of the rows so far and one more
-abbrev pub judged_row : ReportTally → RowKind → Bound → Bound → ReportTally
-judged_row tally kinds.Ask least most = with_bounds tally least most
-judged_row tally (kinds.Req range) least most = with_verdict (with_bounds tally least most) (verdict_of range least most)
-
-abbrev pub judged_rows : ReportTally → List RowKind → List GreatestAnswer → ReportTally
-judged_rows tally [] found = tally
-judged_rows tally (kind ∷ others) [] = tally
-judged_rows tally (kind ∷ others) (most ∷ []) = tally
-judged_rows tally (kind ∷ others) (most ∷ least ∷ found) = judged_rows (judged_row tally kind (least_bound least) (greatest_bound most)) others found
+-- both bounds of each row; there are two answers for a row
+abbrev pub bounds_of : List GreatestAnswer → List BothBounds
+bounds_of [] = []
+bounds_of (most ∷ []) = []
+bounds_of (most ∷ least ∷ found) = both_of most least ∷ bounds_of found
 
 -- the word at the end, according to a finding and the answers for rows. A report of that state ends with the same word
 abbrev pub ending_of : List RowKind → SearchFinding → List GreatestAnswer → EndWord
-ending_of rows found list = end_word (judged_rows (tally_of (found_word found)) rows list)
+ending_of rows found list = end_word (with_rows (tally_of (found_word found)) rows (bounds_of list))
 
 -- the note of the last state, after all others
 abbrev pub last_note : Note → List Note → Note

@@ -11,18 +11,15 @@ use Rattle.whatif.specs.declared.change.Change.{Change}
 use Rattle.whatif.specs.declared.pair.Pair.{Pair}
 use Rattle.whatif.specs.Session.{AttainsKnown, IsRight, SessionView}
 use Rattle.whatif.specs.Runs.{IsRun, Note, note_of}
+use Rattle.right_report.specs.RowTally.{kinds_of}
 use Rattle.whatif_report.specs.Text.{ending_of, last_note, whatif_text}
 
 -- the pair of a row
 abbrev pub pair_of : Row → Pair
 pair_of row = record { from = row.from; to = row.to }
 
--- the pairs of rows, and their kinds
 abbrev pub pairs_of : List Row → List Pair
 pairs_of rows = map pair_of rows
-
-abbrev pub kinds_of : List Row → List RowKind
-kinds_of rows = map (λ (row : Row). row.kind) rows
 
 -- a new session of pairs of events of a network. Each of its searches closes at most `budget` cases
 pub record IsFirst (net : Net) (pairs : List Pair) (budget : ℕ) (s : SessionView) : Type 0 where

@@ -1,7 +1,8 @@
 //! What the rows of a drawn network ask for.
 
 ghost use Rattle.std.specs.Prelude.{◌≡◌, IfOk};
-ghost use Rattle.whatif_report.specs.Whatif.{kinds_of, pair_of, pairs_of};
+ghost use Rattle.right_report.specs.RowTally.{kinds_of};
+ghost use Rattle.whatif_report.specs.Whatif.{pair_of, pairs_of};
 
 use drawn::Row;
 use itv_base::{NoMemory, RowKind};

@@ -3,11 +3,12 @@
 ghost use Rattle.std.specs.Prelude.{◌≡◌, ◌++◌, ◌≤◌, All, OnOk, length};
 ghost use Rattle.std.specs.List.{flat_map};
 ghost use Rattle.line_words.specs.Lines.{ended, line_of, spaced};
+ghost use Rattle.branch.specs.AnswerBound.{greatest_bound};
 ghost use Rattle.requirements.specs.Bounds.{HasTimes};
 ghost use Rattle.slack_report.specs.Text.{bound_words};
 ghost use Rattle.whatif.specs.declared.session.TheConstants.{MAX_PAIRS};
 ghost use Rattle.whatif_report.specs.Step.{IsCountFor, IsTimed};
-ghost use Rattle.whatif_report.specs.Text.{greatest_bound, judged_words, least_bound, row_words, rows_text};
+ghost use Rattle.whatif_report.specs.Text.{both_of, judged_words, least_bound, row_words, rows_text};
 
 use crate::words::{add, add_bound, add_number, add_spaced, add_verdict};
 use branch::GreatestAnswer;
@@ -42,28 +43,13 @@ pub fn both_of(most: GreatestAnswer, least: GreatestAnswer) -> BothBounds
     requires least { IsTimed least }
     ensures greatest { result.greatest ≡ greatest_bound most }
     ensures least { result.least ≡ least_bound least }
+    ensures both { result ≡ both_of most least }
     ensures most_times { HasTimes result.greatest }
     ensures least_times { HasTimes result.least }
 {
     BothBounds {
-        greatest: greatest_bound(most),
-        least: greatest_bound(least).reversed(),
-    }
-}
-
-// The greatest bound of an answer.
-fn greatest_bound(answer: GreatestAnswer) -> Bound
-    requires { IsTimed answer }
-    ensures bound { result ≡ greatest_bound answer }
-    ensures times { HasTimes result }
-{
-    match answer {
-        GreatestAnswer::Closed(value) => Bound::Closed(value),
-        GreatestAnswer::Unbounded => Bound::Unbounded,
-        GreatestAnswer::Enclosed { upper, attained } => Bound::Within {
-            limit: upper,
-            attained: Some(attained),
-        },
+        greatest: most.bound(),
+        least: least.bound().reversed(),
     }
 }
 

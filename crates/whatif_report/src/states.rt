@@ -6,10 +6,11 @@ ghost use Rattle.line_words.specs.Lines.{ended, line_of, spaced};
 ghost use Rattle.slack_report.specs.Entry.{finding};
 ghost use Rattle.slack_report.specs.Text.{entry_text, range_word};
 ghost use Rattle.numbers.specs.Numbers.{drawn_number_text};
+ghost use Rattle.jobs.specs.Found.{found_word};
 ghost use Rattle.edits.specs.Subject.{subject_text};
 ghost use Rattle.whatif.specs.declared.session.TheConstants.{MAX_PAIRS};
 ghost use Rattle.whatif_report.specs.Step.{IsNoteOf};
-ghost use Rattle.whatif_report.specs.Text.{found_text, found_word, state_words, states_text};
+ghost use Rattle.whatif_report.specs.Text.{found_text, state_words, states_text};
 
 use crate::rows::add_rows;
 use crate::words::{add, add_number, add_spaced};

@@ -5,12 +5,11 @@ use Rattle.std.specs.Prelude.{if◌then◌else◌, codes}
 use Rattle.std.proofs.lemmas.List.{reverse-append, take_more}
 use Rattle.std.proofs.lemmas.Option.{same_Some}
 use Rattle.line_words.specs.Lines.{ended, line_of}
-use Rattle.right_report.specs.Right.ReportState.{ReportTally}
 use Rattle.drawn.specs.Drawn.{Drawn}
 use Rattle.drawn.specs.declared.row.Row.{Row}
 use Rattle.explained.specs.declared.row.RowFound.{RowFound}
 use Rattle.why_report.specs.Step.{causes_at, constraint_at, no_constraint, origins_at, rule_words}
-use Rattle.why_report.specs.Text.{Noted, causes_text, name_in, raise_text, row_text, rows_text, rules_text, with_row, with_rows}
+use Rattle.why_report.specs.Text.{Noted, causes_text, name_in, raise_text, row_text, rows_text, rules_text}
 use Rattle.why_report.specs.declared.drawn_cause.DrawnCause.{DrawnCause}
 use Rattle.why_report.proofs.Looking.{at_or}
 
@@ -33,15 +32,6 @@ pub rows_more : (noted : Noted) (drawn : Drawn) (rows : List Row) (found : List 
     → of_row ≡ get_or found k d
     → rows_text noted drawn k (drop k rows) (drop k found) ≡ row_text noted drawn k row of_row ++ rows_text noted drawn (k + 1) (drop (k + 1) rows) (drop (k + 1) found)
 rows_more noted drawn rows found k row of_row d e h is = rw (drop_some rows k row e, drop_at found k of_row d h is) refl
-
-pub marks_more : (tally next whole : ReportTally) (rows : List Row) (found : List RowFound) (k : ℕ) (row : Row) (of_row d : RowFound) → slice_get rows k ≡ Some row → k < length found
-    → of_row ≡ get_or found k d → with_row tally row.kind of_row ≡ next → with_rows tally (drop k rows) (drop k found) ≡ whole
-    → with_rows next (drop (k + 1) rows) (drop (k + 1) found) ≡ whole
-marks_more tally next whole rows found k row of_row d e h is step before =
-    ap (λ c. with_rows c (drop (k + 1) rows) (drop (k + 1) found)) (sym step) ∙ (sym more ∙ before)
-  where
-    more : with_rows tally (drop k rows) (drop k found) ≡ with_rows (with_row tally row.kind of_row) (drop (k + 1) rows) (drop (k + 1) found)
-    more = rw (drop_some rows k row e, drop_at found k of_row d h is) refl
 
 -- ---- steps
 

@@ -26,10 +26,6 @@ line_more word words more =
 pub line_end : (word : Word) (words more : List Word) → line_of (word ∷ words) ++ (flat_map spaced more ++ 10 ∷ []) ≡ ended (line_of (word ∷ (words ++ more)))
 line_end word words more = sym (append_assoc (line_of (word ∷ words)) (flat_map spaced more) (10 ∷ [])) ∙ ap ended (line_more word words more)
 
--- one word more
-pub line_word : (first : Word) (words : List Word) (word : Word) → line_of (first ∷ words) ++ spaced word ≡ line_of (first ∷ (words ++ word ∷ []))
-line_word first words word = ap (λ l. line_of (first ∷ words) ++ l) (sym (append-nil (spaced word))) ∙ line_more first words (word ∷ [])
-
 -- one word, more words, and the end of the line
 pub line_word_end : (first : Word) (words : List Word) (word : Word) (more : List Word)
     → line_of (first ∷ words) ++ (spaced word ++ (flat_map spaced more ++ 10 ∷ [])) ≡ ended (line_of (first ∷ (words ++ (word ∷ more))))

@@ -1,5 +1,5 @@
 -- The text of job why.
-use Rattle.std.specs.Prelude.{◌+◌, ℕ, ℤ, neg_ℤ, Bool, if◌then◌else◌, List, [], ◌∷◌, ◌++◌, reverse, slice_get, unwrap_or, Option, Some, None, option_map, option_and_then, codes}
+use Rattle.std.specs.Prelude.{◌+◌, ℕ, ℤ, neg_ℤ, Bool, if◌then◌else◌, List, [], ◌∷◌, ◌++◌, map, reverse, slice_get, unwrap_or, Option, Some, None, option_map, option_and_then, codes}
 use Rattle.std.specs.List.{flat_map}
 use Rattle.itv_base.specs.Numerals.{number_text, signed_text}
 use Rattle.itv_base.specs.Range.{Ends}
@@ -26,7 +26,8 @@ use Rattle.slack_report.specs.declared.words.Which.{Which}
 use Rattle.slack_report.specs.declared.words.Which.TheVariants.{Max, Min}
 use Rattle.slack_report.specs.Entry as line
 use Rattle.slack_report.specs.Text.{bound_words, entry_text, name_word, range_word, row_words, verdict_words}
-use Rattle.right_report.specs.Right.ReportState.{ReportTally, tally_of, end_word, with_bounds, with_verdict}
+use Rattle.right_report.specs.Right.ReportState.{tally_of, end_word}
+use Rattle.right_report.specs.RowTally.{kinds_of, with_rows}
 use Rattle.drawn.specs.Drawn.{Drawn, name_of}
 use Rattle.drawn.specs.declared.row.Row.{Row}
 use Rattle.explained.specs.declared.bound.BoundFound.{BoundFound}
@@ -34,7 +35,7 @@ use Rattle.explained.specs.declared.bound.BoundFound.TheVariants.{Closed, Unboun
 use Rattle.explained.specs.declared.finding.Finding.{Finding}
 use Rattle.explained.specs.declared.finding.Finding.TheVariants.{Consistent, Inconsistent, Unsettled}
 use Rattle.explained.specs.declared.row.RowFound.{RowFound}
-use Rattle.explained.specs.Answers.{bound_of, verdict_by, verdict_in, word_of}
+use Rattle.explained.specs.Answers.{both_of, bound_of, verdict_by, verdict_in, word_of}
 
 -- ---- origins
 
@@ -177,21 +178,11 @@ rules_text noted drawn (is_in ∷ set) (c ∷ constraints) (drew ∷ origins) =
 
 -- ---- the end
 
--- the tally of the rows so far with one more
-abbrev pub with_row : ReportTally → RowKind → RowFound → ReportTally
-with_row tally kinds.Ask found = with_bounds tally (bound_of found.least) (bound_of found.greatest)
-with_row tally (kinds.Req range) found = with_verdict (with_bounds tally (bound_of found.least) (bound_of found.greatest)) (verdict_in range found)
-
-abbrev pub with_rows : ReportTally → List Row → List RowFound → ReportTally
-with_rows tally [] found = tally
-with_rows tally (row ∷ rows) [] = tally
-with_rows tally (row ∷ rows) (found ∷ others) = with_rows (with_row tally row.kind found) rows others
-
 -- the word at the end, as in a report with these bounds
 abbrev pub ending_of : List Row → Finding → List RowFound → EndWord
-ending_of rows Consistent found = end_word (with_rows (tally_of (word_of Consistent)) rows found)
+ending_of rows Consistent found = end_word (with_rows (tally_of (word_of Consistent)) (kinds_of rows) (map both_of found))
 ending_of rows (Inconsistent set) found = endings.Inconsistent
-ending_of rows Unsettled found = end_word (with_rows (tally_of (word_of Unsettled)) rows found)
+ending_of rows Unsettled found = end_word (with_rows (tally_of (word_of Unsettled)) (kinds_of rows) (map both_of found))
 
 -- ---- the whole
 

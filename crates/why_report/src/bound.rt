@@ -1,32 +1,19 @@
-//! The bounds that are printed, and by which verdicts and slacks are judged.
+//! The bounds of a row that are printed, and by which verdicts and slacks are judged.
 
 ghost use Rattle.std.specs.Prelude.{◌≡◌};
-ghost use Rattle.explained.specs.Answers.{bound_of};
+ghost use Rattle.explained.specs.Answers.{both_of, bound_of};
 
-use explained::{BoundFound, RowFound};
-use requirements::{BothBounds, Bound};
-
-/// The bound that was found, as it is printed. Verdicts and slacks are judged by it.
-pub fn bound_of(found: &BoundFound) -> Bound
-    ensures bound { result ≡ bound_of found.now }
-{
-    match found {
-        BoundFound::Closed { value, .. } => Bound::Closed(*value),
-        BoundFound::Unbounded { .. } => Bound::Unbounded,
-        BoundFound::Within { limit, attained } => Bound::Within {
-            limit: *limit,
-            attained: *attained,
-        },
-    }
-}
+use explained::RowFound;
+use requirements::BothBounds;
 
 /// Both bounds of a row. Verdicts and slacks are judged by them.
 pub fn both_of(found: &RowFound) -> BothBounds
     ensures least { result.least ≡ bound_of found.now.least }
     ensures greatest { result.greatest ≡ bound_of found.now.greatest }
+    ensures both { result ≡ both_of found.now }
 {
     BothBounds {
-        least: bound_of(&found.least),
-        greatest: bound_of(&found.greatest),
+        least: found.least.bound(),
+        greatest: found.greatest.bound(),
     }
 }

@@ -17,5 +17,4 @@ mod write;
 pub use bound::both_of;
 pub use drawn_by::{DrawnBy, put_by};
 pub use ending::{ending_of, finding_word};
-pub use put_line::{put_asked, put_bound_words, put_verdict_words};
 pub use write::write_why;

@@ -6,7 +6,6 @@ ghost use Rattle.line_words.specs.Lines.{ended, line_of};
 ghost use Rattle.why_report.specs.Step.{HasFlags};
 ghost use Rattle.why_report.specs.Text.{behind_text, bound_text, name_in, raise_text};
 
-use crate::bound::bound_of;
 use crate::line::Line;
 use crate::put_line::put_line;
 use crate::steps::put_steps;
@@ -30,7 +29,7 @@ pub fn put_bound<N: Notes, K: Sink>(
     requires flags { HasFlags drawn.now.net.events found.now }
     ensures puts { Puts (K.state sink.old) (K.state sink.new) (bound_text (N.noted notes.now) drawn.now which found.now) result }
 {
-    let bound = bound_of(found);
+    let bound = found.bound();
     write_item(&Item::Bound { which, bound }, buffer, sink)?;
     put_behind(notes, drawn, which, found, buffer, sink)
 }

@@ -1,7 +1,5 @@
 -- When all that the rows need is ready.
-use Rattle.std.specs.Prelude.{◌≡◌, ◌||◌, ℕ, ℤ, pos, All, List, [], Option, Some, None, IsSomeAnd, count_by, nat_lt}
-use Rattle.branch.specs.declared.answer.SearchFinding.{SearchFinding}
-use Rattle.branch.specs.declared.answer.SearchFinding.TheVariants as founds
+use Rattle.std.specs.Prelude.{◌≡◌, ℕ, ℤ, pos, All, List, [], Option, Some, None, IsSomeAnd, count_by}
 use Rattle.branch.specs.Work.{IsMadeFor}
 use Rattle.event_graph.specs.Limits.{IsPrintedTime}
 use Rattle.event_graph.specs.Network.{Net}
@@ -12,7 +10,8 @@ use Rattle.requirements.specs.declared.verdict.Verdict.{Verdict}
 use Rattle.slack_report.specs.declared.words.EndWord.TheVariants as endings
 use Rattle.slack_report.specs.declared.words.FindingWord.{FindingWord}
 use Rattle.slack_report.specs.declared.words.FindingWord.TheVariants as findings
-use Rattle.right_report.specs.Right.ReportState.{ReportState, ReportTally, at_end, at_row, at_rows, end_word, is_fail, with_verdict}
+use Rattle.right_report.specs.Right.ReportState.{ReportState, at_end, at_row, at_rows, end_word, is_fail, with_bounds, with_verdict}
+use Rattle.right_report.specs.declared.tally.ReportTally.{ReportTally}
 use Rattle.bounds_report.specs.Reports.{is_pass, is_undecided}
 use Rattle.bounds_report.specs.declared.desk.Desk.{Desk}
 use Rattle.bounds_report.specs.declared.tally.RowEnd.{RowEnd}
@@ -43,23 +42,13 @@ tally_with report_tally (Some word) = with_verdict report_tally word
 
 -- the tally after a row
 abbrev pub tally_after : ReportTally → RowEnd → ReportTally
-tally_after report_tally end = tally_with (record report_tally { within = report_tally.within || end.is_within }) end.verdict
+tally_after report_tally end = tally_with (with_bounds report_tally end.both.least end.both.greatest) end.verdict
 
 -- the counts of some verdicts
 pub record IsTally (tally : Tally) (words : List Verdict) : Type 0 where
   pub passes : tally.passes ≡ count_by is_pass words
   pub fails : tally.fails ≡ count_by is_fail words
   pub undecided : tally.undecided ≡ count_by is_undecided words
-
--- the tally of a report after a finding and some rows
-abbrev pub tally_behind : FindingWord → Tally → ReportTally
-tally_behind word tally = record { found = word; fails = nat_lt 0 tally.fails; within = tally.is_within }
-
--- the word for a finding
-abbrev pub word_of : SearchFinding → FindingWord
-word_of founds.Consistent = findings.Consistent
-word_of founds.Inconsistent = findings.Inconsistent
-word_of founds.Unsettled = findings.Unsettled
 
 -- times that may be printed after a consistent finding: they satisfy, and event 0 is at 0
 abbrev pub AreKnown : Net → List ℤ → Type 0
@@ -73,6 +62,6 @@ behind_known findings.Unsettled = at_rows findings.Unsettled
 
 -- the report state after a finding and all rows; `count` is how many rows there are
 abbrev pub behind_rows : FindingWord → Tally → ℕ → ReportState
-behind_rows findings.Consistent tally count = at_row (tally_behind findings.Consistent tally) count []
-behind_rows findings.Inconsistent tally count = at_end (end_word (tally_behind findings.Inconsistent tally))
-behind_rows findings.Unsettled tally count = at_row (tally_behind findings.Unsettled tally) count []
+behind_rows findings.Consistent tally count = at_row tally.report count []
+behind_rows findings.Inconsistent tally count = at_end (end_word tally.report)
+behind_rows findings.Unsettled tally count = at_row tally.report count []

@@ -1,9 +1,9 @@
 -- What a search for a bound of a pair shows.
-use Rattle.std.specs.Prelude.{ℕ, ℤ, neg_ℤ, List, [], Bool, Option, Some, unwrap_or}
+use Rattle.std.specs.Prelude.{ℕ, ℤ, neg_ℤ, List, [], Bool, Option, unwrap_or}
+use Rattle.branch.specs.AnswerBound.{greatest_bound}
 use Rattle.branch.specs.Answers.{IsGreatestAnswer, Evidence, Finds, PairSearch}
 use Rattle.branch.specs.Needed.{IsNeededToBound, IsNeededToFind}
 use Rattle.branch.specs.declared.answer.GreatestAnswer.{GreatestAnswer}
-use Rattle.branch.specs.declared.answer.GreatestAnswer.TheVariants as answers
 use Rattle.branch.specs.declared.answer.SearchFinding.{SearchFinding}
 use Rattle.event_graph.specs.Network.{Net}
 use Rattle.event_graph.specs.Proof.{ProofLine}
@@ -13,7 +13,6 @@ use Rattle.certificate.specs.Scribing.{SinkGrew, SinkWasCut}
 use Rattle.itv_base.specs.Outside.{SinkState}
 use Rattle.requirements.specs.Bounds.{HasTimes, reversed}
 use Rattle.requirements.specs.declared.bound.Bound.{Bound}
-use Rattle.requirements.specs.declared.bound.Bound.TheVariants as bounds
 use Rattle.slack_report.specs.declared.words.Which.{Which}
 use Rattle.slack_report.specs.declared.words.Which.TheVariants as sorts
 use Rattle.right_report.specs.Right.Following.{LineClaims}
@@ -34,16 +33,10 @@ printed_known known = shifted (unwrap_or known []) (neg_ℤ (time_of (unwrap_or 
 abbrev pub search_of : Net → Pair → ℕ → PairSearch
 search_of net pair budget = record { net = net; from = pair.from; to = pair.to; budget = budget }
 
--- the greatest bound that an answer gives
-abbrev pub greatest_of : GreatestAnswer → Bound
-greatest_of (answers.Closed value) = bounds.Closed value
-greatest_of answers.Unbounded = bounds.Unbounded
-greatest_of (answers.Enclosed upper attained) = bounds.Within upper (Some attained)
-
 -- the bound of a pair from the answer of the search on its searched pair
 abbrev pub bound_of : Which → GreatestAnswer → Bound
-bound_of sorts.Max answer = greatest_of answer
-bound_of sorts.Min answer = reversed (greatest_of answer)
+bound_of sorts.Max answer = greatest_bound answer
+bound_of sorts.Min answer = reversed (greatest_bound answer)
 
 -- what a finding says of a network by the lines of its search; each split of these lines was needed
 pub record FindsBy (net : Net) (budget : ℕ) (lines : List ProofLine) (leaves : ℕ) (known : Option (List ℤ)) (found : SearchFinding) : Type 0 where

@@ -7,8 +7,6 @@ use Rattle.event_graph.specs.Proof.{Bound as BoundGoal}
 use Rattle.event_graph.specs.RootBound.{IsRootBound}
 use Rattle.event_graph.specs.Satisfying.{Satisfies}
 use Rattle.event_graph.specs.Times.{IsTime, separation}
-use Rattle.branch.specs.declared.answer.GreatestAnswer.{GreatestAnswer}
-use Rattle.branch.specs.declared.answer.GreatestAnswer.TheVariants as answers
 use Rattle.requirements.specs.Bounds.{IsAttained}
 use Rattle.requirements.specs.declared.bound.Bound.{Bound}
 use Rattle.requirements.specs.declared.bound.Bound.TheVariants as bounds
@@ -20,12 +18,6 @@ use Rattle.explained.specs.Answers.{CanRise, Explains}
 use Rattle.explained.specs.declared.bound.BoundFound.{BoundFound}
 use Rattle.explained.specs.declared.bound.BoundFound.TheVariants.{Closed, Unbounded, Within}
 use Rattle.explained.specs.declared.pair.Pair.{Pair}
-
--- the greatest bound that an answer gives
-abbrev pub bound_by : GreatestAnswer → Bound
-bound_by (answers.Closed value) = bounds.Closed value
-bound_by answers.Unbounded = bounds.Unbounded
-bound_by (answers.Enclosed upper attained) = bounds.Within upper (Some attained)
 
 -- the value is the greatest separation of a pair, and times attain it
 pub record IsClosedBy (net : Net) (word : FindingWord) (pair : Pair) (value : ℤ) (times : List ℤ) : Type 0 where

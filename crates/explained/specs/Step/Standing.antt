@@ -4,8 +4,6 @@ use Rattle.event_graph.specs.Bounds.{IsInconsistent}
 use Rattle.event_graph.specs.Network.{Net}
 use Rattle.event_graph.specs.RootBound.{MeetsAlways}
 use Rattle.event_graph.specs.Satisfying.{Satisfies}
-use Rattle.branch.specs.declared.answer.SearchFinding.{SearchFinding}
-use Rattle.branch.specs.declared.answer.SearchFinding.TheVariants as founds
 use Rattle.branch.specs.Work.{IsMadeFor}
 use Rattle.slack_report.specs.declared.words.FindingWord.{FindingWord}
 use Rattle.slack_report.specs.declared.words.FindingWord.TheVariants as findings
@@ -15,12 +13,6 @@ use Rattle.explained.specs.Apart.{net_apart}
 use Rattle.explained.specs.declared.searches.Searches.{Searches}
 use Rattle.explained.specs.declared.desk.Apart.{Apart}
 use Rattle.explained.specs.declared.desk.Desk.{Desk}
-
--- the word for a finding
-abbrev pub word_of_found : SearchFinding → FindingWord
-word_of_found founds.Consistent = findings.Consistent
-word_of_found founds.Inconsistent = findings.Inconsistent
-word_of_found founds.Unsettled = findings.Unsettled
 
 -- what a finding says of a network, and the known times that come with it
 abbrev pub HasFound : Net → FindingWord → Option (List ℤ) → Type 0

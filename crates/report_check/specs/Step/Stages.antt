@@ -9,7 +9,6 @@ use Rattle.right_report.specs.Right.ReportState.{ReportState, at_heading, at_bud
 use Rattle.drawn.specs.Drawn.{Drawn}
 use Rattle.right_report.specs.Right.Following.{MayFollow}
 use Rattle.right_report.specs.Checked.{checked}
-use Rattle.report_check.specs.declared.stage.ReportTally.{ReportTally}
 use Rattle.report_check.specs.declared.stage.NextBound.{NextBound}
 use Rattle.report_check.specs.declared.stage.NextBound.TheVariants.{Greatest, LeastBy}
 use Rattle.report_check.specs.declared.stage.Stage.{Stage}
@@ -18,15 +17,12 @@ use Rattle.report_check.specs.declared.stage.CurrentRow.{CurrentRow}
 
 -- ---- the state of a stage
 
-abbrev pub tally_in : ReportTally → places.ReportTally
-tally_in tally = record { found = tally.found; fails = tally.fails; within = tally.within }
-
 abbrev pub next_in : NextBound → places.NextBound
 next_in Greatest = places.greatest
 next_in (LeastBy most) = places.least_by most
 
 abbrev pub current_in : Drawn → CurrentRow → places.CurrentRow
-current_in drawn current = record { tally = tally_in current.tally; number = current.number; row = current.row; later = drop (current.number + 1) drawn.rows }
+current_in drawn current = record { tally = current.tally; number = current.number; row = current.row; later = drop (current.number + 1) drawn.rows }
 
 abbrev pub at_of : Drawn → Stage → ReportState
 at_of drawn stages.Heading = at_heading
@@ -35,13 +31,13 @@ at_of drawn stages.Events = at_events
 at_of drawn (stages.Event number) = at_event number (drop number drawn.names)
 at_of drawn stages.Known = at_known
 at_of drawn (stages.Rows word) = at_rows word
-at_of drawn (stages.Row tally number) = at_row (tally_in tally) number (drop number drawn.rows)
+at_of drawn (stages.Row tally number) = at_row tally number (drop number drawn.rows)
 at_of drawn (stages.Bound current coming) = at_bound (current_in drawn current) (next_in coming) []
 at_of drawn (stages.Times current coming value) = at_times (current_in drawn current) (next_in coming) value
 at_of drawn (stages.Raise current coming times) = at_raise (current_in drawn current) (next_in coming) times.now
 at_of drawn (stages.Verdict current range both) = at_verdict (current_in drawn current) range both.least both.greatest
 at_of drawn (stages.Past current range both) = at_past (current_in drawn current) range both.least both.greatest
-at_of drawn (stages.Slack tally number range both) = at_slack (tally_in tally) number (drop number drawn.rows) range both.least both.greatest
+at_of drawn (stages.Slack tally number range both) = at_slack tally number (drop number drawn.rows) range both.least both.greatest
 at_of drawn (stages.End word) = at_end word
 at_of drawn stages.Done = at_last
 

@@ -16,12 +16,7 @@ use Rattle.slack_report.specs.declared.words.FindingWord.TheVariants as findings
 use Rattle.slack_report.specs.declared.words.Which.{Which}
 use Rattle.slack_report.specs.declared.words.Which.TheVariants as sorts
 use Rattle.drawn.specs.declared.row.Row.{Row}
-
--- what decides the end word: the finding, whether some verdict was a fail, and whether some bound was left open
-pub record ReportTally : Type 0 where
-  pub found : FindingWord
-  pub fails : Bool
-  pub within : Bool
+use Rattle.right_report.specs.declared.tally.ReportTally.{ReportTally}
 
 -- the row whose lines come: the tally before it, its number, the row itself, and the later rows
 pub record CurrentRow : Type 0 where

@@ -3,4 +3,4 @@ use Rattle.requirements.specs.Bounds.{HasTimes}
 use Rattle.bounds_report.proofs.bounding.bound_of.Goals as goal
 
 pub reversed-requires : goal.reversed-requires
-reversed-requires c = subst HasTimes (sym c.greatest_in-greatest.ensures) c.requires.times
+reversed-requires c = subst HasTimes (sym c.bound-greatest.ensures.bound) c.requires.times

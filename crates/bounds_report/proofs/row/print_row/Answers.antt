@@ -1,10 +1,9 @@
-use Rattle.std.proofs.Common.{◌+◌, [], Bool, ◌||◌, ap, refl, sym}
+use Rattle.std.proofs.Common.{[], refl}
 use Rattle.slack_report.specs.Entry.{row}
-use Rattle.right_report.specs.Right.ReportState.{CurrentRow, at_bound, at_row, greatest}
+use Rattle.right_report.specs.Right.ReportState.{CurrentRow, at_bound, greatest}
 use Rattle.right_report.proofs.Leading.{stopped_line}
 use Rattle.drawn.specs.Drawn.{name_of}
-use Rattle.bounds_report.specs.Step.Ready.{tally_with}
-use Rattle.bounds_report.proofs.WriterSteps.{goes_up, stopped_net, stops_then, told_at, told_line, told_net, told_then}
+use Rattle.bounds_report.proofs.WriterSteps.{goes_up, stopped_net, stops_then, told_line, told_net, told_then}
 use Rattle.bounds_report.proofs.row.print_row.Goals as goal
 
 pub returns-in_err-put_row-clause-goes : goal.returns-in_err-put_row-clause-goes
@@ -35,7 +34,6 @@ pub returns-clause-goes : goal.returns-clause-goes
 returns-clause-goes g c = λ basis report_tally later known found.
     let asked = c.args.row.now in
     let current : CurrentRow = record { tally = report_tally; number = c.args.number; row = asked; later = later } in
-    told_at (ap (λ (left : Bool). at_row (tally_with (record report_tally { within = report_tally.within || left }) c.in_ok-verdict.verdict) (c.args.number + 1) later) (sym c.is_left_open.ensures))
-    (told_then (told_then (told_line (row c.args.number asked.kind (name_of c.args.drawn.now asked.from) (name_of c.args.drawn.now asked.to)) (refl, refl) c.in_ok-put_row.ensures.puts refl)
+    told_then (told_then (told_line (row c.args.number asked.kind (name_of c.args.drawn.now asked.from) (name_of c.args.drawn.now asked.to)) (refl, refl) c.in_ok-put_row.ensures.puts refl)
     (told_net c.args.wanted.budget c.args.wanted.cert basis c.network.ensures.network (c.in_ok-both.ensures.goes basis c.args.drawn.now current known found refl refl)))
-    (told_net c.args.wanted.budget c.args.wanted.cert basis c.network-2.ensures.network (c.in_ok-verdict.ensures.goes c.args.wanted.budget c.args.wanted.cert basis c.args.drawn.now current refl refl)))
+    (told_net c.args.wanted.budget c.args.wanted.cert basis c.network-2.ensures.network (c.in_ok-verdict.ensures.goes c.args.wanted.budget c.args.wanted.cert basis c.args.drawn.now current refl refl))

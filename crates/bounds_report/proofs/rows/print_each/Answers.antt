@@ -1,11 +1,11 @@
 use Rattle.std.proofs.Common.{◌+◌, ◌++◌, [], drop, length, ap, refl, sym, ◌∙◌, arith}
 use Rattle.std.specs.Option.{option_to_list}
 use Rattle.slack_report.specs.Entry.{rows}
-use Rattle.right_report.specs.Right.ReportState.{ReportTally, at_row, tally_of}
+use Rattle.right_report.specs.Right.ReportState.{at_row, tally_of}
+use Rattle.right_report.specs.declared.tally.ReportTally.{ReportTally}
 use Rattle.right_report.proofs.Leading.{stopped_line}
-use Rattle.bounds_report.specs.Step.Ready.{tally_behind}
 use Rattle.bounds_report.specs.Step.Searched.{printed_known}
-use Rattle.bounds_report.proofs.RowByRow.{rows_more}
+use Rattle.bounds_report.proofs.RowByRow.{after_keeps, rows_more}
 use Rattle.bounds_report.proofs.WriterSteps.{on_err, stops_then, told_at, told_line, told_then}
 use Rattle.bounds_report.proofs.rows.print_each.Goals as goal
 
@@ -21,7 +21,8 @@ loop-number-init g c = record {
   known = refl;
   words = [];
   counted = c.start-tally.ensures.counted;
-  lines = told_at (ap (λ (report_tally : ReportTally). at_row report_tally 0 c.args.drawn.now.rows) (sym (c.start-tally.ensures.report_tally c.args.found)))
+  finding = ap (λ (t : ReportTally). t.found) c.start-tally.ensures.report;
+  lines = told_at (ap (λ (report_tally : ReportTally). at_row report_tally 0 c.args.drawn.now.rows) (sym c.start-tally.ensures.report))
       (told_line (rows _) (ap rows (c.len-count.ensures.count ∙ ap length c.rows.ensures.rows), refl) c.in_ok-write_item.ensures.puts refl);
   most = omega (arith, c.start-tally.ensures.none);
 }
@@ -29,22 +30,23 @@ loop-number-init g c = record {
 pub returns-in_err-end-clause-stops : goal.returns-in_err-end-clause-stops
 returns-in_err-end-clause-stops g c =
     let number = c.loop-number.number in
-    let report_tally = tally_behind c.args.found c.loop-number.tally in
+    let report_tally = c.loop-number.tally.report in
     on_err _ c.from_residual-in_err-end.result
     (stops_then (told_at (ap (at_row report_tally number) (rows_more c.args.drawn.now.rows number c.row_at-row.result.now c.row_at-row.ensures.row)) c.loop-number.invariant.lines)
-    (c.in_err-end.ensures.goes _ report_tally (drop (number + 1) c.args.drawn.now.rows) (ap printed_known (sym c.loop-number.invariant.known)) refl))
+    (c.in_err-end.ensures.goes _ report_tally (drop (number + 1) c.args.drawn.now.rows) (ap printed_known (sym c.loop-number.invariant.known)) c.loop-number.invariant.finding))
 
 pub loop-number-preserved : goal.loop-number-preserved
 loop-number-preserved g c =
     let number = c.loop-number.number in
-    let report_tally = tally_behind c.args.found c.loop-number.tally in
+    let report_tally = c.loop-number.tally.report in
     let later = drop (number + 1) c.args.drawn.now.rows in record {
       ready = c.in_ok-end.ensures.ready;
       known = c.in_ok-end.ensures.known ∙ c.loop-number.invariant.known;
       words = c.loop-number.invariant.words ++ option_to_list c.in_ok-end.end.verdict;
       counted = c.after-tally.ensures.counted c.loop-number.invariant.words c.loop-number.invariant.counted;
-      lines = told_at (ap (λ (behind : ReportTally). at_row behind (number + 1) later) (sym (c.after-tally.ensures.report_tally c.args.found)))
+      finding = ap (λ (t : ReportTally). t.found) c.after-tally.ensures.report ∙ (after_keeps report_tally c.in_ok-end.end ∙ c.loop-number.invariant.finding);
+      lines = told_at (ap (λ (behind : ReportTally). at_row behind (number + 1) later) (sym c.after-tally.ensures.report))
           (told_then (told_at (ap (at_row report_tally number) (rows_more c.args.drawn.now.rows number c.row_at-row.result.now c.row_at-row.ensures.row)) c.loop-number.invariant.lines)
-          (c.in_ok-end.ensures.goes _ report_tally later (ap printed_known (sym c.loop-number.invariant.known)) refl));
+          (c.in_ok-end.ensures.goes _ report_tally later (ap printed_known (sym c.loop-number.invariant.known)) c.loop-number.invariant.finding));
       most = omega (arith, c.after-tally.ensures.most, c.loop-number.invariant.most);
     }

@@ -4,7 +4,7 @@ use Rattle.bounds_report.proofs.WriterSteps.{err_then, if_ok, stopped_from, told
 use Rattle.bounds_report.proofs.rows.print_rows.Goals as goal
 
 pub returns-in-Inconsistent-clause-counts : goal.returns-in-Inconsistent-clause-counts
-returns-in-Inconsistent-clause-counts g c = ([], c.start.ensures.counted, told_at (rows_skipped c.args.found c.start.result _ c.in-Inconsistent.is (c.start.ensures.report_tally c.args.found)) (told_none _ _))
+returns-in-Inconsistent-clause-counts g c = ([], c.start.ensures.counted, told_at (rows_skipped c.args.found c.start.result _ c.in-Inconsistent.is c.start.ensures.report) (told_none _ _))
 
 pub returns-in-Consistent-clause-counts : goal.returns-in-Consistent-clause-counts
 returns-in-Consistent-clause-counts g c =

@@ -5,11 +5,11 @@ use Rattle.explained.proofs.searches.find_marking.Goals as goal
 pub returns-clause-marks : goal.returns-clause-marks
 returns-clause-marks c =
     let found = c.in-Ok.ensures.lines in
-    marks_refute c.args.net.now c.args.searches.now.budget c.find.new.work.leaves found.0 c.find.new.work.known c.in-Ok.found c.word_of-searches.result c.args.marking.now c.find.new.scribe
-    c.word_of-searches.ensures found.2 c.requires.none found.1
+    marks_refute c.args.net.now c.args.searches.now.budget c.find.new.work.leaves found.0 c.find.new.work.known c.in-Ok.found c.found_word-searches.result c.args.marking.now c.find.new.scribe
+    c.found_word-searches.ensures.word found.2 c.requires.none found.1
 
 pub returns-clause-shown : goal.returns-clause-shown
 returns-clause-shown c =
     let found = c.in-Ok.ensures.lines in
-    finding_shown c.args.net.now c.args.searches.now.budget c.find.new.work.leaves found.0 c.find.new.work.known c.in-Ok.found c.word_of-searches.result c.word_of-searches.ensures found.2
+    finding_shown c.args.net.now c.args.searches.now.budget c.find.new.work.leaves found.0 c.find.new.work.known c.in-Ok.found c.found_word-searches.result c.found_word-searches.ensures.word found.2
     c.find.ensures.count.within_budget

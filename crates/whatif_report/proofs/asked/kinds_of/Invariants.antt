@@ -1,5 +1,5 @@
 use Rattle.std.proofs.Common.{◌≡◌, take}
-use Rattle.whatif_report.specs.Whatif.{kinds_of}
+use Rattle.right_report.specs.RowTally.{kinds_of}
 use Rattle.whatif_report.proofs.asked.kinds_of.Given as goal
 
 -- the kinds of the rows so far

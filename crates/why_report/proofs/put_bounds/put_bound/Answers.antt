@@ -9,6 +9,6 @@ pub returns : goal.returns
 returns g c =
     let others = behind_text (g.N.Notes.noted c.args.notes.now) c.args.drawn.now c.args.which c.args.found.now in
     record {
-      puts = puts_same _ _ _ _ c.put_behind.result (ap (λ b. entry_text (bound c.args.which b) ++ others) c.bound_of-bound.ensures.bound)
+      puts = puts_same _ _ _ _ c.put_behind.result (ap (λ b. entry_text (bound c.args.which b) ++ others) c.bound-bound.ensures.bound)
           (puts_then _ _ _ _ _ _ c.in_ok-write_item.ensures.puts c.put_behind.ensures);
     }

@@ -20,4 +20,4 @@ returns-in_err-put_names g c =
 
 pub returns : goal.returns
 returns g c =
-    put_three _ _ _ _ _ _ _ _ c.put_range.result (line_last (codes "rule") (rule_word c.args.kind ∷ []) (name_word (name_view c.args.from) ∷ name_word (name_view c.args.to) ∷ []) (range_word c.args.range.now)) c.in_ok-put_kind.ensures c.in_ok-put_names.ensures c.put_range.ensures
+    put_three _ _ _ _ _ _ _ _ c.put_range.result (line_last (codes "rule") (rule_word c.args.kind ∷ []) (name_word (name_view c.args.from) ∷ name_word (name_view c.args.to) ∷ []) (range_word c.args.range.now)) c.in_ok-put_kind.ensures c.in_ok-put_names.ensures c.put_range.ensures.puts
