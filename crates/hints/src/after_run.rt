@@ -103,7 +103,8 @@ fn count_says<H: Shelf, L: NameLook>(
 fn has_warnings(task: Task<'_>) -> bool {
     match task {
         Task::Planned {
-            job: PlanJob::Lint, ..
+            job: PlanJob::Lint,
+            ..
         }
         | Task::Checked { .. } => false,
         _ => true,

@@ -73,11 +73,7 @@ fn open_searched<H: Shelf>(
     ensures allowed { IfOk result IsAllowed }
 {
     let drawn = open_design(alloc, design, shelf)?;
-    Ok(Ready::Searched {
-        drawn,
-        job,
-        budget,
-    })
+    Ok(Ready::Searched { drawn, job, budget })
 }
 
 // What a job of a plan reads.
@@ -116,11 +112,7 @@ fn open_checked<H: Shelf>(
 {
     let drawn = open_design(alloc, design, shelf)?;
     let report = fetch_file(alloc, RefusalPlace::Report, report, REPORT_LIMIT, shelf)?;
-    Ok(Ready::Checked {
-        drawn,
-        job,
-        report,
-    })
+    Ok(Ready::Checked { drawn, job, report })
 }
 
 // What job fall reads.

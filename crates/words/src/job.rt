@@ -4,14 +4,10 @@
 #[derive(Clone, Copy)]
 pub enum SearchJob {
     /// Job bounds: to bound the rows, and whether proofs are written. The budget is the cases that each search may close.
-    Bounds {
-        cert: bool,
-    },
+    Bounds { cert: bool },
     /// Job settle: to bound the rows whatever the choices of the design, and whether proofs are written. The budget is the turns
     /// that each search may take, in thousands.
-    Settle {
-        cert: bool,
-    },
+    Settle { cert: bool },
     /// Job redraw: to draw a counterexample. The budget is the cases that each search may close.
     Redraw,
 }
@@ -22,9 +18,7 @@ pub enum PlanJob {
     /// Job why: to print which edges hold the bounds of the rows.
     Why,
     /// Job brief: to print each row on one line, and whether the lines are a table.
-    Brief {
-        csv: bool,
-    },
+    Brief { csv: bool },
     /// Job lint: to print what may say something else than was meant.
     Lint,
 }
