@@ -1,6 +1,6 @@
 -- What the ends of runs of jobs why, brief and lint say over known files.
-use Rattle.std.proofs.Common.{◌≡◌, ◌∙◌, ◌==◌, ◌<◌, ◌≤◌, ℕ, All, Bool, true, false, List, [], ◌∷◌, length, Some, None, Result, Ok, refl, sym, subst, arith}
-use Rattle.std.specs.Prelude.{◌&&◌, ◌||◌, if◌then◌else◌, not}
+use Rattle.std.proofs.Common.{◌≡◌, ◌∙◌, ◌<◌, ◌≤◌, ℕ, All, Bool, true, false, List, [], ◌∷◌, Some, refl, sym, subst, arith}
+use Rattle.std.specs.Prelude.{◌||◌, if◌then◌else◌}
 use Rattle.std.proofs.lemmas.List.Elements.{All-head, All-tail}
 use Rattle.itv_base.specs.declared.row_kind.RowKind.{RowKind}
 use Rattle.itv_base.specs.declared.row_kind.RowKind.TheVariants as kinds
@@ -9,8 +9,6 @@ use Rattle.event_graph.specs.Edges.{cause_choices}
 use Rattle.event_graph.specs.Network.{Net}
 use Rattle.event_graph.proofs.SoundProofs.{proof_of_nothing}
 use Rattle.itv_base.specs.Outside.{Files, grown}
-use Rattle.compose.specs.Compose.{composed_on}
-use Rattle.compose.specs.Design.{Composed}
 use Rattle.drawn.specs.Drawn.{Drawn}
 use Rattle.drawn.specs.declared.row.Row.{Row}
 use Rattle.jobs.specs.Ending.{answer_of}
@@ -23,7 +21,7 @@ use Rattle.requirements.specs.declared.bound.Bound.{Bound}
 use Rattle.requirements.specs.declared.bound.Bound.TheVariants as bounds
 use Rattle.right_report.specs.Right.ReportState.{ReportTally, tally_of, end_word, is_within, undecided_or_pass}
 use Rattle.plan.specs.Notes.{plan_notes}
-use Rattle.plan.specs.Plan.{Planned, sheets_on}
+use Rattle.plan.specs.Plan.{Planned}
 use Rattle.explained.specs.declared.finding.Finding.{Finding}
 use Rattle.explained.specs.declared.finding.Finding.TheVariants.{Consistent, Inconsistent, Unsettled}
 use Rattle.explained.specs.declared.row.RowFound.{RowFound}
