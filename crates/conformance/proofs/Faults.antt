@@ -12,7 +12,8 @@ use Rattle.reading.specs.FileReading.{FileReading, gives, refuses, fetches, ◌>
 use Rattle.reading.specs.Refusal.{unread_text}
 use Rattle.bounds_report.specs.Reports.{MayHaveBegun}
 use Rattle.bounds_report.proofs.WrittenLaws.{begun_is_right}
-use Rattle.words.specs.Task.{Task, bounds}
+use Rattle.words.specs.declared.job.SearchJob.TheVariants.{Bounds}
+use Rattle.words.specs.Task.{Task, searched}
 use Rattle.itv_cli.specs.Job.{opening}
 use Rattle.itv_cli.specs.Run.{Call, HasRead, HasReadFault, IsUntouched, OutcomeMeans, ToWrite, IntendedText, for_help, for_bad_words, at_end}
 use Rattle.itv_cli.specs.declared.outcome.Outcome.{Outcome}
@@ -38,8 +39,8 @@ told_on files (refuses place why) k x e = absurd (cc e)
 told_on files (fetches place name most next) k x e = on_by files next k most place name x (file_of files name) (λ bytes h. told_on files (next bytes) k x h) e
 
 -- if the files of job bounds draw a network, they are all there
-bounds_ready : (files : Files) (design : List ℕ) (budget : ℕ) (cert : Bool) (drawn : Drawn) → Draws files design drawn → end_over files (opening (bounds design budget cert)) ≡ ready (given.Bounds drawn budget cert)
-bounds_ready files design budget cert drawn draws = told_on files (design_at design) (λ d. gives (given.Bounds d budget cert)) drawn draws
+bounds_ready : (files : Files) (design : List ℕ) (budget : ℕ) (cert : Bool) (drawn : Drawn) → Draws files design drawn → end_over files (opening (searched design (Bounds cert) budget)) ≡ ready (given.Searched drawn (Bounds cert) budget)
+bounds_ready files design budget cert drawn draws = told_on files (design_at design) (λ d. gives (given.Searched d (Bounds cert) budget)) drawn draws
 
 module _ (call : Call) (files : Files) (asked : Task) (known : call.shelf_before.files ≡ Some files) (asks : Asks call.words asked) (quiet : ¬ (FaultCounted call.shelf_before.faults call.shelf_after.faults)) where
   -- if no fetch failed, the reading came to the end that the files say
@@ -57,7 +58,7 @@ module _ (call : Call) (files : Files) (asked : Task) (known : call.shelf_before
   front_over text bytes n wanted is = record { text = text; wanted = wanted_over text wanted; rest = drop n text; front = sym (take-append-drop n text) ∙ ap (λ front. front ++ drop n text) is }
 
 -- for job bounds it is a front of a right report
-pub front_right : (files : Files) (design : List ℕ) (budget : ℕ) (cert : Bool) (drawn : Drawn) (bytes : List ℕ) → Draws files design drawn → IsFrontOf files (bounds design budget cert) bytes → IsFrontOfRight drawn bytes
+pub front_right : (files : Files) (design : List ℕ) (budget : ℕ) (cert : Bool) (drawn : Drawn) (bytes : List ℕ) → Draws files design drawn → IsFrontOf files (searched design (Bounds cert) budget) bytes → IsFrontOfRight drawn bytes
 front_right files design budget cert drawn bytes draws f =
     let begins : MayHaveBegun drawn budget cert f.text = subst (λ e. ToWrite e f.text) (bounds_ready files design budget cert drawn draws) f.wanted in
     let (lines, right, same) = begun_is_right drawn budget cert f.text begins in

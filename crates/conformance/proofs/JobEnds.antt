@@ -43,7 +43,9 @@ use Rattle.unroll.specs.declared.limit.TheConstants.{MAX_SESSION_ROWS}
 use Rattle.whatif_report.specs.Laws.{with_edits}
 use Rattle.whatif_report.specs.Whatif.{AnswersWhatif}
 use Rattle.whatif_report.proofs.Passing.{passed_edits_are_met}
-use Rattle.itv_cli.specs.Task.{bounds, check, confirm, generated, matrix, settle, taken, task, whatif}
+use Rattle.words.specs.declared.job.SearchJob.TheVariants.{Bounds, Settle}
+use Rattle.words.specs.declared.job.CheckJob.TheVariants.{Check, Confirm}
+use Rattle.itv_cli.specs.Task.{checked, generated, matrix, searched, taken, task, whatif}
 use Rattle.itv_cli.specs.Job.{Answers, edits_at, edits_in, made_for, matrix_at, opening, turns_for, whatif_at}
 use Rattle.itv_cli.specs.Run.{Call, HasRead, ReadsOver, HasAnswered, OutcomeMeans, outcome_of}
 use Rattle.itv_cli.specs.declared.outcome.Outcome.{Outcome}
@@ -105,7 +107,7 @@ none_word endings.Undecided e = absurd (cc e)
 module _ (call : Call) (files : Files) (budget : ℕ) (cert : Bool) (drawn : Drawn) (known : call.shelf_before.files ≡ Some files) (asks : AsksBounds call.words files budget cert drawn) where
   bounds_said : (answer : Answer) (m : HasAnswered call answer) → AnswersBounds drawn budget cert answer m.text
   bounds_said answer m =
-      let h = reported_over files asks.design budget cert answer m.text (answer_over call files (bounds asks.design budget cert) answer m.text known m refl (record { words = asks.words; own = refl })) in
+      let h = reported_over files asks.design budget cert answer m.text (answer_over call files (searched asks.design (Bounds cert) budget) answer m.text known m refl (record { words = asks.words; own = refl })) in
       subst (λ (d : Drawn). AnswersBounds d budget cert answer m.text) (same_ready h.drawn drawn (sym h.draws ∙ asks.draws)) h.answers
 
   begins : (answer : Answer) (text : List ℕ) (a : AnswersBounds drawn budget cert answer text) → BeginsRightReport drawn a.reports.lines
@@ -185,9 +187,9 @@ record HasChecked (files : Files) (report : List ℕ) (drawn : Drawn) (answer : 
 module _ (call : Call) (files : Files) (report : List ℕ) (drawn : Drawn) (known : call.shelf_before.files ≡ Some files) (asks : AsksCheck call.words files report drawn) where
   check_said : (answer : Answer) (m : HasAnswered call answer) → HasChecked files report drawn answer m.text
   check_said answer m =
-      let a = answer_over call files (check asks.design report) answer m.text known m refl (record { words = asks.words; own = refl }) in
-      let (other, draws, more) = told_behind files (design_at asks.design) (λ d. file_at Report report REPORT_LIMIT >>= (λ bytes. gives (given.Check d bytes))) a.given a.reads in
-      let (bytes, had, is) = told_then files (file_at Report report REPORT_LIMIT) (λ bytes. given.Check other bytes) a.given more in
+      let a = answer_over call files (checked asks.design Check report) answer m.text known m refl (record { words = asks.words; own = refl }) in
+      let (other, draws, more) = told_behind files (design_at asks.design) (λ d. file_at Report report REPORT_LIMIT >>= (λ bytes. gives (given.Checked d Check bytes))) a.given a.reads in
+      let (bytes, had, is) = told_then files (file_at Report report REPORT_LIMIT) (λ bytes. given.Checked other Check bytes) a.given more in
       let same : other ≡ drawn = same_ready other drawn (sym draws ∙ asks.draws) in
       record {
         bytes = bytes;
@@ -231,9 +233,9 @@ record HasConfirmed (files : Files) (report : List ℕ) (drawn : Drawn) (answer 
 module _ (call : Call) (files : Files) (report : List ℕ) (drawn : Drawn) (known : call.shelf_before.files ≡ Some files) (asks : AsksConfirm call.words files report drawn) where
   confirm_said : (answer : Answer) (m : HasAnswered call answer) → HasConfirmed files report drawn answer m.text
   confirm_said answer m =
-      let a = answer_over call files (confirm asks.design report) answer m.text known m refl (record { words = asks.words; own = refl }) in
-      let (other, draws, more) = told_behind files (design_at asks.design) (λ d. file_at Report report REPORT_LIMIT >>= (λ bytes. gives (given.Confirm d bytes))) a.given a.reads in
-      let (bytes, had, is) = told_then files (file_at Report report REPORT_LIMIT) (λ bytes. given.Confirm other bytes) a.given more in
+      let a = answer_over call files (checked asks.design Confirm report) answer m.text known m refl (record { words = asks.words; own = refl }) in
+      let (other, draws, more) = told_behind files (design_at asks.design) (λ d. file_at Report report REPORT_LIMIT >>= (λ bytes. gives (given.Checked d Confirm bytes))) a.given a.reads in
+      let (bytes, had, is) = told_then files (file_at Report report REPORT_LIMIT) (λ bytes. given.Checked other Confirm bytes) a.given more in
       let same : other ≡ drawn = same_ready other drawn (sym draws ∙ asks.draws) in
       record {
         bytes = bytes;
@@ -260,8 +262,8 @@ module _ (call : Call) (files : Files) (report : List ℕ) (drawn : Drawn) (know
 module _ (call : Call) (files : Files) (budget : ℕ) (cert : Bool) (drawn : Drawn) (known : call.shelf_before.files ≡ Some files) (asks : AsksSettle call.words files budget cert drawn) where
   settle_said : (answer : Answer) (m : HasAnswered call answer) → AnswersSettle drawn (turns_for budget) cert answer m.text
   settle_said answer m =
-      let a = answer_over call files (settle asks.design budget cert) answer m.text known m refl (record { words = asks.words; own = refl }) in
-      let (other, draws, is) = told_then files (design_at asks.design) (λ d. given.Settle d budget cert) a.given a.reads in
+      let a = answer_over call files (searched asks.design (Settle cert) budget) answer m.text known m refl (record { words = asks.words; own = refl }) in
+      let (other, draws, is) = told_then files (design_at asks.design) (λ d. given.Searched d (Settle cert) budget) a.given a.reads in
       let same : other ≡ drawn = same_ready other drawn (sym draws ∙ asks.draws) in
       subst (λ (d : Drawn). AnswersSettle d (turns_for budget) cert answer m.text) same (subst (λ g. Answers g answer m.text) (sym is) a.answers)
 

@@ -50,8 +50,11 @@ use Rattle.reading.specs.FileReading.{FileReading, gives, refuses, fetches, at, 
 use Rattle.reading.specs.Refusal.{refusal_text}
 use Rattle.reading.proofs.Opens.{told_ready, told_refused}
 use Rattle.settle_report.specs.Text.{ending_of as settled_ending}
-use Rattle.words.specs.Task.{Task, bounds, check, confirm, fall, generated, matrix, redraw, settle, taken, task, whatif}
-use Rattle.words.specs.Task as tasks
+use Rattle.words.specs.declared.job.SearchJob.TheVariants.{Bounds, Settle, Redraw}
+use Rattle.words.specs.declared.job.PlanJob.TheVariants.{Why, Brief, Lint}
+use Rattle.words.specs.declared.job.CheckJob.{CheckJob}
+use Rattle.words.specs.declared.job.CheckJob.TheVariants.{Check, Confirm}
+use Rattle.words.specs.Task.{Task, checked, fall, generated, matrix, planned, searched, taken, task, whatif}
 use Rattle.bounds_report.proofs.WrittenLaws.{written_is_right}
 use Rattle.itv_cli.specs.Bounds.{AnswersBounds}
 use Rattle.lint_report.specs.Lint.{answer_by}
@@ -116,9 +119,9 @@ pub record HasReported (files : Files) (design : List ℕ) (budget : ℕ) (cert 
   pub draws : Draws files design drawn
   pub answers : AnswersBounds drawn budget cert answer bytes
 
-pub reported_over : (files : Files) (design : List ℕ) (budget : ℕ) (cert : Bool) (answer : Answer) (bytes : List ℕ) → IsAnswerOf files (bounds design budget cert) answer bytes → HasReported files design budget cert answer bytes
+pub reported_over : (files : Files) (design : List ℕ) (budget : ℕ) (cert : Bool) (answer : Answer) (bytes : List ℕ) → IsAnswerOf files (searched design (Bounds cert) budget) answer bytes → HasReported files design budget cert answer bytes
 reported_over files design budget cert answer bytes h =
-    let found = told_then files (design_at design) (λ drawn. given.Bounds drawn budget cert) h.given h.reads in
+    let found = told_then files (design_at design) (λ drawn. given.Searched drawn (Bounds cert) budget) h.given h.reads in
     record { drawn = found.0; draws = found.1; answers = subst (λ g. Answers g answer bytes) (sym found.2) h.answers }
 
 pub right_over : (files : Files) (design : List ℕ) (budget : ℕ) (cert : Bool) (answer : Answer) (bytes : List ℕ) → HasReported files design budget cert answer bytes → IsRightReportOf files design bytes
@@ -175,11 +178,11 @@ sink_holds old new text e fresh = sym (sink_bytes old new text e ∙ ap (λ befo
 
 -- a run of job bounds that ends undecided
 pub bounds_below : (call : Call) (files : Files) (result : Outcome) (design : List ℕ) (budget : ℕ) (cert : Bool) (drawn : Drawn) → call.shelf_before.files ≡ Some files → OutcomeMeans call result
-    → taken call.words ≡ task (bounds design budget cert) → Draws files design drawn → result ≡ ends.Undecided → budget < cause_choices drawn.net.constraints
+    → taken call.words ≡ task (searched design (Bounds cert) budget) → Draws files design drawn → result ≡ ends.Undecided → budget < cause_choices drawn.net.constraints
 bounds_below call files result design budget cert drawn known means is draws e =
     let m : HasAnswered call answers.Undecided = subst (λ end. OutcomeMeans call end) e means in
     below_over files design budget cert m.text drawn
-    (reported_over files design budget cert answers.Undecided m.text (answer_over call files (bounds design budget cert) answers.Undecided m.text known m refl (record { words = is; own = refl }))) draws
+    (reported_over files design budget cert answers.Undecided m.text (answer_over call files (searched design (Bounds cert) budget) answers.Undecided m.text known m refl (record { words = is; own = refl }))) draws
 
 -- what a run that passes writes, over known files
 pub passed : (call : Call) (files : Files) (bytes : List ℕ) → call.shelf_before.files ≡ Some files → (m : HasAnswered call answers.AllPass) → m.text ≡ bytes → (asked : Task) → Asks call.words asked
@@ -187,10 +190,10 @@ pub passed : (call : Call) (files : Files) (bytes : List ℕ) → call.shelf_bef
 passed call files bytes known m is asked asks = answer_over call files asked answers.AllPass bytes known m is asks
 
 pub passed_right : (call : Call) (files : Files) (bytes : List ℕ) → call.shelf_before.files ≡ Some files → (m : HasAnswered call answers.AllPass) → m.text ≡ bytes → (design : List ℕ) (budget : ℕ) (cert : Bool)
-    → taken call.words ≡ task (bounds design budget cert) → IsRightReportOf files design bytes
+    → taken call.words ≡ task (searched design (Bounds cert) budget) → IsRightReportOf files design bytes
 passed_right call files bytes known m is design budget cert words =
     right_over files design budget cert answers.AllPass bytes
-    (reported_over files design budget cert answers.AllPass bytes (answer_over call files (bounds design budget cert) answers.AllPass bytes known m is (record { words = words; own = refl })))
+    (reported_over files design budget cert answers.AllPass bytes (answer_over call files (searched design (Bounds cert) budget) answers.AllPass bytes known m is (record { words = words; own = refl })))
 
 -- a run that is refused by its reading
 refused_so : (call : Call) (files : Files) (bytes : List ℕ) → call.shelf_before.files ≡ Some files → (m : IsRefused call) → refusal_text m.place m.why ≡ bytes → (asked : Task) → Asks call.words asked
@@ -229,6 +232,11 @@ never_warned : (is_clean : Bool) → answers.DesignRefused ≡ answer_by is_clea
 never_warned true e = cc e
 never_warned false e = cc e
 
+-- a job of a report refuses no design
+never_checked : (drawn : Drawn) (job : CheckJob) (read bytes : List ℕ) → Answers (given.Checked drawn job read) answers.DesignRefused bytes → ⊥
+never_checked drawn Check read bytes a = a
+never_checked drawn Confirm read bytes a = a
+
 -- a job of edits refuses nothing for what it found
 never_from : (drawn : Drawn) (first : SessionView) (kinds : List RowKind) (edits : List RangeEdit) (text : List ℕ) → AnswersFrom drawn first kinds edits answers.DesignRefused text → ⊥
 never_from drawn first kinds edits text a = never_refused (ending_of kinds (last_note a.note a.notes).found (last_note a.note a.notes).answers) a.is_answer
@@ -238,41 +246,37 @@ few_by files true why next to e = absurd (cc e)
 few_by files false why next to e = e
 
 refused_redraws : (files : Files) (asked : Task) (bytes : List ℕ) → made_for asked ≡ None → IsAnswerOf files asked answers.DesignRefused bytes
-    → (design : List ℕ) × (budget : ℕ) × (asked ≡ redraw design budget)
-refused_redraws files (bounds design budget cert) bytes own h =
+    → (design : List ℕ) × (budget : ℕ) × (asked ≡ searched design Redraw budget)
+refused_redraws files (searched design (Bounds cert) budget) bytes own h =
     let r = reported_over files design budget cert answers.DesignRefused bytes h in
     absurd (never_refused r.answers.summary.end r.answers.is_answer)
+refused_redraws files (searched design (Settle cert) budget) bytes own h =
+    let (drawn, draws, is) = told_then files (design_at design) (λ drawn. given.Searched drawn (Settle cert) budget) h.given h.reads in
+    let answered : Answers (given.Searched drawn (Settle cert) budget) answers.DesignRefused bytes = subst (λ g. Answers g answers.DesignRefused bytes) (sym is) h.answers in
+    absurd (never_refused (settled_ending drawn.rows answered.finding answered.found) answered.is_answer)
+refused_redraws files (searched design Redraw budget) bytes own h = (design, budget, refl)
+refused_redraws files (planned design Why budget) bytes own h =
+    let (both, draws, is) = told_then files (planned_at design) (λ p. given.Planned p.0 p.1 Why budget) h.given h.reads in
+    let answered : Answers (given.Planned both.0 both.1 Why budget) answers.DesignRefused bytes = subst (λ g. Answers g answers.DesignRefused bytes) (sym is) h.answers in
+    absurd (never_refused (explained_ending both.1.rows answered.finding answered.found) answered.is_answer)
+refused_redraws files (planned design (Brief csv) budget) bytes own h =
+    let (both, draws, is) = told_then files (planned_at design) (λ p. given.Planned p.0 p.1 (Brief csv) budget) h.given h.reads in
+    let answered : Answers (given.Planned both.0 both.1 (Brief csv) budget) answers.DesignRefused bytes = subst (λ g. Answers g answers.DesignRefused bytes) (sym is) h.answers in
+    absurd (never_refused (explained_ending both.1.rows answered.finding answered.found) answered.is_answer)
+refused_redraws files (planned design Lint budget) bytes own h =
+    let (both, draws, is) = told_then files (planned_at design) (λ p. given.Planned p.0 p.1 Lint budget) h.given h.reads in
+    let answered : Answers (given.Planned both.0 both.1 Lint budget) answers.DesignRefused bytes = subst (λ g. Answers g answers.DesignRefused bytes) (sym is) h.answers in
+    absurd (never_warned (is_clean both.0 answered.design both.1 (lines_of answered.design both.1 (warnings_of both.0 answered.design) answered.found)) answered.is_answer)
 refused_redraws files (fall design budget cert) bytes own h =
     let r = fallen_over files design budget cert answers.DesignRefused bytes h in
     absurd (never_refused r.answers.word r.answers.is_answer)
-refused_redraws files (settle design budget cert) bytes own h =
-    let (drawn, draws, is) = told_then files (design_at design) (λ drawn. given.Settle drawn budget cert) h.given h.reads in
-    let answered : Answers (given.Settle drawn budget cert) answers.DesignRefused bytes = subst (λ g. Answers g answers.DesignRefused bytes) (sym is) h.answers in
-    absurd (never_refused (settled_ending drawn.rows answered.finding answered.found) answered.is_answer)
-refused_redraws files (redraw design budget) bytes own h = (design, budget, refl)
-refused_redraws files (tasks.why design budget) bytes own h =
-    let (both, draws, is) = told_then files (planned_at design) (λ p. given.Why p.0 p.1 budget) h.given h.reads in
-    let answered : Answers (given.Why both.0 both.1 budget) answers.DesignRefused bytes = subst (λ g. Answers g answers.DesignRefused bytes) (sym is) h.answers in
-    absurd (never_refused (explained_ending both.1.rows answered.finding answered.found) answered.is_answer)
-refused_redraws files (tasks.brief design budget csv) bytes own h =
-    let (both, draws, is) = told_then files (planned_at design) (λ p. given.Brief p.0 p.1 budget csv) h.given h.reads in
-    let answered : Answers (given.Brief both.0 both.1 budget csv) answers.DesignRefused bytes = subst (λ g. Answers g answers.DesignRefused bytes) (sym is) h.answers in
-    absurd (never_refused (explained_ending both.1.rows answered.finding answered.found) answered.is_answer)
-refused_redraws files (tasks.lint design budget) bytes own h =
-    let (both, draws, is) = told_then files (planned_at design) (λ p. given.Lint p.0 p.1 budget) h.given h.reads in
-    let answered : Answers (given.Lint both.0 both.1 budget) answers.DesignRefused bytes = subst (λ g. Answers g answers.DesignRefused bytes) (sym is) h.answers in
-    absurd (never_warned (is_clean both.0 answered.design both.1 (lines_of answered.design both.1 (warnings_of both.0 answered.design) answered.found)) answered.is_answer)
 refused_redraws files (matrix design) bytes own h =
     let (drawn, draws, comes) = told_behind files (design_at design) matrix_at h.given h.reads in
     absurd (subst (λ g. Answers g answers.DesignRefused bytes) (sym (small_by files (nat_lt MAX_MATRIX_EVENTS drawn.net.events) drawn _ h.given comes)) h.answers)
-refused_redraws files (check design report) bytes own h =
-    let (drawn, draws, comes) = told_behind files (design_at design) (λ drawn. file_at Report report REPORT_LIMIT >>= (λ bytes. gives (given.Check drawn bytes))) h.given h.reads in
-    let (read, fetched, is) = told_then files (file_at Report report REPORT_LIMIT) (λ bytes. given.Check drawn bytes) h.given comes in
-    absurd (subst (λ g. Answers g answers.DesignRefused bytes) (sym is) h.answers)
-refused_redraws files (confirm design report) bytes own h =
-    let (drawn, draws, comes) = told_behind files (design_at design) (λ drawn. file_at Report report REPORT_LIMIT >>= (λ bytes. gives (given.Confirm drawn bytes))) h.given h.reads in
-    let (read, fetched, is) = told_then files (file_at Report report REPORT_LIMIT) (λ bytes. given.Confirm drawn bytes) h.given comes in
-    absurd (subst (λ g. Answers g answers.DesignRefused bytes) (sym is) h.answers)
+refused_redraws files (checked design job report) bytes own h =
+    let (drawn, draws, comes) = told_behind files (design_at design) (λ drawn. file_at Report report REPORT_LIMIT >>= (λ bytes. gives (given.Checked drawn job bytes))) h.given h.reads in
+    let (read, fetched, is) = told_then files (file_at Report report REPORT_LIMIT) (λ bytes. given.Checked drawn job bytes) h.given comes in
+    absurd (never_checked drawn job read bytes (subst (λ g. Answers g answers.DesignRefused bytes) (sym is) h.answers))
 refused_redraws files (generated size budget) bytes own h = absurd (cc own)
 refused_redraws files (whatif design edits budget) bytes own h =
     let (drawn, draws, comes) = told_behind files (design_at design) (whatif_at edits budget) h.given h.reads in
@@ -282,7 +286,7 @@ refused_redraws files (whatif design edits budget) bytes own h =
     let answered : Answers (given.Whatif drawn list budget) answers.DesignRefused bytes = subst (λ g. Answers g answers.DesignRefused bytes) (sym is) h.answers in
     absurd (never_from drawn answered.0 (kinds_of drawn.rows) list bytes answered.2)
 
-pub refused_others : (files : Files) (asked : Task) (bytes : List ℕ) → made_for asked ≡ None → ((design : List ℕ) (budget : ℕ) → asked ≡ redraw design budget → ⊥)
+pub refused_others : (files : Files) (asked : Task) (bytes : List ℕ) → made_for asked ≡ None → ((design : List ℕ) (budget : ℕ) → asked ≡ searched design Redraw budget → ⊥)
     → IsRefusalOf files asked bytes ⊎ IsAnswerOf files asked answers.DesignRefused bytes → IsRefusalOf files asked bytes
 refused_others files asked bytes own other (inl h) = h
 refused_others files asked bytes own other (inr h) = let (design, budget, is) = refused_redraws files asked bytes own h in absurd (other design budget is)
@@ -337,10 +341,10 @@ passed_not_refused drawn most one two a b =
     breaks_none broken.asked broken.range failed.side failed.times broken.broken
     (met failed.row broken.asked broken.range broken.is_row broken.demands failed.times broken.satisfied.satisfied)
 
-redraws_once : (files : Files) (design : List ℕ) (budget : ℕ) (one two : List ℕ) → IsAnswerOf files (redraw design budget) answers.AllPass one → IsAnswerOf files (redraw design budget) answers.DesignRefused two → ⊥
+redraws_once : (files : Files) (design : List ℕ) (budget : ℕ) (one two : List ℕ) → IsAnswerOf files (searched design Redraw budget) answers.AllPass one → IsAnswerOf files (searched design Redraw budget) answers.DesignRefused two → ⊥
 redraws_once files design budget one two a b =
-    let found = told_then files (design_at design) (λ drawn. given.Redraw drawn budget) a.given a.reads in
-    let same : given.Redraw found.0 budget ≡ b.given = found.2 ∙ same_ready a.given b.given (sym a.reads ∙ b.reads) in
+    let found = told_then files (design_at design) (λ drawn. given.Searched drawn Redraw budget) a.given a.reads in
+    let same : given.Searched found.0 Redraw budget ≡ b.given = found.2 ∙ same_ready a.given b.given (sym a.reads ∙ b.reads) in
     passed_not_refused found.0 budget one two (subst (λ g. Answers g answers.AllPass one) (sym found.2) a.answers).0 (subst (λ g. Answers g answers.DesignRefused two) (sym same) b.answers).0
 
 -- a task that passed is not refused for what was found

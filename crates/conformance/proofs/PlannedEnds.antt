@@ -9,8 +9,6 @@ use Rattle.event_graph.specs.Edges.{cause_choices}
 use Rattle.event_graph.specs.Network.{Net}
 use Rattle.event_graph.proofs.SoundProofs.{proof_of_nothing}
 use Rattle.itv_base.specs.Outside.{Files, grown}
-use Rattle.compose.specs.Compose.{composed_on}
-use Rattle.compose.specs.Design.{Composed}
 use Rattle.drawn.specs.Drawn.{Drawn}
 use Rattle.drawn.specs.declared.row.Row.{Row}
 use Rattle.jobs.specs.Ending.{answer_of}
@@ -26,7 +24,7 @@ use Rattle.right_report.specs.Right.ReportState.{tally_of, end_word, is_within, 
 use Rattle.right_report.specs.RowTally.{kinds_of, with_row, with_rows}
 use Rattle.right_report.specs.declared.tally.ReportTally.{ReportTally}
 use Rattle.plan.specs.Notes.{plan_notes}
-use Rattle.plan.specs.Plan.{Planned, sheets_on}
+use Rattle.plan.specs.Plan.{Planned}
 use Rattle.explained.specs.declared.finding.Finding.{Finding}
 use Rattle.explained.specs.declared.finding.Finding.TheVariants.{Consistent, Inconsistent, Unsettled}
 use Rattle.explained.specs.declared.row.RowFound.{RowFound}
@@ -38,14 +36,13 @@ use Rattle.warnings.specs.Warnings.{warnings_of}
 use Rattle.lint_report.specs.Lint.{AnswersLint, answer_by}
 use Rattle.lint_report.specs.Lines.{is_clean, lines_of}
 use Rattle.lint_report.proofs.Cleaning.{clean_has_searched_all}
-use Rattle.reading.specs.FileReading.{◌>>=◌, gives, ready, end_over}
-use Rattle.words.specs.Task as tasks
-use Rattle.words.specs.Task.{Task}
-use Rattle.itv_cli.specs.Job.{Answers, made_for, opening, planned_at}
+use Rattle.words.specs.declared.job.PlanJob.{PlanJob}
+use Rattle.words.specs.declared.job.PlanJob.TheVariants.{Why, Brief, Lint}
+use Rattle.words.specs.Task.{planned}
+use Rattle.itv_cli.specs.Job.{Answers, planned_at}
 use Rattle.itv_cli.specs.Run.{Call, HasAnswered, OutcomeMeans}
 use Rattle.itv_cli.specs.declared.outcome.Outcome.{Outcome}
 use Rattle.itv_cli.specs.declared.outcome.Outcome.TheVariants as ends
-use Rattle.itv_cli.specs.declared.ready.Ready.{Ready}
 use Rattle.itv_cli.specs.declared.ready.Ready.TheVariants as given
 use Rattle.conformance.specs.Clients.{AsksBrief, AsksLint, AsksPlanned, AsksWhy, IsLintClean, IsReportEnd}
 use Rattle.conformance.proofs.JobEnds.{answered_by}
@@ -53,23 +50,20 @@ use Rattle.conformance.proofs.KnownFiles.{answer_over, never_refused, same_ready
 
 -- ---- jobs of a plan
 
--- A job that is opened by a plan answers for the plan and the network that the files give.
-module _ (job : List ℕ → ℕ → Task) (made : Planned × Drawn → ℕ → Ready) (opens : (design : List ℕ) (budget : ℕ) → opening (job design budget) ≡ (planned_at design >>= (λ both. gives (made both budget))))
-    (own : (design : List ℕ) (budget : ℕ) → made_for (job design budget) ≡ None) where
-  module _ (call : Call) (files : Files) (budget : ℕ) (plan : Planned) (drawn : Drawn) (known : call.shelf_before.files ≡ Some files) (asks : AsksPlanned job call.words files budget plan drawn) where
-    planned_said : (answer : Answer) (m : HasAnswered call answer) → Answers (made (plan, drawn) budget) answer m.text
-    planned_said answer m =
-        let a = answer_over call files (job asks.design budget) answer m.text known m refl (record { words = asks.words; own = own asks.design budget }) in
-        let reads = subst (λ o. end_over files o ≡ ready a.given) (opens asks.design budget) a.reads in
-        let (other, plans, is) = told_then files (planned_at asks.design) (λ (p : Planned × Drawn). made p budget) a.given reads in
-        let same : other ≡ (plan, drawn) = same_ready other (plan, drawn) (sym plans ∙ asks.plans) in
-        subst (λ (p : Planned × Drawn). Answers (made p budget) answer m.text) same (subst (λ g. Answers g answer m.text) (sym is) a.answers)
+-- A job of a plan answers for the plan and the network that the files give.
+module _ (job : PlanJob) (call : Call) (files : Files) (budget : ℕ) (plan : Planned) (drawn : Drawn) (known : call.shelf_before.files ≡ Some files) (asks : AsksPlanned job call.words files budget plan drawn) where
+  planned_said : (answer : Answer) (m : HasAnswered call answer) → Answers (given.Planned plan drawn job budget) answer m.text
+  planned_said answer m =
+      let a = answer_over call files (planned asks.design job budget) answer m.text known m refl (record { words = asks.words; own = refl }) in
+      let (other, plans, is) = told_then files (planned_at asks.design) (λ (p : Planned × Drawn). given.Planned p.0 p.1 job budget) a.given a.reads in
+      let same : other ≡ (plan, drawn) = same_ready other (plan, drawn) (sym plans ∙ asks.plans) in
+      subst (λ (p : Planned × Drawn). Answers (given.Planned p.0 p.1 job budget) answer m.text) same (subst (λ g. Answers g answer m.text) (sym is) a.answers)
 
-    -- with an end of a report the job writes a text
-    planned_wrote : (result : Outcome) → OutcomeMeans call result → (end : IsReportEnd result)
-        → (text : List ℕ) × Answers (made (plan, drawn) budget) (answer_of end.0) text × (call.sink_after ≡ grown call.sink_before text)
-    planned_wrote result means end =
-        let m = answered_by call result (answer_of end.0) (λ same. never_refused end.0 (sym same)) means end.1 in (m.text, planned_said (answer_of end.0) m, m.wrote)
+  -- with an end of a report the job writes a text
+  planned_wrote : (result : Outcome) → OutcomeMeans call result → (end : IsReportEnd result)
+      → (text : List ℕ) × Answers (given.Planned plan drawn job budget) (answer_of end.0) text × (call.sink_after ≡ grown call.sink_before text)
+  planned_wrote result means end =
+      let m = answered_by call result (answer_of end.0) (λ same. never_refused end.0 (sym same)) means end.1 in (m.text, planned_said (answer_of end.0) m, m.wrote)
 
 -- ---- job why
 
@@ -152,11 +146,11 @@ below_choices choices budget past = omega (arith, past)
 
 module _ (call : Call) (files : Files) (budget : ℕ) (plan : Planned) (drawn : Drawn) (known : call.shelf_before.files ≡ Some files) (asks : AsksWhy call.words files budget plan drawn) where
   why_said : (answer : Answer) (m : HasAnswered call answer) → AnswersWhy (plan_notes plan) drawn budget answer m.text
-  why_said answer m = planned_said tasks.why (λ p b. given.Why p.0 p.1 b) (λ design b. refl) (λ design b. refl) call files budget plan drawn known asks answer m
+  why_said answer m = planned_said Why call files budget plan drawn known asks answer m
 
   pub why_wrote : (result : Outcome) → OutcomeMeans call result → (end : IsReportEnd result)
       → (text : List ℕ) × AnswersWhy (plan_notes plan) drawn budget (answer_of end.0) text × (call.sink_after ≡ grown call.sink_before text)
-  why_wrote result means end = planned_wrote tasks.why (λ p b. given.Why p.0 p.1 b) (λ design b. refl) (λ design b. refl) call files budget plan drawn known asks result means end
+  why_wrote result means end = planned_wrote Why call files budget plan drawn known asks result means end
 
   pub why_none : (result : Outcome) → OutcomeMeans call result → result ≡ ends.Inconsistent → IsInconsistent drawn.net
   why_none result means e =
@@ -175,11 +169,11 @@ module _ (call : Call) (files : Files) (budget : ℕ) (plan : Planned) (drawn : 
 
 module _ (call : Call) (files : Files) (budget : ℕ) (csv : Bool) (plan : Planned) (drawn : Drawn) (known : call.shelf_before.files ≡ Some files) (asks : AsksBrief call.words files budget csv plan drawn) where
   brief_said : (answer : Answer) (m : HasAnswered call answer) → AnswersBrief (plan_notes plan) drawn budget csv answer m.text
-  brief_said answer m = planned_said (λ design b. tasks.brief design b csv) (λ p b. given.Brief p.0 p.1 b csv) (λ design b. refl) (λ design b. refl) call files budget plan drawn known asks answer m
+  brief_said answer m = planned_said (Brief csv) call files budget plan drawn known asks answer m
 
   pub brief_wrote : (result : Outcome) → OutcomeMeans call result → (end : IsReportEnd result)
       → (text : List ℕ) × AnswersBrief (plan_notes plan) drawn budget csv (answer_of end.0) text × (call.sink_after ≡ grown call.sink_before text)
-  brief_wrote result means end = planned_wrote (λ design b. tasks.brief design b csv) (λ p b. given.Brief p.0 p.1 b csv) (λ design b. refl) (λ design b. refl) call files budget plan drawn known asks result means end
+  brief_wrote result means end = planned_wrote (Brief csv) call files budget plan drawn known asks result means end
 
   pub brief_decides : (result : Outcome) → OutcomeMeans call result → result ≡ ends.Undecided → budget < cause_choices drawn.net.constraints
   brief_decides result means e =
@@ -197,11 +191,11 @@ none_clean false e = absurd (cc e)
 
 module _ (call : Call) (files : Files) (budget : ℕ) (plan : Planned) (drawn : Drawn) (known : call.shelf_before.files ≡ Some files) (asks : AsksLint call.words files budget plan drawn) where
   lint_said : (answer : Answer) (m : HasAnswered call answer) → AnswersLint plan drawn budget answer m.text
-  lint_said answer m = planned_said tasks.lint (λ p b. given.Lint p.0 p.1 b) (λ design b. refl) (λ design b. refl) call files budget plan drawn known asks answer m
+  lint_said answer m = planned_said Lint call files budget plan drawn known asks answer m
 
   pub lint_wrote : (result : Outcome) → OutcomeMeans call result → (end : IsReportEnd result)
       → (text : List ℕ) × AnswersLint plan drawn budget (answer_of end.0) text × (call.sink_after ≡ grown call.sink_before text)
-  lint_wrote result means end = planned_wrote tasks.lint (λ p b. given.Lint p.0 p.1 b) (λ design b. refl) (λ design b. refl) call files budget plan drawn known asks result means end
+  lint_wrote result means end = planned_wrote Lint call files budget plan drawn known asks result means end
 
   pub lint_clean : (result : Outcome) → OutcomeMeans call result → result ≡ ends.AllPass → IsLintClean plan drawn
   lint_clean result means e =

@@ -48,7 +48,8 @@ use Rattle.redraw_design.proofs.Again.{redrawn_is_read}
 use Rattle.redraw_design.proofs.Breaks.{redrawn_breaks}
 use Rattle.redraw_report.specs.Failed.{Failed, IsBroken, is_end_at, is_same, is_wide_on}
 use Rattle.redraw_report.specs.Redraw.{AnswersRedraw, Draws, AnswersEndWord, is_wide}
-use Rattle.words.specs.Task.{KeepsLimits, bounds, redraw, taken, task}
+use Rattle.words.specs.declared.job.SearchJob.TheVariants.{Bounds, Redraw}
+use Rattle.words.specs.Task.{KeepsLimits, searched, taken, task}
 use Rattle.itv_cli.specs.Bounds.{AnswersBounds}
 use Rattle.itv_cli.specs.Job.{Answers, opening}
 use Rattle.itv_cli.specs.Run.{Call, HasAnswered, OutcomeMeans}
@@ -195,10 +196,10 @@ drawn_again files others design name drawn budget text reads a there =
 
 -- ---- runs
 
-redrawn_over : (files : Files) (design : List ℕ) (budget : ℕ) (answer : Answer) (bytes : List ℕ) → IsAnswerOf files (redraw design budget) answer bytes
+redrawn_over : (files : Files) (design : List ℕ) (budget : ℕ) (answer : Answer) (bytes : List ℕ) → IsAnswerOf files (searched design Redraw budget) answer bytes
     → (drawn : Drawn) × (end_over files (design_at design) ≡ ready drawn) × AnswersRedraw drawn budget answer bytes
 redrawn_over files design budget answer bytes h =
-    let (drawn, draws, is) = told_then files (design_at design) (λ drawn. given.Redraw drawn budget) h.given h.reads in
+    let (drawn, draws, is) = told_then files (design_at design) (λ drawn. given.Searched drawn Redraw budget) h.given h.reads in
     (drawn, draws, (subst (λ g. Answers g answer bytes) (sym is) h.answers).0)
 
 -- a design that always breaks its requirement is read
@@ -208,10 +209,10 @@ pub record IsDrawnAgain (files : Files) (name : List ℕ) : Type 0 where
   always : AlwaysBreaks again
 
 -- the answer that a run gives to such a design
-fails_so : (call : Call) (files : Files) (name : List ℕ) (budget : ℕ) (cert : Bool) (answer : Answer) → call.shelf_before.files ≡ Some files → taken call.words ≡ task (bounds name budget cert) → 1 ≤ budget
+fails_so : (call : Call) (files : Files) (name : List ℕ) (budget : ℕ) (cert : Bool) (answer : Answer) → call.shelf_before.files ≡ Some files → taken call.words ≡ task (searched name (Bounds cert) budget) → 1 ≤ budget
     → IsDrawnAgain files name → HasAnswered call answer → answer ≡ answers.SomeFail
 fails_so call files name budget cert answer known words some d m =
-    let r = reported_over files name budget cert answer m.text (answer_over call files (bounds name budget cert) answer m.text known m refl (record { words = words; own = refl })) in
+    let r = reported_over files name budget cert answer m.text (answer_over call files (searched name (Bounds cert) budget) answer m.text known m refl (record { words = words; own = refl })) in
     let same : r.drawn ≡ d.again = same_ready r.drawn d.again (sym r.draws ∙ d.reads) in
     bounds_fails d.again budget cert answer m.text some d.always (subst (λ (x : Drawn). AnswersBounds x budget cert answer m.text) same r.answers)
 
@@ -228,12 +229,12 @@ gives_again files (fetches place name most next) f x e = given_file files most n
   given_file files most next f x place name (Some bytes) more e = more (take most bytes) e
 
 module _ (call : Call) (files : Files) (name : List ℕ) (budget : ℕ) (cert : Bool) (known : call.shelf_before.files ≡ Some files) (faithful : call.shelf_before.is_faithful ≡ true)
-    (words : taken call.words ≡ task (bounds name budget cert)) (some : 1 ≤ budget) (d : IsDrawnAgain files name) where
-  asks : Asks call.words (bounds name budget cert)
+    (words : taken call.words ≡ task (searched name (Bounds cert) budget)) (some : 1 ≤ budget) (d : IsDrawnAgain files name) where
+  asks : Asks call.words (searched name (Bounds cert) budget)
   asks = record { words = words; own = refl }
 
-  reads_it : end_over files (opening (bounds name budget cert)) ≡ ready (given.Bounds d.again budget cert)
-  reads_it = gives_again files (design_at name) (λ drawn. given.Bounds drawn budget cert) d.again d.reads
+  reads_it : end_over files (opening (searched name (Bounds cert) budget)) ≡ ready (given.Searched d.again (Bounds cert) budget)
+  reads_it = gives_again files (design_at name) (λ drawn. given.Searched drawn (Bounds cert) budget) d.again d.reads
 
   missing_in : (o : Option Files) (n : List ℕ) → o ≡ Some files → IsMissing o n → IsNone (file_of files n)
   missing_in o n e h = subst (λ x. IsMissing x n) e h
@@ -245,12 +246,12 @@ module _ (call : Call) (files : Files) (name : List ℕ) (budget : ℕ) (cert : 
   ends_with_fail SomeFail m = inl refl
   ends_with_fail Inconsistent m = absurd (cc (fails_so call files name budget cert answers.Inconsistent known words some d m))
   ends_with_fail Undecided m = absurd (cc (fails_so call files name budget cert answers.Undecided known words some d m))
-  ends_with_fail Refused (inl m) = absurd (cc (reads_it, refused_over call files (bounds name budget cert) m.place m.why known asks m.came))
+  ends_with_fail Refused (inl m) = absurd (cc (reads_it, refused_over call files (searched name (Bounds cert) budget) m.place m.why known asks m.came))
   ends_with_fail Refused (inr m) = absurd (cc (fails_so call files name budget cert answers.DesignRefused known words some d m))
   ends_with_fail ReadFault m =
-      let over = came_over call (bounds name budget cert) (unread m.place m.name) asks m.came in
+      let over = came_over call (searched name (Bounds cert) budget) (unread m.place m.name) asks m.came in
       let none = missing_in call.shelf_before.files m.name known (over.1.missing faithful) in
-      absurd (cc (reads_it, told_unread call.shelf_before files (opening (bounds name budget cert)) m.place m.name known none over.0))
+      absurd (cc (reads_it, told_unread call.shelf_before files (opening (searched name (Bounds cert) budget)) m.place m.name known none over.0))
   ends_with_fail WriteFault m = inr (inl refl)
   ends_with_fail NoMemory m = inr (inr refl)
   ends_with_fail BadWords m = absurd (cc (m.words, words))
@@ -266,11 +267,11 @@ faithful_by : (shelf fresh : MemShelf) (name bytes : List ℕ) → shelf ≡ rec
 faithful_by shelf fresh name bytes added none = ap (λ (s : MemShelf). length s.failing == 0) added ∙ ap (λ (l : List ℕ). length l == 0) none
 
 pub redrawn_ends : (first second : Call) (files : Files) (shelf fresh : MemShelf) (design name bytes : List ℕ) (budget most : ℕ) (cert : Bool) (result : ends.Outcome)
-    → first.shelf_before.files ≡ Some files → (m : HasAnswered first answers.SomeFail) → m.text ≡ bytes → taken first.words ≡ task (redraw design budget)
-    → second.shelf_before ≡ shelf_state shelf → shelf ≡ record fresh { files = finite.insert fresh.files name bytes } → fresh.failing ≡ [] → taken second.words ≡ task (bounds name most cert)
+    → first.shelf_before.files ≡ Some files → (m : HasAnswered first answers.SomeFail) → m.text ≡ bytes → taken first.words ≡ task (searched design Redraw budget)
+    → second.shelf_before ≡ shelf_state shelf → shelf ≡ record fresh { files = finite.insert fresh.files name bytes } → fresh.failing ≡ [] → taken second.words ≡ task (searched name (Bounds cert) most)
     → OutcomeMeans second result → (result ≡ SomeFail) ⊎ ((result ≡ WriteFault) ⊎ (result ≡ NoMemory))
 redrawn_ends first second files shelf fresh design name bytes budget most cert result known m is words on added none again means =
-    let (drawn, draws, a) = redrawn_over files design budget answers.SomeFail bytes (answer_over first files (redraw design budget) answers.SomeFail bytes known m is (record { words = words; own = refl })) in
+    let (drawn, draws, a) = redrawn_over files design budget answers.SomeFail bytes (answer_over first files (searched design Redraw budget) answers.SomeFail bytes known m is (record { words = words; own = refl })) in
     let (network, reads, always) = drawn_again files (finite.insert fresh.files name bytes) design name drawn budget bytes draws a (there fresh.files name bytes) in
     let holds : second.shelf_before.files ≡ Some (finite.insert fresh.files name bytes) =
     ap (λ (t : ShelfState). t.files) on ∙ ap (λ (s : MemShelf). Some s.files) added in

@@ -23,8 +23,11 @@ use Rattle.plan.specs.Plan.{Planned}
 use Rattle.reading.specs.FileReading.{RunsTo, ready, refused, end_over, unread}
 use Rattle.reading.specs.Refusal.{refusal_text, unread_text}
 use Rattle.settle_report.specs.Settle.{IsSettleText}
-use Rattle.words.specs.Task.{Task, bounds, check, confirm, matrix, settle, taken, task, whatif}
-use Rattle.words.specs.Task as tasks
+use Rattle.words.specs.declared.job.SearchJob.TheVariants.{Bounds, Settle}
+use Rattle.words.specs.declared.job.PlanJob.{PlanJob}
+use Rattle.words.specs.declared.job.PlanJob.TheVariants.{Why, Brief, Lint}
+use Rattle.words.specs.declared.job.CheckJob.TheVariants.{Check, Confirm}
+use Rattle.words.specs.Task.{Task, checked, matrix, planned, searched, taken, task, whatif}
 use Rattle.warnings.specs.Warnings.{warnings_of}
 use Rattle.lint_report.specs.declared.lint_found.LintFound.{LintFound}
 use Rattle.lint_report.specs.Clean.{HasSearchedAll}
@@ -104,25 +107,25 @@ IsReportEnd outcome = (word : EndWord) × (outcome ≡ outcome_of (answer_of wor
 -- the words ask for the bounds of a design, and the files of the design draw a network
 pub record AsksBounds (given : List (List ℕ)) (files : Files) (budget : ℕ) (cert : Bool) (drawn : Drawn) : Type 0 where
   pub design : List ℕ
-  pub words : taken given ≡ task (bounds design budget cert)
+  pub words : taken given ≡ task (searched design (Bounds cert) budget)
   pub draws : Draws files design drawn
 
 -- the words ask whether a file is a right report of a design, and the files of the design draw a network
 pub record AsksCheck (given : List (List ℕ)) (files : Files) (report : List ℕ) (drawn : Drawn) : Type 0 where
   pub design : List ℕ
-  pub words : taken given ≡ task (check design report)
+  pub words : taken given ≡ task (checked design Check report)
   pub draws : Draws files design drawn
 
 -- the words ask whether a file is a text of job settle for a design, and the files of the design draw a network
 pub record AsksConfirm (given : List (List ℕ)) (files : Files) (report : List ℕ) (drawn : Drawn) : Type 0 where
   pub design : List ℕ
-  pub words : taken given ≡ task (confirm design report)
+  pub words : taken given ≡ task (checked design Confirm report)
   pub draws : Draws files design drawn
 
 -- the words ask job settle for the bounds of a design, with proofs or without, and the files of the design draw a network
 pub record AsksSettle (given : List (List ℕ)) (files : Files) (budget : ℕ) (cert : Bool) (drawn : Drawn) : Type 0 where
   pub design : List ℕ
-  pub words : taken given ≡ task (settle design budget cert)
+  pub words : taken given ≡ task (searched design (Settle cert) budget)
   pub draws : Draws files design drawn
 
 -- the words ask job whatif about a design and a file of edits, the files of the design draw a network, and the file has these edits of it
@@ -142,22 +145,22 @@ pub record AsksMatrix (given : List (List ℕ)) (files : Files) (drawn : Drawn) 
   pub draws : Draws files design drawn
 
 -- the words ask for a job of a design, and its files give a plan and the network that the plan draws
-pub record AsksPlanned (job : List ℕ → ℕ → Task) (given : List (List ℕ)) (files : Files) (budget : ℕ) (plan : Planned) (drawn : Drawn) : Type 0 where
+pub record AsksPlanned (job : PlanJob) (given : List (List ℕ)) (files : Files) (budget : ℕ) (plan : Planned) (drawn : Drawn) : Type 0 where
   pub design : List ℕ
-  pub words : taken given ≡ task (job design budget)
+  pub words : taken given ≡ task (planned design job budget)
   pub plans : end_over files (planned_at design) ≡ ready (plan, drawn)
 
 -- the words ask why each bound of a design is what it is
 abbrev pub AsksWhy : List (List ℕ) → Files → ℕ → Planned → Drawn → Type 0
-AsksWhy given files budget plan drawn = AsksPlanned tasks.why given files budget plan drawn
+AsksWhy given files budget plan drawn = AsksPlanned Why given files budget plan drawn
 
 -- the words ask for a line for each row of a design, in a table or not
 abbrev pub AsksBrief : List (List ℕ) → Files → ℕ → Bool → Planned → Drawn → Type 0
-AsksBrief given files budget csv plan drawn = AsksPlanned (λ design budget. tasks.brief design budget csv) given files budget plan drawn
+AsksBrief given files budget csv plan drawn = AsksPlanned (Brief csv) given files budget plan drawn
 
 -- the words ask what in a design may say something else than was meant
 abbrev pub AsksLint : List (List ℕ) → Files → ℕ → Planned → Drawn → Type 0
-AsksLint given files budget plan drawn = AsksPlanned tasks.lint given files budget plan drawn
+AsksLint given files budget plan drawn = AsksPlanned Lint given files budget plan drawn
 
 -- The design that a plan draws has no line to print: all are silenced by notes, and what is found is right. The searches ended: nothing was left open.
 pub record IsLintClean (plan : Planned) (drawn : Drawn) : Type 0 where

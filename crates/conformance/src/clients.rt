@@ -12,7 +12,8 @@ ghost use Rattle.reading.specs.declared.refusal_place.RefusalPlace.{RefusalPlace
 ghost use Rattle.reading.specs.FileReading.{end_over};
 ghost use Rattle.reading.specs.Refusal.{unread_text};
 ghost use Rattle.drawn.specs.Drawn.{Drawn};
-ghost use Rattle.words.specs.Task.{Task, bad_words, bounds, fall, help, redraw, taken, task};
+ghost use Rattle.words.specs.declared.job.SearchJob.TheVariants.{Bounds, Redraw};
+ghost use Rattle.words.specs.Task.{Task, bad_words, fall, help, searched, taken, task};
 ghost use Rattle.itv_cli.specs.Job.{opening};
 ghost use Rattle.itv_cli.specs.Run.{OutcomeBy};
 ghost use Rattle.conformance.specs.Clients.{Asks, Draws, IsAnswerOf, IsFrontOf, IsFrontOfRight, IsRefusalOf, IsRightReportOf, IsUnreadOf};
@@ -32,7 +33,7 @@ pub fn report_of(
     ensures answer { IfOk result (λ report. IfSome report (λ bytes.
         (asked : Task) → Asks words.now asked → IsAnswerOf shelf.old.files asked answers.AllPass bytes.items)) }
     ensures right { IfOk result (λ report. IfSome report (λ bytes.
-        (design : List ℕ) (budget : ℕ) (cert : Bool) → taken words.now ≡ task (bounds design budget cert)
+        (design : List ℕ) (budget : ℕ) (cert : Bool) → taken words.now ≡ task (searched design (Bounds cert) budget)
         → IsRightReportOf shelf.old.files design bytes.items)) }
 {
     let mut sink = SinkMem::new(alloc, room)?;
@@ -54,7 +55,7 @@ pub fn refusal_of(
         (asked : Task) → Asks words.now asked → IsRefusalOf shelf.old.files asked bytes.items
         ⊎ IsAnswerOf shelf.old.files asked answers.DesignRefused bytes.items)) }
     ensures others { IfOk result (λ refusal. IfSome refusal (λ bytes.
-        (asked : Task) → Asks words.now asked → ((design : List ℕ) (budget : ℕ) → asked ≡ redraw design budget → ⊥)
+        (asked : Task) → Asks words.now asked → ((design : List ℕ) (budget : ℕ) → asked ≡ searched design Redraw budget → ⊥)
         → IsRefusalOf shelf.old.files asked bytes.items)) }
 {
     let mut sink = SinkMem::new(alloc, room)?;
@@ -77,7 +78,7 @@ pub fn front_of(
         → IsFrontOf shelf.old.files asked bytes.items)) }
     ensures right { IfOk result (λ front. IfSome front (λ bytes.
         (design : List ℕ) (budget : ℕ) (cert : Bool) (drawn : Drawn)
-        → taken words.now ≡ task (bounds design budget cert) → Draws shelf.old.files design drawn
+        → taken words.now ≡ task (searched design (Bounds cert) budget) → Draws shelf.old.files design drawn
         → ¬ (FaultCounted shelf.old.faults shelf.new.faults) → IsFrontOfRight drawn bytes.items)) }
 {
     let mut sink = SinkMem::new(alloc, room)?;
@@ -156,7 +157,7 @@ pub fn end_of(alloc: Global, words: &Texts, shelf: &mut ShelfMem, sink: &mut Sin
 /// A run of job bounds. It ends undecided only if its budget is below the number of cause choices.
 pub fn bounds_of(alloc: Global, words: &Texts, shelf: &mut ShelfMem, sink: &mut SinkMem) -> Outcome
     ensures decides { (design : List ℕ) (budget : ℕ) (cert : Bool) (drawn : Drawn)
-        → taken words.now ≡ task (bounds design budget cert) → Draws shelf.old.files design drawn
+        → taken words.now ≡ task (searched design (Bounds cert) budget) → Draws shelf.old.files design drawn
         → result ≡ Outcome.Undecided → budget < cause_choices drawn.net.constraints }
 {
     run(alloc, words, shelf, sink)

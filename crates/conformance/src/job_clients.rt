@@ -12,7 +12,8 @@ ghost use Rattle.drawn.specs.Drawn.{Drawn};
 ghost use Rattle.reading.specs.declared.refusal.Refusal.{Refusal};
 ghost use Rattle.reading.specs.declared.refusal_place.RefusalPlace.{RefusalPlace};
 ghost use Rattle.reading.specs.Refusal.{refusal_text};
-ghost use Rattle.words.specs.Task.{bounds, generated, redraw, taken, task};
+ghost use Rattle.words.specs.declared.job.SearchJob.TheVariants.{Bounds, Redraw};
+ghost use Rattle.words.specs.Task.{generated, searched, taken, task};
 ghost use Rattle.plan.specs.Notes.{plan_notes};
 ghost use Rattle.plan.specs.Plan.{Planned};
 ghost use Rattle.why_report.specs.Why.{AnswersWhy};
@@ -192,8 +193,8 @@ pub fn redrawn_of(
     again: &Texts,
 ) -> Result<Option<Outcome>, NoMemory>
     ensures fails { IfOk result (λ end. IfSome end (λ outcome.
-        (design : List ℕ) (budget most : ℕ) (cert : Bool) → taken words.now ≡ task (redraw design budget)
-        → taken again.now ≡ task (bounds name.now most cert)
+        (design : List ℕ) (budget most : ℕ) (cert : Bool) → taken words.now ≡ task (searched design Redraw budget)
+        → taken again.now ≡ task (searched name.now (Bounds cert) most)
         → (outcome ≡ Outcome.SomeFail) ⊎ ((outcome ≡ Outcome.WriteFault) ⊎ (outcome ≡ Outcome.NoMemory)))) }
 {
     let mut sink = SinkMem::new(alloc, room)?;

@@ -10,7 +10,7 @@ use crate::unread::unread_says;
 use crate::words_fault::words_fault;
 use itv_base::{NoMemory, Shelf, Texts};
 use std::alloc::Global;
-use words::{Invocation, Task, read_words};
+use words::{Invocation, PlanJob, Task, read_words};
 
 // What is said where a reading does not show why something was refused.
 const REFUSED: &str = "docs/drawing.md says under \"Refusals\" what this line means";
@@ -103,7 +103,11 @@ fn design_says<H: Shelf, L: NameLook>(
 // Whether the design of a task is looked at once more. Job lint prints its warnings itself, and jobs check and confirm judge a report.
 fn is_about_design(task: Task<'_>) -> bool {
     match task {
-        Task::Lint { .. } | Task::Check { .. } | Task::Confirm { .. } => false,
+        Task::Planned {
+            job: PlanJob::Lint,
+            ..
+        }
+        | Task::Checked { .. } => false,
         _ => true,
     }
 }

@@ -8,7 +8,7 @@ use edits::{MAX_EDITS_BYTES, read_edits};
 use itv_base::{NoMemory, Shelf};
 use std::alloc::Global;
 use unroll::{Limit, MAX_SESSION_ROWS, UnrollFault};
-use words::Task;
+use words::{SearchJob, Task};
 
 /// Why the job of a task is refused, whose design draws this network.
 pub fn job_fault<H: Shelf>(
@@ -19,12 +19,15 @@ pub fn job_fault<H: Shelf>(
 ) -> Result<String, NoMemory> {
     match task {
         Task::Fall { .. } => Ok(format!(in alloc; "{MIXED}")?),
-        Task::Redraw { .. } => Ok(format!(in alloc; "{WIDE}")?),
+        Task::Searched {
+            job: SearchJob::Redraw,
+            ..
+        } => Ok(format!(in alloc; "{WIDE}")?),
         Task::Matrix { .. } => {
             let count = u128::from(drawn.network().events());
             limit_fault(alloc, too_many(Limit::MatrixEvents, count))
         }
-        Task::Check { report, .. } | Task::Confirm { report, .. } => {
+        Task::Checked { report, .. } => {
             let report = Plain(report);
             Ok(format!(in alloc; "{report}: the report has more than 67,108,864 bytes")?)
         }

@@ -13,15 +13,11 @@ pub struct NamedFiles<'a> {
 /// The names of the files of a task.
 pub fn files_of<'a>(task: Task<'a>) -> NamedFiles<'a> {
     match task {
-        Task::Bounds { design, .. }
+        Task::Searched { design, .. }
+        | Task::Planned { design, .. }
         | Task::Fall { design, .. }
-        | Task::Settle { design, .. }
-        | Task::Redraw { design, .. }
-        | Task::Why { design, .. }
-        | Task::Brief { design, .. }
-        | Task::Lint { design, .. }
         | Task::Matrix { design } => only(Some(design)),
-        Task::Check { design, report } | Task::Confirm { design, report } => NamedFiles {
+        Task::Checked { design, report, .. } => NamedFiles {
             report: Some(report),
             ..only(Some(design))
         },

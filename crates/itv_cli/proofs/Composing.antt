@@ -1,5 +1,5 @@
 -- If the network of a plan is drawn, its netlist was composed.
-use Rattle.std.proofs.Common.{◌≡◌, IsOk, Result, Ok, Err, refl}
+use Rattle.std.proofs.Common.{IsOk, Result, Ok, Err, refl}
 use Rattle.itv_base.specs.Outside.{ShelfState}
 use Rattle.compose.specs.Compose.{composed_on}
 use Rattle.compose.specs.Design.{Composed}

@@ -16,6 +16,7 @@ use Rattle.bounds_report.specs.declared.summary.Summary.{Summary}
 use Rattle.bounds_report.proofs.WrittenLaws.{written_is_bare, written_is_shown}
 use Rattle.summary_report.specs.Summary.{AnswersSummary}
 use Rattle.redraw_report.specs.Redraw.{AnswersRedraw, AnswersEndWord, is_wide}
+use Rattle.words.specs.declared.job.SearchJob.TheVariants.{Redraw}
 use Rattle.itv_cli.specs.Bounds.{AnswersBounds, DecidesWithin}
 use Rattle.itv_cli.specs.Job.{Answers}
 use Rattle.itv_cli.specs.declared.ready.Ready.TheVariants as ready
@@ -67,7 +68,7 @@ says_undecided drawn lines endings.Inconsistent answer text s e = absurd (cc (s.
 says_undecided drawn lines endings.Undecided answer text s e = refl
 
 -- what a drawing is as an answer of job redraw
-pub answers_redraw : (drawn : Drawn) (most : ℕ) (answer : Answer) (text : List ℕ) → IsNet drawn.net → AnswersRedraw drawn most answer text → Answers (ready.Redraw drawn most) answer text
+pub answers_redraw : (drawn : Drawn) (most : ℕ) (answer : Answer) (text : List ℕ) → IsNet drawn.net → AnswersRedraw drawn most answer text → Answers (ready.Searched drawn Redraw most) answer text
 answers_redraw drawn most answer text net a = (
   a,
   λ undecided. written_below drawn most false a.lines net a.is_written

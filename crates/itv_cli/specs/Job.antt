@@ -14,7 +14,10 @@ use Rattle.plan.specs.Notes.{plan_notes}
 use Rattle.plan.specs.Plan.{Planned}
 use Rattle.reading.specs.Design.{design_at, drawn_at, plan_at}
 use Rattle.reading.specs.FileReading.{FileReading, gives, refuses, ◌>>=◌, at, file_at}
-use Rattle.words.specs.Task.{Task, bounds, fall, settle, redraw, why, brief, lint, matrix, check, confirm, generated, whatif}
+use Rattle.words.specs.declared.job.SearchJob.TheVariants.{Bounds, Settle, Redraw}
+use Rattle.words.specs.declared.job.PlanJob.TheVariants.{Why, Brief, Lint}
+use Rattle.words.specs.declared.job.CheckJob.TheVariants.{Check, Confirm}
+use Rattle.words.specs.Task.{Task, searched, planned, checked, fall, matrix, generated, whatif}
 use Rattle.bounds_report.specs.Reports.{MayHaveBegun}
 use Rattle.brief_report.specs.Brief.{AnswersBrief}
 use Rattle.fall_report.specs.Fall.{AnswersFall, BeginsFall}
@@ -76,38 +79,22 @@ planned_at name = do
   gives (plan, drawn)
 
 abbrev pub opening : Task → FileReading Ready
-opening (bounds design budget cert) = do
+opening (searched design job budget) = do
   drawn ← design_at design
-  gives (ready.Bounds drawn budget cert)
+  gives (ready.Searched drawn job budget)
+opening (planned design job budget) = do
+  both ← planned_at design
+  gives (ready.Planned both.0 both.1 job budget)
+opening (checked design job report) = do
+  drawn ← design_at design
+  bytes ← file_at Report report REPORT_LIMIT
+  gives (ready.Checked drawn job bytes)
 opening (fall design budget cert) = do
   drawn ← design_at design
   fall_at budget cert drawn
-opening (settle design budget cert) = do
-  drawn ← design_at design
-  gives (ready.Settle drawn budget cert)
-opening (redraw design budget) = do
-  drawn ← design_at design
-  gives (ready.Redraw drawn budget)
-opening (why design budget) = do
-  both ← planned_at design
-  gives (ready.Why both.0 both.1 budget)
-opening (brief design budget csv) = do
-  both ← planned_at design
-  gives (ready.Brief both.0 both.1 budget csv)
-opening (lint design budget) = do
-  both ← planned_at design
-  gives (ready.Lint both.0 both.1 budget)
 opening (matrix design) = do
   drawn ← design_at design
   matrix_at drawn
-opening (check design report) = do
-  drawn ← design_at design
-  bytes ← file_at Report report REPORT_LIMIT
-  gives (ready.Check drawn bytes)
-opening (confirm design report) = do
-  drawn ← design_at design
-  bytes ← file_at Report report REPORT_LIMIT
-  gives (ready.Confirm drawn bytes)
 opening (generated size budget) = do
   drawn ← design_at (codes "bus.json")
   gives (ready.Generated drawn size budget)
@@ -127,23 +114,23 @@ abbrev pub turns_for : ℕ → ℕ
 turns_for budget = 1000 * budget
 
 abbrev pub Answers : Ready → Answer → List ℕ → Type 0
-Answers (ready.Bounds drawn budget cert) answer text = AnswersBounds drawn budget cert answer text
+Answers (ready.Searched drawn (Bounds cert) budget) answer text = AnswersBounds drawn budget cert answer text
+Answers (ready.Searched drawn (Settle cert) budget) answer text = AnswersSettle drawn (turns_for budget) cert answer text
+Answers (ready.Searched drawn Redraw budget) answer text = AnswersRedraw drawn budget answer text × DecidesWithin drawn budget answer
+Answers (ready.Planned plan drawn Why budget) answer text = AnswersWhy (plan_notes plan) drawn budget answer text
+Answers (ready.Planned plan drawn (Brief csv) budget) answer text = AnswersBrief (plan_notes plan) drawn budget csv answer text
+Answers (ready.Planned plan drawn Lint budget) answer text = AnswersLint plan drawn budget answer text
+Answers (ready.Checked drawn Check report) answer text = AnswersCheck drawn report answer text
+Answers (ready.Checked drawn Confirm report) answer text = AnswersConfirm drawn report answer text
 Answers (ready.Fall drawn view budget cert) answer text = AnswersFall drawn budget cert answer text
-Answers (ready.Settle drawn budget cert) answer text = AnswersSettle drawn (turns_for budget) cert answer text
-Answers (ready.Redraw drawn budget) answer text = AnswersRedraw drawn budget answer text × DecidesWithin drawn budget answer
-Answers (ready.Why plan drawn budget) answer text = AnswersWhy (plan_notes plan) drawn budget answer text
-Answers (ready.Brief plan drawn budget csv) answer text = AnswersBrief (plan_notes plan) drawn budget csv answer text
-Answers (ready.Lint plan drawn budget) answer text = AnswersLint plan drawn budget answer text
 Answers (ready.Matrix drawn) answer text = AnswersMatrix drawn answer text
-Answers (ready.Check drawn report) answer text = AnswersCheck drawn report answer text
-Answers (ready.Confirm drawn report) answer text = AnswersConfirm drawn report answer text
 Answers (ready.Generated drawn size budget) answer text = AnswersSummary drawn size budget answer text × DecidesWithin drawn budget answer
 Answers (ready.Whatif drawn edits budget) answer text = AnswersWhatif drawn budget edits answer text
 
 -- what a job may have begun to write: for jobs bounds and fall a text that begins so, and for the others a whole text
 abbrev pub MayHaveWritten : Ready → List ℕ → Type 0
-MayHaveWritten (ready.Bounds drawn budget cert) text = MayHaveBegun drawn budget cert text
+MayHaveWritten (ready.Searched drawn (Bounds cert) budget) text = MayHaveBegun drawn budget cert text
+MayHaveWritten (ready.Searched drawn Redraw budget) text = Answered (AnswersRedraw drawn budget) text
 MayHaveWritten (ready.Fall drawn view budget cert) text = BeginsFall drawn budget cert text
-MayHaveWritten (ready.Redraw drawn budget) text = Answered (AnswersRedraw drawn budget) text
 MayHaveWritten (ready.Generated drawn size budget) text = Answered (AnswersSummary drawn size budget) text
 MayHaveWritten given text = Answered (Answers given) text

@@ -32,16 +32,11 @@ pub record HasForm (drawn : Drawn) : Type 0 where
 
 -- what a job may be given
 abbrev pub IsAllowed : Ready → Type 0
-IsAllowed (given.Bounds drawn budget cert) = IsBudget budget
+IsAllowed (given.Searched drawn job budget) = IsBudget budget × HasForm drawn
+IsAllowed (given.Planned plan drawn job budget) = IsBudget budget × IsOk (composed_on plan.netlist (sheets_on plan.sheets plan.netlist.parts))
+IsAllowed (given.Checked drawn job report) = Unit {0}
 IsAllowed (given.Fall drawn view budget cert) = IsViewOf drawn.net view
-IsAllowed (given.Settle drawn budget cert) = IsBudget budget
-IsAllowed (given.Redraw drawn budget) = IsBudget budget × HasForm drawn
-IsAllowed (given.Why plan drawn budget) = IsBudget budget
-IsAllowed (given.Brief plan drawn budget csv) = IsBudget budget
-IsAllowed (given.Lint plan drawn budget) = IsBudget budget × IsOk (composed_on plan.netlist (sheets_on plan.sheets plan.netlist.parts))
 IsAllowed (given.Matrix drawn) = drawn.net.events ≤ MAX_MATRIX_EVENTS
-IsAllowed (given.Check drawn report) = Unit {0}
-IsAllowed (given.Confirm drawn report) = Unit {0}
 IsAllowed (given.Generated drawn size budget) = IsBudget budget
 IsAllowed (given.Whatif drawn edits budget) = (length drawn.rows ≤ MAX_SESSION_ROWS) × IsBudget budget × All (IsThere drawn) edits
 

@@ -1,9 +1,10 @@
 //! What each job writes.
 
-ghost use Rattle.std.specs.Prelude.{◌≡◌};
+ghost use Rattle.std.specs.Prelude.{◌≡◌, IsOk};
+ghost use Rattle.compose.specs.Compose.{composed_on};
 ghost use Rattle.jobs.specs.JobWrote.{JobWrote};
+ghost use Rattle.plan.specs.Plan.{sheets_on};
 ghost use Rattle.itv_cli.specs.Job.{Answers, MayHaveWritten, turns_for};
-ghost use Rattle.itv_cli.specs.Job as job;
 ghost use Rattle.itv_cli.specs.declared.ready.Ready.TheVariants as ready;
 ghost use Rattle.words.specs.Task.{IsBudget};
 ghost use Rattle.itv_cli.specs.Step.{HasForm, IsAllowed};
@@ -17,6 +18,7 @@ use itv_base::Sink;
 use jobs::{Answer, Unanswered, answer_of};
 use lint_report::write_lint;
 use matrix_report::write_matrix;
+use plan::Plan;
 use redraw_report::write_redraw;
 use report_check::answer_check;
 use settle_check::answer_confirm;
@@ -25,6 +27,7 @@ use std::alloc::Global;
 use summary_report::write_summary;
 use whatif_report::write_whatif;
 use why_report::write_why;
+use words::{CheckJob, PlanJob, SearchJob};
 
 /// Does the job for which all was read, and writes its answer. All memory is taken before the first put.
 pub fn answer<K: Sink>(alloc: Global, given: &Ready, sink: &mut K) -> Result<Answer, Unanswered>
@@ -32,42 +35,25 @@ pub fn answer<K: Sink>(alloc: Global, given: &Ready, sink: &mut K) -> Result<Ans
     ensures works { JobWrote (Answers given.now) (MayHaveWritten given.now) (K.state sink.old) (K.state sink.new) result }
 {
     match given {
-        Ready::Bounds {
+        Ready::Searched { drawn, job, budget } => {
+            answer_searched(alloc, drawn, *job, *budget, sink)
+        }
+        Ready::Planned {
+            plan,
             drawn,
+            job,
             budget,
-            cert,
-        } => answer_bounds(alloc, drawn, *budget, *cert, sink),
+        } => answer_planned(alloc, plan, drawn, *job, *budget, sink),
+        Ready::Checked { drawn, job, report } => {
+            answer_checked(alloc, drawn, *job, report.as_slice(), sink)
+        }
         Ready::Fall {
             drawn,
             view,
             budget,
             cert,
         } => write_fall(alloc, drawn, *view, *budget, *cert, sink),
-        Ready::Settle {
-            drawn,
-            budget,
-            cert,
-        } => write_settle(alloc, drawn, turns_of(*budget), *cert, sink),
-        Ready::Redraw { drawn, budget } => answer_redraw(alloc, drawn, *budget, sink),
-        Ready::Why {
-            plan,
-            drawn,
-            budget,
-        } => write_why(alloc, plan, drawn, *budget, sink),
-        Ready::Brief {
-            plan,
-            drawn,
-            budget,
-            csv,
-        } => write_brief(alloc, plan, drawn, *budget, *csv, sink),
-        Ready::Lint {
-            plan,
-            drawn,
-            budget,
-        } => write_lint(alloc, plan, drawn, *budget, sink),
         Ready::Matrix { drawn } => write_matrix(alloc, drawn, sink),
-        Ready::Check { drawn, report } => answer_check(alloc, drawn, report.as_slice(), sink),
-        Ready::Confirm { drawn, report } => answer_confirm(alloc, drawn, report.as_slice(), sink),
         Ready::Generated {
             drawn,
             size,
@@ -81,6 +67,64 @@ pub fn answer<K: Sink>(alloc: Global, given: &Ready, sink: &mut K) -> Result<Ans
     }
 }
 
+// The jobs that search a drawn network.
+fn answer_searched<K: Sink>(
+    alloc: Global,
+    drawn: &DrawnNetwork,
+    job: SearchJob,
+    budget: u64,
+    sink: &mut K,
+) -> Result<Answer, Unanswered>
+    requires budget { IsBudget budget }
+    requires form { HasForm drawn.now }
+    ensures works { JobWrote (Answers (ready.Searched drawn.now job budget)) (MayHaveWritten (ready.Searched drawn.now job budget))
+        (K.state sink.old) (K.state sink.new) result }
+{
+    match job {
+        SearchJob::Bounds { cert } => answer_bounds(alloc, drawn, budget, cert, sink),
+        SearchJob::Settle { cert } => write_settle(alloc, drawn, turns_of(budget), cert, sink),
+        SearchJob::Redraw => answer_redraw(alloc, drawn, budget, sink),
+    }
+}
+
+// The jobs that search the network of a plan, and speak of the plan.
+fn answer_planned<K: Sink>(
+    alloc: Global,
+    plan: &Plan,
+    drawn: &DrawnNetwork,
+    job: PlanJob,
+    budget: u64,
+    sink: &mut K,
+) -> Result<Answer, Unanswered>
+    requires budget { IsBudget budget }
+    requires composed { IsOk (composed_on plan.now.netlist (sheets_on plan.now.sheets plan.now.netlist.parts)) }
+    ensures works { JobWrote (Answers (ready.Planned plan.now drawn.now job budget)) (MayHaveWritten (ready.Planned plan.now drawn.now job budget))
+        (K.state sink.old) (K.state sink.new) result }
+{
+    match job {
+        PlanJob::Why => write_why(alloc, plan, drawn, budget, sink),
+        PlanJob::Brief { csv } => write_brief(alloc, plan, drawn, budget, csv, sink),
+        PlanJob::Lint => write_lint(alloc, plan, drawn, budget, sink),
+    }
+}
+
+// The jobs that check the bytes of a report.
+fn answer_checked<K: Sink>(
+    alloc: Global,
+    drawn: &DrawnNetwork,
+    job: CheckJob,
+    report: &[u8],
+    sink: &mut K,
+) -> Result<Answer, Unanswered>
+    ensures works { JobWrote (Answers (ready.Checked drawn.now job report.now)) (MayHaveWritten (ready.Checked drawn.now job report.now))
+        (K.state sink.old) (K.state sink.new) result }
+{
+    match job {
+        CheckJob::Check => answer_check(alloc, drawn, report, sink),
+        CheckJob::Confirm => answer_confirm(alloc, drawn, report, sink),
+    }
+}
+
 // Job bounds: the report.
 fn answer_bounds<K: Sink>(
     alloc: Global,
@@ -90,8 +134,8 @@ fn answer_bounds<K: Sink>(
     sink: &mut K,
 ) -> Result<Answer, Unanswered>
     requires budget { IsBudget budget }
-    ensures works { JobWrote (Answers (ready.Bounds drawn.now budget cert)) (MayHaveWritten (ready.Bounds drawn.now budget cert))
-        (K.state sink.old) (K.state sink.new) result }
+    ensures works { JobWrote (Answers (ready.Searched drawn.now (SearchJob.Bounds cert) budget))
+        (MayHaveWritten (ready.Searched drawn.now (SearchJob.Bounds cert) budget)) (K.state sink.old) (K.state sink.new) result }
 {
     // The call also gives the invariant: the network is within its limits. So no search closes more cases than there are cause choices.
     let _events = drawn.network().events();
@@ -116,8 +160,8 @@ fn answer_redraw<K: Sink>(
 ) -> Result<Answer, Unanswered>
     requires budget { IsBudget budget }
     requires form { HasForm drawn.now }
-    ensures works { JobWrote (Answers (ready.Redraw drawn.now budget)) (MayHaveWritten (ready.Redraw drawn.now budget))
-        (K.state sink.old) (K.state sink.new) result }
+    ensures works { JobWrote (Answers (ready.Searched drawn.now SearchJob.Redraw budget))
+        (MayHaveWritten (ready.Searched drawn.now SearchJob.Redraw budget)) (K.state sink.old) (K.state sink.new) result }
 {
     // As in job bounds.
     let _events = drawn.network().events();

@@ -20,7 +20,7 @@ use itv_base::{MAX_MATRIX_EVENTS, REPORT_LIMIT, Shelf};
 use reading::{Refusal, RefusalPlace, Stop, edits_stop, fetch_file, open_design};
 use std::alloc::Global;
 use unroll::{Limit, MAX_SESSION_ROWS, UnrollFault};
-use words::Task;
+use words::{CheckJob, PlanJob, SearchJob, Task};
 
 /// What a task reads. The files are the files of the shelf. For a generated design they are made for it, and the shelf is left alone.
 pub fn open<H: Shelf>(alloc: Global, task: Task<'_>, shelf: &mut H) -> Result<Ready, Stop>
@@ -29,32 +29,27 @@ pub fn open<H: Shelf>(alloc: Global, task: Task<'_>, shelf: &mut H) -> Result<Re
     ensures allowed { IfOk result IsAllowed }
 {
     match task {
-        Task::Bounds {
+        Task::Searched {
             design,
+            job,
             budget,
-            cert,
-        } => open_bounds(alloc, design, budget, cert, shelf),
+        } => open_searched(alloc, design, job, budget, shelf),
+        Task::Planned {
+            design,
+            job,
+            budget,
+        } => open_planned_job(alloc, design, job, budget, shelf),
+        Task::Checked {
+            design,
+            job,
+            report,
+        } => open_checked(alloc, design, job, report, shelf),
         Task::Fall {
             design,
             budget,
             cert,
         } => open_fall(alloc, design, budget, cert, shelf),
-        Task::Settle {
-            design,
-            budget,
-            cert,
-        } => open_settle(alloc, design, budget, cert, shelf),
-        Task::Redraw { design, budget } => open_redraw(alloc, design, budget, shelf),
-        Task::Why { design, budget } => open_why(alloc, design, budget, shelf),
-        Task::Brief {
-            design,
-            budget,
-            csv,
-        } => open_brief(alloc, design, budget, csv, shelf),
-        Task::Lint { design, budget } => open_lint(alloc, design, budget, shelf),
         Task::Matrix { design } => open_matrix(alloc, design, shelf),
-        Task::Check { design, report } => open_check(alloc, design, report, shelf),
-        Task::Confirm { design, report } => open_confirm(alloc, design, report, shelf),
         Task::Generated { size, budget } => open_generated(alloc, size, budget),
         Task::Whatif {
             design,
@@ -64,25 +59,60 @@ pub fn open<H: Shelf>(alloc: Global, task: Task<'_>, shelf: &mut H) -> Result<Re
     }
 }
 
-// What job bounds reads.
-fn open_bounds<H: Shelf>(
+// What a job of searches reads.
+fn open_searched<H: Shelf>(
     alloc: Global,
     design: &str,
+    job: SearchJob,
     budget: u64,
-    cert: bool,
     shelf: &mut H,
 ) -> Result<Ready, Stop>
     requires budget { IsBudget budget }
     ensures opens { Opens (λ given. given) (H.state shelf.old) (H.state shelf.new)
-        (opening (said.bounds design.now budget cert)) result }
+        (opening (said.searched design.now job budget)) result }
     ensures allowed { IfOk result IsAllowed }
 {
     let drawn = open_design(alloc, design, shelf)?;
-    Ok(Ready::Bounds {
+    Ok(Ready::Searched { drawn, job, budget })
+}
+
+// What a job of a plan reads.
+fn open_planned_job<H: Shelf>(
+    alloc: Global,
+    design: &str,
+    job: PlanJob,
+    budget: u64,
+    shelf: &mut H,
+) -> Result<Ready, Stop>
+    requires budget { IsBudget budget }
+    ensures opens { Opens (λ given. given) (H.state shelf.old) (H.state shelf.new)
+        (opening (said.planned design.now job budget)) result }
+    ensures allowed { IfOk result IsAllowed }
+{
+    let PlannedNetwork { plan, drawn } = open_planned(alloc, design, shelf)?;
+    Ok(Ready::Planned {
+        plan,
         drawn,
+        job,
         budget,
-        cert,
     })
+}
+
+// What a job of a report reads: the report after the design.
+fn open_checked<H: Shelf>(
+    alloc: Global,
+    design: &str,
+    job: CheckJob,
+    report: &str,
+    shelf: &mut H,
+) -> Result<Ready, Stop>
+    ensures opens { Opens (λ given. given) (H.state shelf.old) (H.state shelf.new)
+        (opening (said.checked design.now job report.now)) result }
+    ensures allowed { IfOk result IsAllowed }
+{
+    let drawn = open_design(alloc, design, shelf)?;
+    let report = fetch_file(alloc, RefusalPlace::Report, report, REPORT_LIMIT, shelf)?;
+    Ok(Ready::Checked { drawn, job, report })
 }
 
 // What job fall reads.
@@ -120,105 +150,6 @@ fn for_fall(drawn: DrawnNetwork, budget: u64, cert: bool) -> Result<Ready, Stop>
     }
 }
 
-// What job settle reads.
-fn open_settle<H: Shelf>(
-    alloc: Global,
-    design: &str,
-    budget: u64,
-    cert: bool,
-    shelf: &mut H,
-) -> Result<Ready, Stop>
-    requires budget { IsBudget budget }
-    ensures opens { Opens (λ given. given) (H.state shelf.old) (H.state shelf.new)
-        (opening (said.settle design.now budget cert)) result }
-    ensures allowed { IfOk result IsAllowed }
-{
-    let drawn = open_design(alloc, design, shelf)?;
-    Ok(Ready::Settle {
-        drawn,
-        budget,
-        cert,
-    })
-}
-
-// What job redraw reads.
-fn open_redraw<H: Shelf>(
-    alloc: Global,
-    design: &str,
-    budget: u64,
-    shelf: &mut H,
-) -> Result<Ready, Stop>
-    requires budget { IsBudget budget }
-    ensures opens { Opens (λ given. given) (H.state shelf.old) (H.state shelf.new)
-        (opening (said.redraw design.now budget)) result }
-    ensures allowed { IfOk result IsAllowed }
-{
-    let drawn = open_design(alloc, design, shelf)?;
-    Ok(Ready::Redraw { drawn, budget })
-}
-
-// What job why reads.
-fn open_why<H: Shelf>(
-    alloc: Global,
-    design: &str,
-    budget: u64,
-    shelf: &mut H,
-) -> Result<Ready, Stop>
-    requires budget { IsBudget budget }
-    ensures opens { Opens (λ given. given) (H.state shelf.old) (H.state shelf.new)
-        (opening (said.why design.now budget)) result }
-    ensures allowed { IfOk result IsAllowed }
-{
-    let PlannedNetwork { plan, drawn } = open_planned(alloc, design, shelf)?;
-    Ok(Ready::Why {
-        plan,
-        drawn,
-        budget,
-    })
-}
-
-// What job brief reads.
-fn open_brief<H: Shelf>(
-    alloc: Global,
-    design: &str,
-    budget: u64,
-    csv: bool,
-    shelf: &mut H,
-) -> Result<Ready, Stop>
-    requires budget { IsBudget budget }
-    ensures opens { Opens (λ given. given) (H.state shelf.old) (H.state shelf.new)
-        (opening (said.brief design.now budget csv)) result }
-    ensures allowed { IfOk result IsAllowed }
-{
-    let PlannedNetwork { plan, drawn } = open_planned(alloc, design, shelf)?;
-    Ok(Ready::Brief {
-        plan,
-        drawn,
-        budget,
-        csv,
-    })
-}
-
-// What job lint reads.
-fn open_lint<H: Shelf>(
-    alloc: Global,
-    design: &str,
-    budget: u64,
-    shelf: &mut H,
-) -> Result<Ready, Stop>
-    requires budget { IsBudget budget }
-    ensures opens { Opens (λ given. given) (H.state shelf.old) (H.state shelf.new)
-        (opening (said.lint design.now budget)) result }
-    ensures allowed { IfOk result IsAllowed }
-{
-    let PlannedNetwork { plan, drawn } = open_planned(alloc, design, shelf)?;
-    Ok(Ready::Lint {
-        plan,
-        drawn,
-        budget,
-    })
-}
-
 // What job matrix reads.
 fn open_matrix<H: Shelf>(alloc: Global, design: &str, shelf: &mut H) -> Result<Ready, Stop>
     ensures opens { Opens (λ given. given) (H.state shelf.old) (H.state shelf.new)
@@ -252,39 +183,7 @@ fn too_many(limit: Limit, count: u64) -> Stop
     Stop::Refused(RefusalPlace::Design, Refusal::Limits(fault))
 }
 
-// What job check reads: the report behind the design.
-fn open_check<H: Shelf>(
-    alloc: Global,
-    design: &str,
-    report: &str,
-    shelf: &mut H,
-) -> Result<Ready, Stop>
-    ensures opens { Opens (λ given. given) (H.state shelf.old) (H.state shelf.new)
-        (opening (said.check design.now report.now)) result }
-    ensures allowed { IfOk result IsAllowed }
-{
-    let drawn = open_design(alloc, design, shelf)?;
-    let report = fetch_file(alloc, RefusalPlace::Report, report, REPORT_LIMIT, shelf)?;
-    Ok(Ready::Check { drawn, report })
-}
-
-// What job confirm reads: the text behind the design.
-fn open_confirm<H: Shelf>(
-    alloc: Global,
-    design: &str,
-    report: &str,
-    shelf: &mut H,
-) -> Result<Ready, Stop>
-    ensures opens { Opens (λ given. given) (H.state shelf.old) (H.state shelf.new)
-        (opening (said.confirm design.now report.now)) result }
-    ensures allowed { IfOk result IsAllowed }
-{
-    let drawn = open_design(alloc, design, shelf)?;
-    let report = fetch_file(alloc, RefusalPlace::Report, report, REPORT_LIMIT, shelf)?;
-    Ok(Ready::Confirm { drawn, report })
-}
-
-// What job whatif reads: the edits behind the design.
+// What job whatif reads: the edits after the design.
 fn open_whatif<H: Shelf>(
     alloc: Global,
     design: &str,

@@ -7,7 +7,7 @@ use itv_base::{FILE_LIMIT, Shelf, Texts};
 use line_words::short_in;
 use std::alloc::{AllocError, Global};
 use std::fmt::Write;
-use words::{Invocation, Task, read_words};
+use words::{CheckJob, Invocation, PlanJob, SearchJob, Task, read_words};
 
 /// Writes what a list of words asks for. In the row each word stands after a comma.
 pub fn words(alloc: Global, row: &str, out: &mut String) -> Result<(), Unfit> {
@@ -40,46 +40,82 @@ fn texts_of(alloc: Global, row: &str) -> Result<Texts, Unfit> {
 
 // Writes the job, its design and its other file, its budget, and whether it writes proofs or a table, as far as the job has them.
 fn put_task(task: Task<'_>, out: &mut String) -> Result<(), AllocError> {
-    let (job, design, budget, flag) = match task {
-        Task::Matrix { design } => return write!(out, "matrix {design}"),
-        Task::Check { design, report } => return write!(out, "check {design} {report}"),
-        Task::Confirm { design, report } => return write!(out, "confirm {design} {report}"),
-        Task::Generated { size, budget } => return write!(out, "self {size} {budget}"),
-        Task::Whatif {
+    match task {
+        Task::Searched {
             design,
-            edits,
+            job,
             budget,
-        } => return write!(out, "whatif {design} {edits} {budget}"),
-        Task::Bounds {
+        } => {
+            let (name, flag) = search_name(job);
+            put_search(name, design, budget, flag, out)
+        }
+        Task::Planned {
             design,
+            job,
             budget,
-            cert,
-        } => ("bounds", design, budget, Some(cert)),
+        } => {
+            let (name, flag) = plan_name(job);
+            put_search(name, design, budget, flag, out)
+        }
+        Task::Checked {
+            design,
+            job,
+            report,
+        } => write!(out, "{} {design} {report}", check_name(job)),
         Task::Fall {
             design,
             budget,
             cert,
-        } => ("fall", design, budget, Some(cert)),
-        Task::Settle {
+        } => put_search("fall", design, budget, Some(cert), out),
+        Task::Matrix { design } => write!(out, "matrix {design}"),
+        Task::Generated { size, budget } => write!(out, "self {size} {budget}"),
+        Task::Whatif {
             design,
+            edits,
             budget,
-            cert,
-        } => ("settle", design, budget, Some(cert)),
-        Task::Redraw { design, budget } => ("redraw", design, budget, None),
-        Task::Why { design, budget } => ("why", design, budget, None),
-        Task::Brief {
-            design,
-            budget,
-            csv,
-        } => ("brief", design, budget, Some(csv)),
-        Task::Lint { design, budget } => ("lint", design, budget, None),
-    };
-    write!(out, "{job} {design} {budget}")?;
+        } => write!(out, "whatif {design} {edits} {budget}"),
+    }
+}
+
+// The name of a job, and whether it writes proofs.
+fn search_name(job: SearchJob) -> (&'static str, Option<bool>) {
+    match job {
+        SearchJob::Bounds { cert } => ("bounds", Some(cert)),
+        SearchJob::Settle { cert } => ("settle", Some(cert)),
+        SearchJob::Redraw => ("redraw", None),
+    }
+}
+
+// The name of a job, and whether it writes a table.
+fn plan_name(job: PlanJob) -> (&'static str, Option<bool>) {
+    match job {
+        PlanJob::Why => ("why", None),
+        PlanJob::Brief { csv } => ("brief", Some(csv)),
+        PlanJob::Lint => ("lint", None),
+    }
+}
+
+// The name of a job, its design and its budget, and whether it writes proofs or a table.
+fn put_search(
+    name: &str,
+    design: &str,
+    budget: u64,
+    flag: Option<bool>,
+    out: &mut String,
+) -> Result<(), AllocError> {
+    write!(out, "{name} {design} {budget}")?;
     out.push_str(match flag {
         Some(true) => " true",
         Some(false) => " false",
         None => "",
     })
+}
+
+fn check_name(job: CheckJob) -> &'static str {
+    match job {
+        CheckJob::Check => "check",
+        CheckJob::Confirm => "confirm",
+    }
 }
 
 /// Writes the front of a file of the generated design of a size, for a row as in `1 bus.json 80`, or the fault of the size.

@@ -10,7 +10,13 @@ use Rattle.clap.specs.declared.error.kind.ErrorKind.{ErrorKind}
 use Rattle.clap.specs.declared.error.kind.ErrorKind.TheVariants.{DisplayHelp}
 use Rattle.itv_base.specs.declared.limits.TheConstants.{DEFAULT_BUDGET, MAX_BUDGET, MAX_SELF_SIZE}
 use Rattle.words.specs.Command.{command}
-use Rattle.words.specs.Task.{IsBudget, IsSize, IsWithinLimits, KeepsLimits, Task, answer_by, answer_for, bounds, brief, budget_of, check, confirm, fall, generated, generated_of, has_flag, lint, matrix, matrix_of, number_in, reading, redraw, refusal_for, searching, searching_if, searching_only, settle, size_of, taken, task_named, task_of, whatif, whatif_of, why}
+use Rattle.words.specs.declared.job.SearchJob.{SearchJob}
+use Rattle.words.specs.declared.job.SearchJob.TheVariants.{Bounds, Settle, Redraw}
+use Rattle.words.specs.declared.job.PlanJob.{PlanJob}
+use Rattle.words.specs.declared.job.PlanJob.TheVariants.{Why, Brief, Lint}
+use Rattle.words.specs.declared.job.CheckJob.{CheckJob}
+use Rattle.words.specs.declared.job.CheckJob.TheVariants.{Check, Confirm}
+use Rattle.words.specs.Task.{IsBudget, IsSize, IsWithinLimits, KeepsLimits, Task, answer_by, answer_for, budget_of, checked, checked_of, fall, fall_of, generated, generated_of, has_flag, matrix, matrix_of, number_in, planned, planned_of, refusal_for, searched, searched_of, size_of, taken, task_named, task_of, whatif, whatif_of}
 use Rattle.words.proofs.Numbers.{number_limits}
 
 budget_limits : (given : Option Text) → IfSome (option_map_or (number_in MAX_BUDGET) given (Some DEFAULT_BUDGET)) IsBudget
@@ -30,21 +36,29 @@ size_limits (Some text) = go (number_in MAX_SELF_SIZE text) (number_limits MAX_S
     go (Some n) h = record { low = h.0; high = h.1 }
 
 -- ---- the tasks
-searching_limits : (job : Text → ℕ → Task) (design : Option Text) (budget : Option ℕ) → ((d : Text) (b : ℕ) → IsBudget b → IsWithinLimits (job d b))
-    → IfSome budget IsBudget → IfSome (option_and_then (λ (d : Text). option_map (job d) budget) design) IsWithinLimits
-searching_limits job None budget by within = tt
-searching_limits job (Some d) None by within = tt
-searching_limits job (Some d) (Some b) by within = by d b within
+searching_limits : (asked : Text → ℕ → Task) (design : Option Text) (budget : Option ℕ) → ((d : Text) (b : ℕ) → IsBudget b → IsWithinLimits (asked d b))
+    → IfSome budget IsBudget → IfSome (option_and_then (λ (d : Text). option_map (asked d) budget) design) IsWithinLimits
+searching_limits asked None budget by within = tt
+searching_limits asked (Some d) None by within = tt
+searching_limits asked (Some d) (Some b) by within = by d b within
+
+searched_limits : (job : SearchJob) (rows : List Row) → IfSome (budget_of rows) IsBudget → IfSome (searched_of job rows) IsWithinLimits
+searched_limits job rows within = searching_limits (λ d b. searched d job b) (first_of (codes "design") rows) (budget_of rows) (λ d b one. one) within
+
+planned_limits : (job : PlanJob) (rows : List Row) → IfSome (budget_of rows) IsBudget → IfSome (planned_of job rows) IsWithinLimits
+planned_limits job rows within = searching_limits (λ d b. planned d job b) (first_of (codes "design") rows) (budget_of rows) (λ d b one. one) within
+
+fall_limits : (rows : List Row) → IfSome (budget_of rows) IsBudget → IfSome (fall_of rows) IsWithinLimits
+fall_limits rows within = searching_limits (λ d b. fall d b (has_flag (codes "cert") rows)) (first_of (codes "design") rows) (budget_of rows) (λ d b one. one) within
 
 matrix_limits : (design : Option Text) → IfSome (option_map matrix design) IsWithinLimits
 matrix_limits None = tt
 matrix_limits (Some d) = tt
 
-reading_limits : (job : Text → Text → Task) (design report : Option Text) → ((d r : Text) → IsWithinLimits (job d r))
-    → IfSome (option_and_then (λ (d : Text). option_map (job d) report) design) IsWithinLimits
-reading_limits job None report within = tt
-reading_limits job (Some d) None within = tt
-reading_limits job (Some d) (Some r) within = within d r
+checked_limits : (job : CheckJob) (design report : Option Text) → IfSome (option_and_then (λ (d : Text). option_map (checked d job) report) design) IsWithinLimits
+checked_limits job None report = tt
+checked_limits job (Some d) None = tt
+checked_limits job (Some d) (Some r) = tt
 
 generated_limits : (size budget : Option ℕ) → IfSome size IsSize → IfSome budget IsBudget → IfSome (option_and_then (λ (s : ℕ). option_map (generated s) budget) size) IsWithinLimits
 generated_limits None budget sized within = tt
@@ -66,18 +80,22 @@ named_limits : (rows : List Row) (name : Option Text) → IfSome (option_and_the
 named_limits rows None = tt
 named_limits rows (Some name) =
     let budgets : IfSome (budget_of rows) IsBudget = budget_limits (first_of (codes "budget") rows) in
-    by_name (bytes_eq name (codes "bounds")) (searching bounds rows) _ (searching_limits (λ d b. bounds d b (has_flag (codes "cert") rows)) (first_of (codes "design") rows) (budget_of rows) (λ d b within. within) budgets)
-    (by_name (bytes_eq name (codes "matrix")) (matrix_of rows) _ (matrix_limits (first_of (codes "design") rows))
-    (by_name (bytes_eq name (codes "check")) (reading check rows) _ (reading_limits check (first_of (codes "design") rows) (first_of (codes "report") rows) (λ d r. tt))
+    let is_cert : Bool = has_flag (codes "cert") rows in
+    let is_csv : Bool = has_flag (codes "csv") rows in
+    let design : Option Text = first_of (codes "design") rows in
+    let report : Option Text = first_of (codes "report") rows in
+    by_name (bytes_eq name (codes "bounds")) (searched_of (Bounds is_cert) rows) _ (searched_limits (Bounds is_cert) rows budgets)
+    (by_name (bytes_eq name (codes "matrix")) (matrix_of rows) _ (matrix_limits design)
+    (by_name (bytes_eq name (codes "check")) (checked_of Check rows) _ (checked_limits Check design report)
     (by_name (bytes_eq name (codes "self")) (generated_of rows) _ (generated_limits (size_of rows) (budget_of rows) (size_limits (first_of (codes "size") rows)) budgets)
-    (by_name (bytes_eq name (codes "fall")) (searching fall rows) _ (searching_limits (λ d b. fall d b (has_flag (codes "cert") rows)) (first_of (codes "design") rows) (budget_of rows) (λ d b within. within) budgets)
-    (by_name (bytes_eq name (codes "redraw")) (searching_only redraw rows) _ (searching_limits redraw (first_of (codes "design") rows) (budget_of rows) (λ d b within. within) budgets)
-    (by_name (bytes_eq name (codes "whatif")) (whatif_of rows) _ (whatif_limits (first_of (codes "design") rows) (first_of (codes "edits") rows) (budget_of rows) budgets)
-    (by_name (bytes_eq name (codes "settle")) (searching settle rows) _ (searching_limits (λ d b. settle d b (has_flag (codes "cert") rows)) (first_of (codes "design") rows) (budget_of rows) (λ d b within. within) budgets)
-    (by_name (bytes_eq name (codes "confirm")) (reading confirm rows) _ (reading_limits confirm (first_of (codes "design") rows) (first_of (codes "report") rows) (λ d r. tt))
-    (by_name (bytes_eq name (codes "why")) (searching_only why rows) _ (searching_limits why (first_of (codes "design") rows) (budget_of rows) (λ d b within. within) budgets)
-    (by_name (bytes_eq name (codes "brief")) (searching_if (codes "csv") brief rows) _ (searching_limits (λ d b. brief d b (has_flag (codes "csv") rows)) (first_of (codes "design") rows) (budget_of rows) (λ d b within. within) budgets)
-    (by_name (bytes_eq name (codes "lint")) (searching_only lint rows) None (searching_limits lint (first_of (codes "design") rows) (budget_of rows) (λ d b within. within) budgets) tt)))))))))))
+    (by_name (bytes_eq name (codes "fall")) (fall_of rows) _ (fall_limits rows budgets)
+    (by_name (bytes_eq name (codes "redraw")) (searched_of Redraw rows) _ (searched_limits Redraw rows budgets)
+    (by_name (bytes_eq name (codes "whatif")) (whatif_of rows) _ (whatif_limits design (first_of (codes "edits") rows) (budget_of rows) budgets)
+    (by_name (bytes_eq name (codes "settle")) (searched_of (Settle is_cert) rows) _ (searched_limits (Settle is_cert) rows budgets)
+    (by_name (bytes_eq name (codes "confirm")) (checked_of Confirm rows) _ (checked_limits Confirm design report)
+    (by_name (bytes_eq name (codes "why")) (planned_of Why rows) _ (planned_limits Why rows budgets)
+    (by_name (bytes_eq name (codes "brief")) (planned_of (Brief is_csv) rows) _ (planned_limits (Brief is_csv) rows budgets)
+    (by_name (bytes_eq name (codes "lint")) (planned_of Lint rows) None (planned_limits Lint rows budgets) tt)))))))))))
 
 task_limits : (task : Option Task) → IfSome task IsWithinLimits → KeepsLimits (answer_for task)
 task_limits None within = tt

@@ -12,20 +12,22 @@ use Rattle.clap.specs.Walk.{Row, Text, first_of}
 use Rattle.clap.specs.declared.error.kind.ErrorKind.{ErrorKind}
 use Rattle.clap.specs.declared.error.kind.ErrorKind.TheVariants.{DisplayHelp}
 use Rattle.words.specs.Command.{command}
+use Rattle.words.specs.declared.job.SearchJob.{SearchJob}
+use Rattle.words.specs.declared.job.SearchJob.TheVariants.{Bounds, Settle, Redraw}
+use Rattle.words.specs.declared.job.PlanJob.{PlanJob}
+use Rattle.words.specs.declared.job.PlanJob.TheVariants.{Why, Brief, Lint}
+use Rattle.words.specs.declared.job.CheckJob.{CheckJob}
+use Rattle.words.specs.declared.job.CheckJob.TheVariants.{Check, Confirm}
 
--- a job with what it needs, in this order: the name of the design and of the report or the edits, or the size of the generated design; the budget of
--- each search; and whether proofs are wanted, or of job brief whether a table is
+-- A job with what it needs. The first three share what they read with other jobs: the name of the design, the job, and the budget of each search or the
+-- name of the report. The others have, in this order: the name of the design and of the edits, or the size of the generated design; the budget of each
+-- search; and whether proofs are wanted.
 pub data Task : Type 0 where
-  bounds : Text → ℕ → Bool → Task
+  searched : Text → SearchJob → ℕ → Task
+  planned : Text → PlanJob → ℕ → Task
+  checked : Text → CheckJob → Text → Task
   fall : Text → ℕ → Bool → Task
-  settle : Text → ℕ → Bool → Task
-  redraw : Text → ℕ → Task
-  why : Text → ℕ → Task
-  brief : Text → ℕ → Bool → Task
-  lint : Text → ℕ → Task
   matrix : Text → Task
-  check : Text → Text → Task
-  confirm : Text → Text → Task
   generated : ℕ → ℕ → Task
   whatif : Text → Text → ℕ → Task
 
@@ -51,24 +53,25 @@ size_of rows = option_and_then (number_in MAX_SELF_SIZE) (first_of (codes "size"
 abbrev pub has_flag : Text → List Row → Bool
 has_flag name rows = option_map_or (λ text. bytes_eq text (codes "true")) (first_of name rows) false
 
--- a job with the name of the design and the budget
-abbrev pub searching_only : (Text → ℕ → Task) → List Row → Option Task
-searching_only job rows = option_and_then (λ design. option_map (job design) (budget_of rows)) (first_of (codes "design") rows)
+-- a task with the name of the design and the budget
+abbrev pub searching : (Text → ℕ → Task) → List Row → Option Task
+searching asked rows = option_and_then (λ design. option_map (asked design) (budget_of rows)) (first_of (codes "design") rows)
 
--- the same with whether an option is there
-abbrev pub searching_if : Text → (Text → ℕ → Bool → Task) → List Row → Option Task
-searching_if name job rows = searching_only (λ design budget. job design budget (has_flag name rows)) rows
+abbrev pub searched_of : SearchJob → List Row → Option Task
+searched_of job rows = searching (λ design budget. searched design job budget) rows
 
--- a job with the name of the design, the budget and whether proofs are wanted
-abbrev pub searching : (Text → ℕ → Bool → Task) → List Row → Option Task
-searching job rows = searching_if (codes "cert") job rows
+abbrev pub planned_of : PlanJob → List Row → Option Task
+planned_of job rows = searching (λ design budget. planned design job budget) rows
+
+-- a job with the name of the design and the name of the report
+abbrev pub checked_of : CheckJob → List Row → Option Task
+checked_of job rows = option_and_then (λ design. option_map (checked design job) (first_of (codes "report") rows)) (first_of (codes "design") rows)
+
+abbrev pub fall_of : List Row → Option Task
+fall_of rows = searching (λ design budget. fall design budget (has_flag (codes "cert") rows)) rows
 
 abbrev pub matrix_of : List Row → Option Task
 matrix_of rows = option_map matrix (first_of (codes "design") rows)
-
--- a job with the name of the design and the name of the report
-abbrev pub reading : (Text → Text → Task) → List Row → Option Task
-reading job rows = option_and_then (λ design. option_map (job design) (first_of (codes "report") rows)) (first_of (codes "design") rows)
 
 abbrev pub generated_of : List Row → Option Task
 generated_of rows = option_and_then (λ size. option_map (generated size) (budget_of rows)) (size_of rows)
@@ -80,18 +83,18 @@ whatif_of rows =
 -- the task of a job with this name, if all that it needs is there; what it does not need is passed over
 abbrev pub task_named : List Row → Text → Option Task
 task_named rows name =
-    if bytes_eq name (codes "bounds") then searching bounds rows
+    if bytes_eq name (codes "bounds") then searched_of (Bounds (has_flag (codes "cert") rows)) rows
     else (if bytes_eq name (codes "matrix") then matrix_of rows
-    else (if bytes_eq name (codes "check") then reading check rows
+    else (if bytes_eq name (codes "check") then checked_of Check rows
     else (if bytes_eq name (codes "self") then generated_of rows
-    else (if bytes_eq name (codes "fall") then searching fall rows
-    else (if bytes_eq name (codes "redraw") then searching_only redraw rows
+    else (if bytes_eq name (codes "fall") then fall_of rows
+    else (if bytes_eq name (codes "redraw") then searched_of Redraw rows
     else (if bytes_eq name (codes "whatif") then whatif_of rows
-    else (if bytes_eq name (codes "settle") then searching settle rows
-    else (if bytes_eq name (codes "confirm") then reading confirm rows
-    else (if bytes_eq name (codes "why") then searching_only why rows
-    else (if bytes_eq name (codes "brief") then searching_if (codes "csv") brief rows
-    else (if bytes_eq name (codes "lint") then searching_only lint rows
+    else (if bytes_eq name (codes "settle") then searched_of (Settle (has_flag (codes "cert") rows)) rows
+    else (if bytes_eq name (codes "confirm") then checked_of Confirm rows
+    else (if bytes_eq name (codes "why") then planned_of Why rows
+    else (if bytes_eq name (codes "brief") then planned_of (Brief (has_flag (codes "csv") rows)) rows
+    else (if bytes_eq name (codes "lint") then planned_of Lint rows
     else None)))))))))))
 
 abbrev pub task_of : List Row → Option Task
@@ -130,16 +133,11 @@ pub record IsSize (size : ℕ) : Type 0 where
 
 -- the numbers of a task are within their limits
 abbrev pub IsWithinLimits : Task → Type 0
-IsWithinLimits (bounds design budget proofs) = IsBudget budget
+IsWithinLimits (searched design job budget) = IsBudget budget
+IsWithinLimits (planned design job budget) = IsBudget budget
+IsWithinLimits (checked design job report) = Unit {0}
 IsWithinLimits (fall design budget proofs) = IsBudget budget
-IsWithinLimits (settle design budget proofs) = IsBudget budget
-IsWithinLimits (redraw design budget) = IsBudget budget
-IsWithinLimits (why design budget) = IsBudget budget
-IsWithinLimits (brief design budget csv) = IsBudget budget
-IsWithinLimits (lint design budget) = IsBudget budget
 IsWithinLimits (matrix design) = Unit {0}
-IsWithinLimits (check design report) = Unit {0}
-IsWithinLimits (confirm design report) = Unit {0}
 IsWithinLimits (generated size budget) = IsSize size × IsBudget budget
 IsWithinLimits (whatif design edits budget) = IsBudget budget
 

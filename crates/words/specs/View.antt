@@ -6,16 +6,11 @@ use Rattle.words.specs.declared.task.Task.{Task}
 use Rattle.words.specs.declared.task.Task.TheVariants as wanted
 
 abbrev pub task_view : Task → said.Task
-task_view (wanted.Bounds design budget cert) = said.bounds design.now budget cert
+task_view (wanted.Searched design job budget) = said.searched design.now job budget
+task_view (wanted.Planned design job budget) = said.planned design.now job budget
+task_view (wanted.Checked design job report) = said.checked design.now job report.now
 task_view (wanted.Fall design budget cert) = said.fall design.now budget cert
-task_view (wanted.Settle design budget cert) = said.settle design.now budget cert
-task_view (wanted.Redraw design budget) = said.redraw design.now budget
-task_view (wanted.Why design budget) = said.why design.now budget
-task_view (wanted.Brief design budget csv) = said.brief design.now budget csv
-task_view (wanted.Lint design budget) = said.lint design.now budget
 task_view (wanted.Matrix design) = said.matrix design.now
-task_view (wanted.Check design report) = said.check design.now report.now
-task_view (wanted.Confirm design report) = said.confirm design.now report.now
 task_view (wanted.Generated size budget) = said.generated size budget
 task_view (wanted.Whatif design edits budget) = said.whatif design.now edits.now budget
 

@@ -4,8 +4,10 @@
 #![tactic(auto)]
 
 mod command;
+mod job;
 mod read;
 mod task;
 
+pub use job::{CheckJob, PlanJob, SearchJob};
 pub use read::read_words;
 pub use task::{Invocation, Task};

@@ -5,10 +5,11 @@ ghost use Rattle.clap.specs.Matches.{found_of};
 ghost use Rattle.clap.specs.Values.{kind_of};
 ghost use Rattle.clap.specs.Walk.{first_of, rows_of};
 ghost use Rattle.clap.specs.declared.error.kind.ErrorKind.{ErrorKind};
-ghost use Rattle.words.specs.Task.{KeepsLimits, answer_for, bounds, brief, budget_of, check, confirm, fall, generated_of, has_flag, lint, matrix_of, number_in, reading, redraw, refusal_for, searching, searching_if, searching_only, settle, size_of, taken, task_named, task_of, whatif_of, why};
+ghost use Rattle.words.specs.Task.{KeepsLimits, answer_for, budget_of, checked_of, fall_of, generated_of, has_flag, matrix_of, number_in, planned_of, refusal_for, searched_of, size_of, taken, task_named, task_of, whatif_of};
 ghost use Rattle.words.specs.View.{answer_view, task_view};
 
 use crate::command::command;
+use crate::job::{CheckJob, PlanJob, SearchJob};
 use crate::task::{Invocation, Task};
 use clap::error::ErrorKind;
 use clap::{ArgMatches, Error};
@@ -60,48 +61,75 @@ fn task_named<'a>(matches: &ArgMatches<'a>, name: &str) -> Option<Task<'a>>
     ensures { option_map task_view result ≡ task_named (rows_of (found_of matches.now)) name.now }
 {
     if name == "bounds" {
-        bounds_task(matches)
+        let cert = has_flag(matches, "cert");
+        searched_task(matches, SearchJob::Bounds { cert })
     } else if name == "matrix" {
         matrix_task(matches)
     } else if name == "check" {
-        check_task(matches)
+        checked_task(matches, CheckJob::Check)
     } else if name == "self" {
         generated_task(matches)
     } else if name == "fall" {
         fall_task(matches)
     } else if name == "redraw" {
-        redraw_task(matches)
+        searched_task(matches, SearchJob::Redraw)
     } else if name == "whatif" {
         whatif_task(matches)
     } else if name == "settle" {
-        settle_task(matches)
+        let cert = has_flag(matches, "cert");
+        searched_task(matches, SearchJob::Settle { cert })
     } else if name == "confirm" {
-        confirm_task(matches)
+        checked_task(matches, CheckJob::Confirm)
     } else if name == "why" {
-        why_task(matches)
+        planned_task(matches, PlanJob::Why)
     } else if name == "brief" {
-        brief_task(matches)
+        let csv = has_flag(matches, "csv");
+        planned_task(matches, PlanJob::Brief { csv })
     } else if name == "lint" {
-        lint_task(matches)
+        planned_task(matches, PlanJob::Lint)
     } else {
         None
     }
 }
 
-fn bounds_task<'a>(matches: &ArgMatches<'a>) -> Option<Task<'a>>
-    ensures { option_map task_view result ≡ searching bounds (rows_of (found_of matches.now)) }
+fn searched_task<'a>(matches: &ArgMatches<'a>, job: SearchJob) -> Option<Task<'a>>
+    ensures { option_map task_view result ≡ searched_of job (rows_of (found_of matches.now)) }
 {
     let design = text_of(matches, "design")?;
     let budget = budget_of(matches)?;
-    Some(Task::Bounds {
+    Some(Task::Searched {
         design,
+        job,
         budget,
-        cert: has_flag(matches, "cert"),
+    })
+}
+
+fn planned_task<'a>(matches: &ArgMatches<'a>, job: PlanJob) -> Option<Task<'a>>
+    ensures { option_map task_view result ≡ planned_of job (rows_of (found_of matches.now)) }
+{
+    let design = text_of(matches, "design")?;
+    let budget = budget_of(matches)?;
+    Some(Task::Planned {
+        design,
+        job,
+        budget,
+    })
+}
+
+fn checked_task<'a>(matches: &ArgMatches<'a>, job: CheckJob) -> Option<Task<'a>>
+    ensures { option_map task_view result ≡ checked_of job (rows_of (found_of matches.now)) }
+{
+    let design = text_of(matches, "design")?;
+    let report = text_of(matches, "report")?;
+    Some(Task::Checked {
+        design,
+        job,
+        report,
     })
 }
 
 fn fall_task<'a>(matches: &ArgMatches<'a>) -> Option<Task<'a>>
-    ensures { option_map task_view result ≡ searching fall (rows_of (found_of matches.now)) }
+    ensures { option_map task_view result ≡ fall_of (rows_of (found_of matches.now)) }
 {
     let design = text_of(matches, "design")?;
     let budget = budget_of(matches)?;
@@ -112,75 +140,11 @@ fn fall_task<'a>(matches: &ArgMatches<'a>) -> Option<Task<'a>>
     })
 }
 
-fn settle_task<'a>(matches: &ArgMatches<'a>) -> Option<Task<'a>>
-    ensures { option_map task_view result ≡ searching settle (rows_of (found_of matches.now)) }
-{
-    let design = text_of(matches, "design")?;
-    let budget = budget_of(matches)?;
-    Some(Task::Settle {
-        design,
-        budget,
-        cert: has_flag(matches, "cert"),
-    })
-}
-
-fn redraw_task<'a>(matches: &ArgMatches<'a>) -> Option<Task<'a>>
-    ensures { option_map task_view result ≡ searching_only redraw (rows_of (found_of matches.now)) }
-{
-    let design = text_of(matches, "design")?;
-    let budget = budget_of(matches)?;
-    Some(Task::Redraw { design, budget })
-}
-
-fn why_task<'a>(matches: &ArgMatches<'a>) -> Option<Task<'a>>
-    ensures { option_map task_view result ≡ searching_only why (rows_of (found_of matches.now)) }
-{
-    let design = text_of(matches, "design")?;
-    let budget = budget_of(matches)?;
-    Some(Task::Why { design, budget })
-}
-
-fn brief_task<'a>(matches: &ArgMatches<'a>) -> Option<Task<'a>>
-    ensures { option_map task_view result ≡ searching_if (codes "csv") brief (rows_of (found_of matches.now)) }
-{
-    let design = text_of(matches, "design")?;
-    let budget = budget_of(matches)?;
-    Some(Task::Brief {
-        design,
-        budget,
-        csv: has_flag(matches, "csv"),
-    })
-}
-
-fn lint_task<'a>(matches: &ArgMatches<'a>) -> Option<Task<'a>>
-    ensures { option_map task_view result ≡ searching_only lint (rows_of (found_of matches.now)) }
-{
-    let design = text_of(matches, "design")?;
-    let budget = budget_of(matches)?;
-    Some(Task::Lint { design, budget })
-}
-
 fn matrix_task<'a>(matches: &ArgMatches<'a>) -> Option<Task<'a>>
     ensures { option_map task_view result ≡ matrix_of (rows_of (found_of matches.now)) }
 {
     let design = text_of(matches, "design")?;
     Some(Task::Matrix { design })
-}
-
-fn check_task<'a>(matches: &ArgMatches<'a>) -> Option<Task<'a>>
-    ensures { option_map task_view result ≡ reading check (rows_of (found_of matches.now)) }
-{
-    let design = text_of(matches, "design")?;
-    let report = text_of(matches, "report")?;
-    Some(Task::Check { design, report })
-}
-
-fn confirm_task<'a>(matches: &ArgMatches<'a>) -> Option<Task<'a>>
-    ensures { option_map task_view result ≡ reading confirm (rows_of (found_of matches.now)) }
-{
-    let design = text_of(matches, "design")?;
-    let report = text_of(matches, "report")?;
-    Some(Task::Confirm { design, report })
 }
 
 fn generated_task<'a>(matches: &ArgMatches<'a>) -> Option<Task<'a>>

@@ -2,7 +2,8 @@ use Rattle.std.proofs.Common.{◌∙◌, refl, sym, ap}
 use Rattle.itv_base.specs.Memory.{MemSink, shelf_state, sink_state}
 use Rattle.itv_base.specs.Outside.{FaultCounted}
 use Rattle.itv_cli.specs.Run.{Call, HasWriteFault, call_of}
-use Rattle.words.specs.Task.{Task, bounds}
+use Rattle.words.specs.declared.job.SearchJob.TheVariants.{Bounds}
+use Rattle.words.specs.Task.{Task, searched}
 use Rattle.conformance.specs.Clients.{Asks, IsFrontOf}
 use Rattle.conformance.proofs.Faults.{front_over, front_right, sink_cut}
 use Rattle.conformance.proofs.clients.front_of.Goals as goal
@@ -17,5 +18,5 @@ returns-in-WriteFault c =
     record {
       begins = begins;
       right = λ design budget cert drawn words draws quiet.
-          front_right c.args.shelf.now.files design budget cert drawn c.in_ok-from_slice-in-WriteFault.field-0.items draws (begins (bounds design budget cert) (record { words = words; own = refl }) quiet);
+          front_right c.args.shelf.now.files design budget cert drawn c.in_ok-from_slice-in-WriteFault.field-0.items draws (begins (searched design (Bounds cert) budget) (record { words = words; own = refl }) quiet);
     }

@@ -1,4 +1,4 @@
-use Rattle.std.proofs.Common.{◌≡◌, ℕ, List, IsOk, Ok, refl}
+use Rattle.std.proofs.Common.{Ok, refl}
 use Rattle.drawn.specs.Drawn.{Drawn}
 use Rattle.plan.specs.Plan.{Planned}
 use Rattle.reading.specs.Design.{drawn_at, plan_at}
