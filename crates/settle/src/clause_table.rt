@@ -26,6 +26,8 @@ pub struct StoredClause {
     pub target: EventId,
     pub literals: Stretch,
     pub ways: Stretch,
+    /// How many literals the checker has of this clause: it keeps those that repeat.
+    pub written: usize,
 }
 
 /// A clause in a chain, and the place of the next link.
@@ -43,6 +45,7 @@ const NO_CLAUSE: StoredClause = StoredClause {
     target: EventId(0),
     literals: NO_SPAN,
     ways: NO_SPAN,
+    written: 0,
 };
 
 const NO_LITERAL: NumberedLiteral = NumberedLiteral {
@@ -220,7 +223,7 @@ impl ClauseTable {
         let first_literal = self.literals.len();
         for place in 0..shape.literals {
             if let Some(literal) = literal_at(net, kept, basis, place) {
-                self.push_literal(clause, first_literal, literal)?;
+                self.push_literal(clause, literal)?;
             }
         }
         let first_way = self.ways.len();
@@ -240,26 +243,22 @@ impl ClauseTable {
                 first: first_way,
                 count: self.ways.len().saturating_sub(first_way),
             },
+            written: shape.literals,
         })?;
         Ok(())
     }
 
-    // Adds a literal of a clause, unless the clause has it already. `first` is the place of the clause's first literal.
-    fn push_literal(
-        &mut self,
-        clause: usize,
-        first: usize,
-        literal: Literal,
-    ) -> Result<(), NoMemory> {
+    // Adds a literal of the clause at the end, unless the clause has it already. Then its first link is this clause's.
+    fn push_literal(&mut self, clause: usize, literal: Literal) -> Result<(), NoMemory> {
         let numbered = self.number_of(literal);
-        for place in first..self.literals.len() {
-            if at(&self.literals, place, NO_LITERAL) == numbered {
+        let head = numbered.opposite().place();
+        let next = at(&self.by_literal, head, None);
+        if let Some(place) = next {
+            if self.link(place).clause == clause {
                 return Ok(());
             }
         }
         self.literals.push(numbered)?;
-        let head = numbered.opposite().place();
-        let next = at(&self.by_literal, head, None);
         put(&mut self.by_literal, head, Some(self.links.len()));
         self.links.push(ChainLink { clause, next })?;
         Ok(())
@@ -302,6 +301,11 @@ impl ClauseTable {
     /// The number of clauses.
     pub fn len(&self) -> usize {
         self.clauses.len()
+    }
+
+    /// How many literals and ways all clauses have.
+    pub fn size(&self) -> usize {
+        self.literals.len().saturating_add(self.ways.len())
     }
 
     /// The number of sides.
