@@ -1,6 +1,6 @@
 //! Choices of sides.
 
-use crate::clause_table::StoredClause;
+use crate::clause_table::{SideEdge, StoredClause};
 use crate::engine::{Engine, Proposal};
 use crate::numbered_literal::NumberedLiteral;
 use crate::places::at;
@@ -81,13 +81,11 @@ impl Engine {
 
     // By how much the values break the edge of a side, in picoseconds. The values meet the edge if this is at most 0.
     fn excess(&self, literal: NumberedLiteral) -> i64 {
-        let Some(place) = self.table.of_side(literal.side) else {
+        let Some(SideEdge { target, way }) = self.table.edge_of(literal.side) else {
             return 0;
         };
-        let clause = self.table.clause(place);
-        let way = self.table.way(clause, 0);
         let given = self.assignment.value(way.from).saturating_add(way.weight);
-        self.assignment.value(clause.target).saturating_sub(given)
+        self.assignment.value(target).saturating_sub(given)
     }
 }
 

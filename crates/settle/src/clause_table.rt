@@ -30,6 +30,13 @@ pub struct StoredClause {
     pub written: usize,
 }
 
+/// The edge of a side that is met: the event comes within the way.
+#[derive(Clone, Copy)]
+pub struct SideEdge {
+    pub target: EventId,
+    pub way: Way,
+}
+
 /// A clause in a chain, and the place of the next link.
 #[derive(Clone, Copy)]
 pub struct ChainLink {
@@ -82,7 +89,7 @@ pub struct ClauseTable {
     by_event: Vec<Option<usize>>,
     by_literal: Vec<Option<usize>>,
     sides: Vec<Literal>,
-    side_clauses: Vec<Option<usize>>,
+    side_edges: Vec<Option<SideEdge>>,
     first_sides: Vec<usize>,
     earliest: Vec<usize>,
 }
@@ -98,7 +105,7 @@ impl ClauseTable {
             by_event: vec![in alloc; None; net.events() as usize]?,
             by_literal: Vec::new(alloc),
             sides: Vec::new(alloc),
-            side_clauses: Vec::new(alloc),
+            side_edges: Vec::new(alloc),
             first_sides: Vec::new(alloc),
             earliest: Vec::new(alloc),
         };
@@ -126,7 +133,7 @@ impl ClauseTable {
                 cause,
                 is_met: true,
             })?;
-            self.side_clauses.push(None)?;
+            self.side_edges.push(None)?;
             self.by_literal.push(None)?;
             self.by_literal.push(None)?;
         }
@@ -189,7 +196,12 @@ impl ClauseTable {
         self.push_clause(net, &[], Basis::BySide(met))?;
         if place < self.clauses.len() {
             let side = self.number_of(met).side;
-            put(&mut self.side_clauses, side, Some(place));
+            let clause = self.clause(place);
+            let edge = SideEdge {
+                target: clause.target,
+                way: self.way(clause, 0),
+            };
+            put(&mut self.side_edges, side, Some(edge));
         }
         self.push_clause(net, &[], Basis::BySide(met.opposite()))
     }
@@ -293,9 +305,9 @@ impl ClauseTable {
         }
     }
 
-    /// The clause of the edge of a side, if there is one.
-    pub fn of_side(&self, side: usize) -> Option<usize> {
-        at(&self.side_clauses, side, None)
+    /// The edge of a side, if there is one.
+    pub fn edge_of(&self, side: usize) -> Option<SideEdge> {
+        at(&self.side_edges, side, None)
     }
 
     /// The number of clauses.

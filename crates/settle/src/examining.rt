@@ -84,7 +84,8 @@ impl Engine {
         }
         if self.assignment.level() == 0 {
             let clause = self.table.clause(clause);
-            self.meter.look(self.line_looks(clause));
+            let looks = self.line_looks(clause);
+            self.meter.look(looks);
             self.outbox.push(StoredLine::Fall(EventFall {
                 event,
                 value,
@@ -99,7 +100,8 @@ impl Engine {
         self.assignment.hold(literal, clause)?;
         if self.assignment.level() == 0 {
             let clause = self.table.clause(clause);
-            self.meter.look(self.line_looks(clause));
+            let looks = self.line_looks(clause);
+            self.meter.look(looks);
             let named = self.table.named(literal);
             self.outbox.push(StoredLine::Know(named, clause.basis))?;
         }

@@ -38,8 +38,13 @@ struct OutMark {
 
 const NO_MARK: OutMark = OutMark { walk: 0, place: 0 };
 
-// The most literals, or ways out, of a loop that is proposed at once.
-const SMALL: usize = 64;
+// The most ways out of a loop that is proposed, the most literals of one that is proposed at once, and how many loops
+// with more literals are passed over before twice as many are allowed.
+const MOST_OUT: usize = 4096;
+
+const FEW: usize = 64;
+
+const PATIENCE: u32 = 64;
 
 /// The walks back so far.
 #[derive(Drop)]
@@ -50,8 +55,9 @@ pub struct WalksBack {
     stamps: Vec<usize>,
     /// For each event the way out from it of the latest walk that has one.
     outs: Vec<OutMark>,
-    /// The most literals, or ways out, of the next loop that is proposed.
+    /// The most literals of the next loop that is proposed, and how many loops with more were passed over since.
     most: usize,
+    passed: u32,
 }
 
 impl WalksBack {
@@ -61,7 +67,8 @@ impl WalksBack {
             number: 0,
             stamps: vec![in alloc; 0; events]?,
             outs: vec![in alloc; NO_MARK; events]?,
-            most: SMALL,
+            most: FEW,
+            passed: 0,
         })
     }
 
@@ -91,14 +98,20 @@ impl WalksBack {
         None
     }
 
-    // Whether a loop of this size may be proposed. The more loops were too large, the larger the next one may be: so
-    // events do not fall on and on round a large loop. After a loop that is proposed only small ones may be again.
-    fn allows(&mut self, size: usize) -> bool {
-        if size <= self.most {
-            self.most = SMALL;
+    // Whether a loop with so many literals may be proposed. Kept loops with many literals slow the search down, and loops
+    // through them have more still. But where many loops in a row have too many, events fall on and on round a large
+    // loop, and so twice as many literals are allowed. A loop that is proposed ends that.
+    fn allows(&mut self, literals: usize) -> bool {
+        if literals <= self.most {
+            self.most = FEW;
+            self.passed = 0;
             return true;
         }
-        self.most = self.most.saturating_add(self.most / 8);
+        self.passed = self.passed.saturating_add(1);
+        if PATIENCE <= self.passed {
+            self.most = self.most.saturating_mul(2);
+            self.passed = 0;
+        }
         false
     }
 }
@@ -211,7 +224,7 @@ impl Engine {
     fn propose(&mut self, round: Round) -> Result<(), NoMemory> {
         self.meter.look(round.out.len());
         let lowers = round.sum < 0 && self.most_out(&round) < self.assignment.value(round.event);
-        if !lowers || !self.walks.allows(round.literals.max(round.out.len())) {
+        if !lowers || MOST_OUT < round.out.len() || !self.walks.allows(round.literals) {
             return Ok(());
         }
         self.meter.look(round.looks);
@@ -234,8 +247,15 @@ impl Engine {
 // How many things the checker looks at in a step back by a clause: it compares each way with the ways out so far, and
 // looks through these once more. Eight comparisons count as one thing.
 fn looks_at(round: &Round, clause: StoredClause) -> usize {
-    let compared = clause.ways.count.saturating_add(1).saturating_mul(round.out.len());
-    clause.written.saturating_add(clause.ways.count).saturating_add(compared / 8)
+    let compared = clause
+        .ways
+        .count
+        .saturating_add(1)
+        .saturating_mul(round.out.len());
+    clause
+        .written
+        .saturating_add(clause.ways.count)
+        .saturating_add(compared / 8)
 }
 
 // The wider of two ways.

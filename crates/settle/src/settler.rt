@@ -43,7 +43,7 @@ impl Settler {
 
     /// The greatest separation of a pair of events in picoseconds and what shows it, found in at most this many turns;
     /// or `NoMemory`. A step of the search makes at most one line. It is a turn, and more of them if it looks at more than
-    /// 16 things. What the search keeps is bounded too: without an answer it ends where either is spent.
+    /// 32 things. What the search keeps is bounded too: without an answer it ends where either is spent.
     pub fn greatest(
         &self,
         alloc: Global,
@@ -71,7 +71,7 @@ impl Settler {
     }
 }
 
-// How many items each search may keep: 32 for each event and constraint, and one for each 128 turns.
+// How many items each search may keep: 32 for each event and constraint, and one for each 50 turns.
 fn room_of(net: &Network, turns: u64) -> u64 {
     let size = (net.events() as u64).saturating_add(net.len() as u64);
     size.saturating_mul(32).saturating_add(turns / 50)
