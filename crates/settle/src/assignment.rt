@@ -48,6 +48,8 @@ pub struct Assignment {
     places: Vec<Option<usize>>,
     trail: Vec<TrailEntry>,
     starts: Vec<usize>,
+    /// How many literals hold.
+    held: usize,
 }
 
 impl Assignment {
@@ -67,6 +69,7 @@ impl Assignment {
             places: vec![in alloc; None; sides.saturating_mul(2)]?,
             trail: Vec::new(alloc),
             starts: Vec::new(alloc),
+            held: 0,
         })
     }
 
@@ -93,6 +96,11 @@ impl Assignment {
     /// Whether a literal holds.
     pub fn holds(&self, literal: NumberedLiteral) -> bool {
         self.place_of(literal).is_some()
+    }
+
+    /// How many literals hold.
+    pub fn held(&self) -> usize {
+        self.held
     }
 
     /// The entry at a place.
@@ -132,18 +140,26 @@ impl Assignment {
 
     /// Lets a literal hold by a clause.
     pub fn hold(&mut self, literal: NumberedLiteral, clause: usize) -> Result<(), NoMemory> {
-        let place = self.trail.len();
-        self.push(TrailChange::Held(literal), Some(clause))?;
-        put(&mut self.places, literal.place(), Some(place));
-        Ok(())
+        self.push_literal(literal, Some(clause))
     }
 
     /// Chooses a literal. A level begins with it.
     pub fn choose(&mut self, literal: NumberedLiteral) -> Result<(), NoMemory> {
         let place = self.trail.len();
         self.starts.push(place)?;
-        self.push(TrailChange::Held(literal), None)?;
+        self.push_literal(literal, None)
+    }
+
+    // Puts the entry of a literal behind the others.
+    fn push_literal(
+        &mut self,
+        literal: NumberedLiteral,
+        clause: Option<usize>,
+    ) -> Result<(), NoMemory> {
+        let place = self.trail.len();
+        self.push(TrailChange::Held(literal), clause)?;
         put(&mut self.places, literal.place(), Some(place));
+        self.held = self.held.saturating_add(1);
         Ok(())
     }
 
@@ -158,13 +174,15 @@ impl Assignment {
         Ok(())
     }
 
-    /// Takes back all entries of the levels above this one.
-    pub fn go_back(&mut self, level: usize) {
-        let end = at(&self.starts, level, self.trail.len());
-        for _ in end..self.trail.len() {
+    /// Takes back all entries of the levels above this one, and says how many there were.
+    pub fn go_back(&mut self, level: usize) -> usize {
+        let count = self.trail.len();
+        let end = at(&self.starts, level, count);
+        for _ in end..count {
             self.take_back();
         }
         self.starts.truncate(level);
+        count.saturating_sub(end)
     }
 
     // Takes back the latest entry.
@@ -177,7 +195,10 @@ impl Assignment {
                 put(&mut self.values, fallen.event.0 as usize, fallen.old);
                 put(&mut self.last, fallen.event.0 as usize, fallen.before);
             }
-            TrailChange::Held(literal) => put(&mut self.places, literal.place(), None),
+            TrailChange::Held(literal) => {
+                put(&mut self.places, literal.place(), None);
+                self.held = self.held.saturating_sub(1);
+            }
         }
     }
 }

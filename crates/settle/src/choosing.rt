@@ -1,6 +1,6 @@
 //! Choices of sides.
 
-use crate::clause_table::StoredClause;
+use crate::clause_table::{SideEdge, StoredClause};
 use crate::engine::{Engine, Proposal};
 use crate::numbered_literal::NumberedLiteral;
 use crate::places::at;
@@ -22,57 +22,42 @@ impl Engine {
     /// allowed, the search rests.
     pub fn choose(&mut self) -> Result<Proposal, NoMemory> {
         let Some(candidate) = self.first_candidate() else {
+            self.meter.look(self.table.size());
             return Ok(Proposal::Times);
         };
         if self.blocks == 0 {
             return Ok(Proposal::Rests);
         }
-        self.changes.fill(0);
+        self.falls.reset();
         self.assignment.choose(candidate.literal)?;
         Ok(Proposal::Nothing)
     }
 
     // The side to choose, or none if the values break no earliest constraint.
-    fn first_candidate(&self) -> Option<Candidate> {
+    fn first_candidate(&mut self) -> Option<Candidate> {
         let mut first: Option<Candidate> = None;
         for number in 0..self.table.earliest().len() {
             let clause = self.table.clause(at(self.table.earliest(), number, 0));
-            if let Some(literal) = self.broken_side(clause) {
-                let value = self.assignment.value(clause.target);
-                let need = self.need_of(clause);
-                first = earlier(
-                    first,
-                    Candidate {
-                        literal,
-                        need,
-                        value,
-                    },
-                );
+            self.meter.look(clause.literals.count);
+            if let Some(candidate) = self.broken_side(clause) {
+                first = earlier(first, candidate);
             }
         }
         first
     }
 
-    // How much the sides of a clause were needed lately: the greatest of their counts.
-    fn need_of(&self, clause: StoredClause) -> u64 {
-        let mut most = 0;
-        for number in 0..clause.literals.count {
-            let side = self.table.literal(clause, number).side;
-            most = at(&self.activity, side, 0).max(most);
-        }
-        most
-    }
-
-    // The side of an earliest constraint that is broken least and may hold. None if the values meet some side or no
-    // side may hold.
-    fn broken_side(&self, clause: StoredClause) -> Option<NumberedLiteral> {
+    // The side of an earliest constraint that is broken least and may hold, with the greatest need of its sides and with
+    // the value of its target. None if the values meet some side or no side may hold.
+    fn broken_side(&self, clause: StoredClause) -> Option<Candidate> {
         let mut least: Option<Candidate> = None;
+        let mut need = 0;
         for number in 0..clause.literals.count {
             let literal = self.table.literal(clause, number);
             let value = self.excess(literal);
             if value <= 0 {
                 return None;
             }
+            need = at(&self.activity, literal.side, 0).max(need);
             if !self.assignment.holds(literal.opposite()) {
                 least = earlier(
                     least,
@@ -85,20 +70,22 @@ impl Engine {
             }
         }
         match least {
-            Some(candidate) => Some(candidate.literal),
+            Some(Candidate { literal, .. }) => Some(Candidate {
+                literal,
+                need,
+                value: self.assignment.value(clause.target),
+            }),
             None => None,
         }
     }
 
     // By how much the values break the edge of a side, in picoseconds. The values meet the edge if this is at most 0.
     fn excess(&self, literal: NumberedLiteral) -> i64 {
-        let Some(place) = self.table.of_side(literal.side) else {
+        let Some(SideEdge { target, way }) = self.table.edge_of(literal.side) else {
             return 0;
         };
-        let clause = self.table.clause(place);
-        let way = self.table.way(clause, 0);
         let given = self.assignment.value(way.from).saturating_add(way.weight);
-        self.assignment.value(clause.target).saturating_sub(given)
+        self.assignment.value(target).saturating_sub(given)
     }
 }
 

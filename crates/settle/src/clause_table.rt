@@ -26,6 +26,15 @@ pub struct StoredClause {
     pub target: EventId,
     pub literals: Stretch,
     pub ways: Stretch,
+    /// How many literals the checker has of this clause: it keeps those that repeat.
+    pub written: usize,
+}
+
+/// The edge of a side that is met: the event comes within the way.
+#[derive(Clone, Copy)]
+pub struct SideEdge {
+    pub target: EventId,
+    pub way: Way,
 }
 
 /// A clause in a chain, and the place of the next link.
@@ -43,6 +52,7 @@ const NO_CLAUSE: StoredClause = StoredClause {
     target: EventId(0),
     literals: NO_SPAN,
     ways: NO_SPAN,
+    written: 0,
 };
 
 const NO_LITERAL: NumberedLiteral = NumberedLiteral {
@@ -79,7 +89,7 @@ pub struct ClauseTable {
     by_event: Vec<Option<usize>>,
     by_literal: Vec<Option<usize>>,
     sides: Vec<Literal>,
-    side_clauses: Vec<Option<usize>>,
+    side_edges: Vec<Option<SideEdge>>,
     first_sides: Vec<usize>,
     earliest: Vec<usize>,
 }
@@ -95,7 +105,7 @@ impl ClauseTable {
             by_event: vec![in alloc; None; net.events() as usize]?,
             by_literal: Vec::new(alloc),
             sides: Vec::new(alloc),
-            side_clauses: Vec::new(alloc),
+            side_edges: Vec::new(alloc),
             first_sides: Vec::new(alloc),
             earliest: Vec::new(alloc),
         };
@@ -123,7 +133,7 @@ impl ClauseTable {
                 cause,
                 is_met: true,
             })?;
-            self.side_clauses.push(None)?;
+            self.side_edges.push(None)?;
             self.by_literal.push(None)?;
             self.by_literal.push(None)?;
         }
@@ -186,7 +196,12 @@ impl ClauseTable {
         self.push_clause(net, &[], Basis::BySide(met))?;
         if place < self.clauses.len() {
             let side = self.number_of(met).side;
-            put(&mut self.side_clauses, side, Some(place));
+            let clause = self.clause(place);
+            let edge = SideEdge {
+                target: clause.target,
+                way: self.way(clause, 0),
+            };
+            put(&mut self.side_edges, side, Some(edge));
         }
         self.push_clause(net, &[], Basis::BySide(met.opposite()))
     }
@@ -220,7 +235,7 @@ impl ClauseTable {
         let first_literal = self.literals.len();
         for place in 0..shape.literals {
             if let Some(literal) = literal_at(net, kept, basis, place) {
-                self.push_literal(clause, first_literal, literal)?;
+                self.push_literal(clause, literal)?;
             }
         }
         let first_way = self.ways.len();
@@ -240,26 +255,22 @@ impl ClauseTable {
                 first: first_way,
                 count: self.ways.len().saturating_sub(first_way),
             },
+            written: shape.literals,
         })?;
         Ok(())
     }
 
-    // Adds a literal of a clause, unless the clause has it already. `first` is the place of the clause's first literal.
-    fn push_literal(
-        &mut self,
-        clause: usize,
-        first: usize,
-        literal: Literal,
-    ) -> Result<(), NoMemory> {
+    // Adds a literal of the clause at the end, unless the clause has it already. Then its first link is this clause's.
+    fn push_literal(&mut self, clause: usize, literal: Literal) -> Result<(), NoMemory> {
         let numbered = self.number_of(literal);
-        for place in first..self.literals.len() {
-            if at(&self.literals, place, NO_LITERAL) == numbered {
+        let head = numbered.opposite().place();
+        let next = at(&self.by_literal, head, None);
+        if let Some(place) = next {
+            if self.link(place).clause == clause {
                 return Ok(());
             }
         }
         self.literals.push(numbered)?;
-        let head = numbered.opposite().place();
-        let next = at(&self.by_literal, head, None);
         put(&mut self.by_literal, head, Some(self.links.len()));
         self.links.push(ChainLink { clause, next })?;
         Ok(())
@@ -294,14 +305,19 @@ impl ClauseTable {
         }
     }
 
-    /// The clause of the edge of a side, if there is one.
-    pub fn of_side(&self, side: usize) -> Option<usize> {
-        at(&self.side_clauses, side, None)
+    /// The edge of a side, if there is one.
+    pub fn edge_of(&self, side: usize) -> Option<SideEdge> {
+        at(&self.side_edges, side, None)
     }
 
     /// The number of clauses.
     pub fn len(&self) -> usize {
         self.clauses.len()
+    }
+
+    /// How many literals and ways all clauses have.
+    pub fn size(&self) -> usize {
+        self.literals.len().saturating_add(self.ways.len())
     }
 
     /// The number of sides.

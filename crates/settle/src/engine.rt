@@ -5,8 +5,11 @@ ghost use Rattle.event_graph.specs.Network.{IsNet};
 ghost use Rattle.clauses.specs.Checking.{IsNearClause};
 
 use crate::assignment::Assignment;
-use crate::clause_table::ClauseTable;
+use crate::clause_table::{ClauseTable, StoredClause};
+use crate::fall_counts::FallCounts;
 use crate::line::StoredLine;
+use crate::meter::Meter;
+use crate::rounds::WalksBack;
 use crate::sweep::Sweep;
 use clauses::{Basis, Clause};
 use event_graph::Network;
@@ -46,12 +49,9 @@ pub struct Engine {
     pub from: EventId,
     pub to: EventId,
     pub least: i64,
-    /// How often each event has fallen since its count was last reset: by a choice, by going back to a level, or
-    /// because a walk back from the event was to be tried.
-    pub changes: Vec<u32>,
-    /// For each event the number of the latest walk that came by it, and the number of walks.
-    pub stamps: Vec<usize>,
-    pub walks: usize,
+    /// How often each event has fallen since the latest choice or going back, or since the latest walk back from it.
+    pub falls: FallCounts,
+    pub walks: WalksBack,
     /// The place of the next entry of the trail whose literal has not been looked at.
     pub heard: usize,
     /// The next link to examine.
@@ -70,16 +70,19 @@ pub struct Engine {
     /// How many more blocks are allowed.
     pub blocks: u64,
     pub is_over: bool,
+    /// The turns that the search has taken, and what it has kept.
+    pub meter: Meter,
 }
 
 impl Engine {
-    /// The search at its start. No blocks are allowed yet.
+    /// The search at its start, with room for so many items. No blocks are allowed yet.
     pub fn new(
         alloc: Global,
         net: &Network,
         from: EventId,
         to: EventId,
         cap: i64,
+        room: u64,
     ) -> Result<Engine, NoMemory> {
         let table = ClauseTable::new(alloc, net)?;
         let events = net.events() as usize;
@@ -93,9 +96,8 @@ impl Engine {
             from,
             to,
             least: cap.saturating_mul(-1).saturating_sub(1),
-            changes: vec![in alloc; 0; events]?,
-            stamps: vec![in alloc; 0; events]?,
-            walks: 0,
+            falls: FallCounts::new(alloc, events)?,
+            walks: WalksBack::new(alloc, events)?,
             heard: 0,
             link: None,
             low: None,
@@ -106,6 +108,7 @@ impl Engine {
             gain: 1024,
             blocks: 0,
             is_over: false,
+            meter: Meter::new(room),
         })
     }
 
@@ -123,8 +126,13 @@ impl Engine {
         self.is_over = true;
     }
 
+    /// Whether the search has ended or given up, and no lines wait.
+    pub fn has_stopped(&self) -> bool {
+        self.is_over && self.outbox.is_empty()
+    }
+
     /// A step of the search. `kept` are the clauses that the checker keeps; `claim` is the checker's claim in
-    /// picoseconds.
+    /// picoseconds. If its room is full, the search gives up.
     pub fn step(
         &mut self,
         net: &Network,
@@ -134,7 +142,12 @@ impl Engine {
         requires net { IsNet net.now }
         requires kept { All IsNearClause kept.now.items }
     {
+        self.meter.take(1);
+        if self.meter.is_full(self.assignment.len()) {
+            self.stop();
+        }
         if let Some(line) = self.outbox.pop() {
+            self.meter.keep(items_of(&line));
             return Ok(Proposal::Line(line));
         }
         if self.is_over {
@@ -155,7 +168,7 @@ impl Engine {
         self.look_on()
     }
 
-    // Stores the next clause that the checker keeps, and examines it.
+    // Stores the next clause that the checker keeps, and examines it. Each of its literals and ways is a turn.
     fn adopt(&mut self, net: &Network, kept: &Vec<Clause>) -> Result<(), NoMemory>
         requires net { IsNet net.now }
         requires kept { All IsNearClause kept.now.items }
@@ -164,6 +177,10 @@ impl Engine {
         self.table
             .push_clause(net, kept, Basis::ByKept(self.adopted))?;
         self.adopted = self.adopted.saturating_add(1);
+        let stored = self.table.clause(clause);
+        let items = stored.written.saturating_add(stored.ways.count);
+        self.meter.take(items);
+        self.meter.keep(items.saturating_add(1));
         self.examine(clause)
     }
 
@@ -213,12 +230,33 @@ impl Engine {
             self.hear();
             return Ok(Proposal::Nothing);
         }
-        match self.sweep.next() {
+        let next = self.sweep.next();
+        self.meter.look(self.sweep.looks());
+        match next {
             Some(event) => {
                 self.link = self.table.of_event(event);
                 Ok(Proposal::Nothing)
             }
             None => self.choose(),
         }
+    }
+
+    /// How many things the checker looks at, where it takes a fall or a literal by a clause: it looks for each literal
+    /// among those that hold. Eight comparisons count as one thing.
+    pub fn line_looks(&self, clause: StoredClause) -> usize {
+        let compared = clause.written.saturating_mul(self.assignment.held());
+        clause
+            .written
+            .saturating_add(clause.ways.count)
+            .saturating_add(compared / 8)
+    }
+}
+
+// The items of a line: the line itself, and its steps or literals.
+fn items_of(line: &StoredLine) -> usize {
+    match line {
+        StoredLine::Loop(_, steps) => steps.len().saturating_add(1),
+        StoredLine::Assume(literals) => literals.len().saturating_add(1),
+        _ => 1,
     }
 }

@@ -5,7 +5,6 @@ use crate::clause_table::StoredClause;
 use crate::engine::Engine;
 use crate::line::StoredLine;
 use crate::numbered_literal::NumberedLiteral;
-use crate::places::{at, put};
 use clauses::EventFall;
 use itv_base::{EventId, NoMemory};
 
@@ -24,6 +23,8 @@ impl Engine {
     /// Lets an event fall or a literal hold, if a clause says so.
     pub fn examine(&mut self, place: usize) -> Result<(), NoMemory> {
         let clause = self.table.clause(place);
+        self.meter
+            .look(clause.literals.count.saturating_add(clause.ways.count));
         match self.open_of(clause) {
             Open::More => Ok(()),
             Open::One(literal) => {
@@ -78,20 +79,17 @@ impl Engine {
         if value <= self.least {
             self.low = Some(event);
         }
-        let place = event.0 as usize;
-        let count = at(&self.changes, place, 0).saturating_add(1);
-        if 3 <= count {
+        if self.falls.is_third(event) {
             self.walk = Some(event);
-            put(&mut self.changes, place, 0);
-        } else {
-            put(&mut self.changes, place, count);
         }
         if self.assignment.level() == 0 {
-            let basis = self.table.clause(clause).basis;
+            let clause = self.table.clause(clause);
+            let looks = self.line_looks(clause);
+            self.meter.look(looks);
             self.outbox.push(StoredLine::Fall(EventFall {
                 event,
                 value,
-                basis,
+                basis: clause.basis,
             }))?;
         }
         Ok(())
@@ -101,9 +99,11 @@ impl Engine {
     fn hold(&mut self, literal: NumberedLiteral, clause: usize) -> Result<(), NoMemory> {
         self.assignment.hold(literal, clause)?;
         if self.assignment.level() == 0 {
-            let basis = self.table.clause(clause).basis;
+            let clause = self.table.clause(clause);
+            let looks = self.line_looks(clause);
+            self.meter.look(looks);
             let named = self.table.named(literal);
-            self.outbox.push(StoredLine::Know(named, basis))?;
+            self.outbox.push(StoredLine::Know(named, clause.basis))?;
         }
         Ok(())
     }

@@ -47,13 +47,14 @@ impl Model for Prover {
 }
 
 impl Prover {
-    /// A search for a proof of a goal over one network, at the start.
+    /// A search for a proof of a goal over one network, at the start, with room for so many items.
     pub fn new(
         alloc: Global,
         net: &Network,
         from: EventId,
         to: EventId,
         claim: Claim,
+        room: u64,
     ) -> Result<Prover, NoMemory>
         requires from { from.0 < net.now.events }
         requires to { to.0 < net.now.events }
@@ -65,7 +66,7 @@ impl Prover {
         let cap = checker.limits().cap;
         Ok(Prover {
             checker,
-            engine: Engine::new(alloc, net, from, to, cap)?,
+            engine: Engine::new(alloc, net, from, to, cap, room)?,
             lines: Vec::new(alloc),
         })
     }
@@ -128,6 +129,16 @@ impl Prover {
         ensures same { self.new ≡ self.old }
     {
         self.engine.allow(blocks);
+    }
+
+    /// The turns that the search has taken.
+    pub fn turns(&self) -> u64 {
+        self.engine.meter.turns()
+    }
+
+    /// Whether the search has ended or given up.
+    pub fn has_stopped(&self) -> bool {
+        self.engine.has_stopped()
     }
 
     /// Makes the search give up.

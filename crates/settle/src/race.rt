@@ -44,7 +44,7 @@ pub struct Race {
 }
 
 impl Race {
-    /// A race at the start.
+    /// A race at the start. Each search has room for so many items.
     pub fn new(
         alloc: Global,
         net: &Network,
@@ -52,6 +52,7 @@ impl Race {
         from: EventId,
         to: EventId,
         limits: Limits,
+        room: u64,
     ) -> Result<Race, NoMemory>
         requires from { from.0 < net.now.events }
         requires to { to.0 < net.now.events }
@@ -67,16 +68,26 @@ impl Race {
             from,
             to,
             limits,
-            plain: Prover::new(alloc, net, from, to, claim)?,
-            turned: Prover::new(alloc, negation, to, from, claim)?,
+            plain: Prover::new(alloc, net, from, to, claim, room)?,
+            turned: Prover::new(alloc, negation, to, from, claim, room)?,
             best: Best { times: None, claim },
             view: View::Plain,
             blocks: 0,
         })
     }
 
-    /// One turn. It may end the race.
-    pub fn turn(
+    /// The turns that both searches have taken.
+    pub fn turns(&self) -> u64 {
+        self.plain.turns().saturating_add(self.turned.turns())
+    }
+
+    /// Whether both searches have ended or given up.
+    pub fn has_stopped(&self) -> bool {
+        self.plain.has_stopped() && self.turned.has_stopped()
+    }
+
+    /// One step. It may end the race.
+    pub fn step(
         &mut self,
         alloc: Global,
         net: &Network,
@@ -90,7 +101,7 @@ impl Race {
         ensures from { OnOk result (self.new.from ≡ self.old.from) }
         ensures to { OnOk result (self.new.to ≡ self.old.to) }
     {
-        match self.step(alloc, net, negation)? {
+        match self.proceed(alloc, net, negation)? {
             SearchState::GoesOn => Ok(None),
             SearchState::Times => self.take_times(alloc, net, negation),
             SearchState::Over => Ok(self.decide()),
@@ -102,7 +113,7 @@ impl Race {
     }
 
     // A step of the search whose turn it is.
-    fn step(
+    fn proceed(
         &mut self,
         alloc: Global,
         net: &Network,

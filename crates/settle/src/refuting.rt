@@ -1,6 +1,7 @@
 //! Which choices an end needs.
 
 use crate::assignment::{Assignment, TrailChange, TrailEntry};
+use crate::clause_table::StoredClause;
 use crate::engine::{Engine, Need};
 use crate::line::StoredLine;
 use crate::places::{at, put};
@@ -19,6 +20,8 @@ struct Needs {
     /// The literals that the block assumes, and the latest level among them that is before the latest level of all.
     used: Vec<Literal>,
     back: usize,
+    /// How many things were looked at.
+    looks: usize,
 }
 
 impl Engine {
@@ -35,6 +38,7 @@ impl Engine {
             open: 0,
             used: Vec::new(self.alloc),
             back: 0,
+            looks: count.saturating_add(self.block_looks()),
         };
         self.want(&mut needs, need.event, need.value);
         self.outbox.push(StoredLine::Close)?;
@@ -48,9 +52,17 @@ impl Engine {
             self.halve();
         }
         let level = needs.back;
+        self.meter.look(needs.looks);
         self.outbox.push(StoredLine::Assume(needs.used))?;
         self.go_back(level);
         Ok(())
+    }
+
+    // How many things the checker looks at, where it opens and closes a block: it copies the values and the literals that
+    // hold, and looks through the values once more. Eight values or literals count as one thing.
+    fn block_looks(&self) -> usize {
+        let values = self.assignment.values().len();
+        values.saturating_add(self.assignment.held()) / 4
     }
 
     // Assumes the literal of a needed entry, or wants what made the entry and writes its line.
@@ -98,8 +110,14 @@ impl Engine {
         clause: usize,
         value: i64,
     ) -> Result<(), NoMemory> {
+        let clause = self.table.clause(clause);
         self.want_reason(needs, entry, clause, value);
-        let basis = self.table.clause(clause).basis;
+        let looks = clause.literals.count.saturating_add(clause.ways.count);
+        needs.looks = needs
+            .looks
+            .saturating_add(looks)
+            .saturating_add(self.line_looks(clause));
+        let basis = clause.basis;
         match entry.change {
             TrailChange::Fell(fallen) => {
                 let event = fallen.event;
@@ -118,8 +136,7 @@ impl Engine {
     }
 
     // Wants what a clause needs to make an entry.
-    fn want_reason(&self, needs: &mut Needs, entry: TrailEntry, clause: usize, value: i64) {
-        let clause = self.table.clause(clause);
+    fn want_reason(&self, needs: &mut Needs, entry: TrailEntry, clause: StoredClause, value: i64) {
         for number in 0..clause.literals.count {
             let literal = self.table.literal(clause, number);
             if entry.change != TrailChange::Held(literal) {
@@ -142,6 +159,7 @@ impl Engine {
             let Some(place) = next else {
                 break;
             };
+            needs.looks = needs.looks.saturating_add(1);
             match self.assignment.entry(place).change {
                 TrailChange::Fell(fallen) if fallen.old <= value => {
                     found = None;
@@ -161,9 +179,10 @@ impl Engine {
 
     /// Goes back to a level. Nothing waits then: nothing waited when that level ended.
     pub fn go_back(&mut self, level: usize) {
-        self.assignment.go_back(level);
+        let entries = self.assignment.go_back(level);
+        self.meter.look(entries);
         self.sweep.clear();
-        self.changes.fill(0);
+        self.falls.reset();
         self.link = None;
         self.low = None;
         self.walk = None;

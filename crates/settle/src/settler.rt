@@ -1,6 +1,6 @@
 //! Greatest separations of a network.
 
-ghost use Rattle.std.specs.Prelude.{◌≡◌, ◌<◌, ◌≤◌, ℕ, ℤ, Some, IfOk};
+ghost use Rattle.std.specs.Prelude.{◌≡◌, ◌<◌, ◌≤◌, ◌+◌, ℕ, ℤ, Some, IfOk};
 ghost use Rattle.std.specs.Global.{Vec};
 ghost use Rattle.itv_base.specs.declared.names.EventId.{EventId};
 ghost use Rattle.event_graph.specs.Network.{Net};
@@ -42,7 +42,8 @@ impl Settler {
     }
 
     /// The greatest separation of a pair of events in picoseconds and what shows it, found in at most this many turns;
-    /// or `NoMemory`. A turn makes at most one line.
+    /// or `NoMemory`. A step of the search makes at most one line. It is a turn, and more of them if it looks at more than
+    /// 32 things. What the search keeps is bounded too: without an answer it ends where either is spent.
     pub fn greatest(
         &self,
         alloc: Global,
@@ -56,14 +57,33 @@ impl Settler {
         requires to { to.0 < net.now.events }
         ensures found { IfOk result (IsFound net.now from to turns) }
     {
-        let mut race = Race::new(alloc, net, &self.negation, from, to, self.limits)?;
-        for turn in 0..turns {
-            if let Some(ending) = race.turn(alloc, net, &self.negation)? {
-                return Ok(found_by(alloc, net, from, to, race, ending, turn + 1));
+        let room = room_of(net, turns);
+        let mut race = Race::new(alloc, net, &self.negation, from, to, self.limits, room)?;
+        let mut taken = 0;
+        'turns: while taken < turns && !race.has_stopped() {
+            let ending = race.step(alloc, net, &self.negation)?;
+            taken = more_turns(taken, race.turns(), turns);
+            if let Some(ending) = ending {
+                return Ok(found_by(alloc, net, from, to, race, ending, taken));
             }
         }
         Ok(spent(alloc, turns))
     }
+}
+
+// How many items each search may keep: 32 for each event and constraint, and one for each 50 turns.
+fn room_of(net: &Network, turns: u64) -> u64 {
+    let size = (net.events() as u64).saturating_add(net.len() as u64);
+    size.saturating_mul(32).saturating_add(turns / 50)
+}
+
+// The turns taken after one more step, where both searches have taken `now` in all, but at most `most`.
+fn more_turns(taken: u64, now: u64, most: u64) -> u64
+    requires less { taken < most }
+    ensures more { taken + 1 ≤ result }
+    ensures most { result ≤ most }
+{
+    now.max(taken + 1).min(most)
 }
 
 // The answer of a race that has ended.

@@ -13,7 +13,7 @@ pub enum Settled {
     Unbounded,
     /// No times satisfy the network.
     Inconsistent,
-    /// The turns were spent before it was known.
+    /// The turns were spent before it was known, or the room that they give.
     Spent,
 }
 

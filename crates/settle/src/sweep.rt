@@ -5,36 +5,44 @@ use itv_base::{EventId, NoMemory};
 use std::alloc::Global;
 
 /// Waiting events. They are given in sweeps: upward by number, then downward, and so on.
+///
+/// Each event has a bit in words of 64 bits, the least number first. It waits where the bit is set.
 #[derive(Drop)]
 pub struct Sweep {
-    flags: Vec<bool>,
-    events: Vec<EventId>,
-    waiting: usize,
-    place: usize,
+    words: Vec<u64>,
+    events: u32,
+    waiting: u32,
+    /// Where the sweep goes on.
+    place: u32,
     is_up: bool,
+    /// How many words were looked at, since this was asked last.
+    looks: usize,
 }
 
 impl Sweep {
     /// A sweep over this many events. All of them wait.
     pub fn new(alloc: Global, events: u32) -> Result<Sweep, NoMemory> {
-        let mut names = Vec::new(alloc);
-        for event in 0..events {
-            names.push(EventId(event))?;
-        }
-        Ok(Sweep {
-            flags: vec![in alloc; true; events as usize]?,
-            events: names,
-            waiting: events as usize,
+        let mut sweep = Sweep {
+            words: vec![in alloc; 0; (events / 64) as usize + 1]?,
+            events,
+            waiting: 0,
             place: 0,
             is_up: true,
-        })
+            looks: 0,
+        };
+        for event in 0..events {
+            sweep.add(EventId(event));
+        }
+        Ok(sweep)
     }
 
     /// Makes an event wait.
     pub fn add(&mut self, event: EventId) {
-        let place = event.0 as usize;
-        if !at(&self.flags, place, true) {
-            put(&mut self.flags, place, true);
+        let place = (event.0 / 64) as usize;
+        let word = at(&self.words, place, u64::MAX);
+        let bit = 1 << (event.0 % 64);
+        if word & bit == 0 {
+            put(&mut self.words, place, word | bit);
             self.waiting = self.waiting.saturating_add(1);
         }
     }
@@ -42,7 +50,8 @@ impl Sweep {
     /// Makes all events stop waiting, and begins a new sweep upward.
     pub fn clear(&mut self) {
         if 0 < self.waiting {
-            self.flags.fill(false);
+            self.looks = self.looks.saturating_add(self.words.len());
+            self.words.fill(0);
         }
         self.waiting = 0;
         self.place = 0;
@@ -54,33 +63,92 @@ impl Sweep {
         if self.waiting == 0 {
             return None;
         }
-        for _ in 0..self.flags.len().saturating_mul(2) {
-            let place = self.place;
-            self.go_on();
-            if at(&self.flags, place, false) {
-                put(&mut self.flags, place, false);
-                self.waiting = self.waiting.saturating_sub(1);
-                return Some(at(&self.events, place, EventId(0)));
+        let ahead = match self.ahead() {
+            Some(event) => Some(event),
+            None => {
+                self.turn_round();
+                self.ahead()
             }
+        };
+        match ahead {
+            Some(event) => self.give(event),
+            None => self.waiting = 0,
         }
-        self.waiting = 0;
+        ahead
+    }
+
+    // The first waiting event from the place on, in the direction of the sweep.
+    fn ahead(&mut self) -> Option<EventId> {
+        if self.is_up {
+            return self.first_from(self.place);
+        }
+        self.last_to(self.place)
+    }
+
+    // The waiting event of the least number from this one on.
+    fn first_from(&mut self, number: u32) -> Option<EventId> {
+        let mut mask = u64::MAX << (number % 64);
+        for place in number / 64..self.events / 64 + 1 {
+            self.looks = self.looks.saturating_add(1);
+            let word = at(&self.words, place as usize, 0) & mask;
+            if word != 0 {
+                let first = place.saturating_mul(64);
+                return Some(EventId(first.saturating_add(word.trailing_zeros())));
+            }
+            mask = u64::MAX;
+        }
         None
     }
 
-    // Goes to the next place. Turns round at both ends.
-    fn go_on(&mut self) {
-        if self.is_up {
-            if self.place.saturating_add(1) < self.flags.len() {
-                self.place = self.place.saturating_add(1);
-            } else {
-                self.is_up = false;
+    // The waiting event of the greatest number up to this one.
+    fn last_to(&mut self, number: u32) -> Option<EventId> {
+        let mut mask = u64::MAX >> (63 - number % 64);
+        for place in (0..number / 64 + 1).rev() {
+            self.looks = self.looks.saturating_add(1);
+            let word = at(&self.words, place as usize, 0) & mask;
+            if word != 0 {
+                let last = place.saturating_mul(64).saturating_add(63);
+                return Some(EventId(last.saturating_sub(word.leading_zeros())));
             }
-            return;
+            mask = u64::MAX;
         }
-        if 0 < self.place {
-            self.place = self.place.saturating_sub(1);
+        None
+    }
+
+    // Gives a waiting event, and goes on after it. Turns round at both ends.
+    fn give(&mut self, event: EventId) {
+        let place = (event.0 / 64) as usize;
+        let word = at(&self.words, place, 0);
+        put(&mut self.words, place, word & !(1 << (event.0 % 64)));
+        self.waiting = self.waiting.saturating_sub(1);
+        let is_end = if self.is_up {
+            self.events <= event.0.saturating_add(1)
         } else {
-            self.is_up = true;
+            event.0 == 0
+        };
+        if is_end {
+            self.turn_round();
+        } else if self.is_up {
+            self.place = event.0.saturating_add(1);
+        } else {
+            self.place = event.0.saturating_sub(1);
         }
+    }
+
+    // Turns round, to go over all events in the other direction.
+    fn turn_round(&mut self) {
+        self.is_up = !self.is_up;
+        self.place = if self.is_up {
+            0
+        } else {
+            self.events.saturating_sub(1)
+        };
+    }
+
+    /// How many words of 64 events were looked at, since this was asked last.
+    pub fn looks(&mut self) -> usize {
+        let looks = self.looks;
+        self.looks = 0;
+        looks
     }
 }

@@ -5,7 +5,7 @@ use Rattle.clauses.specs.Lines.{IsOver}
 use Rattle.settle.specs.declared.prover.SearchState.{SearchState}
 use Rattle.settle.specs.declared.prover.SearchState.TheVariants.{Over}
 use Rattle.settle.specs.Step.Racing.{IsOverAs}
-use Rattle.settle.proofs.race.Race.step.Goals as goal
+use Rattle.settle.proofs.race.Race.proceed.Goals as goal
 
 pub returns-in-Negated-clause-over : goal.returns-in-Negated-clause-over
 returns-in-Negated-clause-over c =
