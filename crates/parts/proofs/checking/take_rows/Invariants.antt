@@ -1,5 +1,5 @@
 use Rattle.cert_checker.specs.Checking.{IsProofCheckerFor}
-use Rattle.parts.proofs.checking.check.Given as goal
+use Rattle.parts.proofs.checking.take_rows.Given as goal
 
 -- the checker is in a proof for the network
 abbrev pub invariant-loop-row : goal.invariant-loop-row

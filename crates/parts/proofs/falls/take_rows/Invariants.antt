@@ -1,5 +1,5 @@
 use Rattle.falling.specs.Checking.{IsBegun}
-use Rattle.parts.proofs.falls.lines.Given as goal
+use Rattle.parts.proofs.falls.take_rows.Given as goal
 
 -- the checker is in a derivation for the network
 abbrev pub invariant-loop-row : goal.invariant-loop-row
