@@ -83,13 +83,13 @@ fn hold_by(drawn: &DrawnNetwork, constraint: u32, held: &mut [Held])
     hold_on(drawn, constraint, Side::Lower, held);
 }
 
-// The same for the ends of its causes on one side.
+// The same for the ends of its causes on one side. A linear constraint names no cause, and has its from-event as cause 0.
 fn hold_on(drawn: &DrawnNetwork, constraint: u32, side: Side, held: &mut [Held])
     requires there { constraint < length drawn.now.net.constraints }
 {
     let net = drawn.network();
     let is_whole = has_all(net, constraint, side);
-    for cause in 0..net.cause_count(constraint) {
+    for cause in 0..net.cause_count(constraint).max(1) {
         let name = EdgeName {
             constraint,
             cause,
@@ -103,7 +103,7 @@ fn hold_on(drawn: &DrawnNetwork, constraint: u32, side: Side, held: &mut [Held])
 fn has_all(net: &Network, constraint: u32, side: Side) -> bool
     requires there { constraint < length net.now.constraints }
 {
-    for cause in 0..net.cause_count(constraint) {
+    for cause in 0..net.cause_count(constraint).max(1) {
         let name = EdgeName {
             constraint,
             cause,
