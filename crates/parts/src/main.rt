@@ -14,6 +14,7 @@ mod edit_files;
 mod explaining;
 mod falls;
 mod labels;
+mod margin_texts;
 mod networks;
 mod proof_lines;
 mod reports;
@@ -143,6 +144,7 @@ fn answer_row(
         "raise" => verdicts::raise(row, out),
         "lanes" => closures::lanes(alloc, row, out),
         "edits" => edit_files::edits(alloc, subject, row, out),
+        "margin" => margin_texts::margin(alloc, subject, row, out),
         "no memory" => networks::no_memory(out),
         _ => answer_over(alloc, &network(alloc, subject, out)?, verb, row, out),
     }

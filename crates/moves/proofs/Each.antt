@@ -1,0 +1,108 @@
+-- Each cause that one of the numbers draws is moved, and each other one stays.
+use Rattle.std.proofs.Common.{◌≡◌, ℕ, zero, suc, ℤ, pos, ◌+ℤ◌, ◌-ℤ◌, Bool, true, false, List, [], ◌∷◌, Option, Some, None, option_map, option_and_then, slice_get, refl, sym, ap, ◌∙◌, arith}
+use Rattle.std.specs.Prelude.{if◌then◌else◌, ◌||◌, unwrap_or}
+use Rattle.std.specs.List.{list_any}
+use Rattle.std.specs.Option.{option_map_or}
+use Rattle.std.proofs.lemmas.Int.{ints}
+use Rattle.itv_base.specs.Range.{Ends}
+use Rattle.itv_base.specs.declared.names.Side.{Side}
+use Rattle.itv_base.specs.declared.names.Side.TheVariants.{Lower, Upper}
+use Rattle.origin.specs.declared.origin.Origin.{Origin}
+use Rattle.event_graph.specs.declared.cause.Cause.{Cause}
+use Rattle.event_graph.specs.Network.{Constraint, Net, cause_at}
+use Rattle.drawn.specs.Drawn.{Drawn, name_of}
+use Rattle.numbers.specs.Numbers.{draws, draws_cause, origins_of, part_of_target}
+use Rattle.numbers.specs.declared.cause_name.CauseName.{CauseName}
+use Rattle.numbers.specs.declared.drawn_number.DrawnNumber.{DrawnNumber}
+use Rattle.moves.specs.Laws.{EachIsMoved, MovedByNothing}
+use Rattle.moves.specs.Moving.{cause_moved, causes_moved, constraints_moved, draw, net_moved, widened, widened_at}
+
+-- ---- which causes are drawn
+
+none_of : (numbers : List DrawnNumber) → list_any (λ (number : DrawnNumber). false) numbers ≡ false
+none_of [] = refl
+none_of (n ∷ numbers) = none_of numbers
+
+any_drawn : (numbers : List DrawnNumber) (part : List ℕ) (o : Option Origin)
+    → list_any (λ (number : DrawnNumber). option_map_or (draws number part) o false) numbers ≡ option_map_or (draw numbers part) o false
+any_drawn numbers part None = none_of numbers
+any_drawn numbers part (Some origin) = refl
+
+-- ---- the causes of a constraint
+
+abbrev moved_if : (Ends → Ends) → Bool → Cause → Cause
+moved_if move is_drawn c = if is_drawn then cause_moved move c else c
+
+undrawn : (move : Ends → Ends) (o : Option Cause) → o ≡ option_map (λ (c : Cause). moved_if move false c) o
+undrawn move None = refl
+undrawn move (Some c) = refl
+
+causes_at : (move : Ends → Ends) (test : Origin → Bool) (cs : List Cause) (origins : List Origin) (i : ℕ)
+    → slice_get (causes_moved move test cs origins) i ≡ option_map (λ (c : Cause). moved_if move (option_map_or test (slice_get origins i) false) c) (slice_get cs i)
+causes_at move test [] origins i = refl
+causes_at move test (c ∷ cs) [] i = undrawn move (slice_get (c ∷ cs) i)
+causes_at move test (c ∷ cs) (o ∷ origins) zero = refl
+causes_at move test (c ∷ cs) (o ∷ origins) (suc i) = causes_at move test cs origins i
+
+-- ---- all constraints
+
+module _ (move : Ends → Ends) (drawn : Drawn) (numbers : List DrawnNumber) where
+  abbrev is_drawn_in : List Constraint → List (List Origin) → ℕ → ℕ → Bool
+  is_drawn_in ks drew k i =
+      option_map_or (draw numbers (unwrap_or (option_map (λ (c : Constraint). (name_of drawn c.target).part) (slice_get ks k)) []))
+      (slice_get (unwrap_or (slice_get drew k) []) i) false
+
+  constraints_at : (ks : List Constraint) (drew : List (List Origin)) (k i : ℕ)
+      → option_and_then (λ (c : Constraint). slice_get c.causes i) (slice_get (constraints_moved move drawn numbers ks drew) k)
+      ≡ option_map (λ (c : Cause). moved_if move (is_drawn_in ks drew k i) c) (option_and_then (λ (c : Constraint). slice_get c.causes i) (slice_get ks k))
+  constraints_at [] drew k i = refl
+  constraints_at (c ∷ ks) [] k i = undrawn move (option_and_then (λ (d : Constraint). slice_get d.causes i) (slice_get (c ∷ ks) k))
+  constraints_at (c ∷ ks) (origins ∷ drew) zero i = causes_at move (draw numbers (name_of drawn c.target).part) c.causes origins i
+  constraints_at (c ∷ ks) (origins ∷ drew) (suc k) i = constraints_at ks drew k i
+
+pub each_is_moved : EachIsMoved
+each_is_moved drawn numbers move name =
+    constraints_at move drawn numbers drawn.net.constraints drawn.origins name.constraint name.cause
+    ∙ ap (λ (b : Bool). option_map (λ (c : Cause). moved_if move b c) (cause_at drawn.net name.constraint name.cause))
+    (sym (any_drawn numbers (part_of_target drawn name.constraint) (slice_get (origins_of drawn name.constraint) name.cause)))
+
+-- ---- moved by nothing
+
+low_same : (end : Option ℤ) → option_map (λ low. low -ℤ pos 0) end ≡ end
+low_same None = refl
+low_same (Some z) = ap Some (zero_less z)
+  where
+    zero_less : (z : ℤ) → (z -ℤ pos 0) ≡ z
+    zero_less z = omega (arith, ints)
+
+high_same : (end : Option ℤ) → option_map (λ high. high +ℤ pos 0) end ≡ end
+high_same None = refl
+high_same (Some z) = ap Some (zero_more z)
+  where
+    zero_more : (z : ℤ) → (z +ℤ pos 0) ≡ z
+    zero_more z = omega (arith, ints)
+
+range_same : (side : Side) (range : Ends) → widened side (pos 0) range ≡ range
+range_same Lower range = ap (λ (low : Option ℤ). record range { low = low }) (low_same range.low)
+range_same Upper range = ap (λ (high : Option ℤ). record range { high = high }) (high_same range.high)
+
+module _ (side : Side) where
+  one_same : (is_drawn : Bool) (c : Cause) → moved_if (widened side (pos 0)) is_drawn c ≡ c
+  one_same true c = ap (λ (range : Ends). record c { range = range }) (range_same side c.range)
+  one_same false c = refl
+
+  causes_same : (test : Origin → Bool) (cs : List Cause) (origins : List Origin) → causes_moved (widened side (pos 0)) test cs origins ≡ cs
+  causes_same test [] origins = refl
+  causes_same test (c ∷ cs) [] = refl
+  causes_same test (c ∷ cs) (o ∷ origins) = rw (one_same (test o) c, causes_same test cs origins) refl
+
+  constraints_same : (drawn : Drawn) (numbers : List DrawnNumber) (ks : List Constraint) (drew : List (List Origin))
+      → constraints_moved (widened side (pos 0)) drawn numbers ks drew ≡ ks
+  constraints_same drawn numbers [] drew = refl
+  constraints_same drawn numbers (k ∷ ks) [] = refl
+  constraints_same drawn numbers (k ∷ ks) (origins ∷ drew) =
+      rw (causes_same (draw numbers (name_of drawn k.target).part) k.causes origins, constraints_same drawn numbers ks drew) refl
+
+pub moved_by_nothing : MovedByNothing
+moved_by_nothing drawn number side =
+    ap (λ (ks : List Constraint). record drawn { net = record drawn.net { constraints = ks } }) (constraints_same side drawn (number ∷ []) drawn.net.constraints drawn.origins)

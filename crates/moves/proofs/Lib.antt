@@ -1,0 +1,6 @@
+mod Widened
+mod Thresholds
+mod Each
+mod Products
+mod Counting
+mod Covering

@@ -1,0 +1,37 @@
+-- The numbers of a drawing, each with its range, in the order in which they first draw a cause.
+use Rattle.std.specs.Prelude.{ℕ, if◌then◌else◌, List, [], ◌∷◌, ◌++◌, map}
+use Rattle.itv_base.specs.Range.{Ends}
+use Rattle.origin.specs.declared.origin.Origin.{Origin}
+use Rattle.origin.specs.declared.origin.Origin.TheVariants as origins
+use Rattle.event_graph.specs.declared.cause.Cause.{Cause}
+use Rattle.event_graph.specs.Network.{Constraint}
+use Rattle.drawn.specs.Drawn.{Drawn, name_of}
+use Rattle.numbers.specs.declared.drawn_number.DrawnNumber.TheVariants as numbers
+use Rattle.moves.specs.declared.number_seen.NumberSeen.{NumberSeen}
+use Rattle.moves.specs.Moving.{draw}
+
+-- the number behind what draws a cause of a part, with the range of the cause; the order of a lane is no number
+abbrev pub number_by : List ℕ → Origin → Ends → List NumberSeen
+number_by part (origins.Lane lane) range = []
+number_by part (origins.Edge edge) range = (record { number = numbers.Edge part edge; range = range }) ∷ []
+number_by part (origins.Pin net pin) range = (record { number = numbers.Net net; range = range }) ∷ []
+number_by part (origins.Wire wire) range = (record { number = numbers.Wire wire; range = range }) ∷ []
+
+-- some numbers, with the number behind a cause where none of them draws it
+abbrev pub with_cause : List NumberSeen → List ℕ → Cause → Origin → List NumberSeen
+with_cause seen part cause origin = if draw (map (λ (s : NumberSeen). s.number) seen) part origin then seen else seen ++ number_by part origin cause.range
+
+abbrev pub with_causes : List NumberSeen → List ℕ → List Cause → List Origin → List NumberSeen
+with_causes seen part [] origins = seen
+with_causes seen part (cause ∷ causes) [] = seen
+with_causes seen part (cause ∷ causes) (origin ∷ origins) = with_causes (with_cause seen part cause origin) part causes origins
+
+abbrev pub with_constraints : Drawn → List NumberSeen → List Constraint → List (List Origin) → List NumberSeen
+with_constraints drawn seen [] drew = seen
+with_constraints drawn seen (c ∷ others) [] = seen
+with_constraints drawn seen (c ∷ others) (origins ∷ drew) =
+    with_constraints drawn (with_causes seen (name_of drawn c.target).part c.causes origins) others drew
+
+-- all numbers that draw a cause
+abbrev pub numbers_of : Drawn → List NumberSeen
+numbers_of drawn = with_constraints drawn [] drawn.net.constraints drawn.origins

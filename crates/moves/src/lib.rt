@@ -1,0 +1,21 @@
+//! Drawn networks in which numbers of the drawing are moved: an edge of the sheet of a part, a net with all its pins, an edge of the netlist. The
+//! contract: `numbers_of` gives the numbers of a drawing, and `moved_network` and `moved_rows` move the ranges that some of them draw, wherever they are
+//! drawn. The definitions say what is found of a number, and the laws what that says of all moves.
+#![tactic(auto)]
+
+mod end_found;
+pub mod laws;
+mod listing;
+mod moving;
+mod net_found;
+mod number_seen;
+mod rows;
+mod span;
+
+pub use end_found::EndFound;
+pub use listing::numbers_of;
+pub use moving::{MOVE_LIMIT, Move, draw, moved_network, moved_range};
+pub use net_found::NetFound;
+pub use number_seen::NumberSeen;
+pub use rows::moved_rows;
+pub use span::{Border, SpanFound};

@@ -1,0 +1,110 @@
+//! Finding the span of numbers.
+
+ghost use Rattle.std.specs.Prelude.{◌≡◌, ◌≤◌, IfOk, false};
+ghost use Rattle.moves.specs.Found.{IsNetFound, IsSpanFound};
+ghost use Rattle.moves.specs.Step.{lent};
+
+use crate::bordering::border_of;
+use crate::counts::{counts_of, no_counts};
+use crate::looking::{Direction, step_of, value_on};
+use crate::shift_reach::{ShiftReach, shift_reach_of};
+use crate::sought::SpanSought;
+use drawn::DrawnNetwork;
+use itv_base::NoMemory;
+use moves::{NetFound, SpanFound};
+use numbers::DrawnNumber;
+use probing::{Effort, Probed, SideChain};
+use std::alloc::Global;
+
+// How often the next value is guessed, where a design fails as drawn.
+const GUIDED_ROUNDS: u32 = 20;
+
+/// Finds the values of some numbers around the drawn ones with which no requirement breaks; the base is what was found of the network as drawn. All of the
+/// numbers move as one. A border is left open where a search is, or where it takes too many covers to come to it.
+pub fn find_span(
+    alloc: Global,
+    drawn: &DrawnNetwork,
+    numbers: &[&DrawnNumber],
+    base: &Probed,
+    effort: Effort,
+) -> Result<SpanFound, NoMemory>
+    requires base { IsNetFound drawn.now base.now.found }
+    requires budget { 1 ≤ effort.budget }
+    ensures found { IfOk result (IsSpanFound drawn.now (lent numbers.now)) }
+{
+    let counts = counts_of(alloc, drawn, numbers)?;
+    let zeros = no_counts(alloc, drawn)?;
+    let sought = SpanSought {
+        drawn,
+        numbers,
+        counts: &counts,
+        zeros: &zeros,
+        effort,
+    };
+    let reach = shift_reach_of(drawn, numbers);
+    match base.found {
+        NetFound::Passes => span_around(alloc, sought, 0, &base.sides, reach),
+        NetFound::Breaks(_) => span_elsewhere(alloc, sought, &base.sides, reach),
+        NetFound::Inconsistent | NetFound::Open | NetFound::Spent => Ok(SpanFound::Spent),
+    }
+}
+
+// The span around a value with which every requirement passes; these are the edges behind its bounds.
+fn span_around(
+    alloc: Global,
+    sought: SpanSought<'_>,
+    from: i64,
+    sides: &[SideChain],
+    reach: ShiftReach,
+) -> Result<SpanFound, NoMemory> {
+    let low = border_of(alloc, sought, from, sides, Direction::Down, reach)?;
+    let high = border_of(alloc, sought, from, sides, Direction::Up, reach)?;
+    Ok(SpanFound::Between { low, high })
+}
+
+// The span around a value that is found above or below the drawn one, with which a row breaks.
+fn span_elsewhere(
+    alloc: Global,
+    sought: SpanSought<'_>,
+    sides: &[SideChain],
+    reach: ShiftReach,
+) -> Result<SpanFound, NoMemory> {
+    let up = span_towards(alloc, sought, sides, Direction::Up, reach)?;
+    if up != SpanFound::Nothing {
+        return Ok(up);
+    }
+    span_towards(alloc, sought, sides, Direction::Down, reach)
+}
+
+// The span around a value that is found in a direction: each row that breaks says how far the next value is at least.
+fn span_towards(
+    alloc: Global,
+    sought: SpanSought<'_>,
+    sides: &[SideChain],
+    direction: Direction,
+    reach: ShiftReach,
+) -> Result<SpanFound, NoMemory> {
+    let mut at: i64 = 0;
+    let mut far = sought.excess(step_of(direction), sides);
+    for _ in 0..GUIDED_ROUNDS {
+        let Some(more) = far else {
+            return Ok(SpanFound::Nothing);
+        };
+        let next = value_on(at, more, direction, reach);
+        if next == at {
+            return Ok(SpanFound::Nothing);
+        }
+        at = next;
+        let Some(probed) = sought.probe_at(alloc, at)? else {
+            return Ok(SpanFound::Nothing);
+        };
+        match probed.found {
+            NetFound::Passes => return span_around(alloc, sought, at, &probed.sides, reach),
+            NetFound::Breaks(_) => far = sought.excess(step_of(direction), &probed.sides),
+            NetFound::Inconsistent | NetFound::Open | NetFound::Spent => {
+                return Ok(SpanFound::Nothing);
+            }
+        }
+    }
+    Ok(SpanFound::Nothing)
+}
