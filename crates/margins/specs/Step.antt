@@ -64,9 +64,9 @@ abbrev pub IsProbedOpen : EndSought → Probed → Type 0
 IsProbedOpen sought = IsProbedIn sought.drawn.now (open_in sought) sought.effort
 
 -- what is found of an end, which is left open only where the cause choices are more than the budget
-pub record IsFound (sought : EndSought) (found : EndFound) : Type 0 where
-  pub found : IsEndFound sought.drawn.now sought.number.now sought.side found
-  pub settles : cause_choices sought.drawn.now.net.constraints ≤ sought.effort.budget → is_end_spent found ≡ false
+pub record IsFound (sought : EndSought) (end : EndFound) : Type 0 where
+  pub found : IsEndFound sought.drawn.now sought.number.now sought.side end
+  pub settles : cause_choices sought.drawn.now.net.constraints ≤ sought.effort.budget → is_end_spent end ≡ false
 
 -- what was found of the network as drawn, which some times satisfy
 pub record IsBase (drawn : Drawn) (effort : Effort) (base : Probed) : Type 0 where

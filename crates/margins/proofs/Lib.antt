@@ -1,0 +1,7 @@
+mod Ranges
+mod Reaching
+mod Along
+mod Widening
+mod Opening
+mod Deciding
+mod Standing
