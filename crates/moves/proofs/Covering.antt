@@ -21,9 +21,10 @@ use Rattle.drawn.specs.declared.row.Row.{Row}
 use Rattle.numbers.specs.declared.drawn_number.DrawnNumber.{DrawnNumber}
 use Rattle.moves.specs.Covers.{Covers, IsTighterRow, cause_counted, constraint_counted, counted, lag, net_counted, row_counted}
 use Rattle.moves.specs.Laws.{CoverHolds, CoversBetween}
-use Rattle.moves.specs.Moving.{cause_moved, causes_moved, constraints_moved, draw, kind_moved, row_moved, shifted, shifted_at}
+use Rattle.moves.specs.Moving.{cause_moved, constraint_moved, draw, kind_moved, row_moved, shifted, shifted_at}
 use Rattle.moves.specs.Passing.{IsWanted, MeetsRow, NoneBreaks}
 use Rattle.moves.proofs.Counting.{satisfies_counted, separation_counted}
+use Rattle.moves.proofs.Lists.{each_between, map_between}
 use Rattle.moves.proofs.Products.{above_between, below_between, less_times, one_times, zero_times}
 
 -- ---- a cover holds
@@ -161,7 +162,7 @@ module _ (least most value : ℤ) (low : least ≤ℤ value) (high : value ≤�
 
   module _ (counts : List ℤ) where
     abbrev cause_at_value : EventId → Bool → ℤ → Cause → Cause
-    cause_at_value target is_drawn v c = cause_counted counts v target (if is_drawn then cause_moved (shifted v) c else c)
+    cause_at_value target is_drawn v c = cause_counted counts v target (if is_drawn then record c { range = shifted v c.range } else c)
 
     cause_between : (target : EventId) (is_drawn : Bool) (c wide : Cause) → IsWiderCause (cause_at_value target is_drawn least c) wide
         → IsWiderCause (cause_at_value target is_drawn most c) wide → IsWiderCause (cause_at_value target is_drawn value c) wide
@@ -176,54 +177,32 @@ module _ (least most value : ℤ) (low : least ≤ℤ value) (high : value ≤�
       high = higher_between false (separation counts c.event target) c.range c.range.high refl wide.range.high first.high last.high;
     }
 
-    abbrev causes_at_value : EventId → (Origin → Bool) → ℤ → List Cause → List Origin → List Cause
-    causes_at_value target test v cs origins = map (cause_counted counts v target) (causes_moved (shifted v) test cs origins)
-
-    plain_between : (target : EventId) (cs wide : List Cause) → AllZip IsWiderCause (map (cause_counted counts least target) cs) wide
-        → AllZip IsWiderCause (map (cause_counted counts most target) cs) wide → AllZip IsWiderCause (map (cause_counted counts value target) cs) wide
-    plain_between target [] [] first last = tt
-    plain_between target [] (w ∷ wide) first last = absurd first
-    plain_between target (c ∷ cs) [] first last = absurd first
-    plain_between target (c ∷ cs) (w ∷ wide) first last = (cause_between target false c w first.0 last.0, plain_between target cs wide first.1 last.1)
-
-    causes_between : (target : EventId) (test : Origin → Bool) (cs : List Cause) (origins : List Origin) (wide : List Cause)
-        → AllZip IsWiderCause (causes_at_value target test least cs origins) wide → AllZip IsWiderCause (causes_at_value target test most cs origins) wide
-        → AllZip IsWiderCause (causes_at_value target test value cs origins) wide
-    causes_between target test [] origins wide first last = first
-    causes_between target test (c ∷ cs) [] wide first last = plain_between target (c ∷ cs) wide first last
-    causes_between target test (c ∷ cs) (o ∷ origins) [] first last = absurd first
-    causes_between target test (c ∷ cs) (o ∷ origins) (w ∷ wide) first last =
-        (cause_between target (test o) c w first.0 last.0, causes_between target test cs origins wide first.1 last.1)
-
     -- ---- constraints
 
+    plain_between : (k wide : Constraint) → IsWiderConstraint (constraint_counted counts least k) wide → IsWiderConstraint (constraint_counted counts most k) wide
+        → IsWiderConstraint (constraint_counted counts value k) wide
+    plain_between k wide first last = record {
+      kind = first.kind;
+      target = first.target;
+      causes = map_between IsWiderCause (cause_counted counts least k.target) (cause_counted counts most k.target) (cause_counted counts value k.target)
+          (cause_between k.target false) k.causes wide.causes first.causes last.causes;
+    }
+
     module _ (drawn : Drawn) (numbers : List DrawnNumber) where
-      abbrev constraints_at_value : ℤ → List Constraint → List (List Origin) → List Constraint
-      constraints_at_value v ks drew = map (constraint_counted counts v) (constraints_moved (shifted v) drawn numbers ks drew)
+      abbrev constraint_at_value : ℤ → Constraint → List Origin → Constraint
+      constraint_at_value v k origins = constraint_counted counts v (constraint_moved (shifted v) drawn numbers k origins)
 
-      undrawn_between : (ks wide : List Constraint) → AllZip IsWiderConstraint (map (constraint_counted counts least) ks) wide
-          → AllZip IsWiderConstraint (map (constraint_counted counts most) ks) wide → AllZip IsWiderConstraint (map (constraint_counted counts value) ks) wide
-      undrawn_between [] [] first last = tt
-      undrawn_between [] (w ∷ wide) first last = absurd first
-      undrawn_between (k ∷ ks) [] first last = absurd first
-      undrawn_between (k ∷ ks) (w ∷ wide) first last = (
-        record { kind = first.0.kind; target = first.0.target; causes = plain_between k.target k.causes w.causes first.0.causes last.0.causes },
-        undrawn_between ks wide first.1 last.1,
-      )
-
-      constraints_between : (ks : List Constraint) (drew : List (List Origin)) (wide : List Constraint) → AllZip IsWiderConstraint (constraints_at_value least ks drew) wide
-          → AllZip IsWiderConstraint (constraints_at_value most ks drew) wide → AllZip IsWiderConstraint (constraints_at_value value ks drew) wide
-      constraints_between [] drew wide first last = first
-      constraints_between (k ∷ ks) [] wide first last = undrawn_between (k ∷ ks) wide first last
-      constraints_between (k ∷ ks) (origins ∷ drew) [] first last = absurd first
-      constraints_between (k ∷ ks) (origins ∷ drew) (w ∷ wide) first last = (
-        record {
-          kind = first.0.kind;
-          target = first.0.target;
-          causes = causes_between k.target (draw numbers (name_of drawn k.target).part) k.causes origins w.causes first.0.causes last.0.causes;
-        },
-        constraints_between ks drew wide first.1 last.1,
-      )
+      constraint_between : (k : Constraint) (origins : List Origin) (wide : Constraint) → IsWiderConstraint (constraint_at_value least k origins) wide
+          → IsWiderConstraint (constraint_at_value most k origins) wide → IsWiderConstraint (constraint_at_value value k origins) wide
+      constraint_between k origins wide first last =
+          let test : Origin → Bool = draw numbers (name_of drawn k.target).part in
+          record {
+            kind = first.kind;
+            target = first.target;
+            causes = each_between IsWiderCause (cause_counted counts least k.target) (cause_counted counts most k.target) (cause_counted counts value k.target)
+                (cause_moved (shifted least) test) (cause_moved (shifted most) test) (cause_moved (shifted value) test)
+                (cause_between k.target false) (λ c o. cause_between k.target (test o) c) k.causes origins wide.causes first.causes last.causes;
+          }
 
       -- ---- rows
 
@@ -264,11 +243,9 @@ module _ (least most value : ℤ) (low : least ≤ℤ value) (high : value ≤�
       row_between true row tight first last = record { from = first.from; to = first.to; wants = λ x h. wanted_between true row row.kind x (first.wants x h) (last.wants x h) }
       row_between false row tight first last = record { from = first.from; to = first.to; wants = λ x h. wanted_between false row row.kind x (first.wants x h) (last.wants x h) }
 
-      abbrev rows_at_value : ℤ → List Row → List Row
-      rows_at_value v rows = map (row_counted counts v) (map (row_moved (shifted v) drawn numbers) rows)
-
-      rows_between : (rows tight : List Row) → AllZip IsTighterRow (rows_at_value least rows) tight → AllZip IsTighterRow (rows_at_value most rows) tight
-          → AllZip IsTighterRow (rows_at_value value rows) tight
+      rows_between : (rows tight : List Row) → AllZip IsTighterRow (map (row_counted counts least) (map (row_moved (shifted least) drawn numbers) rows)) tight
+          → AllZip IsTighterRow (map (row_counted counts most) (map (row_moved (shifted most) drawn numbers) rows)) tight
+          → AllZip IsTighterRow (map (row_counted counts value) (map (row_moved (shifted value) drawn numbers) rows)) tight
       rows_between [] [] first last = tt
       rows_between [] (t ∷ tight) first last = absurd first
       rows_between (r ∷ rows) [] first last = absurd first
@@ -280,8 +257,10 @@ covers_between counts drawn numbers cover least most value first last low high =
   counts = first.counts;
   net = record {
     events = first.net.events;
-    constraints =
-        constraints_between least most value low high counts drawn numbers drawn.net.constraints drawn.origins cover.net.constraints first.net.constraints last.net.constraints;
+    constraints = each_between IsWiderConstraint (constraint_counted counts least) (constraint_counted counts most) (constraint_counted counts value)
+        (constraint_moved (shifted least) drawn numbers) (constraint_moved (shifted most) drawn numbers) (constraint_moved (shifted value) drawn numbers)
+        (plain_between least most value low high counts) (constraint_between least most value low high counts drawn numbers)
+        drawn.net.constraints drawn.origins cover.net.constraints first.net.constraints last.net.constraints;
   };
   rows = rows_between least most value low high counts drawn numbers drawn.rows cover.rows first.rows last.rows;
 }

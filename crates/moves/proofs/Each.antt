@@ -15,7 +15,8 @@ use Rattle.numbers.specs.Numbers.{draws, draws_cause, origins_of, part_of_target
 use Rattle.numbers.specs.declared.cause_name.CauseName.{CauseName}
 use Rattle.numbers.specs.declared.drawn_number.DrawnNumber.{DrawnNumber}
 use Rattle.moves.specs.Laws.{EachIsMoved, MovedByNothing}
-use Rattle.moves.specs.Moving.{cause_moved, causes_moved, constraints_moved, draw, net_moved, widened, widened_at}
+use Rattle.moves.specs.Moving.{cause_moved, constraint_moved, draw, each_by, net_moved, widened, widened_at}
+use Rattle.moves.proofs.Lists.{each_same}
 
 -- ---- which causes are drawn
 
@@ -31,14 +32,14 @@ any_drawn numbers part (Some origin) = refl
 -- ---- the causes of a constraint
 
 abbrev moved_if : (Ends → Ends) → Bool → Cause → Cause
-moved_if move is_drawn c = if is_drawn then cause_moved move c else c
+moved_if move is_drawn c = if is_drawn then record c { range = move c.range } else c
 
 undrawn : (move : Ends → Ends) (o : Option Cause) → o ≡ option_map (λ (c : Cause). moved_if move false c) o
 undrawn move None = refl
 undrawn move (Some c) = refl
 
 causes_at : (move : Ends → Ends) (test : Origin → Bool) (cs : List Cause) (origins : List Origin) (i : ℕ)
-    → slice_get (causes_moved move test cs origins) i ≡ option_map (λ (c : Cause). moved_if move (option_map_or test (slice_get origins i) false) c) (slice_get cs i)
+    → slice_get (each_by (cause_moved move test) cs origins) i ≡ option_map (λ (c : Cause). moved_if move (option_map_or test (slice_get origins i) false) c) (slice_get cs i)
 causes_at move test [] origins i = refl
 causes_at move test (c ∷ cs) [] i = undrawn move (slice_get (c ∷ cs) i)
 causes_at move test (c ∷ cs) (o ∷ origins) zero = refl
@@ -53,7 +54,7 @@ module _ (move : Ends → Ends) (drawn : Drawn) (numbers : List DrawnNumber) whe
       (slice_get (unwrap_or (slice_get drew k) []) i) false
 
   constraints_at : (ks : List Constraint) (drew : List (List Origin)) (k i : ℕ)
-      → option_and_then (λ (c : Constraint). slice_get c.causes i) (slice_get (constraints_moved move drawn numbers ks drew) k)
+      → option_and_then (λ (c : Constraint). slice_get c.causes i) (slice_get (each_by (constraint_moved move drawn numbers) ks drew) k)
       ≡ option_map (λ (c : Cause). moved_if move (is_drawn_in ks drew k i) c) (option_and_then (λ (c : Constraint). slice_get c.causes i) (slice_get ks k))
   constraints_at [] drew k i = refl
   constraints_at (c ∷ ks) [] k i = undrawn move (option_and_then (λ (d : Constraint). slice_get d.causes i) (slice_get (c ∷ ks) k))
@@ -66,43 +67,38 @@ each_is_moved drawn numbers move name =
     ∙ ap (λ (b : Bool). option_map (λ (c : Cause). moved_if move b c) (cause_at drawn.net name.constraint name.cause))
     (sym (any_drawn numbers (part_of_target drawn name.constraint) (slice_get (origins_of drawn name.constraint) name.cause)))
 
--- ---- moved by nothing
+-- ---- a move by nothing
+
+less_nothing : (z : ℤ) → (z -ℤ pos 0) ≡ z
+less_nothing z = omega (arith, ints)
+
+more_nothing : (z : ℤ) → (z +ℤ pos 0) ≡ z
+more_nothing z = omega (arith, ints)
 
 low_same : (end : Option ℤ) → option_map (λ low. low -ℤ pos 0) end ≡ end
 low_same None = refl
-low_same (Some z) = ap Some (zero_less z)
-  where
-    zero_less : (z : ℤ) → (z -ℤ pos 0) ≡ z
-    zero_less z = omega (arith, ints)
+low_same (Some z) = ap (λ (v : ℤ). Some v) (less_nothing z)
 
 high_same : (end : Option ℤ) → option_map (λ high. high +ℤ pos 0) end ≡ end
 high_same None = refl
-high_same (Some z) = ap Some (zero_more z)
-  where
-    zero_more : (z : ℤ) → (z +ℤ pos 0) ≡ z
-    zero_more z = omega (arith, ints)
+high_same (Some z) = ap (λ (v : ℤ). Some v) (more_nothing z)
 
 range_same : (side : Side) (range : Ends) → widened side (pos 0) range ≡ range
-range_same Lower range = ap (λ (low : Option ℤ). record range { low = low }) (low_same range.low)
-range_same Upper range = ap (λ (high : Option ℤ). record range { high = high }) (high_same range.high)
+range_same Lower range = ap (λ (end : Option ℤ). record range { low = end }) (low_same range.low)
+range_same Upper range = ap (λ (end : Option ℤ). record range { high = end }) (high_same range.high)
 
-module _ (side : Side) where
-  one_same : (is_drawn : Bool) (c : Cause) → moved_if (widened side (pos 0)) is_drawn c ≡ c
-  one_same true c = ap (λ (range : Ends). record c { range = range }) (range_same side c.range)
-  one_same false c = refl
+one_same : (side : Side) (is_drawn : Bool) (c : Cause) → moved_if (widened side (pos 0)) is_drawn c ≡ c
+one_same side true c = ap (λ (range : Ends). record c { range = range }) (range_same side c.range)
+one_same side false c = refl
 
-  causes_same : (test : Origin → Bool) (cs : List Cause) (origins : List Origin) → causes_moved (widened side (pos 0)) test cs origins ≡ cs
-  causes_same test [] origins = refl
-  causes_same test (c ∷ cs) [] = refl
-  causes_same test (c ∷ cs) (o ∷ origins) = rw (one_same (test o) c, causes_same test cs origins) refl
-
-  constraints_same : (drawn : Drawn) (numbers : List DrawnNumber) (ks : List Constraint) (drew : List (List Origin))
-      → constraints_moved (widened side (pos 0)) drawn numbers ks drew ≡ ks
-  constraints_same drawn numbers [] drew = refl
-  constraints_same drawn numbers (k ∷ ks) [] = refl
-  constraints_same drawn numbers (k ∷ ks) (origins ∷ drew) =
-      rw (causes_same (draw numbers (name_of drawn k.target).part) k.causes origins, constraints_same drawn numbers ks drew) refl
+constraint_same : (drawn : Drawn) (numbers : List DrawnNumber) (side : Side) (c : Constraint) (origins : List Origin)
+    → constraint_moved (widened side (pos 0)) drawn numbers c origins ≡ c
+constraint_same drawn numbers side c origins =
+    let test : Origin → Bool = draw numbers (name_of drawn c.target).part in
+    ap (λ (cs : List Cause). record c { causes = cs })
+    (each_same (cause_moved (widened side (pos 0)) test) (λ d o. one_same side (test o) d) c.causes origins)
 
 pub moved_by_nothing : MovedByNothing
 moved_by_nothing drawn number side =
-    ap (λ (ks : List Constraint). record drawn { net = record drawn.net { constraints = ks } }) (constraints_same side drawn (number ∷ []) drawn.net.constraints drawn.origins)
+    ap (λ (ks : List Constraint). record drawn { net = record drawn.net { constraints = ks } })
+    (each_same (constraint_moved (widened side (pos 0)) drawn (number ∷ [])) (constraint_same drawn (number ∷ []) side) drawn.net.constraints drawn.origins)

@@ -1,6 +1,13 @@
-mod Widened
-mod Thresholds
-mod Each
-mod Products
-mod Counting
-mod Covering
+pub mod Lists
+pub mod Widened
+pub mod Thresholds
+pub mod Each
+pub mod Products
+pub mod Counting
+pub mod Covering
+pub mod Reading
+pub mod Pushing
+pub mod Moved
+pub mod MovedRows
+pub mod Seen
+pub mod Ranges

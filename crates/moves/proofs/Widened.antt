@@ -1,5 +1,5 @@
 -- A network in which ranges are moved allows no less than one in which they are moved less far outward.
-use Rattle.std.proofs.Common.{◌≡◌, ℤ, pos, ◌+ℤ◌, ◌-ℤ◌, ◌≤ℤ◌, Bool, true, false, List, [], ◌∷◌, Option, Some, None, option_map, refl, ap, arith}
+use Rattle.std.proofs.Common.{◌≡◌, ℤ, pos, ◌+ℤ◌, ◌-ℤ◌, ◌≤ℤ◌, ℕ, Bool, true, false, List, [], ◌∷◌, Option, Some, None, option_map, refl, arith}
 use Rattle.std.specs.Prelude.{if◌then◌else◌}
 use Rattle.std.proofs.lemmas.Int.{ints}
 use Rattle.std.specs.List.{AllZip}
@@ -12,7 +12,8 @@ use Rattle.event_graph.specs.Network.{Constraint}
 use Rattle.event_graph.specs.Widening.{IsHigherEnd, IsLowerEnd, IsWider, IsWiderCause, IsWiderConstraint}
 use Rattle.drawn.specs.Drawn.{Drawn, name_of}
 use Rattle.numbers.specs.declared.drawn_number.DrawnNumber.{DrawnNumber}
-use Rattle.moves.specs.Moving.{cause_moved, causes_moved, constraints_moved, draw, net_moved, opened, widened}
+use Rattle.moves.specs.Moving.{cause_moved, constraint_moved, draw, net_moved, opened, widened}
+use Rattle.moves.proofs.Lists.{all_own, each_related}
 
 -- ---- ranges
 
@@ -50,32 +51,27 @@ opened_holds Upper by range = (lower_same range.low, tt)
 same_cause : (c : Cause) → IsWiderCause c c
 same_cause c = record { event = refl; low = lower_same c.range.low; high = higher_same c.range.high }
 
-same_causes : (cs : List Cause) → AllZip IsWiderCause cs cs
-same_causes [] = tt
-same_causes (c ∷ cs) = (same_cause c, same_causes cs)
-
-same_constraints : (ks : List Constraint) → AllZip IsWiderConstraint ks ks
-same_constraints [] = tt
-same_constraints (k ∷ ks) = (record { kind = refl; target = refl; causes = same_causes k.causes }, same_constraints ks)
+same_constraint : (k : Constraint) → IsWiderConstraint k k
+same_constraint k = record { kind = refl; target = refl; causes = all_own IsWiderCause same_cause k.causes }
 
 module _ (less more : Ends → Ends) (within : (range : Ends) → IsWithinRange (less range) (more range)) where
-  one_wider : (is_drawn : Bool) (c : Cause) → IsWiderCause (if is_drawn then cause_moved less c else c) (if is_drawn then cause_moved more c else c)
-  one_wider true c = let w = within c.range in record { event = refl; low = w.0; high = w.1 }
-  one_wider false c = same_cause c
+  if_wider : (is_drawn : Bool) (c : Cause) → IsWiderCause (if is_drawn then record c { range = less c.range } else c) (if is_drawn then record c { range = more c.range } else c)
+  if_wider true c = record { event = refl; low = (within c.range).0; high = (within c.range).1 }
+  if_wider false c = same_cause c
 
-  causes_wider : (test : Origin → Bool) (cs : List Cause) (origins : List Origin) → AllZip IsWiderCause (causes_moved less test cs origins) (causes_moved more test cs origins)
-  causes_wider test [] origins = tt
-  causes_wider test (c ∷ cs) [] = same_causes (c ∷ cs)
-  causes_wider test (c ∷ cs) (o ∷ origins) = (one_wider (test o) c, causes_wider test cs origins)
-
-  constraints_wider : (drawn : Drawn) (numbers : List DrawnNumber) (ks : List Constraint) (drew : List (List Origin))
-      → AllZip IsWiderConstraint (constraints_moved less drawn numbers ks drew) (constraints_moved more drawn numbers ks drew)
-  constraints_wider drawn numbers [] drew = tt
-  constraints_wider drawn numbers (k ∷ ks) [] = same_constraints (k ∷ ks)
-  constraints_wider drawn numbers (k ∷ ks) (origins ∷ drew) = (
-    record { kind = refl; target = refl; causes = causes_wider (draw numbers (name_of drawn k.target).part) k.causes origins },
-    constraints_wider drawn numbers ks drew,
-  )
+  constraint_wider : (drawn : Drawn) (numbers : List DrawnNumber) (k : Constraint) (origins : List Origin)
+      → IsWiderConstraint (constraint_moved less drawn numbers k origins) (constraint_moved more drawn numbers k origins)
+  constraint_wider drawn numbers k origins =
+      let test : Origin → Bool = draw numbers (name_of drawn k.target).part in
+      record {
+        kind = refl;
+        target = refl;
+        causes = each_related IsWiderCause (cause_moved less test) (cause_moved more test) same_cause (λ c o. if_wider (test o) c) k.causes origins;
+      }
 
   pub nets_wider : (drawn : Drawn) (numbers : List DrawnNumber) → IsWider (net_moved less drawn numbers) (net_moved more drawn numbers)
-  nets_wider drawn numbers = record { events = refl; constraints = constraints_wider drawn numbers drawn.net.constraints drawn.origins }
+  nets_wider drawn numbers = record {
+    events = refl;
+    constraints = each_related IsWiderConstraint (constraint_moved less drawn numbers) (constraint_moved more drawn numbers) same_constraint (constraint_wider drawn numbers)
+        drawn.net.constraints drawn.origins;
+  }

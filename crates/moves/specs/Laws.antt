@@ -11,7 +11,7 @@ use Rattle.numbers.specs.declared.cause_name.CauseName.{CauseName}
 use Rattle.numbers.specs.declared.drawn_number.DrawnNumber.{DrawnNumber}
 use Rattle.moves.specs.Covers.{Covers}
 use Rattle.moves.specs.Found.{IsEndFound}
-use Rattle.moves.specs.Moving.{cause_moved, net_moved, shifted_at, widened_at}
+use Rattle.moves.specs.Moving.{net_moved, shifted_at, widened_at}
 use Rattle.moves.specs.Passing.{Breaks, NoneBreaks}
 use Rattle.moves.specs.declared.end_found.EndFound.TheVariants as ends
 
@@ -19,7 +19,7 @@ use Rattle.moves.specs.declared.end_found.EndFound.TheVariants as ends
 abbrev pub EachIsMoved : Type 0
 EachIsMoved = (drawn : Drawn) (numbers : List DrawnNumber) (move : Ends → Ends) (name : CauseName)
     → cause_at (net_moved move drawn numbers) name.constraint name.cause
-    ≡ option_map (λ (c : Cause). if list_any (λ number. draws_cause drawn number name) numbers then cause_moved move c else c)
+    ≡ option_map (λ (c : Cause). if list_any (λ number. draws_cause drawn number name) numbers then record c { range = move c.range } else c)
     (cause_at drawn.net name.constraint name.cause)
 
 -- an end moved by nothing is as it was

@@ -1,5 +1,5 @@
 -- The numbers of a drawing, each with its range, in the order in which they first draw a cause.
-use Rattle.std.specs.Prelude.{ℕ, if◌then◌else◌, List, [], ◌∷◌, ◌++◌, map}
+use Rattle.std.specs.Prelude.{ℕ, if◌then◌else◌, List, [], ◌∷◌, ◌++◌, map, fold, zip}
 use Rattle.itv_base.specs.Range.{Ends}
 use Rattle.origin.specs.declared.origin.Origin.{Origin}
 use Rattle.origin.specs.declared.origin.Origin.TheVariants as origins
@@ -18,20 +18,13 @@ number_by part (origins.Pin net pin) range = (record { number = numbers.Net net;
 number_by part (origins.Wire wire) range = (record { number = numbers.Wire wire; range = range }) ∷ []
 
 -- some numbers, with the number behind a cause where none of them draws it
-abbrev pub with_cause : List NumberSeen → List ℕ → Cause → Origin → List NumberSeen
-with_cause seen part cause origin = if draw (map (λ (s : NumberSeen). s.number) seen) part origin then seen else seen ++ number_by part origin cause.range
+abbrev pub with_cause : List ℕ → List NumberSeen → Cause × Origin → List NumberSeen
+with_cause part seen (cause, origin) = if draw (map (λ (s : NumberSeen). s.number) seen) part origin then seen else seen ++ number_by part origin cause.range
 
-abbrev pub with_causes : List NumberSeen → List ℕ → List Cause → List Origin → List NumberSeen
-with_causes seen part [] origins = seen
-with_causes seen part (cause ∷ causes) [] = seen
-with_causes seen part (cause ∷ causes) (origin ∷ origins) = with_causes (with_cause seen part cause origin) part causes origins
-
-abbrev pub with_constraints : Drawn → List NumberSeen → List Constraint → List (List Origin) → List NumberSeen
-with_constraints drawn seen [] drew = seen
-with_constraints drawn seen (c ∷ others) [] = seen
-with_constraints drawn seen (c ∷ others) (origins ∷ drew) =
-    with_constraints drawn (with_causes seen (name_of drawn c.target).part c.causes origins) others drew
+-- and with the numbers behind the causes of a constraint
+abbrev pub with_causes : Drawn → List NumberSeen → Constraint × List Origin → List NumberSeen
+with_causes drawn seen (c, drew) = fold (with_cause (name_of drawn c.target).part) seen (zip c.causes drew)
 
 -- all numbers that draw a cause
 abbrev pub numbers_of : Drawn → List NumberSeen
-numbers_of drawn = with_constraints drawn [] drawn.net.constraints drawn.origins
+numbers_of drawn = fold (with_causes drawn) [] (zip drawn.net.constraints drawn.origins)

@@ -36,26 +36,24 @@ shifted by range = record { low = option_map (λ low. low +ℤ by) range.low; hi
 abbrev pub draw : List DrawnNumber → List ℕ → Origin → Bool
 draw numbers part origin = list_any (λ number. draws number part origin) numbers
 
--- a cause with its range moved
-abbrev pub cause_moved : (Ends → Ends) → Cause → Cause
-cause_moved move cause = record cause { range = move cause.range }
+-- each element changed by what stands at its place in another list, as far as that goes
+abbrev pub each_by : {X Y : Type 0} → (X → Y → X) → List X → List Y → List X
+each_by f [] ys = []
+each_by f (x ∷ xs) [] = x ∷ xs
+each_by f (x ∷ xs) (y ∷ ys) = f x y ∷ each_by f xs ys
 
--- causes with what draws each of them: the range is moved where a test of that is met
-abbrev pub causes_moved : (Ends → Ends) → (Origin → Bool) → List Cause → List Origin → List Cause
-causes_moved move test [] origins = []
-causes_moved move test (cause ∷ causes) [] = cause ∷ causes
-causes_moved move test (cause ∷ causes) (origin ∷ origins) = (if test origin then cause_moved move cause else cause) ∷ causes_moved move test causes origins
+-- a cause with its range moved, if what draws it meets a test
+abbrev pub cause_moved : (Ends → Ends) → (Origin → Bool) → Cause → Origin → Cause
+cause_moved move test cause origin = if test origin then record cause { range = move cause.range } else cause
 
--- constraints with what draws the causes of each of them
-abbrev pub constraints_moved : (Ends → Ends) → Drawn → List DrawnNumber → List Constraint → List (List Origin) → List Constraint
-constraints_moved move drawn numbers [] drew = []
-constraints_moved move drawn numbers (c ∷ others) [] = c ∷ others
-constraints_moved move drawn numbers (c ∷ others) (origins ∷ drew) =
-    (record c { causes = causes_moved move (draw numbers (name_of drawn c.target).part) c.causes origins }) ∷ constraints_moved move drawn numbers others drew
+-- a constraint with the range of each cause moved that one of the numbers draws
+abbrev pub constraint_moved : (Ends → Ends) → Drawn → List DrawnNumber → Constraint → List Origin → Constraint
+constraint_moved move drawn numbers c origins =
+    record c { causes = each_by (cause_moved move (draw numbers (name_of drawn c.target).part)) c.causes origins }
 
 -- the network in which each range that one of the numbers draws is moved
 abbrev pub net_moved : (Ends → Ends) → Drawn → List DrawnNumber → Net
-net_moved move drawn numbers = record drawn.net { constraints = constraints_moved move drawn numbers drawn.net.constraints drawn.origins }
+net_moved move drawn numbers = record drawn.net { constraints = each_by (constraint_moved move drawn numbers) drawn.net.constraints drawn.origins }
 
 abbrev pub kind_moved : (Ends → Ends) → RowKind → RowKind
 kind_moved move kinds.Ask = kinds.Ask

@@ -1,5 +1,5 @@
 -- When the requirements of a drawn network pass, and which of them breaks.
-use Rattle.std.specs.Prelude.{ℕ, ℤ, IsTrue, List, All, IsSomeAnd, slice_get}
+use Rattle.std.specs.Prelude.{ℕ, ℤ, Bool, IsTrue, List, All, IsSomeAnd, slice_get}
 use Rattle.std.specs.List.{AllZip}
 use Rattle.itv_base.specs.Range.{Allows, IsRange}
 use Rattle.itv_base.specs.declared.row_kind.RowKind.{RowKind}
@@ -39,12 +39,13 @@ Passes drawn = IsConsistent drawn × NoneBreaks drawn
 abbrev pub Breaks : Drawn → ℕ → Type 0
 Breaks drawn number = (times : List ℤ) × Satisfies times drawn.net × IsSomeAnd (slice_get drawn.rows number) (λ row. MeetsRow times row → ⊥)
 
--- each range of a cause that one of the numbers draws can be drawn: its ends are within the limit, and the low one is not above the high one
+-- of causes that meet a test, by what draws each of them, each range can be drawn: its ends are within the limit, and the low one is not above the high one
+abbrev pub AreDrawable : (Origin → Bool) → List Cause → List Origin → Type 0
+AreDrawable test = AllZip (λ (cause : Cause) (origin : Origin). IsTrue (test origin) → IsRange cause.range)
+
+-- each range of a cause that one of the numbers draws can be drawn
 abbrev pub HasRanges : Drawn → List DrawnNumber → Type 0
-HasRanges drawn numbers =
-    AllZip (λ (c : Constraint) (origins : List Origin). AllZip
-    (λ (cause : Cause) (origin : Origin). IsTrue (draw numbers (name_of drawn c.target).part origin) → IsRange cause.range) c.causes origins)
-    drawn.net.constraints drawn.origins
+HasRanges drawn numbers = AllZip (λ (c : Constraint). AreDrawable (draw numbers (name_of drawn c.target).part) c.causes) drawn.net.constraints drawn.origins
 
 abbrev pub IsKindRange : RowKind → Type 0
 IsKindRange kinds.Ask = Unit {0}

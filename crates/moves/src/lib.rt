@@ -9,6 +9,8 @@ mod listing;
 mod moving;
 mod net_found;
 mod number_seen;
+mod pushing;
+mod reading;
 mod rows;
 mod span;
 
@@ -17,5 +19,7 @@ pub use listing::numbers_of;
 pub use moving::{MOVE_LIMIT, Move, draw, moved_network, moved_range};
 pub use net_found::NetFound;
 pub use number_seen::NumberSeen;
+pub use pushing::push_with;
+pub use reading::{cause_of, kind_of, origins_of, part_of_target, read_drawn, target_of};
 pub use rows::moved_rows;
 pub use span::{Border, SpanFound};

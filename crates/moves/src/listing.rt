@@ -1,14 +1,14 @@
 //! The numbers of a drawing.
 
-ghost use Rattle.std.specs.Prelude.{◌≡◌, ◌<◌, ◌++◌, IfOk, OnOk, Some, length, map, slice_get};
-ghost use Rattle.event_graph.specs.Network.{Constraint};
-ghost use Rattle.drawn.specs.Drawn.{name_of};
-ghost use Rattle.numbers.specs.Numbers.{origins_of};
-ghost use Rattle.moves.specs.Listed.{number_by, numbers_of, with_cause, with_causes};
+ghost use Rattle.std.specs.Prelude.{◌≡◌, ◌<◌, ◌++◌, ◌∷◌, [], IfOk, OnOk, fold, length, zip};
+ghost use Rattle.std.specs.List.{list_any};
+ghost use Rattle.numbers.specs.Numbers.{draws, origins_of, part_of_target};
+ghost use Rattle.moves.specs.Listed.{number_by, numbers_of, with_cause};
 ghost use Rattle.moves.specs.Moving.{draw};
-ghost use Rattle.moves.specs.declared.number_seen.NumberSeen.{NumberSeen as Seen};
+ghost use Rattle.moves.specs.Step.{causes_at, numbers_seen};
 
 use crate::number_seen::NumberSeen;
+use crate::reading::{cause_of, origins_of, part_of_target, read_drawn};
 use drawn::DrawnNetwork;
 use event_graph::Cause;
 use itv_base::{NoMemory, Range, Text};
@@ -20,6 +20,7 @@ use std::alloc::Global;
 pub fn numbers_of(alloc: Global, drawn: &DrawnNetwork) -> Result<Vec<NumberSeen>, NoMemory>
     ensures numbers { IfOk result (λ seen. seen.items ≡ numbers_of drawn.now) }
 {
+    read_drawn(drawn);
     let mut seen = Vec::new(alloc);
     for constraint in 0..drawn.network().len() {
         add_causes(alloc, drawn, constraint, &mut seen)?;
@@ -35,16 +36,14 @@ fn add_causes(
     seen: &mut Vec<NumberSeen>,
 ) -> Result<(), NoMemory>
     requires there { constraint < length drawn.now.net.constraints }
-    ensures added { OnOk result ((c : Constraint) → slice_get drawn.now.net.constraints constraint ≡ Some c
-        → seen.new.items ≡ with_causes seen.old.items (name_of drawn.now c.target).part c.causes (origins_of drawn.now constraint)) }
+    ensures added { OnOk result (seen.new.items
+        ≡ fold (with_cause (part_of_target drawn.now constraint)) seen.old.items (zip (causes_at drawn.now.net constraint) (origins_of drawn.now constraint))) }
 {
-    let net = drawn.network();
-    // The network is within its limits.
-    let _events = net.events();
-    let part = drawn.name(net.target(constraint)).part;
-    let origins = drawn.origins().get(u64::from(constraint)).as_slice();
+    read_drawn(drawn);
+    let part = part_of_target(drawn, constraint);
+    let origins = origins_of(drawn, constraint);
     for k in 0..origins.len() {
-        let cause = net.cause(constraint, k as u32);
+        let cause = cause_of(drawn, constraint, k as u32);
         add_cause(alloc, part, cause, origins[k], seen)?;
     }
     Ok(())
@@ -58,9 +57,9 @@ fn add_cause(
     origin: Origin,
     seen: &mut Vec<NumberSeen>,
 ) -> Result<(), NoMemory>
-    ensures added { OnOk result (seen.new.items ≡ with_cause seen.old.items part.now cause origin) }
+    ensures added { OnOk result (seen.new.items ≡ with_cause part.now seen.old.items (cause, origin)) }
 {
-    if is_drawn(seen, part, origin) {
+    if is_drawn(seen.as_slice(), part, origin) {
         return Ok(());
     }
     push_number(alloc, part, origin, cause.range, seen)
@@ -68,7 +67,14 @@ fn add_cause(
 
 // Whether one of the numbers gives its range to a cause that this draws.
 fn is_drawn(seen: &[NumberSeen], part: &str, origin: Origin) -> bool
-    ensures { result ≡ draw (map (λ (s : Seen). s.number) seen.now) part.now origin }
+    ensures { result ≡ draw (numbers_seen seen.now) part.now origin }
+{
+    some_draws(seen, part, origin)
+}
+
+// Whether one of the numbers draws this.
+fn some_draws(seen: &[NumberSeen], part: &str, origin: Origin) -> bool
+    ensures { result ≡ list_any (λ seen. draws seen.number part.now origin) seen.now }
 {
     seen.iter().any(|seen| seen.number.draws(part, origin))
 }
@@ -83,15 +89,25 @@ fn push_number(
 ) -> Result<(), NoMemory>
     ensures pushed { OnOk result (seen.new.items ≡ seen.old.items ++ number_by part.now origin range) }
 {
-    let number = match origin {
-        Origin::Lane(_) => return Ok(()),
-        Origin::Edge(edge) => DrawnNumber::Edge {
-            part: Text::from_text(alloc, part)?,
-            edge,
-        },
-        Origin::Pin { net, .. } => DrawnNumber::Net(net),
-        Origin::Wire(wire) => DrawnNumber::Wire(wire),
-    };
+    match origin {
+        Origin::Lane(_) => Ok(()),
+        Origin::Edge(edge) => {
+            let part = Text::from_text(alloc, part)?;
+            push_seen(DrawnNumber::Edge { part, edge }, range, seen)
+        }
+        Origin::Pin { net, .. } => push_seen(DrawnNumber::Net(net), range, seen),
+        Origin::Wire(wire) => push_seen(DrawnNumber::Wire(wire), range, seen),
+    }
+}
+
+// Adds a number.
+fn push_seen(
+    number: DrawnNumber,
+    range: Range,
+    seen: &mut Vec<NumberSeen>,
+) -> Result<(), NoMemory>
+    ensures pushed { OnOk result (seen.new.items ≡ seen.old.items ++ (record { number = number; range = range }) ∷ []) }
+{
     seen.push(NumberSeen { number, range })?;
     Ok(())
 }

@@ -1,9 +1,10 @@
 //! Rows in which the ranges of numbers are moved.
 
-ghost use Rattle.std.specs.Prelude.{◌≡◌, ◌<◌, ◌↔◌, All, IfOk, IfSome, IsSome, length, map};
-ghost use Rattle.drawn.specs.Drawn.{IsRowOf};
-ghost use Rattle.moves.specs.Moving.{kind_moved, row_moved};
-ghost use Rattle.moves.specs.Passing.{HasRowRanges};
+ghost use Rattle.std.specs.Prelude.{◌≡◌, ◌≤◌, ◌↔◌, All, IfOk, IfSome, IsSome, IsTrue, length, map};
+ghost use Rattle.itv_base.specs.declared.limits.TheConstants.{MAX_ROWS};
+ghost use Rattle.drawn.specs.Drawn.{IsRowOf, name_of};
+ghost use Rattle.moves.specs.Moving.{draw, kind_moved, row_moved};
+ghost use Rattle.moves.specs.Passing.{HasRowRanges, IsKindRange};
 ghost use Rattle.moves.specs.Step.{IsMove, lent, moved_by};
 
 use crate::moving::{Move, draw, moved_range};
@@ -24,10 +25,12 @@ pub fn moved_rows(
     ensures ranges { IfOk result (λ moved. IsSome moved
         ↔ HasRowRanges (record drawn.now { rows = map (row_moved (moved_by by) drawn.now (lent numbers.now)) drawn.now.rows }) (lent numbers.now)) }
     ensures within { IfOk result (λ moved. IfSome moved (λ rows. All (IsRowOf drawn.now.net) rows.items)) }
+    ensures few { IfOk result (λ moved. IfSome moved (λ rows. length rows.items ≤ MAX_ROWS)) }
 {
+    let drawn_rows = drawn.rows();
     let mut rows = Vec::new(alloc);
-    for number in 0..drawn.rows().len() {
-        match moved_row(drawn, numbers, drawn.rows().get(number), by) {
+    for k in 0..drawn_rows.len() {
+        match moved_row(drawn, numbers, drawn_rows.get(k), by) {
             None => return Ok(None),
             Some(row) => rows.push(row)?,
         }
@@ -40,25 +43,34 @@ fn moved_row(drawn: &DrawnNetwork, numbers: &[&DrawnNumber], row: &Row, by: Move
     requires by { IsMove by }
     requires row { IsRowOf drawn.now.net row.now }
     ensures row { IfSome result (λ moved. moved ≡ row_moved (moved_by by) drawn.now (lent numbers.now) row.now) }
+    ensures ranges { IsSome result
+        ↔ (IsTrue (draw (lent numbers.now) (name_of drawn.now row.now.from).part row.now.origin) → IsKindRange (kind_moved (moved_by by) row.now.kind)) }
 {
     if !draw(numbers, drawn.name(row.from).part, row.origin) {
         return Some(*row);
     }
-    Some(Row {
-        kind: moved_kind(row.kind, by)?,
-        from: row.from,
-        to: row.to,
-        origin: row.origin,
-    })
+    match moved_kind(row.kind, by) {
+        None => None,
+        Some(kind) => Some(Row {
+            kind,
+            from: row.from,
+            to: row.to,
+            origin: row.origin,
+        }),
+    }
 }
 
 // What is wanted, with its range moved.
 fn moved_kind(kind: RowKind, by: Move) -> Option<RowKind>
     requires by { IsMove by }
     ensures kind { IfSome result (λ moved. moved ≡ kind_moved (moved_by by) kind) }
+    ensures ranges { IsSome result ↔ IsKindRange (kind_moved (moved_by by) kind) }
 {
     match kind {
         RowKind::Ask => Some(RowKind::Ask),
-        RowKind::Req(range) => Some(RowKind::Req(moved_range(range, by)?)),
+        RowKind::Req(range) => match moved_range(range, by) {
+            None => None,
+            Some(range) => Some(RowKind::Req(range)),
+        },
     }
 }

@@ -1,12 +1,15 @@
 //! Going on from value to value by covers.
 
-use crate::interval::Interval;
-use crate::looking::Direction;
-use crate::sought::SpanSought;
+ghost use Rattle.std.specs.Prelude.{IfOk};
+ghost use Rattle.moves.specs.Passing.{NoneBreaks};
+ghost use Rattle.moves.specs.Step.{IsMoveBy};
+ghost use Rattle.spans.specs.Step.{IsAdvance, IsOn, IsSought, at_value};
+
+use crate::direction::{Direction, between, distance, next_of, value_on};
+use crate::sought::{SpanSought, ValueFound};
 use itv_base::NoMemory;
 use moves::NetFound;
 use std::alloc::Global;
-use std::cmp::min;
 
 // Covers that are tried for a border. A border that takes more is left open.
 const MOST_COVERS: u32 = 1_000;
@@ -22,87 +25,43 @@ pub enum Advance {
     Spent(i64),
 }
 
-/// Shows by covers that no requirement breaks with the values behind one up to a goal, in a direction: half as many at once where a cover does not hold,
+/// Shows by covers that no requirement breaks with the values from one to a goal, in a direction: half as many at once where a cover does not hold,
 /// and twice as many where it does.
 pub fn advance(
     alloc: Global,
-    sought: SpanSought<'_>,
+    sought: &SpanSought<'_>,
     from: i64,
     goal: i64,
     direction: Direction,
-) -> Result<Advance, NoMemory> {
+) -> Result<Advance, NoMemory>
+    requires sought { IsSought sought.now }
+    requires from { IsMoveBy from }
+    requires goal { IsMoveBy goal }
+    requires ahead { IsOn direction from goal }
+    requires none { NoneBreaks (at_value sought.now from) }
+    ensures advance { IfOk result (IsAdvance sought.now direction from goal) }
+{
     let mut done: i64 = from;
-    let mut size = distance(done, goal);
+    let mut size = distance(from, goal);
     for _ in 0..MOST_COVERS {
         if done == goal {
             return Ok(Advance::Reached);
         }
-        size = min(size, distance(done, goal));
-        let end = moved(done, size, direction);
+        size = size.min(distance(done, goal));
+        let end = value_on(done, size, goal, direction);
         if sought.is_covered(alloc, between(done, end, direction))? {
             done = end;
             size = size.saturating_mul(2);
         } else if size > 1 {
             size /= 2;
         } else {
-            let Some(probed) = sought.probe_at(alloc, end)? else {
-                return Ok(Advance::Spent(done));
-            };
-            match probed.found {
-                NetFound::Breaks(row) => return Ok(Advance::Breaks { last: done, row }),
-                NetFound::Passes | NetFound::Inconsistent => done = end,
-                NetFound::Open | NetFound::Spent => return Ok(Advance::Spent(done)),
+            let next = next_of(done, direction);
+            match sought.value_at(alloc, next)? {
+                ValueFound::Shown => done = next,
+                ValueFound::Breaks(row) => return Ok(Advance::Breaks { last: done, row }),
+                ValueFound::Spent => return Ok(Advance::Spent(done)),
             }
         }
     }
-    if done == goal {
-        Ok(Advance::Reached)
-    } else {
-        Ok(Advance::Spent(done))
-    }
-}
-
-// How far two values are apart.
-fn distance(from: i64, to: i64) -> i64 {
-    if from <= to {
-        to.saturating_sub(from)
-    } else {
-        from.saturating_sub(to)
-    }
-}
-
-// The value this far on in a direction.
-fn moved(from: i64, far: i64, direction: Direction) -> i64 {
-    match direction {
-        Direction::Down => from.saturating_sub(far),
-        Direction::Up => from.saturating_add(far),
-    }
-}
-
-/// The values behind one up to another one, in a direction.
-pub fn between(from: i64, to: i64, direction: Direction) -> Interval {
-    match direction {
-        Direction::Down => Interval {
-            least: Some(to),
-            most: Some(from.saturating_sub(1)),
-        },
-        Direction::Up => Interval {
-            least: Some(from.saturating_add(1)),
-            most: Some(to),
-        },
-    }
-}
-
-/// All values behind one, in a direction.
-pub fn beyond(from: i64, direction: Direction) -> Interval {
-    match direction {
-        Direction::Down => Interval {
-            least: None,
-            most: Some(from.saturating_sub(1)),
-        },
-        Direction::Up => Interval {
-            least: Some(from.saturating_add(1)),
-            most: None,
-        },
-    }
+    Ok(Advance::Spent(done))
 }

@@ -1,15 +1,13 @@
 //! How many values each event counts from: a guess, by which a cover holds or does not.
 
-ghost use Rattle.std.specs.Prelude.{◌≡◌, ◌<◌, All, IfOk, length};
+ghost use Rattle.std.specs.Prelude.{◌≡◌, ◌<◌, IfOk, length, vec_len};
 ghost use Rattle.spans.specs.Step.{AreCounts, IsCount};
 
 use drawn::DrawnNetwork;
-use event_graph::Cause;
-use itv_base::{EventId, MAX_EVENTS, NoMemory, Range};
-use moves::draw;
+use itv_base::{EventId, NoMemory, Range};
+use moves::{cause_of, draw, origins_of, part_of_target, target_of};
 use numbers::DrawnNumber;
 use std::alloc::Global;
-use std::cmp::{max, min};
 
 // Counts are no greater, in absolute value.
 const MOST_COUNTS: i64 = 16_384;
@@ -22,6 +20,7 @@ const WIDTH_BITS: u32 = 45;
 struct Groups {
     group: Vec<u32>,
     count: Vec<i64>,
+    ghost same: { vec_len count ≡ vec_len group },
 }
 
 /// How many values each event counts from: along the causes that the numbers draw one more with each, and along the narrowest other ranges as many.
@@ -38,24 +37,36 @@ pub fn counts_of(
         join_along(drawn, numbers, false, Some(1 << bits), &mut groups);
     }
     join_along(drawn, numbers, false, None, &mut groups);
-    let Groups { group: _, count } = groups;
-    let mut counts = count;
-    for k in 0..counts.len() {
-        let count = counts[k];
-        counts[k] = max(-MOST_COUNTS, min(count, MOST_COUNTS));
+    counts_within(alloc, &groups.count, drawn)
+}
+
+// The counts within their limits.
+fn counts_within(alloc: Global, found: &[i64], drawn: &DrawnNetwork) -> Result<Vec<i64>, NoMemory>
+    ensures counts { IfOk result (λ counts. AreCounts drawn.now.net counts.items) }
+{
+    let mut counts = Vec::new(alloc);
+    for event in 0..drawn.network().events() {
+        let count = match found.get(event as usize) {
+            None => 0,
+            Some(count) => *count,
+        };
+        counts.push(within(count))?;
     }
     Ok(counts)
+}
+
+// A count within its limits.
+fn within(count: i64) -> i64
+    ensures { IsCount result }
+{
+    count.clamp(-MOST_COUNTS, MOST_COUNTS)
 }
 
 /// No event counts from any value.
 pub fn no_counts(alloc: Global, drawn: &DrawnNetwork) -> Result<Vec<i64>, NoMemory>
     ensures counts { IfOk result (λ counts. AreCounts drawn.now.net counts.items) }
 {
-    let mut counts = Vec::new(alloc);
-    for _ in 0..drawn.network().events() {
-        counts.push(0)?;
-    }
-    Ok(counts)
+    counts_within(alloc, &[], drawn)
 }
 
 // Each event by itself.
@@ -77,18 +88,29 @@ fn join_along(
     width: Option<i64>,
     groups: &mut Groups,
 ) {
-    let net = drawn.network();
-    // The network is within its limits.
-    let _events = net.events();
-    for constraint in 0..net.len() {
-        let target = net.target(constraint);
-        let part = drawn.name(target).part;
-        let origins = drawn.origins().get(u64::from(constraint)).as_slice();
-        for k in 0..origins.len() {
-            let cause = net.cause(constraint, k as u32);
-            if draw(numbers, part, origins[k]) == is_moved && is_within(cause.range, width) {
-                join(groups, cause.event, target, if is_moved { 1 } else { 0 });
-            }
+    for constraint in 0..drawn.network().len() {
+        join_at(drawn, numbers, constraint, is_moved, width, groups);
+    }
+}
+
+// Joins the groups along the causes of a constraint.
+fn join_at(
+    drawn: &DrawnNetwork,
+    numbers: &[&DrawnNumber],
+    constraint: u32,
+    is_moved: bool,
+    width: Option<i64>,
+    groups: &mut Groups,
+)
+    requires { constraint < length drawn.now.net.constraints }
+{
+    let target = target_of(drawn, constraint);
+    let part = part_of_target(drawn, constraint);
+    let origins = origins_of(drawn, constraint);
+    for k in 0..origins.len() {
+        let cause = cause_of(drawn, constraint, k as u32);
+        if draw(numbers, part, origins[k]) == is_moved && is_within(cause.range, width) {
+            groups.join(cause.event, target, if is_moved { 1 } else { 0 });
         }
     }
 }
@@ -104,23 +126,27 @@ fn is_within(range: Range, width: Option<i64>) -> bool {
     }
 }
 
-// Joins the groups of two events, where they are not one: the second one counts so many values more.
-fn join(groups: &mut Groups, from: EventId, to: EventId, more: i64) {
-    let from = from.0 as usize;
-    let to = to.0 as usize;
-    if groups.group.len() <= from || groups.group.len() <= to || groups.count.len() <= from || groups.count.len() <= to {
-        return;
-    }
-    let left = groups.group[to];
-    let joined = groups.group[from];
-    if left == joined {
-        return;
-    }
-    let add = groups.count[from].saturating_add(more).saturating_sub(groups.count[to]);
-    for event in 0..groups.group.len() {
-        if groups.group[event] == left && event < groups.count.len() {
-            groups.group[event] = joined;
-            groups.count[event] = i64::saturating_add(groups.count[event], add);
+impl Groups {
+    // Joins the groups of two events, where they are not one: the second one counts so many values more.
+    fn join(&mut self, from: EventId, to: EventId, more: i64) {
+        let from = from.0 as usize;
+        let to = to.0 as usize;
+        if self.group.len() <= from || self.group.len() <= to {
+            return;
+        }
+        let left = self.group[to];
+        let joined = self.group[from];
+        if left == joined {
+            return;
+        }
+        let add = self.count[from]
+            .saturating_add(more)
+            .saturating_sub(self.count[to]);
+        for event in 0..self.group.len() {
+            if self.group[event] == left {
+                self.group[event] = joined;
+                self.count[event] = self.count[event].saturating_add(add);
+            }
         }
     }
 }

@@ -1,20 +1,22 @@
 //! One network for all values of an interval.
 
-ghost use Rattle.std.specs.Prelude.{◌≡◌, ◌<◌, ◌≤◌, ◌*ℤ◌, ◌+ℤ◌, ◌≤ℤ◌, ℤ, All, IfOk, IfSome, length};
+ghost use Rattle.std.specs.Prelude.{◌≡◌, ◌<◌, ◌≤◌, ℤ, All, IfOk, IfSome, Some, length, option_map, slice_get};
+ghost use Rattle.itv_base.specs.declared.limits.TheConstants.{MAX_ROWS};
+ghost use Rattle.itv_base.specs.declared.names.EventId.{EventId as Event};
 ghost use Rattle.drawn.specs.Drawn.{IsRowOf};
-ghost use Rattle.event_graph.specs.Edges.{cause_choices};
+ghost use Rattle.event_graph.specs.Network.{Constraint};
 ghost use Rattle.moves.specs.Covers.{Covers};
-ghost use Rattle.moves.specs.Step.{bare, lent};
-ghost use Rattle.spans.specs.Step.{AreCounts, IsIn, IsInterval};
+ghost use Rattle.moves.specs.Step.{HasEventsOf, bare, lent};
+ghost use Rattle.spans.specs.Step.{AreCounts, CoversCauses, CoversNet, CoversRows, IsIn, IsInterval};
 
+use crate::covering_range::{apart, covering_range, tight_kind};
 use crate::interval::Interval;
 use drawn::{DrawnNetwork, Row};
 use event_graph::{Cause, Network};
-use itv_base::{END_LIMIT, EventId, NoMemory, Range, RowKind, RuleKind};
-use moves::draw;
+use itv_base::{NoMemory, RowKind};
+use moves::{cause_of, draw, origins_of, part_of_target, push_with, read_drawn, target_of};
 use numbers::DrawnNumber;
 use std::alloc::Global;
-use std::cmp::{max, min};
 
 /// A network and its rows, which cover all values of an interval.
 #[derive(Drop)]
@@ -23,7 +25,7 @@ pub struct Cover {
     pub rows: Vec<Row>,
 }
 
-/// The cover of an interval of values of some numbers, where each event counts from so many values; or `None` where a row would want what can't be drawn.
+/// The cover of an interval of values of some numbers, where each event counts from so many values; or `None` where it would have a range that can't be drawn.
 pub fn cover_of(
     alloc: Global,
     drawn: &DrawnNetwork,
@@ -35,13 +37,15 @@ pub fn cover_of(
     requires interval { IsInterval interval }
     ensures covers { IfOk result (λ cover. IfSome cover (λ cover. (value : ℤ) → IsIn interval value
         → Covers counts.now drawn.now (lent numbers.now) (bare cover.net cover.rows.items) value)) }
-    ensures choices { IfOk result (λ cover. IfSome cover (λ cover. cause_choices cover.net.constraints ≡ cause_choices drawn.now.net.constraints)) }
     ensures rows { IfOk result (λ cover. IfSome cover (λ cover. All (IsRowOf cover.net) cover.rows.items)) }
+    ensures few { IfOk result (λ cover. IfSome cover (λ cover. length cover.rows.items ≤ MAX_ROWS)) }
 {
     let Some(rows) = covering_rows(alloc, drawn, numbers, counts, interval)? else {
         return Ok(None);
     };
-    let net = covering_net(alloc, drawn, numbers, counts, interval)?;
+    let Some(net) = covering_net(alloc, drawn, numbers, counts, interval)? else {
+        return Ok(None);
+    };
     Ok(Some(Cover { net, rows }))
 }
 
@@ -52,14 +56,22 @@ fn covering_net(
     numbers: &[&DrawnNumber],
     counts: &[i64],
     interval: Interval,
-) -> Result<Network, NoMemory> {
+) -> Result<Option<Network>, NoMemory>
+    requires counts { AreCounts drawn.now.net counts.now }
+    requires interval { IsInterval interval }
+    ensures covers { IfOk result (λ cover. IfSome cover (λ cover. (value : ℤ) → IsIn interval value → CoversNet counts.now drawn.now (lent numbers.now) cover value)) }
+    ensures events { IfOk result (λ cover. IfSome cover (λ cover. cover.events ≡ drawn.now.net.events)) }
+{
+    read_drawn(drawn);
     let net = drawn.network();
     let mut cover = Network::new(alloc, net.events())?;
     for constraint in 0..net.len() {
-        let causes = covering_causes(alloc, drawn, numbers, counts, interval, constraint)?;
-        push_causes(alloc, net, constraint, &causes, &mut cover)?;
+        match covering_causes(alloc, drawn, numbers, counts, interval, constraint)? {
+            None => return Ok(None),
+            Some(causes) => push_with(alloc, drawn, constraint, &causes, &mut cover)?,
+        }
     }
-    Ok(cover)
+    Ok(Some(cover))
 }
 
 // The causes of a constraint of a cover.
@@ -70,131 +82,63 @@ fn covering_causes(
     counts: &[i64],
     interval: Interval,
     constraint: u32,
-) -> Result<Vec<Cause>, NoMemory>
+) -> Result<Option<Vec<Cause>>, NoMemory>
     requires there { constraint < length drawn.now.net.constraints }
     requires counts { AreCounts drawn.now.net counts.now }
+    requires interval { IsInterval interval }
+    ensures covers { IfOk result (λ causes. IfSome causes (λ causes. (target : Event)
+        → option_map (λ (c : Constraint). c.target) (slice_get drawn.now.net.constraints constraint) ≡ Some target
+        → (value : ℤ) → IsIn interval value → CoversCauses counts.now drawn.now (lent numbers.now) constraint target causes.items value)) }
+    ensures events { IfOk result (λ causes. IfSome causes (λ causes. HasEventsOf drawn.now.net constraint causes.items)) }
 {
-    let net = drawn.network();
-    // The network is within its limits.
-    let _events = net.events();
-    let target = net.target(constraint);
-    let part = drawn.name(target).part;
-    let origins = drawn.origins().get(u64::from(constraint)).as_slice();
+    read_drawn(drawn);
+    let target = target_of(drawn, constraint);
+    let part = part_of_target(drawn, constraint);
+    let origins = origins_of(drawn, constraint);
     let mut causes = Vec::new(alloc);
     for k in 0..origins.len() {
-        let cause = net.cause(constraint, k as u32);
-        let own = if draw(numbers, part, origins[k]) { 1 } else { 0 };
-        let times = own - apart(counts, cause.event, target);
-        causes.push(Cause {
-            event: cause.event,
-            range: covering_range(cause.range, times, interval),
-        })?;
+        let cause = cause_of(drawn, constraint, k as u32);
+        let apart = apart(counts, cause.event, target);
+        match covering_range(cause.range, draw(numbers, part, origins[k]), apart, interval) {
+            None => return Ok(None),
+            Some(range) => causes.push(Cause {
+                event: cause.event,
+                range,
+            })?,
+        }
     }
-    Ok(causes)
+    Ok(Some(causes))
 }
 
-// By how many values an event counts from more than another one.
-fn apart(counts: &[i64], from: EventId, to: EventId) -> i64 {
-    counts[to.0 as usize] - counts[from.0 as usize]
-}
-
-// A range that allows all that a range allows whose ends go up by this multiple of each of the values.
-fn covering_range(range: Range, times: i64, interval: Interval) -> Range {
-    let low = match (range.low(), interval.least_multiple(times)) {
-        (Some(low), Some(add)) => low_end(low + add),
-        _ => None,
-    };
-    let high = match (range.high(), interval.greatest_multiple(times)) {
-        (Some(high), Some(add)) => high_end(high + add),
-        _ => None,
-    };
-    match Range::new(low, high) {
-        Ok(range) => range,
-        Err(_) => unreachable!(),
-    }
-}
-
-// The greatest low end that is not above a number and can be drawn.
-fn low_end(value: i64) -> Option<i64> {
-    if value < -END_LIMIT {
-        None
-    } else {
-        Some(min(value, END_LIMIT))
-    }
-}
-
-// The least high end that is not below a number and can be drawn.
-fn high_end(value: i64) -> Option<i64> {
-    if END_LIMIT < value {
-        None
-    } else {
-        Some(max(value, -END_LIMIT))
-    }
-}
-
-// Adds a constraint of the kind and on the target of a constraint that is there, with other causes.
-fn push_causes(
-    alloc: Global,
-    net: &Network,
-    constraint: u32,
-    causes: &[Cause],
-    cover: &mut Network,
-) -> Result<(), NoMemory> {
-    let target = net.target(constraint);
-    let pushed = match net.kind(constraint) {
-        RuleKind::Lin => cover.push_linear(alloc, causes[0].event, target, causes[0].range),
-        RuleKind::Late => cover.push_late(alloc, target, causes),
-        RuleKind::Early => cover.push_early(alloc, target, causes),
-    };
-    match pushed {
-        Ok(()) => Ok(()),
-        Err(_) => Err(NoMemory),
-    }
-}
-
-// The rows of a cover, or `None` where one would want what can't be drawn.
+// The rows of a cover.
 fn covering_rows(
     alloc: Global,
     drawn: &DrawnNetwork,
     numbers: &[&DrawnNumber],
     counts: &[i64],
     interval: Interval,
-) -> Result<Option<Vec<Row>>, NoMemory> {
+) -> Result<Option<Vec<Row>>, NoMemory>
+    requires counts { AreCounts drawn.now.net counts.now }
+    requires interval { IsInterval interval }
+    ensures covers { IfOk result (λ rows. IfSome rows (λ rows. (value : ℤ) → IsIn interval value → CoversRows counts.now drawn.now (lent numbers.now) rows.items value)) }
+    ensures within { IfOk result (λ rows. IfSome rows (λ rows. All (IsRowOf drawn.now.net) rows.items)) }
+    ensures few { IfOk result (λ rows. IfSome rows (λ rows. length rows.items ≤ MAX_ROWS)) }
+{
+    let drawn_rows = drawn.rows();
     let mut rows = Vec::new(alloc);
-    for number in 0..drawn.rows().len() {
-        let row = drawn.rows().get(number);
-        let own = if draw(numbers, drawn.name(row.from).part, row.origin) { 1 } else { 0 };
-        let times = own - apart(counts, row.from, row.to);
-        let Some(kind) = tight_kind(row.kind, times, interval) else {
-            return Ok(None);
-        };
-        rows.push(Row {
-            kind,
-            from: row.from,
-            to: row.to,
-            origin: row.origin,
-        })?;
+    for k in 0..drawn_rows.len() {
+        let row = drawn_rows.get(k);
+        let is_drawn = draw(numbers, drawn.name(row.from).part, row.origin);
+        let apart = apart(counts, row.from, row.to);
+        match tight_kind(row.kind, is_drawn, apart, interval) {
+            None => return Ok(None),
+            Some(kind) => rows.push(Row {
+                kind,
+                from: row.from,
+                to: row.to,
+                origin: row.origin,
+            })?,
+        }
     }
     Ok(Some(rows))
-}
-
-// What is wanted of a separation that is wanted with each of the values.
-fn tight_kind(kind: RowKind, times: i64, interval: Interval) -> Option<RowKind> {
-    match kind {
-        RowKind::Ask => Some(RowKind::Ask),
-        RowKind::Req(range) => Some(RowKind::Req(tight_range(range, times, interval)?)),
-    }
-}
-
-// The range of what lies in a range whose ends go up by this multiple of a value, with each of the values.
-fn tight_range(range: Range, times: i64, interval: Interval) -> Option<Range> {
-    let low = match range.low() {
-        None => None,
-        Some(low) => Some(max(low + interval.greatest_multiple(times)?, -END_LIMIT)),
-    };
-    let high = match range.high() {
-        None => None,
-        Some(high) => Some(min(high + interval.least_multiple(times)?, END_LIMIT)),
-    };
-    Range::new(low, high).ok()
 }

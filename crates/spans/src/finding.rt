@@ -1,12 +1,14 @@
 //! Finding the span of numbers.
 
-ghost use Rattle.std.specs.Prelude.{◌≡◌, ◌≤◌, IfOk, false};
-ghost use Rattle.moves.specs.Found.{IsNetFound, IsSpanFound};
-ghost use Rattle.moves.specs.Step.{lent};
+ghost use Rattle.std.specs.Prelude.{◌≡◌, ◌≤◌, pos, ℕ, IfOk};
+ghost use Rattle.moves.specs.Found.{IsNetFound, IsSpan, IsSpanFound};
+ghost use Rattle.moves.specs.Passing.{Breaks, Passes};
+ghost use Rattle.moves.specs.Step.{IsMoveBy, lent};
+ghost use Rattle.spans.specs.Step.{HasMoves, IsSought, at_value};
 
 use crate::bordering::border_of;
 use crate::counts::{counts_of, no_counts};
-use crate::looking::{Direction, step_of, value_on};
+use crate::direction::{Direction, limit_of, step_of, value_on};
 use crate::shift_reach::{ShiftReach, shift_reach_of};
 use crate::sought::SpanSought;
 use drawn::DrawnNetwork;
@@ -31,6 +33,7 @@ pub fn find_span(
     requires base { IsNetFound drawn.now base.now.found }
     requires budget { 1 ≤ effort.budget }
     ensures found { IfOk result (IsSpanFound drawn.now (lent numbers.now)) }
+    ensures moves { IfOk result HasMoves }
 {
     let counts = counts_of(alloc, drawn, numbers)?;
     let zeros = no_counts(alloc, drawn)?;
@@ -41,22 +44,44 @@ pub fn find_span(
         zeros: &zeros,
         effort,
     };
-    let reach = shift_reach_of(drawn, numbers);
+    span_from(alloc, &sought, base)
+}
+
+// The span of the numbers, by what was found of the network as drawn.
+fn span_from(
+    alloc: Global,
+    sought: &SpanSought<'_>,
+    base: &Probed,
+) -> Result<SpanFound, NoMemory>
+    requires sought { IsSought sought.now }
+    requires base { IsNetFound sought.now.drawn.now base.now.found }
+    ensures found { IfOk result (IsSpanFound sought.now.drawn.now (lent sought.now.numbers.now)) }
+    ensures moves { IfOk result HasMoves }
+{
+    let reach = shift_reach_of(sought.drawn, sought.numbers);
     match base.found {
         NetFound::Passes => span_around(alloc, sought, 0, &base.sides, reach),
-        NetFound::Breaks(_) => span_elsewhere(alloc, sought, &base.sides, reach),
+        NetFound::Breaks(row) => span_elsewhere(alloc, sought, row, &base.sides, reach),
         NetFound::Inconsistent | NetFound::Open | NetFound::Spent => Ok(SpanFound::Spent),
     }
 }
 
-// The span around a value with which every requirement passes; these are the edges behind its bounds.
+// The span around a value with which every requirement passes; these are the edges behind its bounds. The value is the drawn one, if every requirement passes
+// there.
 fn span_around(
     alloc: Global,
-    sought: SpanSought<'_>,
+    sought: &SpanSought<'_>,
     from: i64,
     sides: &[SideChain],
     reach: ShiftReach,
-) -> Result<SpanFound, NoMemory> {
+) -> Result<SpanFound, NoMemory>
+    requires sought { IsSought sought.now }
+    requires from { IsMoveBy from }
+    requires passes { Passes (at_value sought.now from) }
+    requires own { Passes sought.now.drawn.now → from ≡ pos 0 }
+    ensures found { IfOk result (IsSpanFound sought.now.drawn.now (lent sought.now.numbers.now)) }
+    ensures moves { IfOk result HasMoves }
+{
     let low = border_of(alloc, sought, from, sides, Direction::Down, reach)?;
     let high = border_of(alloc, sought, from, sides, Direction::Up, reach)?;
     Ok(SpanFound::Between { low, high })
@@ -65,36 +90,44 @@ fn span_around(
 // The span around a value that is found above or below the drawn one, with which a row breaks.
 fn span_elsewhere(
     alloc: Global,
-    sought: SpanSought<'_>,
+    sought: &SpanSought<'_>,
+    row: u32,
     sides: &[SideChain],
     reach: ShiftReach,
-) -> Result<SpanFound, NoMemory> {
-    let up = span_towards(alloc, sought, sides, Direction::Up, reach)?;
-    if up != SpanFound::Nothing {
-        return Ok(up);
+) -> Result<SpanFound, NoMemory>
+    requires sought { IsSought sought.now }
+    requires breaks { Breaks sought.now.drawn.now row }
+    ensures found { IfOk result (IsSpanFound sought.now.drawn.now (lent sought.now.numbers.now)) }
+    ensures moves { IfOk result HasMoves }
+{
+    match span_towards(alloc, sought, row, sides, Direction::Up, reach)? {
+        SpanFound::Nothing => span_towards(alloc, sought, row, sides, Direction::Down, reach),
+        found => Ok(found),
     }
-    span_towards(alloc, sought, sides, Direction::Down, reach)
 }
 
 // The span around a value that is found in a direction: each row that breaks says how far the next value is at least.
 fn span_towards(
     alloc: Global,
-    sought: SpanSought<'_>,
+    sought: &SpanSought<'_>,
+    row: u32,
     sides: &[SideChain],
     direction: Direction,
     reach: ShiftReach,
-) -> Result<SpanFound, NoMemory> {
+) -> Result<SpanFound, NoMemory>
+    requires sought { IsSought sought.now }
+    requires breaks { Breaks sought.now.drawn.now row }
+    ensures found { IfOk result (IsSpanFound sought.now.drawn.now (lent sought.now.numbers.now)) }
+    ensures moves { IfOk result HasMoves }
+{
+    let goal = limit_of(0, direction, reach);
     let mut at: i64 = 0;
     let mut far = sought.excess(step_of(direction), sides);
     for _ in 0..GUIDED_ROUNDS {
         let Some(more) = far else {
             return Ok(SpanFound::Nothing);
         };
-        let next = value_on(at, more, direction, reach);
-        if next == at {
-            return Ok(SpanFound::Nothing);
-        }
-        at = next;
+        at = value_on(at, more, goal, direction);
         let Some(probed) = sought.probe_at(alloc, at)? else {
             return Ok(SpanFound::Nothing);
         };

@@ -1,7 +1,7 @@
 //! Intervals of values.
 
 ghost use Rattle.std.specs.Prelude.{◌≡◌, ◌*ℤ◌, ◌≤ℤ◌, ℤ, IfSome};
-ghost use Rattle.spans.specs.Step.{IsIn, IsCountStep, IsInterval};
+ghost use Rattle.spans.specs.Step.{IsCountStep, IsIn, IsInterval, IsSmall, IsValue};
 
 /// An interval of values in picoseconds, counted from the drawn one. It has no end on a side that is `None`.
 #[derive(Clone, Copy)]
@@ -10,34 +10,58 @@ pub struct Interval {
     pub most: Option<i64>,
 }
 
-impl Interval {
-    /// The least multiple of the values, or `None` where there is none.
-    pub fn least_multiple(self, times: i64) -> Option<i64>
-        requires interval { IsInterval self }
-        requires times { IsCountStep times }
-        ensures least { IfSome result (λ least. (value : ℤ) → IsIn self value → least ≤ℤ (times *ℤ value)) }
-    {
-        if times == 0 {
-            Some(0)
-        } else if times < 0 {
-            Some(times * self.most?)
-        } else {
-            Some(times * self.least?)
+/// The least multiple of the values of an interval, or `None` where there is none.
+pub fn least_multiple(interval: Interval, times: i64) -> Option<i64>
+    requires interval { IsInterval interval }
+    requires times { IsCountStep times }
+    ensures least { IfSome result (λ least. (value : ℤ) → IsIn interval value → least ≤ℤ (times *ℤ value)) }
+    ensures small { IfSome result IsSmall }
+{
+    if times == 0 {
+        return Some(0);
+    }
+    if times < 0 {
+        match interval.most {
+            None => None,
+            Some(most) => Some(product(times, most)),
+        }
+    } else {
+        match interval.least {
+            None => None,
+            Some(least) => Some(product(times, least)),
         }
     }
+}
 
-    /// The greatest multiple of the values, or `None` where there is none.
-    pub fn greatest_multiple(self, times: i64) -> Option<i64>
-        requires interval { IsInterval self }
-        requires times { IsCountStep times }
-        ensures greatest { IfSome result (λ greatest. (value : ℤ) → IsIn self value → (times *ℤ value) ≤ℤ greatest) }
-    {
-        if times == 0 {
-            Some(0)
-        } else if times < 0 {
-            Some(times * self.least?)
-        } else {
-            Some(times * self.most?)
+/// The greatest multiple of the values of an interval, or `None` where there is none.
+pub fn greatest_multiple(interval: Interval, times: i64) -> Option<i64>
+    requires interval { IsInterval interval }
+    requires times { IsCountStep times }
+    ensures greatest { IfSome result (λ greatest. (value : ℤ) → IsIn interval value → (times *ℤ value) ≤ℤ greatest) }
+    ensures small { IfSome result IsSmall }
+{
+    if times == 0 {
+        return Some(0);
+    }
+    if times < 0 {
+        match interval.least {
+            None => None,
+            Some(least) => Some(product(times, least)),
+        }
+    } else {
+        match interval.most {
+            None => None,
+            Some(most) => Some(product(times, most)),
         }
     }
+}
+
+// A multiple of a value.
+fn product(times: i64, value: i64) -> i64
+    requires times { IsCountStep times }
+    requires value { IsValue value }
+    ensures product { result ≡ times *ℤ value }
+    ensures small { IsSmall result }
+{
+    times * value
 }

@@ -1,22 +1,21 @@
 //! Looking ahead for what ends a span: a guess, which covers have to show.
 
-use crate::shift_reach::ShiftReach;
+ghost use Rattle.std.specs.Prelude.{IfOk};
+ghost use Rattle.moves.specs.Step.{IsMoveBy};
+ghost use Rattle.spans.specs.Step.{IsAhead, IsOn, IsSought};
+
+use crate::direction::{Direction, step_of, value_on};
 use crate::sought::SpanSought;
 use itv_base::NoMemory;
 use moves::NetFound;
-use probing::{SideChain, Step};
+use probing::SideChain;
 use std::alloc::Global;
-use std::cmp::{max, min};
 
-// Rounds in which the next value is guessed by the edges behind bounds. After them the strides double.
-const GUIDED_ROUNDS: u32 = 8;
+// Values that are looked at. They are guessed by the edges behind bounds, and after the first few of them, or without such an edge, the strides grow, so that no way
+// is too long.
+const MOST_VALUES: u32 = 64;
 
-/// A direction of values.
-#[derive(Clone, Copy)]
-pub enum Direction {
-    Down,
-    Up,
-}
+const GUESSED_VALUES: u32 = 8;
 
 /// What a look ahead found.
 #[derive(Clone, Copy)]
@@ -25,54 +24,40 @@ pub enum Ahead {
     Breaks { at: i64, row: u32 },
     /// With this value the rules contradict each other.
     Contradicts(i64),
-    /// The last value that can be drawn was reached.
+    /// The goal was reached.
     Limit(i64),
     /// A search was left open.
     Spent,
 }
 
-/// The step of a direction.
-pub fn step_of(direction: Direction) -> Step {
-    match direction {
-        Direction::Down => Step::Down,
-        Direction::Up => Step::Up,
-    }
-}
-
-/// The value this far on in a direction, and no further than can be drawn.
-pub fn value_on(from: i64, far: i64, direction: Direction, reach: ShiftReach) -> i64 {
-    match direction {
-        Direction::Down => max(reach.least, from.saturating_sub(far)),
-        Direction::Up => min(reach.most, from.saturating_add(far)),
-    }
-}
-
-/// Looks ahead from a value with which every requirement passes; these are the edges behind its bounds.
+/// Looks ahead from a value to a goal; these are the edges behind the bounds at the value.
 pub fn look_ahead(
     alloc: Global,
-    sought: SpanSought<'_>,
+    sought: &SpanSought<'_>,
     from: i64,
+    goal: i64,
     sides: &[SideChain],
     direction: Direction,
-    reach: ShiftReach,
-) -> Result<Ahead, NoMemory> {
+) -> Result<Ahead, NoMemory>
+    requires sought { IsSought sought.now }
+    requires from { IsMoveBy from }
+    requires goal { IsMoveBy goal }
+    requires ahead { IsOn direction from goal }
+    ensures ahead { IfOk result (IsAhead sought.now direction from) }
+{
     let step = step_of(direction);
-    let mut at = from;
+    let mut at: i64 = from;
     let mut room = sought.room(step, sides);
     let mut stride: i64 = 1;
-    let mut rounds: u32 = 0;
-    loop {
-        let next = match room {
-            Some(gap) if rounds < GUIDED_ROUNDS => {
-                value_on(at, gap.saturating_add(1), direction, reach)
-            }
-            _ => value_on(at, stride, direction, reach),
-        };
-        if next == at {
+    for round in 0..MOST_VALUES {
+        if at == goal {
             return Ok(Ahead::Limit(at));
         }
-        stride = i64::saturating_mul(stride, 4);
-        rounds = u32::saturating_add(rounds, 1);
+        let next = value_on(at, far_of(room, stride, round), goal, direction);
+        stride = stride.saturating_mul(4);
+        if next == at {
+            return Ok(Ahead::Spent);
+        }
         let Some(probed) = sought.probe_at(alloc, next)? else {
             return Ok(Ahead::Spent);
         };
@@ -85,5 +70,14 @@ pub fn look_ahead(
             NetFound::Inconsistent => return Ok(Ahead::Contradicts(next)),
             NetFound::Open | NetFound::Spent => return Ok(Ahead::Spent),
         }
+    }
+    Ok(Ahead::Spent)
+}
+
+// How far on the next value is looked for.
+fn far_of(room: Option<i64>, stride: i64, round: u32) -> i64 {
+    match room {
+        Some(gap) if round < GUESSED_VALUES => gap.saturating_add(1),
+        _ => stride,
     }
 }

@@ -1,10 +1,11 @@
-//! How far numbers can be moved up and down.
+//! How far numbers can be moved up and down: a guess, which is looked at where a span reaches so far.
+
+ghost use Rattle.std.specs.Prelude.{◌<◌, length};
 
 use drawn::DrawnNetwork;
 use itv_base::{END_LIMIT, Range, RowKind};
-use moves::{MOVE_LIMIT, draw};
+use moves::{MOVE_LIMIT, cause_of, draw, origins_of, part_of_target};
 use numbers::DrawnNumber;
-use std::cmp::{max, min};
 
 /// How far numbers can be moved up, in picoseconds: at least and at most. With other moves an end would be beyond the limit.
 #[derive(Clone, Copy)]
@@ -15,32 +16,49 @@ pub struct ShiftReach {
 
 /// How far some numbers can be moved up and down.
 pub fn shift_reach_of(drawn: &DrawnNetwork, numbers: &[&DrawnNumber]) -> ShiftReach {
-    let net = drawn.network();
-    // The network is within its limits.
-    let _events = net.events();
     let mut reach = ShiftReach {
         least: -MOVE_LIMIT,
         most: MOVE_LIMIT,
     };
-    for constraint in 0..net.len() {
-        let part = drawn.name(net.target(constraint)).part;
-        let origins = drawn.origins().get(u64::from(constraint)).as_slice();
-        for k in 0..origins.len() {
-            if draw(numbers, part, origins[k]) {
-                reach = reach_in(net.cause(constraint, k as u32).range, reach);
-            }
-        }
+    for constraint in 0..drawn.network().len() {
+        reach = reach_at(drawn, numbers, constraint, reach);
     }
     for number in 0..drawn.rows().len() {
         let row = drawn.rows().get(number);
         if draw(numbers, drawn.name(row.from).part, row.origin) {
-            reach = match row.kind {
-                RowKind::Ask => reach,
-                RowKind::Req(range) => reach_in(range, reach),
-            };
+            reach = reach_of_kind(row.kind, reach);
         }
     }
     reach
+}
+
+// The reach with the ranges of a constraint more.
+fn reach_at(
+    drawn: &DrawnNetwork,
+    numbers: &[&DrawnNumber],
+    constraint: u32,
+    reach: ShiftReach,
+) -> ShiftReach
+    requires { constraint < length drawn.now.net.constraints }
+{
+    let part = part_of_target(drawn, constraint);
+    let origins = origins_of(drawn, constraint);
+    let mut reach = reach;
+    for k in 0..origins.len() {
+        let cause = cause_of(drawn, constraint, k as u32);
+        if draw(numbers, part, origins[k]) {
+            reach = reach_in(cause.range, reach);
+        }
+    }
+    reach
+}
+
+// The reach with the range of a requirement more.
+fn reach_of_kind(kind: RowKind, reach: ShiftReach) -> ShiftReach {
+    match kind {
+        RowKind::Ask => reach,
+        RowKind::Req(range) => reach_in(range, reach),
+    }
 }
 
 // The reach with one range more.
@@ -48,7 +66,7 @@ fn reach_in(range: Range, reach: ShiftReach) -> ShiftReach {
     let lowest = range.low().unwrap_or(range.high().unwrap_or(0));
     let highest = range.high().unwrap_or(range.low().unwrap_or(0));
     ShiftReach {
-        least: max(reach.least, i64::saturating_sub(-END_LIMIT, lowest)),
-        most: min(reach.most, END_LIMIT.saturating_sub(highest)),
+        least: reach.least.max(i64::saturating_sub(-END_LIMIT, lowest)),
+        most: reach.most.min(END_LIMIT.saturating_sub(highest)),
     }
 }

@@ -1,17 +1,16 @@
 //! Numbers whose span is sought.
 
-ghost use Rattle.std.specs.Prelude.{◌≡◌, ◌≤◌, ℤ, IfOk, IfSome, IsTrue};
+ghost use Rattle.std.specs.Prelude.{◌≡◌, ◌≤◌, ℤ, IfOk, IfSome, IsTrue, IsFalse};
 ghost use Rattle.moves.specs.Found.{IsNetFound};
-ghost use Rattle.moves.specs.Moving.{shifted_at};
-ghost use Rattle.moves.specs.Passing.{NoneBreaks};
+ghost use Rattle.moves.specs.Passing.{HasRanges, HasRowRanges, NoneBreaks};
 ghost use Rattle.moves.specs.Step.{IsMoveBy, lent};
-ghost use Rattle.spans.specs.Step.{AreCounts, IsIn, IsInterval};
+ghost use Rattle.spans.specs.Step.{AreCounts, IsConsistency, IsIn, IsInterval, IsSought, IsValueFound, at_value};
 
 use crate::cover::cover_of;
 use crate::interval::Interval;
 use drawn::DrawnNetwork;
 use itv_base::NoMemory;
-use moves::{Move, NetFound, moved_network, moved_rows};
+use moves::{MOVE_LIMIT, Move, NetFound, moved_network, moved_rows};
 use numbers::DrawnNumber;
 use probing::{Effort, Probed, SideChain, Step, excess, probe, room};
 use std::alloc::Global;
@@ -26,11 +25,23 @@ pub struct SpanSought<'a> {
     pub effort: Effort,
 }
 
+/// What is found of a value.
+#[derive(Clone, Copy)]
+pub enum ValueFound {
+    /// No requirement breaks.
+    Shown,
+    /// The row with this number breaks.
+    Breaks(u32),
+    /// The search was left open, or the value can't be drawn.
+    Spent,
+}
+
 impl SpanSought<'_> {
     /// What is found of the network with the numbers moved up by a number of picoseconds, or `None` where that can't be drawn.
     pub fn probe_at(&self, alloc: Global, by: i64) -> Result<Option<Probed>, NoMemory>
+        requires sought { IsSought self.now }
         requires by { IsMoveBy by }
-        ensures found { IfOk result (λ probed. IfSome probed (λ probed. IsNetFound (shifted_at self.now.drawn.now (lent self.now.numbers.now) by) probed.found)) }
+        ensures found { IfOk result (λ probed. IfSome probed (λ probed. IsNetFound (at_value self.now by) probed.found)) }
     {
         let by = Move::Shift(by);
         let Some(net) = moved_network(alloc, self.drawn, self.numbers, by)? else {
@@ -42,12 +53,59 @@ impl SpanSought<'_> {
         Ok(Some(probe(alloc, &net, &rows, self.effort)?))
     }
 
+    /// What is found of a value by itself.
+    pub fn value_at(&self, alloc: Global, by: i64) -> Result<ValueFound, NoMemory>
+        requires sought { IsSought self.now }
+        requires by { IsMoveBy by }
+        ensures found { IfOk result (IsValueFound (at_value self.now by)) }
+    {
+        match self.probe_at(alloc, by)? {
+            None => Ok(ValueFound::Spent),
+            Some(probed) => match probed.found {
+                NetFound::Passes | NetFound::Inconsistent => Ok(ValueFound::Shown),
+                NetFound::Breaks(row) => Ok(ValueFound::Breaks(row)),
+                NetFound::Open | NetFound::Spent => Ok(ValueFound::Spent),
+            },
+        }
+    }
+
+    /// Whether some times satisfy with a value, or `None` where that was left open.
+    pub fn consistency_at(&self, alloc: Global, by: i64) -> Result<Option<bool>, NoMemory>
+        requires sought { IsSought self.now }
+        requires by { IsMoveBy by }
+        ensures consistency { IfOk result (IsConsistency (at_value self.now by)) }
+    {
+        match self.probe_at(alloc, by)? {
+            None => Ok(None),
+            Some(probed) => match probed.found {
+                NetFound::Passes | NetFound::Breaks(_) | NetFound::Open => Ok(Some(true)),
+                NetFound::Inconsistent => Ok(Some(false)),
+                NetFound::Spent => Ok(None),
+            },
+        }
+    }
+
+    /// Whether the numbers can't be moved up by a number of picoseconds: a range would be beyond the limit.
+    pub fn is_beyond(&self, alloc: Global, by: i64) -> Result<bool, NoMemory>
+        ensures beyond { IfOk result (λ beyond. IsTrue beyond → HasRanges (at_value self.now by) (lent self.now.numbers.now)
+            → HasRowRanges (at_value self.now by) (lent self.now.numbers.now) → ⊥) }
+    {
+        if by < -MOVE_LIMIT || MOVE_LIMIT < by {
+            return Ok(false);
+        }
+        let by = Move::Shift(by);
+        if moved_network(alloc, self.drawn, self.numbers, by)?.is_none() {
+            return Ok(true);
+        }
+        Ok(moved_rows(alloc, self.drawn, self.numbers, by)?.is_none())
+    }
+
     /// Whether a cover shows that no requirement breaks with any value of an interval: one in which events count from values, or else one in which none
     /// does.
     pub fn is_covered(&self, alloc: Global, interval: Interval) -> Result<bool, NoMemory>
+        requires sought { IsSought self.now }
         requires interval { IsInterval interval }
-        ensures covered { IfOk result (λ covered. IsTrue covered → (value : ℤ) → IsIn interval value
-            → NoneBreaks (shifted_at self.now.drawn.now (lent self.now.numbers.now) value)) }
+        ensures covered { IfOk result (λ covered. IsTrue covered → (value : ℤ) → IsIn interval value → NoneBreaks (at_value self.now value)) }
     {
         if self.is_covered_by(alloc, self.counts, interval)? {
             return Ok(true);
@@ -64,15 +122,18 @@ impl SpanSought<'_> {
     ) -> Result<bool, NoMemory>
         requires counts { AreCounts self.now.drawn.now.net counts.now }
         requires interval { IsInterval interval }
-        ensures covered { IfOk result (λ covered. IsTrue covered → (value : ℤ) → IsIn interval value
-            → NoneBreaks (shifted_at self.now.drawn.now (lent self.now.numbers.now) value)) }
+        requires budget { 1 ≤ self.now.effort.budget }
+        ensures covered { IfOk result (λ covered. IsTrue covered → (value : ℤ) → IsIn interval value → NoneBreaks (at_value self.now value)) }
     {
         let covered = cover_of(alloc, self.drawn, self.numbers, counts, interval)?;
         let Some(cover) = covered else {
             return Ok(false);
         };
         let probed = probe(alloc, &cover.net, &cover.rows, self.effort)?;
-        Ok(probed.found == NetFound::Passes || probed.found == NetFound::Inconsistent)
+        match probed.found {
+            NetFound::Passes | NetFound::Inconsistent => Ok(true),
+            NetFound::Breaks(_) | NetFound::Open | NetFound::Spent => Ok(false),
+        }
     }
 
     /// How far the numbers may be moved by the edges behind the bounds: a guess.
