@@ -22,7 +22,9 @@ use Rattle.margins.specs.declared.falling_short.Gap.{Gap}
 use Rattle.margins.specs.declared.passing.Climb.{Climb}
 use Rattle.margins.specs.declared.reach.Reach.{Reach}
 use Rattle.margins.specs.declared.sought.EndSought.{EndSought}
-use Rattle.margins.proofs.Widening.{breaks_more, excluded, some_more, some_open, unmoved}
+use Rattle.moves.proofs.Each.{moved_by_nothing}
+use Rattle.moves.proofs.Thresholds.{breaks_more, excluded}
+use Rattle.margins.proofs.Widening.{some_more, some_open}
 
 -- ---- integers
 
@@ -67,10 +69,10 @@ module _ (sought : EndSought) where
 
   -- the drawn network is the one with the end moved by nothing
   pub own_passes : Passes sought.drawn.now → Passes (moved_in sought (pos 0))
-  own_passes passes = subst Passes (sym (unmoved sought.drawn.now sought.number.now sought.side)) passes
+  own_passes passes = subst Passes (sym (moved_by_nothing sought.drawn.now sought.number.now sought.side)) passes
 
   pub own_breaks : (row : ℕ) → Breaks sought.drawn.now row → Breaks (moved_in sought (pos 0)) row
-  own_breaks row breaks = subst (λ (d : Drawn). Breaks d row) (sym (unmoved sought.drawn.now sought.number.now sought.side)) breaks
+  own_breaks row breaks = subst (λ (d : Drawn). Breaks d row) (sym (moved_by_nothing sought.drawn.now sought.number.now sought.side)) breaks
 
   -- ---- what is left open
 

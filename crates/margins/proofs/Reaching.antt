@@ -8,7 +8,7 @@ use Rattle.itv_base.specs.declared.names.Side.{Side}
 use Rattle.origin.specs.declared.origin.Origin.{Origin}
 use Rattle.event_graph.specs.declared.cause.Cause.{Cause}
 use Rattle.event_graph.specs.Network.{AreEnds}
-use Rattle.moves.specs.Moving.{cause_moved, causes_moved, opened, widened}
+use Rattle.moves.specs.Moving.{cause_moved, each_by, opened, widened}
 use Rattle.moves.specs.Step.{IsMoveBy}
 use Rattle.margins.specs.Reaching.{reach_over, reach_within}
 use Rattle.margins.specs.declared.reach.Reach.{Reach}
@@ -22,7 +22,7 @@ IsDrawable test cause origin = IsTrue (test origin) → IsRange cause.range
 
 -- a cause, with its range moved if it is drawn
 abbrev pub one_moved : (Ends → Ends) → Bool → Cause → Cause
-one_moved move is_drawn cause = if is_drawn then cause_moved move cause else cause
+one_moved move is_drawn cause = if is_drawn then record cause { range = move cause.range } else cause
 
 moved_range : (side : Side) (by : ℤ) (is_drawn : Bool) (cause : Cause) → (IsTrue is_drawn → IsRange (widened side by cause.range))
     → IsTrue is_drawn → IsRange (one_moved (widened side by) is_drawn cause).range
@@ -54,12 +54,12 @@ cons_same x y xs ys first rest = ap (λ z. z ∷ xs) first ∙ ap (λ zs. y ∷ 
 
 -- the ranges of the causes that are drawn can be drawn after a move
 abbrev pub AreDrawableBy : Side → (Origin → Bool) → ℤ → List Cause → List Origin → Type 0
-AreDrawableBy side test by causes origins = AllZip (IsDrawable test) (causes_moved (widened side by) test causes origins) origins
+AreDrawableBy side test by causes origins = AllZip (IsDrawable test) (each_by (cause_moved (widened side by) test) causes origins) origins
 
 -- a move changes nothing in some causes, nor does it change anything to open the end, nor does the reach look at them
 pub record AreStillCauses (side : Side) (test : Origin → Bool) (causes : List Cause) (origins : List Origin) : Type 0 where
-  pub widened : (by : ℤ) → causes_moved (widened side by) test causes origins ≡ causes
-  pub opened : causes_moved (opened side) test causes origins ≡ causes
+  pub widened : (by : ℤ) → each_by (cause_moved (widened side by) test) causes origins ≡ causes
+  pub opened : each_by (cause_moved (opened side) test) causes origins ≡ causes
   pub reach : (reach : Reach) → reach_over side test reach causes origins ≡ reach
 
 abbrev pub HasEndsIn : List Cause → Type 0
@@ -95,9 +95,9 @@ causes_fair side test (c ∷ causes) (o ∷ origins) reach ends fair =
 more_still : (side : Side) (test : Origin → Bool) (c : Cause) (causes : List Cause) (o : Origin) (origins : List Origin) → (IsTrue (test o) → IsStillRange side c.range)
     → AreStillCauses side test causes origins → AreStillCauses side test (c ∷ causes) (o ∷ origins)
 more_still side test c causes o origins one rest = record {
-  widened = λ by. cons_same (one_moved (widened side by) (test o) c) c (causes_moved (widened side by) test causes origins) causes
+  widened = λ by. cons_same (one_moved (widened side by) (test o) c) c (each_by (cause_moved (widened side by) test) causes origins) causes
     (still_cause (widened side by) (test o) c (λ drawn. (one drawn).widened by)) (rest.widened by);
-  opened = cons_same (one_moved (opened side) (test o) c) c (causes_moved (opened side) test causes origins) causes
+  opened = cons_same (one_moved (opened side) (test o) c) c (each_by (cause_moved (opened side) test) causes origins) causes
     (still_cause (opened side) (test o) c (λ drawn. (one drawn).opened)) rest.opened;
   reach = λ reach. rest.reach (reach_within side (test o) reach c.range) ∙ still_reach side (test o) reach c.range one;
 }

@@ -1,19 +1,17 @@
 //! How far an end can be moved.
 
-ghost use Rattle.std.specs.Prelude.{◌≡◌, ◌<◌, ◌≤◌, ◌∷◌, [], ℕ, neg_ℤ, ◌+ℤ◌, ◌-ℤ◌, IsSome, Some, length, slice_get, unwrap_or};
+ghost use Rattle.std.specs.Prelude.{◌≡◌, ◌<◌, ◌∷◌, [], neg_ℤ, ◌+ℤ◌, ◌-ℤ◌, Some, length, unwrap_or};
 ghost use Rattle.itv_base.specs.Range.{IsEnd};
-ghost use Rattle.itv_base.specs.declared.limits.TheConstants.{END_LIMIT, MAX_CAUSES};
-ghost use Rattle.event_graph.specs.Network.{Constraint, cause_at};
-ghost use Rattle.drawn.specs.Drawn.{name_of};
-ghost use Rattle.numbers.specs.Numbers.{origins_of};
+ghost use Rattle.itv_base.specs.declared.limits.TheConstants.{END_LIMIT};
+ghost use Rattle.numbers.specs.Numbers.{origins_of, part_of_target};
 ghost use Rattle.moves.specs.Moving.{draw};
+ghost use Rattle.moves.specs.Step.{causes_at};
 ghost use Rattle.margins.specs.Reaching.{IsReachOf, reach_over, reach_with, reach_within};
 
 use drawn::DrawnNetwork;
 use itv_base::{END_LIMIT, Range, Side};
-use moves::{MOVE_LIMIT, draw};
+use moves::{MOVE_LIMIT, cause_of, draw, origins_of, part_of_target, read_drawn};
 use numbers::DrawnNumber;
-use origin::Origin;
 
 /// How far an end can be moved outward, in picoseconds: at least and at most.
 #[derive(Clone, Copy)]
@@ -27,9 +25,7 @@ pub struct Reach {
 pub fn reach_of(drawn: &DrawnNetwork, number: &DrawnNumber, side: Side) -> Reach
     ensures reach { IsReachOf drawn.now number.now side result }
 {
-    // The network is within its limits, and each of its causes has an origin.
-    let _events = drawn.network().events();
-    let _origins = drawn.origins();
+    read_drawn(drawn);
     let mut reach = Reach {
         least: -MOVE_LIMIT,
         most: MOVE_LIMIT,
@@ -49,40 +45,17 @@ fn reach_over(
     reach: Reach,
 ) -> Reach
     requires there { constraint < length drawn.now.net.constraints }
-    ensures reach { (c : Constraint) → slice_get drawn.now.net.constraints constraint ≡ Some c
-        → result ≡ reach_over side (draw (number.now ∷ []) (name_of drawn.now c.target).part) reach c.causes (origins_of drawn.now constraint) }
+    ensures reach { result ≡ reach_over side (draw (number.now ∷ []) (part_of_target drawn.now constraint)) reach (causes_at drawn.now.net constraint)
+        (origins_of drawn.now constraint) }
 {
-    let part = part_at(drawn, constraint);
-    let origins = origins_at(drawn, constraint);
+    let part = part_of_target(drawn, constraint);
+    let origins = origins_of(drawn, constraint);
     let mut reach = reach;
     for k in 0..origins.len() {
-        let range = drawn.network().cause(constraint, k as u32).range;
-        reach = reach_within(range, draw(&[number], part, origins[k]), side, reach);
+        let cause = cause_of(drawn, constraint, k as u32);
+        reach = reach_within(cause.range, draw(&[number], part, origins[k]), side, reach);
     }
     reach
-}
-
-// The part of the target of a constraint that is there.
-fn part_at(drawn: &DrawnNetwork, constraint: u32) -> &str
-    requires there { constraint < length drawn.now.net.constraints }
-    ensures part { (c : Constraint) → slice_get drawn.now.net.constraints constraint ≡ Some c → result.now ≡ (name_of drawn.now c.target).part }
-{
-    let net = drawn.network();
-    // The network is within its limits.
-    let _events = net.events();
-    drawn.name(net.target(constraint)).part
-}
-
-// What draws each cause of a constraint that is there.
-fn origins_at(drawn: &DrawnNetwork, constraint: u32) -> &[Origin]
-    requires there { constraint < length drawn.now.net.constraints }
-    ensures origins { result.now ≡ origins_of drawn.now constraint }
-    ensures few { length result.now ≤ MAX_CAUSES }
-    ensures there { (k : ℕ) → k < length result.now → IsSome (cause_at drawn.now.net constraint k) }
-{
-    // The network is within its limits.
-    let _events = drawn.network().events();
-    drawn.origins().get(u64::from(constraint)).as_slice()
 }
 
 // The reach with one range more, if it is drawn.

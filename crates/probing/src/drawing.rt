@@ -5,7 +5,7 @@ ghost use Rattle.drawn.specs.Drawn.{IsRowOf};
 
 use drawn::{DrawnNetwork, Row};
 use itv_base::EdgeName;
-use moves::draw;
+use moves::{draw, part_of_target};
 use numbers::DrawnNumber;
 use origin::Origin;
 
@@ -34,7 +34,7 @@ pub fn draw_edge(drawn: &DrawnNetwork, numbers: &[&DrawnNumber], name: EdgeName)
     }
     match origin_at(drawn, name) {
         None => false,
-        Some(origin) => draw(numbers, part_at(drawn, name.constraint), origin),
+        Some(origin) => draw(numbers, part_of_target(drawn, name.constraint), origin),
     }
 }
 
@@ -49,14 +49,4 @@ fn origin_at(drawn: &DrawnNetwork, name: EdgeName) -> Option<Origin> {
         return None;
     }
     Some(*origins.get(u64::from(name.cause)))
-}
-
-// The part of the target of a constraint that is there.
-fn part_at(drawn: &DrawnNetwork, constraint: u32) -> &str
-    requires there { constraint < length drawn.now.net.constraints }
-{
-    let net = drawn.network();
-    // The network is within its limits.
-    let _events = net.events();
-    drawn.name(net.target(constraint)).part
 }
