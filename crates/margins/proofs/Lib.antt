@@ -5,3 +5,4 @@ mod Widening
 mod Opening
 mod Deciding
 mod Standing
+mod Measures
