@@ -1,8 +1,9 @@
 -- What is found of ends of requirements, of ranges and of rows.
-use Rattle.std.proofs.Common.{◌≡◌, ℤ, neg_ℤ, ◌≤ℤ◌, ◌<ℤ◌, List, Option, Some, None, refl, sym, subst, arith}
+use Rattle.std.proofs.Common.{◌≡◌, ◌^◌, ℤ, pos, neg_ℤ, ◌≤ℤ◌, ◌<ℤ◌, List, Option, Some, None, refl, sym, subst, arith, rules, to_z, of_z, w64}
 use Rattle.std.specs.Prelude.{IfSome, IsSomeAnd}
-use Rattle.std.proofs.lemmas.Int.{ints}
-use Rattle.itv_base.specs.Range.{Ends}
+use Rattle.std.proofs.lemmas.Int.{ints, to_z-of_z}
+use mir.Val.{SFits}
+use Rattle.itv_base.specs.Range.{Ends, IsEnd}
 use Rattle.itv_base.specs.declared.names.EventId.{EventId}
 use Rattle.itv_base.specs.declared.row_kind.RowKind.{RowKind}
 use Rattle.itv_base.specs.declared.row_kind.RowKind.TheVariants as kinds
@@ -76,3 +77,42 @@ ask_found net kind from to is = subst (λ (k : RowKind). IsKindFound net k from 
 pub req_found : (net : Net) (kind : RowKind) (from to : EventId) (range : Ends) (found : SideFound) → kind ≡ kinds.Req range → IsRangeFound net from to range found
     → IsKindFound net kind from to found
 req_found net kind from to range found is h = subst (λ (k : RowKind). IsKindFound net k from to found) (sym is) h
+
+-- ---- the ends of a range
+
+-- an end within the limit is read as it is
+pub end_kept : (end : Option ℤ) (value : ℤ) → IsEnd end → end ≡ Some value → to_z w64 (of_z w64 value) ≡ value
+end_kept end value within is =
+    let here : IsEnd (Some value) = subst IsEnd is within in
+    let low : neg_ℤ (pos (2 ^ 62)) ≤ℤ value = omega (arith, ints, here.0, here.1) in
+    let high : value ≤ℤ pos (2 ^ 62) = omega (arith, ints, here.0, here.1) in
+    let fits : SFits w64 value = search rules in
+    to_z-of_z w64 value fits
+
+pub high_looked : (net : Net) (from to first last : EventId) (end : Option ℤ) (high limit : ℤ) (found : SideFound) → end ≡ Some high → first ≡ from → last ≡ to → limit ≡ high
+    → IsLimitFound net first last limit found → IsHighFound net from to end found
+high_looked net from to first last end high limit found is same_from same_to same h =
+    subst (λ (e : Option ℤ). IsHighFound net from to e found) (sym is)
+    (subst (λ (x : EventId). IsLimitFound net x to high found) same_from
+    (subst (λ (y : EventId). IsLimitFound net first y high found) same_to
+    (subst (λ (z : ℤ). IsLimitFound net first last z found) same h)))
+
+pub low_looked : (net : Net) (from to first last : EventId) (end : Option ℤ) (low limit : ℤ) (found : SideFound) → end ≡ Some low → first ≡ to → last ≡ from → limit ≡ neg_ℤ low
+    → IsLimitFound net first last limit found → IsLowFound net from to end found
+low_looked net from to first last end low limit found is same_to same_from same h =
+    subst (λ (e : Option ℤ). IsLowFound net from to e found) (sym is)
+    (low_by net from to low found
+    (subst (λ (x : EventId). IsLimitFound net x from (neg_ℤ low) found) same_to
+    (subst (λ (y : EventId). IsLimitFound net first y (neg_ℤ low) found) same_from
+    (subst (λ (z : ℤ). IsLimitFound net first last z found) same h))))
+
+pub high_exceeds : (net : Net) (from to : EventId) (range : Ends) (end : Option ℤ) (high : SideFound) → end ≡ range.high → high ≡ Exceeds → IsHighFound net from to end high
+    → IsRangeFound net from to range Exceeds
+high_exceeds net from to range end high same is h =
+    high_past net from to range (subst (λ (e : Option ℤ). IsHighFound net from to e Exceeds) same (subst (IsHighFound net from to end) is h))
+
+pub both_looked : (net : Net) (from to : EventId) (range : Ends) (end other : Option ℤ) (high low found : SideFound) → end ≡ range.high → other ≡ range.low → found ≡ both_of high low
+    → IsHighFound net from to end high → IsLowFound net from to other low → IsRangeFound net from to range found
+both_looked net from to range end other high low found same_high same_low is h l =
+    subst (IsRangeFound net from to range) (sym is)
+    (both_by net from to range high low (subst (λ (e : Option ℤ). IsHighFound net from to e high) same_high h) (subst (λ (e : Option ℤ). IsLowFound net from to e low) same_low l))

@@ -1,8 +1,9 @@
 -- The rows that were looked at.
-use Rattle.std.proofs.Common.{◌≡◌, ◌+◌, ◌≤◌, ℕ, Bool, true, false, List, All, length, take, Option, Some, slice_get, refl, sym, subst, ap, ◌∙◌}
+use Rattle.std.proofs.Common.{◌≡◌, ◌+◌, ◌<◌, ◌≤◌, ℕ, Bool, true, false, List, All, get_or, length, take, Option, Some, slice_get, refl, sym, subst, ap, ◌∙◌}
 use Rattle.std.specs.Prelude.{IsSomeAnd}
 use Rattle.std.proofs.lemmas.List.{take_all}
 use Rattle.std.proofs.lemmas.List.Elements.{All-nil, All-push}
+use Rattle.std.proofs.lemmas.Option.{slice_get-get_or}
 use Rattle.event_graph.proofs.EdgesMet.{take_next}
 use Rattle.event_graph.specs.Edges.{cause_choices}
 use Rattle.event_graph.specs.Network.{Net}
@@ -59,6 +60,10 @@ module _ (net : Net) (rows : List Row) (most : ℕ) (extremes next : Extremes) (
     met = λ closed. absurd (cc closed);
     settled = λ enough. absurd (settles (subst (λ n. cause_choices net.constraints ≤ n) (sym looked.budget) enough) is);
   }
+
+-- the row at a place that is read
+pub read_row : (rows : List Row) (k : ℕ) (row : Row) → k < length rows → row ≡ get_or rows k row → slice_get rows k ≡ Some row
+read_row rows k row within is = slice_get-get_or rows k row within ∙ ap Some (sym is)
 
 -- the row at a place breaks
 breaks_at : (net : Net) (rows : List Row) (count : ℕ) (row : Row) → slice_get rows count ≡ Some row → IsRowFound net row Exceeds → Breaks (bare net rows) count

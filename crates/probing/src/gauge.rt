@@ -133,7 +133,7 @@ fn edge_growth(step: Step, side: Side) -> i64 {
             }
         }
         Step::Up => upward(side),
-        Step::Down => -upward(side),
+        Step::Down => downward(side),
     }
 }
 
@@ -142,5 +142,13 @@ fn upward(side: Side) -> i64 {
     match side {
         Side::Lower => -1,
         Side::Upper => 1,
+    }
+}
+
+// The growth of the weight of an edge where its range goes down by one.
+fn downward(side: Side) -> i64 {
+    match side {
+        Side::Lower => 1,
+        Side::Upper => -1,
     }
 }

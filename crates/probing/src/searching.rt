@@ -176,11 +176,13 @@ fn look_at_range(
     ensures settles { IfOk result (λ found. cause_choices net.now.constraints ≤ extremes.old.budget → found ≡ SideFound.Open → ⊥) }
 {
     let high = look_high(alloc, net, number, row, range.high(), extremes, noted)?;
-    if high == SideFound::Exceeds {
-        return Ok(SideFound::Exceeds);
+    match high {
+        SideFound::Exceeds => Ok(SideFound::Exceeds),
+        SideFound::Meets | SideFound::Open => {
+            let low = look_low(alloc, net, number, row, range.low(), extremes, noted)?;
+            Ok(both_of(high, low))
+        }
     }
-    let low = look_low(alloc, net, number, row, range.low(), extremes, noted)?;
-    Ok(both_of(high, low))
 }
 
 // Looks for times past the high end of the range of a row.
@@ -194,6 +196,7 @@ fn look_high(
     noted: &mut Noted,
 ) -> Result<SideFound, NoMemory>
     requires row { IsRowOf net.now row.now }
+    requires end { IsEnd end }
     requires ready { IsReady net.now extremes.old }
     requires noted { IsNoted net.now.events noted.old }
     ensures ready { IsReady net.now extremes.new }
