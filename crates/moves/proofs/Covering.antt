@@ -76,14 +76,14 @@ free_by : (z w s : ℤ) → z ≡ pos 0 → w ≡ (z -ℤ s) → w ≡ neg_ℤ s
 free_by z w s e f = omega (arith, ints, e, f)
 
 -- how much an end goes up that no number draws
-free_offset : (s v : ℤ) → ((pos 0 -ℤ s) *ℤ v) ≡ neg_ℤ (s *ℤ v)
+pub free_offset : (s v : ℤ) → ((pos 0 -ℤ s) *ℤ v) ≡ neg_ℤ (s *ℤ v)
 free_offset s v = free_by (pos 0 *ℤ v) _ (s *ℤ v) (zero_times v) (less_times (pos 0) s v)
 
 own_by : (z w s v : ℤ) → z ≡ v → w ≡ (z -ℤ s) → w ≡ (v -ℤ s)
 own_by z w s v e f = omega (arith, ints, e, f)
 
 -- and one that a number draws
-own_offset : (s v : ℤ) → ((pos 1 -ℤ s) *ℤ v) ≡ (v -ℤ (s *ℤ v))
+pub own_offset : (s v : ℤ) → ((pos 1 -ℤ s) *ℤ v) ≡ (v -ℤ (s *ℤ v))
 own_offset s v = own_by (pos 1 *ℤ v) _ (s *ℤ v) v (one_times v) (less_times (pos 1) s v)
 
 above_free : (w l x s : ℤ) → x ≡ neg_ℤ s → w ≤ℤ (l +ℤ neg_ℤ s) → (w -ℤ l) ≤ℤ x
