@@ -18,7 +18,7 @@ use Rattle.moves.specs.Moving.{cause_moved, constraint_moved, draw, each_by, net
 use Rattle.moves.specs.Passing.{AreDrawable, HasRanges}
 use Rattle.moves.specs.Step.{HasEventsOf, causes_at, causes_moved}
 use Rattle.moves.proofs.Lists.{each_from_zip, each_length, each_next, map_kept, zip_from_each}
-use Rattle.moves.proofs.Reading.{same_count}
+use Rattle.moves.proofs.Drew.{same_count}
 
 -- ---- one cause
 

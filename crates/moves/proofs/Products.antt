@@ -21,14 +21,26 @@ joined_down x y p q r v e f g = omega (arith, ints, e, f, g)
 from_zero : (x q z : ℤ) → x ≡ q → z ≡ pos 0 → x ≡ (z +ℤ q)
 from_zero x q z e f = omega (arith, ints, e, f)
 
+none_sum : (b v : ℤ) → ((pos 0 +ℤ b) *ℤ v) ≡ ((pos 0 *ℤ v) +ℤ (b *ℤ v))
+none_sum b v = from_zero ((pos 0 +ℤ b) *ℤ v) (b *ℤ v) (pos 0 *ℤ v) (ap (λ (z : ℤ). z *ℤ v) (none_more b)) (zero-*ℤ v)
+
+up_sum : (n : ℕ) (b v : ℤ) → ((pos n +ℤ b) *ℤ v) ≡ ((pos n *ℤ v) +ℤ (b *ℤ v))
+up_sum zero b v = none_sum b v
+up_sum (suc n) b v =
+    joined_up ((pos (suc n) +ℤ b) *ℤ v) ((pos n +ℤ b) *ℤ v) (pos n *ℤ v) (b *ℤ v) (pos (suc n) *ℤ v) v
+    (ap (λ (z : ℤ). z *ℤ v) (up_one (pos n) b) ∙ suc_ℤ-*ℤ (pos n +ℤ b) v) (up_sum n b v) (suc_ℤ-*ℤ (pos n) v)
+
+down_sum : (n : ℕ) (b v : ℤ) → ((negsuc n +ℤ b) *ℤ v) ≡ ((negsuc n *ℤ v) +ℤ (b *ℤ v))
+down_sum zero b v =
+    joined_down ((negsuc 0 +ℤ b) *ℤ v) ((pos 0 +ℤ b) *ℤ v) (pos 0 *ℤ v) (b *ℤ v) (negsuc 0 *ℤ v) v
+    (ap (λ (z : ℤ). z *ℤ v) (down_one (pos 0) b) ∙ pred_ℤ-*ℤ (pos 0 +ℤ b) v) (none_sum b v) (pred_ℤ-*ℤ (pos 0) v)
+down_sum (suc n) b v =
+    joined_down ((negsuc (suc n) +ℤ b) *ℤ v) ((negsuc n +ℤ b) *ℤ v) (negsuc n *ℤ v) (b *ℤ v) (negsuc (suc n) *ℤ v) v
+    (ap (λ (z : ℤ). z *ℤ v) (down_one (negsuc n) b) ∙ pred_ℤ-*ℤ (negsuc n +ℤ b) v) (down_sum n b v) (pred_ℤ-*ℤ (negsuc n) v)
+
 pub sum_times : (a b v : ℤ) → ((a +ℤ b) *ℤ v) ≡ ((a *ℤ v) +ℤ (b *ℤ v))
-sum_times (pos zero) b v = from_zero _ _ _ (ap (λ (z : ℤ). z *ℤ v) (none_more b)) (zero-*ℤ v)
-sum_times (pos (suc n)) b v =
-    joined_up _ _ _ _ _ v (ap (λ (z : ℤ). z *ℤ v) (up_one (pos n) b) ∙ suc_ℤ-*ℤ (pos n +ℤ b) v) (sum_times (pos n) b v) (suc_ℤ-*ℤ (pos n) v)
-sum_times (negsuc zero) b v =
-    joined_down _ _ _ _ _ v (ap (λ (z : ℤ). z *ℤ v) (down_one (pos 0) b) ∙ pred_ℤ-*ℤ (pos 0 +ℤ b) v) (sum_times (pos zero) b v) (pred_ℤ-*ℤ (pos zero) v)
-sum_times (negsuc (suc n)) b v =
-    joined_down _ _ _ _ _ v (ap (λ (z : ℤ). z *ℤ v) (down_one (negsuc n) b) ∙ pred_ℤ-*ℤ (negsuc n +ℤ b) v) (sum_times (negsuc n) b v) (pred_ℤ-*ℤ (negsuc n) v)
+sum_times (pos n) b v = up_sum n b v
+sum_times (negsuc n) b v = down_sum n b v
 
 less_back : (a b : ℤ) → ((a -ℤ b) +ℤ b) ≡ a
 less_back a b = omega (arith, ints)

@@ -24,7 +24,7 @@ use Rattle.moves.specs.Passing.{IsWanted}
 use Rattle.moves.specs.Step.{HasEventsOf, causes_at, causes_moved}
 use Rattle.moves.proofs.Lists.{each_length, each_next}
 use Rattle.moves.proofs.Moved.{fit_length, front_causes, front_moved}
-use Rattle.moves.proofs.Reading.{same_count}
+use Rattle.moves.proofs.Drew.{same_count}
 use Rattle.spans.specs.Step.{CoversCauses, CoversNet, CoversRows, IsWithinRange, kind_at, range_at}
 
 -- ---- one cause
