@@ -8,8 +8,7 @@ pub returns-in-None-clause-ranges : goal.returns-in-None-clause-ranges
 returns-in-None-clause-ranges c =
     let same = ap (λ (n : Net). length n.constraints) c.network-net.ensures.network in
     let within : c.loop-constraint.constraint < length c.args.drawn.now.net.constraints = omega (arith, c.loop-constraint-test.true, c.len-constraint-end.ensures.count, same) in
-    let ranges = rw c.in-None.is at c.in_ok-moved_causes.ensures.ranges in
-    (
+    let ranges = rw c.in-None.is at c.in_ok-moved_causes.ensures.ranges in (
       λ some. absurd (cc some),
       λ all. ranges.1 (ranges_at (moved_by c.args.by) c.args.drawn.now (lent c.args.numbers.now) c.loop-constraint.constraint c.read_drawn.ensures.fit within all),
     )
@@ -35,8 +34,7 @@ loop-constraint-preserved c =
 pub returns-clause-ranges : goal.returns-clause-ranges
 returns-clause-ranges c =
     let same = ap (λ (n : Net). length n.constraints) c.network-net.ensures.network in
-    let all : length c.args.drawn.now.net.constraints ≤ c.loop-constraint.constraint = omega (arith, c.loop-constraint-test.false, c.len-constraint-end.ensures.count, same) in
-    (
+    let all : length c.args.drawn.now.net.constraints ≤ c.loop-constraint.constraint = omega (arith, c.loop-constraint-test.false, c.len-constraint-end.ensures.count, same) in (
       λ some. ranges_whole (moved_by c.args.by) c.args.drawn.now (lent c.args.numbers.now) c.loop-constraint.constraint c.read_drawn.ensures.fit all c.loop-constraint.invariant.can,
       λ ranges. refl,
     )
