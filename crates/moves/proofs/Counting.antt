@@ -39,7 +39,8 @@ apart_by x y t u a b c e f g = omega (arith, ints, e, f, g)
 pub separation_counted : (counts : List ℤ) (value : ℤ) (times : List ℤ) (from to : EventId) → length counts ≡ length times
     → separation (counted counts value times) from to ≡ (separation times from to -ℤ lag counts value from to)
 separation_counted counts value times from to same =
-    apart_by _ _ _ _ _ _ _ (at_counted counts value times from.0 same) (at_counted counts value times to.0 same)
+    apart_by (time_of (counted counts value times) from) (time_of (counted counts value times) to) (time_of times from) (time_of times to) (time_of counts from *ℤ value)
+    (time_of counts to *ℤ value) (lag counts value from to) (at_counted counts value times from.0 same) (at_counted counts value times to.0 same)
     (less_times (time_of counts to) (time_of counts from) value)
 
 -- ---- one cause
@@ -62,10 +63,12 @@ before_end (Some high) t u x y c e h = before_by t u x y high c e h
 
 module _ (counts : List ℤ) (value : ℤ) (times : List ℤ) (same : length counts ≡ length times) where
   after_counted : (target : EventId) (c : Cause) → IsAfter times target c → IsAfter (counted counts value times) target (cause_counted counts value target c)
-  after_counted target c h = after_end c.range.low _ _ _ _ _ (separation_counted counts value times c.event target same) h
+  after_counted target c h = after_end c.range.low (time_of times c.event) (time_of times target) (time_of (counted counts value times) c.event) (time_of (counted counts value times) target)
+      (lag counts value c.event target) (separation_counted counts value times c.event target same) h
 
   before_counted : (target : EventId) (c : Cause) → IsBefore times target c → IsBefore (counted counts value times) target (cause_counted counts value target c)
-  before_counted target c h = before_end c.range.high _ _ _ _ _ (separation_counted counts value times c.event target same) h
+  before_counted target c h = before_end c.range.high (time_of times c.event) (time_of times target) (time_of (counted counts value times) c.event) (time_of (counted counts value times) target)
+      (lag counts value c.event target) (separation_counted counts value times c.event target same) h
 
 -- ---- all causes, and some cause
 
@@ -92,10 +95,10 @@ module _ (counts : List ℤ) (value : ℤ) (times : List ℤ) (same : length cou
   holds_counted_as kind target causes =
       let others : List ℤ = counted counts value times in
       let f : Cause → Cause = cause_counted counts value target in
-      let all_after : All (IsAfter times target) causes → All (IsAfter others target) (map f causes) = all_mapped f _ _ causes (after_counted counts value times same target) in
-      let all_before : All (IsBefore times target) causes → All (IsBefore others target) (map f causes) = all_mapped f _ _ causes (before_counted counts value times same target) in
-      let any_after : Any (IsAfter times target) causes → Any (IsAfter others target) (map f causes) = any_mapped f _ _ causes (after_counted counts value times same target) in
-      let any_before : Any (IsBefore times target) causes → Any (IsBefore others target) (map f causes) = any_mapped f _ _ causes (before_counted counts value times same target) in
+      let all_after : All (IsAfter times target) causes → All (IsAfter others target) (map f causes) = all_mapped f (IsAfter times target) (IsAfter others target) causes (after_counted counts value times same target) in
+      let all_before : All (IsBefore times target) causes → All (IsBefore others target) (map f causes) = all_mapped f (IsBefore times target) (IsBefore others target) causes (before_counted counts value times same target) in
+      let any_after : Any (IsAfter times target) causes → Any (IsAfter others target) (map f causes) = any_mapped f (IsAfter times target) (IsAfter others target) causes (after_counted counts value times same target) in
+      let any_before : Any (IsBefore times target) causes → Any (IsBefore others target) (map f causes) = any_mapped f (IsBefore times target) (IsBefore others target) causes (before_counted counts value times same target) in
       elim kind as (λ k. HoldsAs k times target causes → HoldsAs k others target (map f causes)) [
         | Lin ↦ λ h. (all_after h.0, all_before h.1)
         | Late ↦ λ h. (all_after h.0, any_before h.1)

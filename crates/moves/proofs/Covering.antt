@@ -63,11 +63,11 @@ all_back f R P Q (x ∷ xs) (y ∷ ys) pairs carries all (suc k) d within =
 
 pub cover_holds : CoverHolds
 cover_holds counts drawn numbers cover value covers none = λ times sat.
-    let same : length counts ≡ length times = covers.counts ∙ sym sat.count in
+    let same : length counts ≡ length times = covers.count ∙ sym sat.count in
     let counted_sat : Satisfies (counted counts value times) cover.net =
-    wider_keeps_satisfying (net_counted counts value (shifted_at drawn numbers value).net) cover.net (counted counts value times) covers.net
-    (satisfies_counted counts value (shifted_at drawn numbers value).net times covers.counts sat) in
-    all_back (row_counted counts value) IsTighterRow (MeetsRow (counted counts value times)) (MeetsRow times) (shifted_at drawn numbers value).rows cover.rows covers.rows
+    wider_keeps_satisfying (net_counted counts value (shifted_at drawn numbers value).net) cover.net (counted counts value times) covers.wider
+    (satisfies_counted counts value (shifted_at drawn numbers value).net times covers.count sat) in
+    all_back (row_counted counts value) IsTighterRow (MeetsRow (counted counts value times)) (MeetsRow times) (shifted_at drawn numbers value).rows cover.rows covers.tighter
     (λ row tight tighter h. meets_back counts value times row tight same tighter h) (none (counted counts value times) counted_sat)
 
 -- ---- between two values
@@ -76,14 +76,14 @@ free_by : (z w s : ℤ) → z ≡ pos 0 → w ≡ (z -ℤ s) → w ≡ neg_ℤ s
 free_by z w s e f = omega (arith, ints, e, f)
 
 -- how much an end goes up that no number draws
-free_offset : (s v : ℤ) → ((pos 0 -ℤ s) *ℤ v) ≡ neg_ℤ (s *ℤ v)
+pub free_offset : (s v : ℤ) → ((pos 0 -ℤ s) *ℤ v) ≡ neg_ℤ (s *ℤ v)
 free_offset s v = free_by (pos 0 *ℤ v) _ (s *ℤ v) (zero_times v) (less_times (pos 0) s v)
 
 own_by : (z w s v : ℤ) → z ≡ v → w ≡ (z -ℤ s) → w ≡ (v -ℤ s)
 own_by z w s v e f = omega (arith, ints, e, f)
 
 -- and one that a number draws
-own_offset : (s v : ℤ) → ((pos 1 -ℤ s) *ℤ v) ≡ (v -ℤ (s *ℤ v))
+pub own_offset : (s v : ℤ) → ((pos 1 -ℤ s) *ℤ v) ≡ (v -ℤ (s *ℤ v))
 own_offset s v = own_by (pos 1 *ℤ v) _ (s *ℤ v) v (one_times v) (less_times (pos 1) s v)
 
 above_free : (w l x s : ℤ) → x ≡ neg_ℤ s → w ≤ℤ (l +ℤ neg_ℤ s) → (w -ℤ l) ≤ℤ x
@@ -254,13 +254,13 @@ module _ (least most value : ℤ) (low : least ≤ℤ value) (high : value ≤�
 
 pub covers_between : CoversBetween
 covers_between counts drawn numbers cover least most value first last low high = record {
-  counts = first.counts;
-  net = record {
-    events = first.net.events;
+  count = first.count;
+  wider = record {
+    events = first.wider.events;
     constraints = each_between IsWiderConstraint (constraint_counted counts least) (constraint_counted counts most) (constraint_counted counts value)
         (constraint_moved (shifted least) drawn numbers) (constraint_moved (shifted most) drawn numbers) (constraint_moved (shifted value) drawn numbers)
         (plain_between least most value low high counts) (constraint_between least most value low high counts drawn numbers)
-        drawn.net.constraints drawn.origins cover.net.constraints first.net.constraints last.net.constraints;
+        drawn.net.constraints drawn.origins cover.net.constraints first.wider.constraints last.wider.constraints;
   };
-  rows = rows_between least most value low high counts drawn numbers drawn.rows cover.rows first.rows last.rows;
+  tighter = rows_between least most value low high counts drawn numbers drawn.rows cover.rows first.tighter last.tighter;
 }

@@ -1,5 +1,5 @@
 -- Each cause that one of the numbers draws is moved, and each other one stays.
-use Rattle.std.proofs.Common.{◌≡◌, ℕ, zero, suc, ℤ, pos, ◌+ℤ◌, ◌-ℤ◌, Bool, true, false, List, [], ◌∷◌, Option, Some, None, option_map, option_and_then, slice_get, refl, sym, ap, ◌∙◌, arith}
+use Rattle.std.proofs.Common.{◌≡◌, ℕ, zero, suc, ℤ, pos, ◌+ℤ◌, ◌-ℤ◌, Bool, true, false, List, [], ◌∷◌, map, Option, Some, None, option_map, option_and_then, slice_get, refl, sym, ap, ◌∙◌, arith}
 use Rattle.std.specs.Prelude.{if◌then◌else◌, ◌||◌, unwrap_or}
 use Rattle.std.specs.List.{list_any}
 use Rattle.std.specs.Option.{option_map_or}
@@ -7,15 +7,18 @@ use Rattle.std.proofs.lemmas.Int.{ints}
 use Rattle.itv_base.specs.Range.{Ends}
 use Rattle.itv_base.specs.declared.names.Side.{Side}
 use Rattle.itv_base.specs.declared.names.Side.TheVariants.{Lower, Upper}
+use Rattle.itv_base.specs.declared.row_kind.RowKind.{RowKind}
+use Rattle.itv_base.specs.declared.row_kind.RowKind.TheVariants as kinds
 use Rattle.origin.specs.declared.origin.Origin.{Origin}
 use Rattle.event_graph.specs.declared.cause.Cause.{Cause}
 use Rattle.event_graph.specs.Network.{Constraint, Net, cause_at}
 use Rattle.drawn.specs.Drawn.{Drawn, name_of}
+use Rattle.drawn.specs.declared.row.Row.{Row}
 use Rattle.numbers.specs.Numbers.{draws, draws_cause, origins_of, part_of_target}
 use Rattle.numbers.specs.declared.cause_name.CauseName.{CauseName}
 use Rattle.numbers.specs.declared.drawn_number.DrawnNumber.{DrawnNumber}
 use Rattle.moves.specs.Laws.{EachIsMoved, MovedByNothing}
-use Rattle.moves.specs.Moving.{cause_moved, constraint_moved, draw, each_by, net_moved, widened, widened_at}
+use Rattle.moves.specs.Moving.{cause_moved, constraint_moved, draw, each_by, kind_moved, net_moved, row_moved, shifted, shifted_at, widened, widened_at}
 use Rattle.moves.proofs.Lists.{each_same}
 
 -- ---- which causes are drawn
@@ -87,18 +90,44 @@ range_same : (side : Side) (range : Ends) → widened side (pos 0) range ≡ ran
 range_same Lower range = ap (λ (end : Option ℤ). record range { low = end }) (low_same range.low)
 range_same Upper range = ap (λ (end : Option ℤ). record range { high = end }) (high_same range.high)
 
-one_same : (side : Side) (is_drawn : Bool) (c : Cause) → moved_if (widened side (pos 0)) is_drawn c ≡ c
-one_same side true c = ap (λ (range : Ends). record c { range = range }) (range_same side c.range)
-one_same side false c = refl
+both_same : (range : Ends) → shifted (pos 0) range ≡ range
+both_same range =
+    let by_low : Option ℤ → Ends = λ end. record { low = end; high = option_map (λ high. high +ℤ pos 0) range.high } in
+    ap by_low (high_same range.low)
+    ∙ ap (λ (end : Option ℤ). record range { high = end }) (high_same range.high)
 
-constraint_same : (drawn : Drawn) (numbers : List DrawnNumber) (side : Side) (c : Constraint) (origins : List Origin)
-    → constraint_moved (widened side (pos 0)) drawn numbers c origins ≡ c
-constraint_same drawn numbers side c origins =
-    let test : Origin → Bool = draw numbers (name_of drawn c.target).part in
-    ap (λ (cs : List Cause). record c { causes = cs })
-    (each_same (cause_moved (widened side (pos 0)) test) (λ d o. one_same side (test o) d) c.causes origins)
+module _ (move : Ends → Ends) (same : (range : Ends) → move range ≡ range) (drawn : Drawn) (numbers : List DrawnNumber) where
+  one_same : (is_drawn : Bool) (c : Cause) → moved_if move is_drawn c ≡ c
+  one_same true c = ap (λ (range : Ends). record c { range = range }) (same c.range)
+  one_same false c = refl
+
+  constraint_same : (c : Constraint) (origins : List Origin) → constraint_moved move drawn numbers c origins ≡ c
+  constraint_same c origins =
+      let test : Origin → Bool = draw numbers (name_of drawn c.target).part in
+      ap (λ (cs : List Cause). record c { causes = cs }) (each_same (cause_moved move test) (λ d o. one_same (test o) d) c.causes origins)
+
+  net_same : net_moved move drawn numbers ≡ drawn.net
+  net_same = ap (λ (ks : List Constraint). record drawn.net { constraints = ks }) (each_same (constraint_moved move drawn numbers) constraint_same drawn.net.constraints drawn.origins)
+
+  kind_same : (kind : RowKind) → kind_moved move kind ≡ kind
+  kind_same kinds.Ask = refl
+  kind_same (kinds.Req range) = ap (λ (r : Ends). kinds.Req r) (same range)
+
+  row_same : (is_drawn : Bool) (row : Row) → (if is_drawn then record row { kind = kind_moved move row.kind } else row) ≡ row
+  row_same true row = ap (λ (kind : RowKind). record row { kind = kind }) (kind_same row.kind)
+  row_same false row = refl
+
+  rows_same : (rows : List Row) → map (row_moved move drawn numbers) rows ≡ rows
+  rows_same [] = refl
+  rows_same (row ∷ rows) =
+      ap (λ (r : Row). r ∷ map (row_moved move drawn numbers) rows) (row_same (draw numbers (name_of drawn row.from).part row.origin) row)
+      ∙ ap (λ (rs : List Row). row ∷ rs) (rows_same rows)
 
 pub moved_by_nothing : MovedByNothing
-moved_by_nothing drawn number side =
-    ap (λ (ks : List Constraint). record drawn { net = record drawn.net { constraints = ks } })
-    (each_same (constraint_moved (widened side (pos 0)) drawn (number ∷ [])) (constraint_same drawn (number ∷ []) side) drawn.net.constraints drawn.origins)
+moved_by_nothing drawn number side = ap (λ (n : Net). record drawn { net = n }) (net_same (widened side (pos 0)) (range_same side) drawn (number ∷ []))
+
+-- and so are numbers that are moved up by nothing
+pub shifted_by_nothing : (drawn : Drawn) (numbers : List DrawnNumber) → shifted_at drawn numbers (pos 0) ≡ drawn
+shifted_by_nothing drawn numbers =
+    ap (λ (n : Net). record drawn { net = n; rows = map (row_moved (shifted (pos 0)) drawn numbers) drawn.rows }) (net_same (shifted (pos 0)) both_same drawn numbers)
+    ∙ ap (λ (rs : List Row). record drawn { rows = rs }) (rows_same (shifted (pos 0)) both_same drawn numbers drawn.rows)

@@ -5,9 +5,8 @@ pub mod Each
 pub mod Products
 pub mod Counting
 pub mod Covering
-pub mod Reading
-pub mod Pushing
+pub mod Drew
+pub mod OtherCauses
 pub mod Moved
 pub mod MovedRows
 pub mod Seen
-pub mod Ranges

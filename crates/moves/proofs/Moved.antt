@@ -18,7 +18,7 @@ use Rattle.moves.specs.Moving.{cause_moved, constraint_moved, draw, each_by, net
 use Rattle.moves.specs.Passing.{AreDrawable, HasRanges}
 use Rattle.moves.specs.Step.{HasEventsOf, causes_at, causes_moved}
 use Rattle.moves.proofs.Lists.{each_from_zip, each_length, each_next, map_kept, zip_from_each}
-use Rattle.moves.proofs.Reading.{same_count}
+use Rattle.moves.proofs.Drew.{same_count}
 
 -- ---- one cause
 
@@ -71,10 +71,10 @@ can_more move drawn numbers constraint k part origins c o is_drawn is_part is_or
     let own : slice_get (origins_of drawn constraint) k ≡ Some o = subst (λ (os : List Origin). slice_get os k ≡ Some o) is_origins at_o in
     let right : is_drawn ≡ draw numbers (part_of_target drawn constraint) o = test ∙ ap (λ (p : List ℕ). draw numbers p o) is_part in
     let here : CauseCanMove move drawn numbers constraint k = λ d p at_d at_p is.
-        let same_c : d ≡ c = same_Some d c (sym at_d ∙ at_c) in
-        let same_o : p ≡ o = same_Some p o (sym at_p ∙ own) in
-        subst (λ (x : Cause). IsRange (move x.range)) (sym same_c)
-        (can (right ∙ (ap (λ (x : Origin). draw numbers (part_of_target drawn constraint) x) (sym same_o) ∙ is))) in
+    let same_c : d ≡ c = same_Some d c (sym at_d ∙ at_c) in
+    let same_o : p ≡ o = same_Some p o (sym at_p ∙ own) in
+    subst (λ (x : Cause). IsRange (move x.range)) (sym same_c)
+    (can (right ∙ (ap (λ (x : Origin). draw numbers (part_of_target drawn constraint) x) (sym same_o) ∙ is))) in
     below_more (CauseCanMove move drawn numbers constraint) k before here
 
 -- all causes
@@ -95,8 +95,8 @@ drawable_whole move drawn numbers constraint k fit all can =
     zip_from_each (λ (c : Cause) (o : Origin). IsTrue (test o) → IsRange c.range) (cause_moved move test) (causes_at drawn.net constraint) (origins_of drawn constraint)
     (same_count drawn constraint fit)
     (λ j c o at_c at_o.
-        let within : j < length (origins_of drawn constraint) = slice_get_within (origins_of drawn constraint) j o at_o in
-        range_if move (test o) c (can j (omega (arith, within, all)) c o at_c at_o))
+    let within : j < length (origins_of drawn constraint) = slice_get_within (origins_of drawn constraint) j o at_o in
+    range_if move (test o) c (can j (omega (arith, within, all)) c o at_c at_o))
 
 -- a range that can't be drawn
 pub drawable_at : (move : Ends → Ends) (drawn : Drawn) (numbers : List DrawnNumber) (constraint k : ℕ) (part : List ℕ) (origins : List Origin) (c : Cause) (o : Origin) (is_drawn : Bool)
@@ -138,7 +138,7 @@ causes_there : (move : Ends → Ends) (drawn : Drawn) (numbers : List DrawnNumbe
     (unwrap_or y []) ≡ (constraint_moved move drawn numbers c o).causes
 causes_there move drawn numbers c o x y at_x at_y =
     let by : Option Constraint → Option (List Origin) → List Cause = λ p q. each_by (cause_moved move (draw numbers (unwrap_or (option_map (λ (d : Constraint). (name_of drawn d.target).part) p) [])))
-        (unwrap_or (option_map (λ (d : Constraint). d.causes) p) []) (unwrap_or q []) in
+    (unwrap_or (option_map (λ (d : Constraint). d.causes) p) []) (unwrap_or q []) in
     ap (λ (p : Option Constraint). by p y) at_x ∙ ap (λ (q : Option (List Origin)). by (Some c) q) at_y
 
 pub net_more : (move : Ends → Ends) (drawn : Drawn) (numbers : List DrawnNumber) (k : ℕ) (causes : List Cause) (old new : Net) → OriginsFit drawn.net drawn.origins
@@ -196,10 +196,10 @@ pub ranges_whole : (move : Ends → Ends) (drawn : Drawn) (numbers : List DrawnN
 ranges_whole move drawn numbers k fit all can =
     zip_from_each (CanDraw drawn numbers) (constraint_moved move drawn numbers) drawn.net.constraints drawn.origins (fit_length drawn fit)
     (λ j c o at_c at_o.
-        let within : j < length drawn.net.constraints = slice_get_within drawn.net.constraints j c at_c in
-        let own : can_by move drawn numbers (slice_get drawn.net.constraints j) (slice_get drawn.origins j) = can j (omega (arith, within, all)) in
-        subst (λ (p : Option Constraint). can_by move drawn numbers p (Some o)) at_c
-        (subst (λ (q : Option (List Origin)). can_by move drawn numbers (slice_get drawn.net.constraints j) q) at_o own))
+    let within : j < length drawn.net.constraints = slice_get_within drawn.net.constraints j c at_c in
+    let own : can_by move drawn numbers (slice_get drawn.net.constraints j) (slice_get drawn.origins j) = can j (omega (arith, within, all)) in
+    subst (λ (p : Option Constraint). can_by move drawn numbers p (Some o)) at_c
+    (subst (λ (q : Option (List Origin)). can_by move drawn numbers (slice_get drawn.net.constraints j) q) at_o own))
 
 pub ranges_at : (move : Ends → Ends) (drawn : Drawn) (numbers : List DrawnNumber) (k : ℕ) → OriginsFit drawn.net drawn.origins → k < length drawn.net.constraints
     → HasRanges (record drawn { net = net_moved move drawn numbers }) numbers → CanMove move drawn numbers k

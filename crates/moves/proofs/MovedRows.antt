@@ -72,8 +72,8 @@ module _ (move : Ends → Ends) (drawn : Drawn) (numbers : List DrawnNumber) whe
   row_ranges_whole k all can =
       All-map CanDrawRow (row_moved move drawn numbers) drawn.rows
       (λ j d within.
-          let row : Row = get_or drawn.rows j d in
-          to_drawn (draw numbers (name_of drawn row.from).part row.origin) row refl (can j (omega (arith, within, all)) row (slice_get-get_or drawn.rows j d within)))
+      let row : Row = get_or drawn.rows j d in
+      to_drawn (draw numbers (name_of drawn row.from).part row.origin) row refl (can j (omega (arith, within, all)) row (slice_get-get_or drawn.rows j d within)))
 
   pub row_range_at : (given : List Row) (k : ℕ) (row : Row) → given ≡ drawn.rows → slice_get given k ≡ Some row
       → HasRowRanges (record drawn { rows = map (row_moved move drawn numbers) drawn.rows }) numbers → CanMoveRow row

@@ -47,7 +47,7 @@ added_there : (drawn : Drawn) (c : Constraint) (o : List Origin) (x : Option Con
     (zip (unwrap_or (option_map (λ (d : Constraint). d.causes) x) []) (unwrap_or y [])) ≡ with_causes drawn seen (c, o)
 added_there drawn c o x y seen at_x at_y =
     let by : Option Constraint → Option (List Origin) → List NumberSeen = λ p q. fold (with_cause (unwrap_or (option_map (λ (d : Constraint). (name_of drawn d.target).part) p) [])) seen
-        (zip (unwrap_or (option_map (λ (d : Constraint). d.causes) p) []) (unwrap_or q [])) in
+    (zip (unwrap_or (option_map (λ (d : Constraint). d.causes) p) []) (unwrap_or q [])) in
     ap (λ (p : Option Constraint). by p y) at_x ∙ ap (λ (q : Option (List Origin)). by (Some c) q) at_y
 
 -- the first constraints, and one more

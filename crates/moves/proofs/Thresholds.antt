@@ -29,7 +29,7 @@ pub breaks_more : (drawn : Drawn) (number : DrawnNumber) (side : Side) (by more 
 breaks_more drawn number side by more row le breaks = (
   breaks.0,
   wider_keeps_satisfying (widened_at drawn number side by).net (widened_at drawn number side more).net breaks.0
-  (nets_wider (widened side by) (widened side more) (λ range. widened_more side by more range le) drawn (number ∷ [])) breaks.1,
+      (nets_wider (widened side by) (widened side more) (λ range. widened_more side by more range le) drawn (number ∷ [])) breaks.1,
   breaks.2,
 )
 

@@ -49,6 +49,6 @@ pub record IsTighterRow (row tight : Row) : Type 0 where
 
 -- a drawn network covers the one with some numbers moved by a value: in times counted so, its network allows no less, and its rows want no less
 pub record Covers (counts : List ℤ) (drawn : Drawn) (numbers : List DrawnNumber) (cover : Drawn) (value : ℤ) : Type 0 where
-  pub counts : length counts ≡ drawn.net.events
-  pub net : IsWider (net_counted counts value (shifted_at drawn numbers value).net) cover.net
-  pub rows : AllZip IsTighterRow (map (row_counted counts value) (shifted_at drawn numbers value).rows) cover.rows
+  pub count : length counts ≡ drawn.net.events
+  pub wider : IsWider (net_counted counts value (shifted_at drawn numbers value).net) cover.net
+  pub tighter : AllZip IsTighterRow (map (row_counted counts value) (shifted_at drawn numbers value).rows) cover.rows

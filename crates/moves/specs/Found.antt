@@ -32,9 +32,8 @@ IsNetFound drawn nets.Spent = Unit {0}
 abbrev pub CanBeDrawn : Drawn → DrawnNumber → Side → ℤ → Type 0
 CanBeDrawn drawn number side by = HasRanges (widened_at drawn number side by) (number ∷ [])
 
--- What is found of an end. It is free: every requirement passes with the end open. Or it has a margin: every requirement passes with the end moved
--- outward by it, and a row breaks with one picosecond more. Or no end that can be drawn makes every requirement pass. Or every requirement passes up to the
--- greatest end that can be drawn, and not with the end open. Or nothing is known.
+-- What is found of an end: every requirement passes with the end open. Or with the end moved outward by a margin, and a row breaks with one picosecond more.
+-- Or with no end that can be drawn. Or up to the greatest end that can be drawn, and not with the end open. Or nothing is known.
 abbrev pub IsEndFound : Drawn → DrawnNumber → Side → EndFound → Type 0
 IsEndFound drawn number side ends.Free = Passes (opened_at drawn number side)
 IsEndFound drawn number side (ends.Moves by row) =
@@ -58,13 +57,12 @@ last_of (borders.Spent by) = Some by
 -- what stands beyond the last value of a span, where the next value is a picosecond on: times that break a row, or rules that contradict each other, or
 -- ranges that can't be drawn
 abbrev pub IsBorder : Drawn → List DrawnNumber → ℤ → Border → Type 0
-IsBorder drawn numbers on borders.Endless = Unit {0}
 IsBorder drawn numbers on (borders.Breaks by row) = IsConsistent (shifted_at drawn numbers by) × Breaks (shifted_at drawn numbers (by +ℤ on)) row
 IsBorder drawn numbers on (borders.Contradicts by) = IsConsistent (shifted_at drawn numbers by) × IsInconsistent (shifted_at drawn numbers (by +ℤ on)).net
 IsBorder drawn numbers on (borders.Limit by) =
     IsConsistent (shifted_at drawn numbers by)
     × (HasRanges (shifted_at drawn numbers (by +ℤ on)) numbers → HasRowRanges (shifted_at drawn numbers (by +ℤ on)) numbers → ⊥)
-IsBorder drawn numbers on (borders.Spent by) = Unit {0}
+IsBorder drawn numbers on border = Unit {0}
 
 -- a value is between two borders
 abbrev pub IsBetween : Border → Border → ℤ → Type 0
@@ -79,8 +77,7 @@ pub record IsSpan (drawn : Drawn) (numbers : List DrawnNumber) (low high : Borde
   pub below : IsBorder drawn numbers (neg_ℤ (pos 1)) low
   pub above : IsBorder drawn numbers (pos 1) high
 
--- what is found of the values of numbers: a span; or no value with which every requirement passes was found, and not every one passes as drawn; or nothing is
--- known
+-- what is found of the values of numbers: a span; or no value was found, and not every requirement passes as drawn; or nothing is known
 abbrev pub IsSpanFound : Drawn → List DrawnNumber → SpanFound → Type 0
 IsSpanFound drawn numbers (spans.Between low high) = IsSpan drawn numbers low high
 IsSpanFound drawn numbers spans.Nothing = Passes drawn → ⊥
@@ -89,11 +86,9 @@ IsSpanFound drawn numbers spans.Spent = Unit {0}
 -- ---- what was left open
 
 abbrev pub is_net_open : NetFound → Bool
-is_net_open nets.Passes = false
-is_net_open (nets.Breaks row) = false
-is_net_open nets.Inconsistent = false
 is_net_open nets.Open = true
 is_net_open nets.Spent = true
+is_net_open found = false
 
 abbrev pub is_end_spent : EndFound → Bool
 is_end_spent ends.Spent = true

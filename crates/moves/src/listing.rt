@@ -101,11 +101,7 @@ fn push_number(
 }
 
 // Adds a number.
-fn push_seen(
-    number: DrawnNumber,
-    range: Range,
-    seen: &mut Vec<NumberSeen>,
-) -> Result<(), NoMemory>
+fn push_seen(number: DrawnNumber, range: Range, seen: &mut Vec<NumberSeen>) -> Result<(), NoMemory>
     ensures pushed { OnOk result (seen.new.items ≡ seen.old.items ++ (record { number = number; range = range }) ∷ []) }
 {
     seen.push(NumberSeen { number, range })?;

@@ -32,7 +32,10 @@ pub fn moved_rows(
     for k in 0..drawn_rows.len() {
         match moved_row(drawn, numbers, drawn_rows.get(k), by) {
             None => return Ok(None),
-            Some(row) => rows.push(row)?,
+            Some(row) => {
+                let _kind: RowKind = row.kind;
+                rows.push(row)?;
+            }
         }
     }
     Ok(Some(rows))

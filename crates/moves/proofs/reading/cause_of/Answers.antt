@@ -1,8 +1,10 @@
-use Rattle.moves.proofs.Reading.{cause_found, cause_there, cause_within}
+use Rattle.moves.proofs.Drew.{cause_found, cause_there, cause_within}
 use Rattle.moves.proofs.reading.cause_of.Goals as goal
 
 pub cause-requires : goal.cause-requires
-cause-requires c = cause_there c.args.drawn.now c.network.result.now c.args.constraint c.args.cause c.network.ensures.network c.read_drawn.ensures.fit c.requires.there
+cause-requires c = record {
+  there = cause_there c.args.drawn.now c.network.result.now c.args.constraint c.args.cause c.network.ensures.network c.read_drawn.ensures.fit c.requires.there;
+}
 
 pub returns : goal.returns
 returns c = record {

@@ -21,12 +21,13 @@ same_length xs ys same = sym (length-map xs (λ (c : Cause). c.event)) ∙ (ap l
 
 -- and on events of the network too
 same_events : (events : ℕ) (xs ys : List Cause) → events_in xs ≡ events_in ys → AreOn events ys → AreOn events xs
-same_events events [] ys same all = All-nil _
+same_events events [] ys same all = All-nil (λ (c : Cause). c.event.0 < events)
 same_events events (x ∷ xs) [] same all = absurd (cc same)
 same_events events (x ∷ xs) (y ∷ ys) same all =
     let first : x.event ≡ y.event = cc same in
     let rest : events_in xs ≡ events_in ys = cc same in
-    All-cons _ x xs (subst (λ (e : EventId). e.0 < events) (sym first) (All-head _ y ys all)) (same_events events xs ys rest (All-tail _ y ys all))
+    let On : Cause → Type 0 = λ c. c.event.0 < events in
+    All-cons On x xs (subst (λ (e : EventId). e.0 < events) (sym first) (All-head On y ys all)) (same_events events xs ys rest (All-tail On y ys all))
 
 fits_by : (net : Net) (k : ℕ) (kind : RuleKind) (target : EventId) (causes : List Cause) (o : Option Constraint) → slice_get net.constraints k ≡ o → IsNet net
     → option_map (λ (c : Constraint). c.kind) o ≡ Some kind → option_map (λ (c : Constraint). c.target) o ≡ Some target

@@ -1,0 +1,4 @@
+pub mod Ways
+pub mod Multiples
+pub mod Ends
+pub mod Covered
