@@ -1,6 +1,6 @@
 //! Probing a network with its rows.
 
-ghost use Rattle.std.specs.Prelude.{◌≡◌, ◌≤◌, ℕ, All, IfOk, length, false};
+ghost use Rattle.std.specs.Prelude.{◌≡◌, ◌≤◌, ℕ, All, IfOk, IsTrue, length, false};
 ghost use Rattle.itv_base.specs.Range.{IsEnd};
 ghost use Rattle.itv_base.specs.declared.limits.TheConstants.{MAX_ROWS};
 ghost use Rattle.event_graph.specs.Edges.{cause_choices};
@@ -176,12 +176,21 @@ fn look_at_range(
     ensures settles { IfOk result (λ found. cause_choices net.now.constraints ≤ extremes.old.budget → found ≡ SideFound.Open → ⊥) }
 {
     let high = look_high(alloc, net, number, row, range.high(), extremes, noted)?;
-    match high {
-        SideFound::Exceeds => Ok(SideFound::Exceeds),
-        SideFound::Meets | SideFound::Open => {
-            let low = look_low(alloc, net, number, row, range.low(), extremes, noted)?;
-            Ok(both_of(high, low))
-        }
+    if is_exceeded(high) {
+        return Ok(SideFound::Exceeds);
+    }
+    let low = look_low(alloc, net, number, row, range.low(), extremes, noted)?;
+    Ok(both_of(high, low))
+}
+
+// Whether some satisfying times are past an end.
+fn is_exceeded(found: SideFound) -> bool
+    ensures { IsTrue result → found ≡ SideFound.Exceeds }
+{
+    match found {
+        SideFound::Exceeds => true,
+        SideFound::Meets => false,
+        SideFound::Open => false,
     }
 }
 

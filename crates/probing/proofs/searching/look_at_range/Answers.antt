@@ -1,9 +1,10 @@
+use Rattle.std.proofs.Common.{refl}
 use Rattle.probing.proofs.Finding.{both_looked, high_exceeds}
 use Rattle.probing.proofs.searching.look_at_range.Goals as goal
 
-pub returns-in-Exceeds-clause-found : goal.returns-in-Exceeds-clause-found
-returns-in-Exceeds-clause-found c =
-    high_exceeds c.args.net.now c.args.row.now.from c.args.row.now.to c.args.range c.high.result c.in_ok-high.high c.high.ensures.end c.in-Exceeds.is c.in_ok-high.ensures.found
+pub returns-then-is_exceeded-clause-found : goal.returns-then-is_exceeded-clause-found
+returns-then-is_exceeded-clause-found c =
+    high_exceeds c.args.net.now c.args.row.now.from c.args.row.now.to c.args.range c.high.result c.in_ok-high.high c.high.ensures.end (c.if-is_exceeded.ensures refl) c.in_ok-high.ensures.found
 
 pub returns-clause-found : goal.returns-clause-found
 returns-clause-found c =
