@@ -77,9 +77,9 @@ more_still : (drawn : Drawn) (number : DrawnNumber) (side : Side) (k : Constrain
     → AreStillCauses side (test_of drawn number k) k.causes o → AreStillAlong drawn number side ks drew → AreStillAlong drawn number side (k ∷ ks) (o ∷ drew)
 more_still drawn number side k ks o drew one rest = record {
   widened = λ by. cons_same (record k { causes = each_by (cause_moved (widened side by) (test_of drawn number k)) k.causes o }) k
-    (each_by (constraint_moved (widened side by) drawn (number ∷ [])) ks drew) ks (ap (λ (cs : List Cause). record k { causes = cs }) (one.widened by)) (rest.widened by);
+      (each_by (constraint_moved (widened side by) drawn (number ∷ [])) ks drew) ks (ap (λ (cs : List Cause). record k { causes = cs }) (one.widened by)) (rest.widened by);
   opened = cons_same (record k { causes = each_by (cause_moved (opened side) (test_of drawn number k)) k.causes o }) k
-    (each_by (constraint_moved (opened side) drawn (number ∷ [])) ks drew) ks (ap (λ (cs : List Cause). record k { causes = cs }) one.opened) rest.opened;
+      (each_by (constraint_moved (opened side) drawn (number ∷ [])) ks drew) ks (ap (λ (cs : List Cause). record k { causes = cs }) one.opened) rest.opened;
   reach = λ reach. rest.reach (reach_over side (test_of drawn number k) reach k.causes o) ∙ one.reach reach;
 }
 

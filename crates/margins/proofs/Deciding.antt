@@ -131,8 +131,8 @@ module _ (sought : EndSought) where
   pub found_gap : (gap : Gap) → IsGap sought gap → gap.breaks ≤ℤ (gap.contradicts +ℤ pos 1) → IsFound sought ends.Never
   found_gap gap is near = record {
     found = λ by can passes. by_lt_z gap.contradicts by
-      (λ more. never gap.row gap.breaks by is.0.breaks (omega (arith, ints, near, more)) passes)
-      (λ less. let times = some_more sought.drawn.now sought.number.now sought.side by gap.contradicts less passes.0 in is.1 times.0 times.1);
+        (λ more. never gap.row gap.breaks by is.0.breaks (omega (arith, ints, near, more)) passes)
+        (λ less. let times = some_more sought.drawn.now sought.number.now sought.side by gap.contradicts less passes.0 in is.1 times.0 times.1);
     settles = λ enough. refl;
   }
 

@@ -24,10 +24,14 @@ lower_can : (reach : Reach) (low high : Option ℤ) (by : ℤ) → IsEnd low →
 lower_can reach None high by l h within = (within, (tt, h, tt))
 lower_can reach (Some low) None by l h within =
     ((omega (arith, ints, clamps, within.0, within.1), omega (arith, ints, clamps, within.0, within.1)), ((omega (arith, ints, clamps, within.0, within.1, l.0, l.1), omega (arith, ints, clamps, within.0, within.1, l.0, l.1)), tt, tt))
-lower_can reach (Some low) (Some high) by l h within =
-    ((omega (arith, ints, clamps, within.0, within.1), omega (arith, ints, clamps, within.0, within.1)),
-    ((omega (arith, ints, clamps, within.0, within.1, l.0, l.1, h.0, h.1), omega (arith, ints, clamps, within.0, within.1, l.0, l.1, h.0, h.1)), h,
-    omega (arith, ints, clamps, within.0, within.1)))
+lower_can reach (Some low) (Some high) by l h within = (
+  (omega (arith, ints, clamps, within.0, within.1), omega (arith, ints, clamps, within.0, within.1)),
+  (
+    (omega (arith, ints, clamps, within.0, within.1, l.0, l.1, h.0, h.1), omega (arith, ints, clamps, within.0, within.1, l.0, l.1, h.0, h.1)),
+    h,
+    omega (arith, ints, clamps, within.0, within.1),
+  ),
+)
 
 upper_can : (reach : Reach) (low high : Option ℤ) (by : ℤ) → IsEnd low → IsEnd high → IsWithin (upper_reach reach low high) by
     → IsWithin reach by × IsRange (record { low = low; high = option_map (λ z. z +ℤ by) high })
@@ -35,10 +39,14 @@ upper_can reach None None by l h within = (within, (tt, tt, tt))
 upper_can reach (Some low) None by l h within = (within, (l, tt, tt))
 upper_can reach None (Some high) by l h within =
     ((omega (arith, ints, clamps, within.0, within.1), omega (arith, ints, clamps, within.0, within.1)), (tt, (omega (arith, ints, clamps, within.0, within.1, h.0, h.1), omega (arith, ints, clamps, within.0, within.1, h.0, h.1)), tt))
-upper_can reach (Some low) (Some high) by l h within =
-    ((omega (arith, ints, clamps, within.0, within.1), omega (arith, ints, clamps, within.0, within.1)),
-    (l, (omega (arith, ints, clamps, within.0, within.1, l.0, l.1, h.0, h.1), omega (arith, ints, clamps, within.0, within.1, l.0, l.1, h.0, h.1)),
-    omega (arith, ints, clamps, within.0, within.1)))
+upper_can reach (Some low) (Some high) by l h within = (
+  (omega (arith, ints, clamps, within.0, within.1), omega (arith, ints, clamps, within.0, within.1)),
+  (
+    l,
+    (omega (arith, ints, clamps, within.0, within.1, l.0, l.1, h.0, h.1), omega (arith, ints, clamps, within.0, within.1, l.0, l.1, h.0, h.1)),
+    omega (arith, ints, clamps, within.0, within.1),
+  ),
+)
 
 range_can : (side : Side) (reach : Reach) (range : Ends) (by : ℤ) → AreEnds range → IsWithin (range_reach side reach range) by → IsWithin reach by × IsRange (widened side by range)
 range_can Lower reach range by ends within = lower_can reach range.low range.high by ends.0 ends.1 within

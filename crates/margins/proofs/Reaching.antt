@@ -96,9 +96,9 @@ more_still : (side : Side) (test : Origin → Bool) (c : Cause) (causes : List C
     → AreStillCauses side test causes origins → AreStillCauses side test (c ∷ causes) (o ∷ origins)
 more_still side test c causes o origins one rest = record {
   widened = λ by. cons_same (one_moved (widened side by) (test o) c) c (each_by (cause_moved (widened side by) test) causes origins) causes
-    (still_cause (widened side by) (test o) c (λ drawn. (one drawn).widened by)) (rest.widened by);
+      (still_cause (widened side by) (test o) c (λ drawn. (one drawn).widened by)) (rest.widened by);
   opened = cons_same (one_moved (opened side) (test o) c) c (each_by (cause_moved (opened side) test) causes origins) causes
-    (still_cause (opened side) (test o) c (λ drawn. (one drawn).opened)) rest.opened;
+      (still_cause (opened side) (test o) c (λ drawn. (one drawn).opened)) rest.opened;
   reach = λ reach. rest.reach (reach_within side (test o) reach c.range) ∙ still_reach side (test o) reach c.range one;
 }
 

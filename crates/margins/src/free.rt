@@ -140,13 +140,7 @@ fn are_free_together(
     if numbers.len() < 2 {
         return Ok(false);
     }
-    let probed = probe_opened(
-        alloc,
-        opening.drawn,
-        &numbers,
-        opening.side,
-        opening.effort,
-    )?;
+    let probed = probe_opened(alloc, opening.drawn, &numbers, opening.side, opening.effort)?;
     Ok(passes(&probed))
 }
 

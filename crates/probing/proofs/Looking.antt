@@ -42,7 +42,7 @@ none_looked net rows extremes noted ready fits = record {
 
 -- what was known, with the row at a place looked at
 module _ (net : Net) (rows : List Row) (most : ℕ) (extremes next : Extremes) (noted after : Noted) (count : ℕ) (is_open : Bool)
-  (looked : IsLookedTo net rows most extremes noted count is_open) (ready : IsReady net next) (same : next.budget ≡ extremes.budget) (fits : IsNoted net.events after) where
+    (looked : IsLookedTo net rows most extremes noted count is_open) (ready : IsReady net next) (same : next.budget ≡ extremes.budget) (fits : IsNoted net.events after) where
   pub row_met : (row : Row) → slice_get rows count ≡ Some row → IsMetRow net row → IsLookedTo net rows most next after (count + 1) is_open
   row_met row at met = record {
     ready = ready;

@@ -98,40 +98,16 @@ fn growth(drawn: &DrawnNetwork, numbers: &[&DrawnNumber], step: Step, side: &Sid
 fn row_growth(step: Step, is_high: bool) -> i64 {
     match step {
         Step::Widen(_) | Step::Narrow(_) => 0,
-        Step::Up => {
-            if is_high {
-                -1
-            } else {
-                1
-            }
-        }
-        Step::Down => {
-            if is_high {
-                1
-            } else {
-                -1
-            }
-        }
+        Step::Up => { if is_high { -1 } else { 1 } }
+        Step::Down => { if is_high { 1 } else { -1 } }
     }
 }
 
 // The growth of the weight of an edge on a side of a range that is moved.
 fn edge_growth(step: Step, side: Side) -> i64 {
     match step {
-        Step::Widen(moved) => {
-            if moved == side {
-                1
-            } else {
-                0
-            }
-        }
-        Step::Narrow(moved) => {
-            if moved == side {
-                -1
-            } else {
-                0
-            }
-        }
+        Step::Widen(moved) => { if moved == side { 1 } else { 0 } }
+        Step::Narrow(moved) => { if moved == side { -1 } else { 0 } }
         Step::Up => upward(side),
         Step::Down => downward(side),
     }

@@ -23,12 +23,7 @@ use std::alloc::Global;
 
 /// Looks for times that satisfy a network, and for times that break the requirement of a row, from the first row on. It ends with the first row that is
 /// found to break. What is found is not left open where the budget is no less than the number of cause choices. Times that it leaves fit the network.
-pub fn probe(
-    alloc: Global,
-    net: &Network,
-    rows: &[Row],
-    effort: Effort,
-) -> Result<Probed, NoMemory>
+pub fn probe(alloc: Global, net: &Network, rows: &[Row], effort: Effort) -> Result<Probed, NoMemory>
     requires rows { All (IsRowOf net.now) rows.now }
     requires few { length rows.now ≤ MAX_ROWS }
     requires budget { 1 ≤ effort.budget }
