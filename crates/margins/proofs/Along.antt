@@ -146,12 +146,18 @@ over_next side test (d ∷ causes) (p ∷ origins) zero reach c o at_c at_o =
 over_next side test (d ∷ causes) (p ∷ origins) (suc k) reach c o at_c at_o = over_next side test causes origins k reach c o at_c at_o
 
 -- the same, of a reach that was found in a loop
-pub over_more : (side : Side) (test : Origin → Bool) (causes : List Cause) (origins : List Origin) (k : ℕ) (reach next whole : Reach) (c : Cause) (o : Origin) (is_drawn : Bool)
-    → slice_get causes k ≡ Some c → slice_get origins k ≡ Some o → is_drawn ≡ test o → next ≡ reach_within side is_drawn reach c.range
-    → reach_over side test reach (drop k causes) (drop k origins) ≡ whole → reach_over side test next (drop (k + 1) causes) (drop (k + 1) origins) ≡ whole
-over_more side test causes origins k reach next whole c o is_drawn at_c at_o drawn is before =
-    let own : next ≡ reach_within side (test o) reach c.range = is ∙ ap (λ (b : Bool). reach_within side b reach c.range) drawn in
-    rw (add-one, own) (sym (over_next side test causes origins k reach c o at_c at_o) ∙ before)
+pub over_more : (drawn : Drawn) (number : DrawnNumber) (side : Side) (constraint k : ℕ) (part : List ℕ) (given : List Origin) (d : Origin) (reach next whole : Reach) (c : Cause) (is_drawn : Bool)
+    → part ≡ part_of_target drawn constraint → given ≡ origins_of drawn constraint → k < length given → slice_get (causes_at drawn.net constraint) k ≡ Some c
+    → is_drawn ≡ draw (number ∷ []) part (get_or given k d) → next ≡ reach_within side is_drawn reach c.range
+    → reach_over side (draw (number ∷ []) (part_of_target drawn constraint)) reach (drop k (causes_at drawn.net constraint)) (drop k (origins_of drawn constraint)) ≡ whole
+    → reach_over side (draw (number ∷ []) (part_of_target drawn constraint)) next (drop (k + 1) (causes_at drawn.net constraint)) (drop (k + 1) (origins_of drawn constraint)) ≡ whole
+over_more drawn number side constraint k part given d reach next whole c is_drawn same_part same within at_c drawn_is is before =
+    let test : Origin → Bool = draw (number ∷ []) (part_of_target drawn constraint) in
+    let at_o : slice_get (origins_of drawn constraint) k ≡ Some (get_or given k d) =
+    subst (λ (os : List Origin). slice_get os k ≡ Some (get_or given k d)) same (slice_get-get_or given k d within) in
+    let right : is_drawn ≡ test (get_or given k d) = drawn_is ∙ ap (λ (p : List ℕ). draw (number ∷ []) p (get_or given k d)) same_part in
+    let own : next ≡ reach_within side (test (get_or given k d)) reach c.range = is ∙ ap (λ (b : Bool). reach_within side b reach c.range) right in
+    rw (add-one, own) (sym (over_next side test (causes_at drawn.net constraint) (origins_of drawn constraint) k reach c (get_or given k d) at_c at_o) ∙ before)
 
 over_none : (side : Side) (test : Origin → Bool) (causes : List Cause) (reach : Reach) → reach_over side test reach causes [] ≡ reach
 over_none side test [] reach = refl

@@ -1,8 +1,10 @@
 -- The ends of all numbers.
-use Rattle.std.proofs.Common.{◌≡◌, ◌+◌, ◌<◌, ◌≤◌, ◌++◌, ◌⊎◌, inl, inr, ℕ, ℤ, Bool, true, false, ◌||◌, IsTrue, List, [], ◌∷◌, length, get_or, take, Option, Some, None, slice_get, slice_index_or, refl, sym, subst, ap, ◌∙◌}
+use Rattle.std.proofs.Common.{◌≡◌, ◌+◌, ◌<◌, ◌≤◌, ◌++◌, ◌⊎◌, inl, inr, ℕ, ℤ, Bool, true, false, ◌||◌, IsTrue, List, [], ◌∷◌, length, get_or, take, Option, Some, None, slice_get, slice_index_or, Bor, refl, sym, subst, ap, ◌∙◌, arith}
 use Rattle.std.specs.Prelude.{Contains, IfSome, is_some}
 use Rattle.std.specs.List.{AllZip}
-use Rattle.std.proofs.lemmas.List.{take_all, take_more}
+use Rattle.std.proofs.lemmas.Bool.{cases_lt}
+use Rattle.std.proofs.lemmas.List.{map-append, take_all, take_more}
+use Rattle.std.proofs.lemmas.List.Elements.{Contains-append_left}
 use Rattle.std.proofs.lemmas.Option.{IfSome_then}
 use Rattle.itv_base.specs.declared.names.Side.{Side}
 use Rattle.drawn.specs.Drawn.{Drawn}
@@ -10,6 +12,7 @@ use Rattle.numbers.specs.declared.drawn_number.DrawnNumber.{DrawnNumber}
 use Rattle.moves.specs.Found.{IsEndFound}
 use Rattle.moves.specs.Moving.{net_moved, opened}
 use Rattle.moves.specs.Passing.{Passes}
+use Rattle.moves.specs.Step.{lent}
 use Rattle.moves.specs.declared.end_found.EndFound.{EndFound}
 use Rattle.moves.specs.declared.number_seen.NumberSeen.{NumberSeen}
 use Rattle.margins.specs.Ends.{IsEndOf}
@@ -76,3 +79,26 @@ pub free_at : (drawn : Drawn) (side : Side) (seen : List NumberSeen) (free : Lis
 free_at drawn side seen free k s is_free all at same is =
     let P : Option NumberSeen → Type 0 = λ o. IfSome o (IsFreeAt drawn side) in
     subst P at (all k (sym same ∙ is))
+
+-- ---- marked numbers
+
+-- the marked numbers are there, and the next one, if it is marked
+pub there_next : (opening : Opening) (start k : ℕ) (old new : List DrawnNumber)
+    → ((j : ℕ) → start ≤ j → j < k → IsTrue (slice_index_or opening.unused.now j false) → IfSome (slice_get opening.seen.now j) (λ (s : NumberSeen). Contains old s.number))
+    → ((n : DrawnNumber) → Contains old n → Contains new n)
+    → (IsTrue (slice_index_or opening.unused.now k false) → IfSome (slice_get opening.seen.now k) (λ (s : NumberSeen). Contains new s.number))
+    → (j : ℕ) → start ≤ j → j < k + 1 → IsTrue (slice_index_or opening.unused.now j false) → IfSome (slice_get opening.seen.now j) (λ (s : NumberSeen). Contains new s.number)
+there_next opening start k old new before kept here j low high marked =
+    cases_lt j k
+    (λ less. IfSome_then (slice_get opening.seen.now j) (before j low less marked) (λ s among. kept s.number among))
+    (λ more.
+        let same : k ≡ j = omega (arith, high, more) in
+        let P : ℕ → Type 0 = λ n. IsTrue (slice_index_or opening.unused.now n false) → IfSome (slice_get opening.seen.now n) (λ (s : NumberSeen). Contains new s.number) in
+        subst P same here marked)
+
+-- a number that is pushed is there, and so are those before it
+pub pushed_kept : (old : List DrawnNumber) (number n : DrawnNumber) → Contains old n → Contains (old ++ number ∷ []) n
+pushed_kept old number n among = Contains-append_left old (number ∷ []) n among
+
+pub lent_push : (old : List (Bor DrawnNumber)) (b : Bor DrawnNumber) → lent (old ++ b ∷ []) ≡ lent old ++ b.now ∷ []
+lent_push old b = map-append (λ (x : Bor DrawnNumber). x.now) old (b ∷ [])

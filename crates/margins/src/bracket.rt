@@ -6,7 +6,6 @@ ghost use Rattle.moves.specs.Moving.{widened_at};
 ghost use Rattle.moves.specs.Passing.{Breaks, Passes};
 ghost use Rattle.probing.specs.Step.{IsProbed};
 ghost use Rattle.margins.specs.Step.{IsBracket, IsFound, IsProbedAt, IsSought};
-ghost use Rattle.margins.specs.declared.sought.EndSought.{EndSought as SoughtSeen};
 
 use crate::sought::EndSought;
 use itv_base::NoMemory;
@@ -37,7 +36,7 @@ pub fn margin_in(
     requires bracket { IsBracket sought.now bracket }
     ensures { IfOk result (IsFound sought.now) }
 {
-    let mut bracket = with_guess(bracket);
+    let mut bracket = bracket;
     let mut rounds: u32 = 0;
     while is_wide(bracket) {
         let by = between(bracket, rounds);
@@ -53,19 +52,6 @@ pub fn margin_in(
     })
 }
 
-// The bracket with a guess: just below the greater move where there is none.
-fn with_guess(bracket: Bracket) -> Bracket
-    ensures { (sought : SoughtSeen) → IsBracket sought bracket → IsBracket sought result }
-{
-    match bracket.guess {
-        Some(_) => bracket,
-        None => Bracket {
-            guess: Some(bracket.breaks.saturating_sub(1)),
-            ..bracket
-        },
-    }
-}
-
 // Whether there are moves between those of a bracket.
 fn is_wide(bracket: Bracket) -> bool
     requires apart { bracket.passes <ℤ bracket.breaks }
@@ -74,7 +60,8 @@ fn is_wide(bracket: Bracket) -> bool
     bracket.passes + 1 < bracket.breaks
 }
 
-// The next move between those of a bracket: the guess, or the nearest one. Without a guess and after many rounds it is the middle.
+// The next move between those of a bracket: the guess, or the nearest one. Without a guess it is the nearest one to the greater move first, and then the middle,
+// and after many rounds too.
 fn between(bracket: Bracket, rounds: u32) -> i64
     requires wide { (bracket.passes +ℤ pos 1) <ℤ bracket.breaks }
     ensures above { bracket.passes <ℤ result }
@@ -82,9 +69,25 @@ fn between(bracket: Bracket, rounds: u32) -> i64
 {
     let by = match bracket.guess {
         Some(guess) if rounds < GUIDED_ROUNDS => guess,
+        None if rounds == 0 => bracket.breaks,
         _ => middle(bracket.passes, bracket.breaks),
     };
-    by.min(bracket.breaks - 1).max(bracket.passes + 1)
+    inside(by, bracket.passes, bracket.breaks)
+}
+
+/// The number between two others that is nearest to a number.
+pub fn inside(by: i64, least: i64, most: i64) -> i64
+    requires wide { (least +ℤ pos 1) <ℤ most }
+    ensures above { least <ℤ result }
+    ensures below { result <ℤ most }
+{
+    if by <= least {
+        return least + 1;
+    }
+    if most <= by {
+        return most - 1;
+    }
+    by
 }
 
 /// A number about in the middle of two numbers.
@@ -177,16 +180,19 @@ pub fn bracket_below(
     ensures below { IfOk result (λ bracket. bracket.breaks ≤ℤ by) }
 {
     let breaks = broken_at(alloc, sought, passes, by, row, probed)?;
-    let guess = match sought.excess(&probed.sides) {
-        Some(back) => Some(breaks.saturating_sub(back)),
-        None => None,
-    };
+    let guess = guess_below(sought, breaks, probed);
     Ok(Bracket {
         passes,
         breaks,
         row,
         guess,
     })
+}
+
+// The next guess below a move with which a row breaks, if the edges behind the bounds give one.
+fn guess_below(sought: &EndSought<'_>, breaks: i64, probed: &Probed) -> Option<i64> {
+    let back = sought.excess(&probed.sides)?;
+    Some(breaks.saturating_sub(back))
 }
 
 /// The least move above a number that is known to break a row, where this move breaks it: the times of the probe may need less.

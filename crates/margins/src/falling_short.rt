@@ -5,7 +5,7 @@ ghost use Rattle.moves.specs.Passing.{Breaks};
 ghost use Rattle.probing.specs.Step.{IsProbed};
 ghost use Rattle.margins.specs.Step.{IsFound, IsGap, IsGapAbove, IsGapSearched, IsProbedAt, IsSought};
 
-use crate::bracket::{Bracket, broken_at, margin_in, middle};
+use crate::bracket::{Bracket, broken_at, inside, margin_in, middle};
 use crate::sought::EndSought;
 use itv_base::NoMemory;
 use moves::{EndFound, NetFound};
@@ -161,7 +161,7 @@ fn between(gap: Gap) -> i64
     ensures below { result <ℤ gap.breaks }
 {
     let by = middle(gap.contradicts, gap.breaks);
-    by.min(gap.breaks - 1).max(gap.contradicts + 1)
+    inside(by, gap.contradicts, gap.breaks)
 }
 
 // What is found with a move between those of a gap.

@@ -97,6 +97,7 @@ fn open_between(
     free: &mut [bool],
 ) -> Result<(), NoMemory>
     requires opening { IsOpening opening.now }
+    requires order { start ≤ end }
     requires end { end ≤ length opening.now.seen.now }
     requires free { AreFree opening.now.drawn.now opening.now.side opening.now.seen.now free.old }
     ensures free { OnOk result (AreFree opening.now.drawn.now opening.now.side opening.now.seen.now free.new) }
@@ -105,7 +106,7 @@ fn open_between(
         mark(opening.unused, start, end, free);
         return Ok(());
     }
-    let half = end.saturating_sub(start) / 2;
+    let half = (end - start) / 2;
     if half == 0 {
         return Ok(());
     }
@@ -115,6 +116,7 @@ fn open_between(
 
 // Marks the numbers from one place to another that have this mark.
 fn mark(marked: &[bool], start: usize, end: usize, free: &mut [bool])
+    requires order { start ≤ end }
     ensures { (k : ℕ) → IsTrue (slice_index_or free.new k false)
         → IsTrue (slice_index_or free.old k false) ⊎ ((start ≤ k) × (k < end) × IsTrue (slice_index_or marked.now k false)) }
 {
@@ -133,6 +135,7 @@ fn are_free_together(
     end: usize,
 ) -> Result<bool, NoMemory>
     requires opening { IsOpening opening.now }
+    requires order { start ≤ end }
     requires end { end ≤ length opening.now.seen.now }
     ensures free { IfOk result (λ are_free. IsTrue are_free → IsFreeBetween opening.now start end) }
 {
@@ -161,6 +164,7 @@ fn unused_numbers<'a>(
     start: usize,
     end: usize,
 ) -> Result<Vec<&'a DrawnNumber>, NoMemory>
+    requires order { start ≤ end }
     requires end { end ≤ length opening.now.seen.now }
     ensures numbers { IfOk result (λ numbers. (k : ℕ) → start ≤ k → k < end → IsTrue (slice_index_or opening.now.unused.now k false)
         → IfSome (slice_get opening.now.seen.now k) (λ (s : Seen). Contains (lent numbers.items) s.number)) }

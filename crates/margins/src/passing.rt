@@ -140,13 +140,13 @@ fn climbed_to(
     ensures { IfOk result (IsClimbed sought.now climb) }
 {
     let probed = sought.probe_at(alloc, by)?;
-    let next = climbed(alloc, sought, climb, by, &probed);
+    let next = climbed_by(alloc, sought, climb, by, &probed);
     drop(probed);
     next
 }
 
 // What is found with a move above one with which every requirement passes, by what a probe found there.
-fn climbed(
+fn climbed_by(
     alloc: Global,
     sought: &EndSought<'_>,
     climb: Climb,
@@ -252,9 +252,10 @@ fn need_above(sought: &EndSought<'_>, above: i64, probed: &Probed) -> i64
     requires fits { IsProbed sought.now.drawn.now.net.events probed.now }
     ensures above { above <ℤ result }
 {
+    let most = sought.reach.most;
     match sought.need(probed) {
         Some(need) => need.max(above + 1),
-        None => sought.reach.most,
+        None => most,
     }
 }
 

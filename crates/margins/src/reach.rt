@@ -83,8 +83,9 @@ fn lower_reach(low: i64, high: Option<i64>, reach: Reach) -> Reach
     requires high { IsEnd high }
     ensures { result ≡ reach_with reach (low -ℤ unwrap_or high END_LIMIT) (low +ℤ END_LIMIT) }
 {
-    let top = high.unwrap_or(END_LIMIT);
-    reach_with(reach, low - top, low + END_LIMIT)
+    let least = difference(low, end_or(high, END_LIMIT));
+    let most = sum(low, END_LIMIT);
+    reach_with(reach, least, most)
 }
 
 // The reach with a high end more.
@@ -93,8 +94,40 @@ fn upper_reach(low: Option<i64>, high: i64, reach: Reach) -> Reach
     requires high { IsEnd (Some high) }
     ensures { result ≡ reach_with reach (unwrap_or low (neg_ℤ END_LIMIT) -ℤ high) (END_LIMIT -ℤ high) }
 {
-    let bottom = low.unwrap_or(-END_LIMIT);
-    reach_with(reach, bottom - high, END_LIMIT - high)
+    let least = difference(end_or(low, -END_LIMIT), high);
+    let most = difference(END_LIMIT, high);
+    reach_with(reach, least, most)
+}
+
+// An end, or another one where it is open.
+fn end_or(end: Option<i64>, other: i64) -> i64
+    requires end { IsEnd end }
+    requires other { IsEnd (Some other) }
+    ensures value { result ≡ unwrap_or end other }
+    ensures within { IsEnd (Some result) }
+{
+    match end {
+        Some(value) => value,
+        None => other,
+    }
+}
+
+// The difference of two ends.
+fn difference(a: i64, b: i64) -> i64
+    requires a { IsEnd (Some a) }
+    requires b { IsEnd (Some b) }
+    ensures { result ≡ a -ℤ b }
+{
+    a - b
+}
+
+// The sum of two ends.
+fn sum(a: i64, b: i64) -> i64
+    requires a { IsEnd (Some a) }
+    requires b { IsEnd (Some b) }
+    ensures { result ≡ a +ℤ b }
+{
+    a + b
 }
 
 // The reach within two numbers.
