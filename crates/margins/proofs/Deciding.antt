@@ -16,10 +16,12 @@ use Rattle.moves.specs.declared.net_found.NetFound.TheVariants as nets
 use Rattle.probing.specs.declared.effort.Effort.{Effort}
 use Rattle.probing.specs.declared.probed.Probed.{Probed}
 use Rattle.margins.specs.Reaching.{IsStill, any_reach}
-use Rattle.margins.specs.Step.{IsBracket, IsClimb, IsFound, IsGap, IsGapAbove, IsProbedAt, IsProbedIn, IsProbedOpen, IsSought, moved_in, open_in}
+use Rattle.margins.specs.Step.{IsBracket, IsClimbed, IsFound, IsGap, IsGapAbove, IsGapSearched, IsProbedAt, IsProbedIn, IsProbedOpen, IsSought, moved_in, open_in}
 use Rattle.margins.specs.declared.bracket.Bracket.{Bracket}
 use Rattle.margins.specs.declared.falling_short.Gap.{Gap}
+use Rattle.margins.specs.declared.falling_short.GapSearched.TheVariants as gaps
 use Rattle.margins.specs.declared.passing.Climb.{Climb}
+use Rattle.margins.specs.declared.passing.Climbed.TheVariants as climbs
 use Rattle.margins.specs.declared.reach.Reach.{Reach}
 use Rattle.margins.specs.declared.sought.EndSought.{EndSought}
 use Rattle.moves.proofs.Each.{moved_by_nothing}
@@ -153,3 +155,32 @@ module _ (sought : EndSought) where
       by_cases (inr still) =
           let own : Passes sought.drawn.now = subst Passes (still.0.widened at) passes in
           excluded sought.drawn.now row own.1 (subst (λ (d : Drawn). Breaks d row) still.0.opened breaks)
+
+-- ---- what a search goes on with
+
+  pub bracket_made : (passes breaks low high : ℤ) (row : ℕ) (guess : Option ℤ) → low ≡ passes → high ≡ breaks → passes <ℤ breaks → sought.reach.least ≤ℤ passes
+      → breaks ≤ℤ sought.reach.most → Passes (moved_in sought passes) → Breaks (moved_in sought breaks) row
+      → IsBracket sought (record { passes = low; breaks = high; row = row; guess = guess })
+  bracket_made passes breaks low high row guess same_low same_high apart least most pass break =
+      subst (λ (z : ℤ). IsBracket sought (record { passes = z; breaks = high; row = row; guess = guess })) (sym same_low)
+      (subst (λ (z : ℤ). IsBracket sought (record { passes = passes; breaks = z; row = row; guess = guess })) (sym same_high)
+      (record { apart = apart; least = least; most = most; passes = pass; breaks = break }))
+
+  pub bracket_is : (bracket : Bracket) (gap : Gap) (guess : Option ℤ) → bracket ≡ record { passes = gap.contradicts; breaks = gap.breaks; row = gap.row; guess = guess }
+      → IsGapAbove sought gap → Passes (moved_in sought gap.contradicts) → IsBracket sought bracket
+  bracket_is bracket gap guess is above pass =
+      subst (λ (b : Bracket). IsBracket sought b) (sym is) (record { apart = above.apart; least = above.least; most = above.most; passes = pass; breaks = above.breaks })
+
+  pub gap_made : (gap : Gap) (contradicts breaks low high : ℤ) (row : ℕ) → low ≡ contradicts → high ≡ breaks → contradicts <ℤ breaks → sought.reach.least ≤ℤ contradicts
+      → breaks ≤ℤ sought.reach.most → IsInconsistent (moved_in sought contradicts).net → Breaks (moved_in sought breaks) row
+      → (breaks -ℤ contradicts) <ℤ (gap.breaks -ℤ gap.contradicts) → IsGapSearched sought gap (gaps.Narrower (record { contradicts = low; breaks = high; row = row }))
+  gap_made gap contradicts breaks low high row same_low same_high apart least most none break smaller =
+      subst (λ (z : ℤ). IsGapSearched sought gap (gaps.Narrower (record { contradicts = z; breaks = high; row = row }))) (sym same_low)
+      (subst (λ (z : ℤ). IsGapSearched sought gap (gaps.Narrower (record { contradicts = contradicts; breaks = z; row = row }))) (sym same_high)
+      ((record { apart = apart; least = least; most = most; breaks = break }, none), smaller))
+
+  pub climb_made : (climb : Climb) (passes low stride : ℤ) (room : Option ℤ) → low ≡ passes → climb.passes <ℤ passes → sought.reach.least ≤ℤ passes → passes ≤ℤ sought.reach.most
+      → Passes (moved_in sought passes) → IsClimbed sought climb (climbs.Higher (record { passes = low; stride = stride; room = room }))
+  climb_made climb passes low stride room same more least most pass =
+      subst (λ (z : ℤ). IsClimbed sought climb (climbs.Higher (record { passes = z; stride = stride; room = room }))) (sym same)
+      (record { least = least; most = most; passes = pass }, more)

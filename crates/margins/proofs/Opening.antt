@@ -1,6 +1,6 @@
 -- Networks in which ranges are moved, beside the drawn one; and ends that are opened together.
-use Rattle.std.proofs.Common.{◌≡◌, ℕ, pos, Bool, true, false, ◌||◌, List, [], ◌∷◌, refl, sym, subst, ap}
-use Rattle.std.specs.Prelude.{Contains, if◌then◌else◌}
+use Rattle.std.proofs.Common.{◌≡◌, ℕ, ℤ, pos, Option, Some, Bool, true, false, ◌||◌, List, [], ◌∷◌, refl, sym, subst, ap}
+use Rattle.std.specs.Prelude.{Contains, IfSome, if◌then◌else◌}
 use Rattle.std.proofs.lemmas.List.Folds.{list_any_at}
 use Rattle.itv_base.specs.Range.{Ends}
 use Rattle.itv_base.specs.declared.names.Side.{Side}
@@ -8,13 +8,14 @@ use Rattle.origin.specs.declared.origin.Origin.{Origin}
 use Rattle.event_graph.specs.declared.cause.Cause.{Cause}
 use Rattle.event_graph.specs.Network.{Constraint, Net}
 use Rattle.event_graph.specs.Widening.{IsWider, IsWiderCause, IsWiderConstraint}
+use Rattle.event_graph.proofs.EdgesMet.{at_some}
 use Rattle.event_graph.proofs.Widening.{wider_keeps_satisfying}
 use Rattle.drawn.specs.Drawn.{Drawn, name_of}
 use Rattle.drawn.specs.declared.row.Row.{Row}
 use Rattle.numbers.specs.Numbers.{draws}
 use Rattle.numbers.specs.declared.drawn_number.DrawnNumber.{DrawnNumber}
 use Rattle.moves.specs.Found.{IsNetFound}
-use Rattle.moves.specs.Moving.{cause_moved, constraint_moved, draw, net_moved, opened, opened_at}
+use Rattle.moves.specs.Moving.{cause_moved, constraint_moved, draw, net_moved, opened, opened_at, widened}
 use Rattle.moves.specs.Passing.{IsConsistent, Passes}
 use Rattle.moves.specs.Step.{bare}
 use Rattle.moves.specs.declared.net_found.NetFound.{NetFound}
@@ -30,6 +31,13 @@ use Rattle.margins.proofs.Widening.{open_holds, some_open}
 
 pub net_is : (move : Ends → Ends) (drawn : Drawn) (numbers : List DrawnNumber) (net : Net) → net ≡ net_moved move drawn numbers → IsNetOf drawn net
 net_is move drawn numbers net is = record { events = ap (λ (n : Net). n.events) is; choices = choices_kept move drawn numbers net is }
+
+-- the network that was made, with an end moved
+pub net_here : (side : Side) (drawn : Drawn) (number : DrawnNumber) (by given : ℤ) (o : Option Net) (net : Net) → o ≡ Some net → given ≡ by
+    → IfSome o (λ (m : Net). m ≡ net_moved (widened side given) drawn (number ∷ [])) → net ≡ net_moved (widened side by) drawn (number ∷ [])
+net_here side drawn number by given o net is same h =
+    let P : ℤ → Type 0 = λ z. net ≡ net_moved (widened side z) drawn (number ∷ []) in
+    subst P same (at_some (λ (m : Net). m ≡ net_moved (widened side given) drawn (number ∷ [])) o net is h)
 
 -- what is found of a network with rows is found of the drawn network with it
 found_bare : (drawn : Drawn) (net : Net) (found : NetFound) → IsNetFound (bare net drawn.rows) found → IsNetFound (record drawn { net = net }) found

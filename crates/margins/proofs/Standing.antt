@@ -89,12 +89,13 @@ pub there_next : (opening : Opening) (start k : ℕ) (old new : List DrawnNumber
     → (IsTrue (slice_index_or opening.unused.now k false) → IfSome (slice_get opening.seen.now k) (λ (s : NumberSeen). Contains new s.number))
     → (j : ℕ) → start ≤ j → j < k + 1 → IsTrue (slice_index_or opening.unused.now j false) → IfSome (slice_get opening.seen.now j) (λ (s : NumberSeen). Contains new s.number)
 there_next opening start k old new before kept here j low high marked =
-    cases_lt j k
-    (λ less. IfSome_then (slice_get opening.seen.now j) (before j low less marked) (λ s among. kept s.number among))
-    (λ more.
-        let same : k ≡ j = omega (arith, high, more) in
-        let P : ℕ → Type 0 = λ n. IsTrue (slice_index_or opening.unused.now n false) → IfSome (slice_get opening.seen.now n) (λ (s : NumberSeen). Contains new s.number) in
-        subst P same here marked)
+    elim (cases_lt j k) [
+      | inl less ↦ IfSome_then (slice_get opening.seen.now j) (before j low less marked) (λ s among. kept s.number among)
+      | inr more ↦
+          let same : k ≡ j = omega (arith, high, more) in
+          let P : ℕ → Type 0 = λ n. IsTrue (slice_index_or opening.unused.now n false) → IfSome (slice_get opening.seen.now n) (λ (s : NumberSeen). Contains new s.number) in
+          subst P same here marked
+    ]
 
 -- a number that is pushed is there, and so are those before it
 pub pushed_kept : (old : List DrawnNumber) (number n : DrawnNumber) → Contains old n → Contains (old ++ number ∷ []) n

@@ -3,7 +3,7 @@
 ghost use Rattle.std.specs.Prelude.{◌≡◌, ◌≤◌, pos, ◌+ℤ◌, ◌≤ℤ◌, ◌<ℤ◌, ◌↔◌, IfOk, IsTrue};
 ghost use Rattle.moves.specs.Passing.{Breaks};
 ghost use Rattle.probing.specs.Step.{IsProbed};
-ghost use Rattle.margins.specs.Step.{IsFound, IsGap, IsGapAbove, IsGapSearched, IsProbedAt, IsSought};
+ghost use Rattle.margins.specs.Step.{IsFound, IsGap, IsGapAbove, IsGapSearched, IsProbedAt, IsSought, moved_in};
 
 use crate::bracket::{Bracket, broken_at, inside, margin_in, middle};
 use crate::sought::EndSought;
@@ -44,7 +44,8 @@ pub fn margin_from_break(
         // The end can't be moved inward.
         return Ok(EndFound::Never);
     }
-    if needs_least(sought, base) && sought.breaks_at(alloc, least, row, base)? {
+    let is_broken = breaks_at_least(alloc, sought, row, base)?;
+    if is_broken {
         return Ok(EndFound::Never);
     }
     let breaks = broken_at(alloc, sought, least, 0, row, base)?;
@@ -54,6 +55,23 @@ pub fn margin_from_break(
         row,
     };
     margin_from_least(alloc, sought, gap, guess_below(sought, breaks, base))
+}
+
+// Whether the times of a probe are known to break a row with the least move.
+fn breaks_at_least(
+    alloc: Global,
+    sought: &EndSought<'_>,
+    row: u32,
+    base: &Probed,
+) -> Result<bool, NoMemory>
+    requires sought { IsSought sought.now }
+    requires fits { IsProbed sought.now.drawn.now.net.events base.now }
+    ensures { IfOk result (λ breaks. IsTrue breaks → Breaks (moved_in sought.now sought.now.reach.least) row) }
+{
+    if !needs_least(sought, base) {
+        return Ok(false);
+    }
+    sought.breaks_at(alloc, sought.reach.least, row, base)
 }
 
 // Whether the times of a probe need no move beyond the least one, or nothing is known of that.
