@@ -184,3 +184,10 @@ module _ (sought : EndSought) where
   climb_made climb passes low stride room same more least most pass =
       subst (λ (z : ℤ). IsClimbed sought climb (climbs.Higher (record { passes = z; stride = stride; room = room }))) (sym same)
       (record { least = least; most = most; passes = pass }, more)
+
+  pub gap_above_made : (contradicts breaks low high : ℤ) (row : ℕ) → low ≡ contradicts → high ≡ breaks → contradicts <ℤ breaks → sought.reach.least ≤ℤ contradicts
+      → breaks ≤ℤ sought.reach.most → Breaks (moved_in sought breaks) row → IsGapAbove sought (record { contradicts = low; breaks = high; row = row })
+  gap_above_made contradicts breaks low high row same_low same_high apart least most break =
+      subst (λ (z : ℤ). IsGapAbove sought (record { contradicts = z; breaks = high; row = row })) (sym same_low)
+      (subst (λ (z : ℤ). IsGapAbove sought (record { contradicts = contradicts; breaks = z; row = row })) (sym same_high)
+      (record { apart = apart; least = least; most = most; breaks = break }))
