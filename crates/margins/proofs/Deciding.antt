@@ -156,7 +156,7 @@ module _ (sought : EndSought) where
           let own : Passes sought.drawn.now = subst Passes (still.0.widened at) passes in
           excluded sought.drawn.now row own.1 (subst (λ (d : Drawn). Breaks d row) still.0.opened breaks)
 
--- ---- what a search goes on with
+  -- ---- what a search goes on with
 
   pub bracket_made : (passes breaks low high : ℤ) (row : ℕ) (guess : Option ℤ) → low ≡ passes → high ≡ breaks → passes <ℤ breaks → sought.reach.least ≤ℤ passes
       → breaks ≤ℤ sought.reach.most → Passes (moved_in sought passes) → Breaks (moved_in sought breaks) row

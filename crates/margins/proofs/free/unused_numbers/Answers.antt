@@ -17,27 +17,27 @@ loop-k-preserved c =
     let seen = c.args.opening.now.seen.now in
     there_next c.args.opening.now c.args.start c.loop-k.k old (lent c.if-k-unused.numbers.items) c.loop-k.invariant
     (λ n among. elim c.if-k-unused.branch [
-        | then-k-unused+then-unused-k+in_ok-push w ↦
-            let number = w.index-seen-k.result.number in
-            let same : lent c.if-k-unused.numbers.items ≡ lent c.loop-k.numbers.items ++ number ∷ [] =
-            ap (λ (v : Vec (Bor DrawnNumber)). lent v.items) w.numbers-is ∙ (ap lent w.in_ok-push.ensures.items ∙ lent_push c.loop-k.numbers.items _) in
-            subst (λ (xs : List DrawnNumber). Contains xs n) (sym same) (pushed_kept old number n among)
-        | else-k-unused w ↦ subst (λ (v : Vec (Bor DrawnNumber)). Contains (lent v.items) n) (sym w.numbers-is) among
-      ])
+      | then-k-unused+then-unused-k+in_ok-push w ↦
+          let number = (get_or c.args.opening.now.seen.now c.loop-k.k w.index-seen-k.result).number in
+          let same : lent c.if-k-unused.numbers.items ≡ lent c.loop-k.numbers.items ++ number ∷ [] =
+          ap (λ (v : Vec (Bor DrawnNumber)). lent v.items) w.numbers-is ∙ (ap lent w.in_ok-push.ensures.items ∙ lent_push c.loop-k.numbers.items _) in
+          subst (λ (xs : List DrawnNumber). Contains xs n) (sym same) (pushed_kept old number n among)
+      | else-k-unused w ↦ subst (λ (v : Vec (Bor DrawnNumber)). Contains (lent v.items) n) (sym w.numbers-is) among
+    ])
     (λ marked. elim c.if-k-unused.branch [
-        | then-k-unused+then-unused-k+in_ok-push w ↦
-            let number = w.index-seen-k.result.number in
-            let same : lent c.if-k-unused.numbers.items ≡ lent c.loop-k.numbers.items ++ number ∷ [] =
-            ap (λ (v : Vec (Bor DrawnNumber)). lent v.items) w.numbers-is ∙ (ap lent w.in_ok-push.ensures.items ∙ lent_push c.loop-k.numbers.items _) in
-            let within : c.loop-k.k < length seen = omega (arith, c.loop-k-test.true, c.requires.end) in
-            let at : slice_get seen c.loop-k.k ≡ Some w.index-seen-k.result = slice_get-get_or seen c.loop-k.k w.index-seen-k.result within ∙ ap Some (sym w.index-seen-k.is) in
-            let here : Contains (lent c.if-k-unused.numbers.items) number = subst (λ (xs : List DrawnNumber). Contains xs number) (sym same) (Contains-push old number) in
-            subst (λ (o : Option NumberSeen). IfSome o (λ (s : NumberSeen). Contains (lent c.if-k-unused.numbers.items) s.number)) (sym at) here
-        | else-k-unused w ↦
-            elim w.else-k-unused.branch [
-              | else-k-unused-via-then-k-unused+else-unused-k u ↦ absurd (cc (marked, u.if-unused-k.false))
-              | else-k-unused-via-else-k-unused u ↦
-                  let past : length c.args.opening.now.unused.now ≤ c.loop-k.k = omega (arith, u.if-k-unused.false) in
-                  absurd (cc (marked, get_or_past c.args.opening.now.unused.now c.loop-k.k false past))
-            ]
-      ])
+      | then-k-unused+then-unused-k+in_ok-push w ↦
+          let number = (get_or c.args.opening.now.seen.now c.loop-k.k w.index-seen-k.result).number in
+          let same : lent c.if-k-unused.numbers.items ≡ lent c.loop-k.numbers.items ++ number ∷ [] =
+          ap (λ (v : Vec (Bor DrawnNumber)). lent v.items) w.numbers-is ∙ (ap lent w.in_ok-push.ensures.items ∙ lent_push c.loop-k.numbers.items _) in
+          let within : c.loop-k.k < length seen = omega (arith, c.loop-k-test.true, c.requires.end) in
+          let at : slice_get seen c.loop-k.k ≡ Some (get_or seen c.loop-k.k w.index-seen-k.result) = slice_get-get_or seen c.loop-k.k w.index-seen-k.result within in
+          let here : Contains (lent c.if-k-unused.numbers.items) number = subst (λ (xs : List DrawnNumber). Contains xs number) (sym same) (Contains-push old number) in
+          subst (λ (o : Option NumberSeen). IfSome o (λ (s : NumberSeen). Contains (lent c.if-k-unused.numbers.items) s.number)) (sym at) here
+      | else-k-unused w ↦
+          elim w.else-k-unused.branch [
+            | else-k-unused-via-then-k-unused+else-unused-k u ↦ absurd (cc (marked, u.if-unused-k.false))
+            | else-k-unused-via-else-k-unused u ↦
+                let past : length c.args.opening.now.unused.now ≤ c.loop-k.k = omega (arith, u.if-k-unused.false) in
+                absurd (cc (marked, get_or_past c.args.opening.now.unused.now c.loop-k.k false past))
+          ]
+    ])
