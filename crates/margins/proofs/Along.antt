@@ -1,5 +1,5 @@
 -- How far an end can be moved, by all constraints.
-use Rattle.std.proofs.Common.{◌≡◌, ◌⊎◌, inl, inr, ℕ, zero, suc, ◌+◌, ◌<◌, ◌≤◌, ℤ, Bool, List, [], ◌∷◌, All, length, map, drop, get_or, Option, Some, None, option_map, slice_get, unwrap_or, refl, sym, ap, subst, ◌∙◌, arith, add-one}
+use Rattle.std.proofs.Common.{◌≡◌, ◌⊎◌, inl, inr, ℕ, zero, suc, ◌+◌, ◌<◌, ◌≤◌, ℤ, Bool, List, [], ◌∷◌, All, length, map, drop, get_or, Option, Some, option_map, slice_get, unwrap_or, refl, sym, ap, subst, ◌∙◌, arith, add-one}
 use Rattle.std.specs.List.{AllZip}
 use Rattle.std.proofs.lemmas.Int.{ints}
 use Rattle.std.proofs.lemmas.List.{drop_all}
@@ -8,7 +8,7 @@ use Rattle.std.proofs.lemmas.Option.{same_Some, slice_get-get_or}
 use Rattle.itv_base.specs.declared.names.Side.{Side}
 use Rattle.origin.specs.declared.origin.Origin.{Origin}
 use Rattle.event_graph.specs.declared.cause.Cause.{Cause}
-use Rattle.event_graph.specs.Network.{AreEnds, Constraint, IsNet}
+use Rattle.event_graph.specs.Network.{Constraint, IsNet}
 use Rattle.event_graph.proofs.EdgesMet.{found_below}
 use Rattle.event_graph.proofs.Ends.{HasOwnEnds, all_own}
 use Rattle.drawn.specs.Drawn.{Drawn, OriginsFit, name_of}

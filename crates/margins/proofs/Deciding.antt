@@ -1,19 +1,12 @@
 -- What is found of an end.
-use Rattle.std.proofs.Common.{◌≡◌, ◌<◌, ◌≤◌, ◌⊎◌, inl, inr, ℕ, ℤ, pos, neg_ℤ, ◌+ℤ◌, ◌-ℤ◌, ◌≤ℤ◌, ◌<ℤ◌, Bool, true, false, IsTrue, Option, refl, sym, subst, ap, ◌∙◌, arith}
-use Rattle.std.specs.Prelude.{◌↔◌}
+use Rattle.std.proofs.Common.{◌≡◌, ◌⊎◌, inl, inr, ℕ, ℤ, pos, ◌+ℤ◌, ◌-ℤ◌, ◌≤ℤ◌, ◌<ℤ◌, true, Option, refl, sym, subst, ap, ◌∙◌, arith}
 use Rattle.std.proofs.lemmas.Int.{by_lt_z, ints}
-use Rattle.itv_base.specs.declared.names.Side.{Side}
 use Rattle.event_graph.specs.Bounds.{IsInconsistent}
-use Rattle.event_graph.specs.Edges.{cause_choices}
 use Rattle.drawn.specs.Drawn.{Drawn}
-use Rattle.moves.specs.Found.{CanBeDrawn, IsNetFound, is_net_open}
-use Rattle.moves.specs.Moving.{opened_at, widened_at}
+use Rattle.moves.specs.Found.{IsNetFound, is_net_open}
 use Rattle.moves.specs.Passing.{Breaks, IsConsistent, Passes}
-use Rattle.moves.specs.declared.end_found.EndFound.{EndFound}
 use Rattle.moves.specs.declared.end_found.EndFound.TheVariants as ends
-use Rattle.moves.specs.declared.net_found.NetFound.{NetFound}
 use Rattle.moves.specs.declared.net_found.NetFound.TheVariants as nets
-use Rattle.probing.specs.declared.effort.Effort.{Effort}
 use Rattle.probing.specs.declared.probed.Probed.{Probed}
 use Rattle.margins.specs.Reaching.{IsStill, any_reach}
 use Rattle.margins.specs.Step.{IsBracket, IsClimbed, IsFound, IsGap, IsGapAbove, IsGapSearched, IsProbedAt, IsProbedIn, IsProbedOpen, IsSought, moved_in, open_in}

@@ -1,15 +1,12 @@
 -- How far the end of one range can be moved.
-use Rattle.std.proofs.Common.{◌≡◌, ◌⊎◌, inl, inr, ℤ, pos, neg_ℤ, ◌+ℤ◌, ◌-ℤ◌, ◌≤ℤ◌, Bool, true, false, IsTrue, Option, Some, None, option_map, unwrap_or, refl, sym, subst, arith}
-use Rattle.std.specs.Prelude.{IfSome, if◌then◌else◌}
+use Rattle.std.proofs.Common.{◌≡◌, ◌⊎◌, inl, inr, ℤ, pos, ◌+ℤ◌, ◌-ℤ◌, ◌≤ℤ◌, Bool, true, false, IsTrue, Option, Some, None, option_map, refl, arith}
 use Rattle.std.proofs.lemmas.Int.{clamps, ints}
 use Rattle.itv_base.specs.Range.{Ends, IsEnd, IsRange}
-use Rattle.itv_base.specs.declared.limits.TheConstants.{END_LIMIT}
 use Rattle.itv_base.specs.declared.names.Side.{Side}
 use Rattle.itv_base.specs.declared.names.Side.TheVariants.{Lower, Upper}
 use Rattle.event_graph.specs.Network.{AreEnds}
 use Rattle.moves.specs.Moving.{opened, widened}
 use Rattle.moves.specs.Step.{IsMoveBy}
-use Rattle.moves.specs.declared.moving.TheConstants.{MOVE_LIMIT}
 use Rattle.margins.specs.Reaching.{lower_reach, range_reach, reach_within, upper_reach}
 use Rattle.margins.specs.declared.reach.Reach.{Reach}
 

@@ -1,5 +1,5 @@
 -- Times that stay with a greater move of an end, and with the end open.
-use Rattle.std.proofs.Common.{◌≡◌, ℤ, ◌≤ℤ◌, List, [], ◌∷◌}
+use Rattle.std.proofs.Common.{ℤ, ◌≤ℤ◌, [], ◌∷◌}
 use Rattle.itv_base.specs.Range.{Ends}
 use Rattle.itv_base.specs.declared.names.Side.{Side}
 use Rattle.itv_base.specs.declared.names.Side.TheVariants.{Lower, Upper}

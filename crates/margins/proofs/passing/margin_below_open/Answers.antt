@@ -1,4 +1,4 @@
-use Rattle.std.proofs.Common.{◌≡◌, ◌≤ℤ◌, arith}
+use Rattle.std.proofs.Common.{◌≤ℤ◌, arith}
 use Rattle.std.proofs.lemmas.Int.{ints}
 use Rattle.margins.proofs.Deciding.{found_limit, same_of}
 use Rattle.margins.proofs.passing.margin_below_open.Goals as goal

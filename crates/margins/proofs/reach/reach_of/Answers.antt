@@ -1,4 +1,4 @@
-use Rattle.std.proofs.Common.{◌≡◌, ◌<◌, ◌≤◌, ◌∷◌, length, ap, arith, subst, sym}
+use Rattle.std.proofs.Common.{◌≡◌, ◌<◌, ◌≤◌, length, ap, arith, subst, sym}
 use Rattle.event_graph.specs.Network.{Net}
 use Rattle.margins.specs.Reaching.{IsReachOf, any_reach, reach_along}
 use Rattle.margins.specs.declared.reach.Reach.{Reach}

@@ -1,6 +1,5 @@
-use Rattle.std.proofs.Common.{◌≡◌, ◌<◌, ◌≤◌, length, ap, arith}
-use Rattle.numbers.specs.Numbers.{origins_of, part_of_target}
-use Rattle.moves.specs.Moving.{draw}
+use Rattle.std.proofs.Common.{◌≡◌, ◌≤◌, length, ap, arith}
+use Rattle.numbers.specs.Numbers.{origins_of}
 use Rattle.moves.specs.Step.{causes_at}
 use Rattle.margins.proofs.Along.{over_all, over_more}
 use Rattle.margins.proofs.reach.reach_over.Goals as goal
