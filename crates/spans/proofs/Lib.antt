@@ -2,3 +2,4 @@ pub mod Ways
 pub mod Multiples
 pub mod Ends
 pub mod Covered
+pub mod Found

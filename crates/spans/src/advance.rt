@@ -27,7 +27,7 @@ pub enum Advance {
 
 /// Shows by covers that no requirement breaks with the values from one to a goal, in a direction: half as many at once where a cover does not hold,
 /// and twice as many where it does.
-pub fn advance(
+pub fn show_to(
     alloc: Global,
     sought: &SpanSought<'_>,
     from: i64,
@@ -43,7 +43,7 @@ pub fn advance(
 {
     let mut done: i64 = from;
     let mut size = distance(from, goal);
-    for _ in 0..MOST_COVERS {
+    for _turn in 0..MOST_COVERS {
         if done == goal {
             return Ok(Advance::Reached);
         }

@@ -6,7 +6,7 @@ ghost use Rattle.moves.specs.Passing.{Breaks, Passes};
 ghost use Rattle.moves.specs.Step.{IsMoveBy};
 ghost use Rattle.spans.specs.Step.{IsBorderFrom, IsOn, IsPast, IsShownTo, IsSought, at_value, on_of};
 
-use crate::advance::{Advance, advance};
+use crate::advance::{Advance, show_to};
 use crate::direction::{Direction, beyond, distance, last_before, limit_of, next_of, step_of, value_on};
 use crate::looking::{Ahead, look_ahead};
 use crate::shift_reach::ShiftReach;
@@ -64,7 +64,7 @@ fn border_before(
     ensures border { IfOk result (IsBorderFrom sought.now direction from) }
 {
     let last = last_before(at, direction);
-    match advance(alloc, sought, from, last, direction)? {
+    match show_to(alloc, sought, from, last, direction)? {
         Advance::Reached => border_by_row(alloc, sought, from, last, row, direction),
         Advance::Breaks { last, row } => border_by_row(alloc, sought, from, last, row, direction),
         Advance::Spent(last) => Ok(Border::Spent(last)),
@@ -87,7 +87,7 @@ fn border_in(
     requires contradicts { IsInconsistent (at_value sought.now at).net }
     ensures border { IfOk result (IsBorderFrom sought.now direction from) }
 {
-    match advance(alloc, sought, from, at, direction)? {
+    match show_to(alloc, sought, from, at, direction)? {
         Advance::Reached => border_by_contradiction(alloc, sought, from, at, direction),
         Advance::Breaks { last, row } => border_by_row(alloc, sought, from, last, row, direction),
         Advance::Spent(last) => Ok(Border::Spent(last)),
@@ -109,7 +109,7 @@ fn border_at_limit(
     requires on { IsOn direction from at }
     ensures border { IfOk result (IsBorderFrom sought.now direction from) }
 {
-    match advance(alloc, sought, from, at, direction)? {
+    match show_to(alloc, sought, from, at, direction)? {
         Advance::Reached => border_beyond(alloc, sought, from, at, direction),
         Advance::Breaks { last, row } => border_by_row(alloc, sought, from, last, row, direction),
         Advance::Spent(last) => Ok(Border::Spent(last)),
@@ -186,7 +186,7 @@ fn border_by_contradiction(
 {
     let mut has: i64 = from;
     let mut lacks: i64 = at;
-    for _ in 0..MOST_HALVES {
+    for _turn in 0..MOST_HALVES {
         if next_of(has, direction) == lacks {
             return Ok(Border::Contradicts(has));
         }

@@ -123,7 +123,7 @@ fn span_towards(
     let goal = limit_of(0, direction, reach);
     let mut at: i64 = 0;
     let mut far = sought.excess(step_of(direction), sides);
-    for _ in 0..GUIDED_ROUNDS {
+    for _turn in 0..GUIDED_ROUNDS {
         let Some(more) = far else {
             return Ok(SpanFound::Nothing);
         };

@@ -1,6 +1,7 @@
 //! Numbers whose span is sought.
 
-ghost use Rattle.std.specs.Prelude.{◌≡◌, ◌≤◌, ℤ, IfOk, IfSome, IsTrue, IsFalse};
+ghost use Rattle.std.specs.Prelude.{◌≡◌, ◌≤◌, ℤ, IfOk, IfSome, IsTrue};
+ghost use Rattle.drawn.specs.Drawn.{Drawn};
 ghost use Rattle.moves.specs.Found.{IsNetFound};
 ghost use Rattle.moves.specs.Passing.{HasRanges, HasRowRanges, NoneBreaks};
 ghost use Rattle.moves.specs.Step.{IsMoveBy, lent};
@@ -61,11 +62,7 @@ impl SpanSought<'_> {
     {
         match self.probe_at(alloc, by)? {
             None => Ok(ValueFound::Spent),
-            Some(probed) => match probed.found {
-                NetFound::Passes | NetFound::Inconsistent => Ok(ValueFound::Shown),
-                NetFound::Breaks(row) => Ok(ValueFound::Breaks(row)),
-                NetFound::Open | NetFound::Spent => Ok(ValueFound::Spent),
-            },
+            Some(probed) => Ok(value_of(probed.found)),
         }
     }
 
@@ -77,11 +74,7 @@ impl SpanSought<'_> {
     {
         match self.probe_at(alloc, by)? {
             None => Ok(None),
-            Some(probed) => match probed.found {
-                NetFound::Passes | NetFound::Breaks(_) | NetFound::Open => Ok(Some(true)),
-                NetFound::Inconsistent => Ok(Some(false)),
-                NetFound::Spent => Ok(None),
-            },
+            Some(probed) => Ok(consistency_of(probed.found)),
         }
     }
 
@@ -130,10 +123,7 @@ impl SpanSought<'_> {
             return Ok(false);
         };
         let probed = probe(alloc, &cover.net, &cover.rows, self.effort)?;
-        match probed.found {
-            NetFound::Passes | NetFound::Inconsistent => Ok(true),
-            NetFound::Breaks(_) | NetFound::Open | NetFound::Spent => Ok(false),
-        }
+        Ok(shows(probed.found))
     }
 
     /// How far the numbers may be moved by the edges behind the bounds: a guess.
@@ -144,5 +134,44 @@ impl SpanSought<'_> {
     /// How far the numbers should be moved for a row that breaks to pass: a guess.
     pub fn excess(&self, step: Step, sides: &[SideChain]) -> Option<i64> {
         excess(self.drawn, self.numbers, step, sides)
+    }
+}
+
+// What is found of a value, by what is found of the network there.
+fn value_of(found: NetFound) -> ValueFound
+    ensures { (drawn : Drawn) → IsNetFound drawn found → IsValueFound drawn result }
+{
+    match found {
+        NetFound::Passes => ValueFound::Shown,
+        NetFound::Breaks(row) => ValueFound::Breaks(row),
+        NetFound::Inconsistent => ValueFound::Shown,
+        NetFound::Open => ValueFound::Spent,
+        NetFound::Spent => ValueFound::Spent,
+    }
+}
+
+// Whether some times satisfy a network, by what is found of it; or `None` where that was left open.
+fn consistency_of(found: NetFound) -> Option<bool>
+    ensures { (drawn : Drawn) → IsNetFound drawn found → IsConsistency drawn result }
+{
+    match found {
+        NetFound::Passes => Some(true),
+        NetFound::Breaks(_) => Some(true),
+        NetFound::Inconsistent => Some(false),
+        NetFound::Open => Some(true),
+        NetFound::Spent => None,
+    }
+}
+
+// Whether no requirement of a network breaks, by what is found of it.
+fn shows(found: NetFound) -> bool
+    ensures { IsTrue result → (drawn : Drawn) → IsNetFound drawn found → NoneBreaks drawn }
+{
+    match found {
+        NetFound::Passes => true,
+        NetFound::Breaks(_) => false,
+        NetFound::Inconsistent => true,
+        NetFound::Open => false,
+        NetFound::Spent => false,
     }
 }
