@@ -8,6 +8,7 @@ ghost use Rattle.moves.specs.Step.{IsMoveBy, lent};
 ghost use Rattle.spans.specs.Step.{AreCounts, IsConsistency, IsIn, IsInterval, IsSought, IsValueFound, at_value};
 
 use crate::cover::cover_of;
+use crate::direction::Value;
 use crate::interval::Interval;
 use drawn::DrawnNetwork;
 use itv_base::NoMemory;
@@ -39,12 +40,12 @@ pub enum ValueFound {
 
 impl SpanSought<'_> {
     /// What is found of the network with the numbers moved up by a number of picoseconds, or `None` where that can't be drawn.
-    pub fn probe_at(&self, alloc: Global, by: i64) -> Result<Option<Probed>, NoMemory>
+    pub fn probe_at(&self, alloc: Global, at: Value) -> Result<Option<Probed>, NoMemory>
         requires sought { IsSought self.now }
-        requires by { IsMoveBy by }
-        ensures found { IfOk result (λ probed. IfSome probed (λ probed. IsNetFound (at_value self.now by) probed.found)) }
+        requires by { IsMoveBy at.by }
+        ensures found { IfOk result (λ probed. IfSome probed (λ probed. IsNetFound (at_value self.now at.by) probed.found)) }
     {
-        let by = Move::Shift(by);
+        let by = Move::Shift(at.by);
         let Some(net) = moved_network(alloc, self.drawn, self.numbers, by)? else {
             return Ok(None);
         };
@@ -55,38 +56,38 @@ impl SpanSought<'_> {
     }
 
     /// What is found of a value by itself.
-    pub fn value_at(&self, alloc: Global, by: i64) -> Result<ValueFound, NoMemory>
+    pub fn value_at(&self, alloc: Global, at: Value) -> Result<ValueFound, NoMemory>
         requires sought { IsSought self.now }
-        requires by { IsMoveBy by }
-        ensures found { IfOk result (IsValueFound (at_value self.now by)) }
+        requires by { IsMoveBy at.by }
+        ensures found { IfOk result (IsValueFound (at_value self.now at.by)) }
     {
-        match self.probe_at(alloc, by)? {
+        match self.probe_at(alloc, at)? {
             None => Ok(ValueFound::Spent),
             Some(probed) => Ok(value_of(probed.found)),
         }
     }
 
     /// Whether some times satisfy with a value, or `None` where that was left open.
-    pub fn consistency_at(&self, alloc: Global, by: i64) -> Result<Option<bool>, NoMemory>
+    pub fn consistency_at(&self, alloc: Global, at: Value) -> Result<Option<bool>, NoMemory>
         requires sought { IsSought self.now }
-        requires by { IsMoveBy by }
-        ensures consistency { IfOk result (IsConsistency (at_value self.now by)) }
+        requires by { IsMoveBy at.by }
+        ensures consistency { IfOk result (IsConsistency (at_value self.now at.by)) }
     {
-        match self.probe_at(alloc, by)? {
+        match self.probe_at(alloc, at)? {
             None => Ok(None),
             Some(probed) => Ok(consistency_of(probed.found)),
         }
     }
 
     /// Whether the numbers can't be moved up by a number of picoseconds: a range would be beyond the limit.
-    pub fn is_beyond(&self, alloc: Global, by: i64) -> Result<bool, NoMemory>
-        ensures beyond { IfOk result (λ beyond. IsTrue beyond → HasRanges (at_value self.now by) (lent self.now.numbers.now)
-            → HasRowRanges (at_value self.now by) (lent self.now.numbers.now) → ⊥) }
+    pub fn is_beyond(&self, alloc: Global, at: Value) -> Result<bool, NoMemory>
+        ensures beyond { IfOk result (λ beyond. IsTrue beyond → HasRanges (at_value self.now at.by) (lent self.now.numbers.now)
+            → HasRowRanges (at_value self.now at.by) (lent self.now.numbers.now) → ⊥) }
     {
-        if by < -MOVE_LIMIT || MOVE_LIMIT < by {
+        if at.by < -MOVE_LIMIT || MOVE_LIMIT < at.by {
             return Ok(false);
         }
-        let by = Move::Shift(by);
+        let by = Move::Shift(at.by);
         if moved_network(alloc, self.drawn, self.numbers, by)?.is_none() {
             return Ok(true);
         }

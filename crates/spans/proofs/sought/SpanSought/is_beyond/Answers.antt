@@ -1,7 +1,4 @@
-use Rattle.spans.proofs.Found.{none_not_some}
 use Rattle.spans.proofs.sought.SpanSought.is_beyond.Goals as goal
 
 pub returns : goal.returns
-returns c = record {
-  beyond = λ none ranges rows. none_not_some _ c.is_none-2.result c.is_none-2.ensures none (c.in_ok-moved_rows.ensures.ranges.1 rows);
-}
+returns c = let a = c.in_ok-moved_rows.ensures.ranges in let b = c.is_none-2.ensures in let d = c.if-by.false in ?
