@@ -22,6 +22,10 @@ pub record AreEndsFound (drawn : Drawn) (seen : NumberSeen) (found : EndsFound) 
   pub low : IsEndOf drawn seen.number Lower seen.range.low found.low
   pub high : IsEndOf drawn seen.number Upper seen.range.high found.high
 
--- an end was left open
+-- an end was left open, if there is one
+abbrev pub is_end_left : Option EndFound → Bool
+is_end_left found = option_map_or is_end_spent found false
+
+-- one of both ends was left open
 abbrev pub are_ends_spent : EndsFound → Bool
-are_ends_spent found = option_map_or is_end_spent found.low false || option_map_or is_end_spent found.high false
+are_ends_spent found = is_end_left found.low || is_end_left found.high

@@ -1,15 +1,20 @@
 //! The ends of all numbers.
 
-ghost use Rattle.std.specs.Prelude.{◌≡◌, ◌≤◌, All, IfOk, false};
+ghost use Rattle.std.specs.Prelude.{◌≡◌, ◌≤◌, All, IfOk, IsTrue, false, length};
 ghost use Rattle.std.specs.List.{AllZip};
 ghost use Rattle.event_graph.specs.Edges.{cause_choices};
-ghost use Rattle.moves.specs.Found.{IsNetFound};
-ghost use Rattle.margins.specs.Ends.{AreEndsFound, are_ends_spent};
+ghost use Rattle.moves.specs.Found.{IsNetFound, is_net_open};
+ghost use Rattle.moves.specs.Moving.{opened_at};
+ghost use Rattle.moves.specs.Passing.{Passes};
+ghost use Rattle.probing.specs.Step.{IsProbed};
+ghost use Rattle.margins.specs.Ends.{AreEndsFound, IsEndOf, are_ends_spent, is_end_left};
+ghost use Rattle.margins.specs.Step.{AreFree, IsBase, IsFound, IsFreeAt, IsSought, end_on};
 ghost use Rattle.margins.specs.declared.ends.EndsFound.{EndsFound as EndsSeen};
 
 use crate::falling_short::margin_from_break;
-use crate::free::free_ends;
+use crate::free::{free_ends, has_end, none_free};
 use crate::passing::margin_from_pass;
+use crate::reach::reach_of;
 use crate::sought::EndSought;
 use drawn::DrawnNetwork;
 use itv_base::{NoMemory, Side};
@@ -24,8 +29,8 @@ pub struct EndsFound {
     pub high: Option<EndFound>,
 }
 
-/// Finds how far each end of each of some numbers may be moved; the base is what was found of the network as drawn. Nothing is left open where the budget is
-/// no less than the number of cause choices.
+/// Finds how far each end of each of some numbers may be moved; the base is what was found of the network as drawn, which some times satisfy. Nothing is left
+/// open where the budget is no less than the number of cause choices.
 pub fn find_ends(
     alloc: Global,
     drawn: &DrawnNetwork,
@@ -34,6 +39,9 @@ pub fn find_ends(
     effort: Effort,
 ) -> Result<Vec<EndsFound>, NoMemory>
     requires base { IsNetFound drawn.now base.now.found }
+    requires consistent { base.now.found ≡ NetFound.Inconsistent → ⊥ }
+    requires settles { cause_choices drawn.now.net.constraints ≤ effort.budget → is_net_open base.now.found ≡ false }
+    requires fits { IsProbed drawn.now.net.events base.now }
     requires budget { 1 ≤ effort.budget }
     ensures ends { IfOk result (λ ends. AllZip (AreEndsFound drawn.now) seen.now ends.items) }
     ensures settles { IfOk result (λ ends. cause_choices drawn.now.net.constraints ≤ effort.budget → All (λ (found : EndsSeen). are_ends_spent found ≡ false) ends.items) }
@@ -42,21 +50,8 @@ pub fn find_ends(
     let highs = free_or_none(alloc, drawn, seen, Side::Upper, base, effort)?;
     let mut ends = Vec::new(alloc);
     for k in 0..seen.len() {
-        let low = match seen[k].range.low() {
-            None => None,
-            Some(_) => {
-                let sought = sought_of(drawn, &seen[k], Side::Lower, effort);
-                Some(find_end(alloc, sought, base, lows[k])?)
-            }
-        };
-        let high = match seen[k].range.high() {
-            None => None,
-            Some(_) => {
-                let sought = sought_of(drawn, &seen[k], Side::Upper, effort);
-                Some(find_end(alloc, sought, base, highs[k])?)
-            }
-        };
-        ends.push(EndsFound { low, high })?;
+        let found = find_both(alloc, drawn, &seen[k], base, effort, lows[k], highs[k])?;
+        ends.push(found)?;
     }
     Ok(ends)
 }
@@ -69,45 +64,90 @@ fn free_or_none(
     side: Side,
     base: &Probed,
     effort: Effort,
-) -> Result<Vec<bool>, NoMemory> {
-    if base.found == NetFound::Passes {
-        return free_ends(alloc, drawn, seen, side, &base.sides, effort);
+) -> Result<Vec<bool>, NoMemory>
+    requires base { IsNetFound drawn.now base.now.found }
+    requires budget { 1 ≤ effort.budget }
+    ensures free { IfOk result (λ free. AreFree drawn.now side seen.now free.items) }
+    ensures each { IfOk result (λ free. length free.items ≡ length seen.now) }
+{
+    match base.found {
+        NetFound::Passes => free_ends(alloc, drawn, seen, side, &base.sides, effort),
+        _ => none_free(alloc, seen),
     }
-    let mut free = Vec::new(alloc);
-    for _ in 0..seen.len() {
-        free.push(false)?;
-    }
-    Ok(free)
 }
 
-// The end of a number, as its margin is sought.
-fn sought_of<'a>(
-    drawn: &'a DrawnNetwork,
-    seen: &'a NumberSeen,
-    side: Side,
+// What is found of the ends of a number.
+fn find_both(
+    alloc: Global,
+    drawn: &DrawnNetwork,
+    seen: &NumberSeen,
+    base: &Probed,
     effort: Effort,
-) -> EndSought<'a> {
-    EndSought {
-        drawn,
-        number: &seen.number,
-        side,
-        effort,
+    is_low_free: bool,
+    is_high_free: bool,
+) -> Result<EndsFound, NoMemory>
+    requires base { IsBase drawn.now effort base.now }
+    requires low { IsTrue is_low_free → IsFreeAt drawn.now Side.Lower seen.now }
+    requires high { IsTrue is_high_free → IsFreeAt drawn.now Side.Upper seen.now }
+    ensures ends { IfOk result (AreEndsFound drawn.now seen.now) }
+    ensures settles { IfOk result (λ found. cause_choices drawn.now.net.constraints ≤ effort.budget → are_ends_spent found ≡ false) }
+{
+    let low = find_side(alloc, drawn, seen, Side::Lower, base, effort, is_low_free)?;
+    let high = find_side(alloc, drawn, seen, Side::Upper, base, effort, is_high_free)?;
+    Ok(EndsFound { low, high })
+}
+
+// What is found of the end of a number on a side, unless the end is open.
+fn find_side(
+    alloc: Global,
+    drawn: &DrawnNetwork,
+    seen: &NumberSeen,
+    side: Side,
+    base: &Probed,
+    effort: Effort,
+    is_free: bool,
+) -> Result<Option<EndFound>, NoMemory>
+    requires base { IsBase drawn.now effort base.now }
+    requires free { IsTrue is_free → IsFreeAt drawn.now side seen.now }
+    ensures end { IfOk result (IsEndOf drawn.now seen.now.number side (end_on side seen.now.range)) }
+    ensures settles { IfOk result (λ found. cause_choices drawn.now.net.constraints ≤ effort.budget → is_end_left found ≡ false) }
+{
+    if !has_end(seen, side) {
+        return Ok(None);
     }
+    let number = &seen.number;
+    let sought = EndSought {
+        drawn,
+        number,
+        side,
+        reach: reach_of(drawn, number, side),
+        effort,
+    };
+    let found = find_end(alloc, &sought, base, is_free)?;
+    Ok(Some(found))
 }
 
 // What is found of an end.
 fn find_end(
     alloc: Global,
-    sought: EndSought<'_>,
+    sought: &EndSought<'_>,
     base: &Probed,
     is_free: bool,
-) -> Result<EndFound, NoMemory> {
+) -> Result<EndFound, NoMemory>
+    requires sought { IsSought sought.now }
+    requires base { IsBase sought.now.drawn.now sought.now.effort base.now }
+    requires free { IsTrue is_free → Passes (opened_at sought.now.drawn.now sought.now.number.now sought.now.side) }
+    ensures { IfOk result (IsFound sought.now) }
+{
     if is_free {
         return Ok(EndFound::Free);
     }
     match base.found {
         NetFound::Passes => margin_from_pass(alloc, sought, &base.sides),
         NetFound::Breaks(row) => margin_from_break(alloc, sought, row, base),
-        NetFound::Inconsistent | NetFound::Open | NetFound::Spent => Ok(EndFound::Spent),
+        // Some times satisfy the network.
+        NetFound::Inconsistent => unreachable!(),
+        NetFound::Open => Ok(EndFound::Spent),
+        NetFound::Spent => Ok(EndFound::Spent),
     }
 }

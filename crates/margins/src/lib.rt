@@ -14,5 +14,3 @@ mod sought;
 
 pub use base::{Base, base_of};
 pub use ends::{EndsFound, find_ends};
-pub use reach::{Reach, reach_of};
-pub use sought::EndSought;

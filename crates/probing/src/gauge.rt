@@ -1,13 +1,10 @@
 //! How far a move may go by the edges behind the bounds: guesses, of which no contract says that they are good ones.
 
-ghost use Rattle.std.specs.Prelude.{◌≡◌};
-
+use crate::drawing::{draw_edge, draw_row};
 use crate::probed::SideChain;
 use drawn::DrawnNetwork;
-use itv_base::{EdgeName, Side};
-use moves::draw;
+use itv_base::Side;
 use numbers::DrawnNumber;
-use origin::Origin;
 
 /// A direction in which numbers are moved.
 #[derive(Clone, Copy)]
@@ -33,11 +30,27 @@ pub fn room(
     let mut least = None;
     for side in sides {
         let grows = growth(drawn, numbers, step, side);
-        if 0 < grows && 0 <= side.slack {
-            least = lesser(least, side.slack / grows);
+        if let Some(gap) = gap_of(side.slack, grows) {
+            least = lesser(least, gap);
         }
     }
     least
+}
+
+// How far a bound may grow that is within its end; none where it is past its end or does not grow.
+fn gap_of(slack: i64, grows: i64) -> Option<i64> {
+    if slack < 0 || grows <= 0 {
+        return None;
+    }
+    slack.checked_div(grows)
+}
+
+// The lesser of two numbers, one of which may be missing.
+fn lesser(least: Option<i64>, other: i64) -> Option<i64> {
+    match least {
+        Some(value) if value <= other => Some(value),
+        _ => Some(other),
+    }
 }
 
 /// How far some numbers have to be moved for times that break a requirement to come back to its end by the edges behind the bound. It is `None` where the
@@ -50,118 +63,68 @@ pub fn excess(
 ) -> Option<i64> {
     let mut most = None;
     for side in sides {
-        let grows = growth(drawn, numbers, step, side);
         if side.slack < 0 {
-            most = if grows < 0 {
-                Some(share(side.slack, grows))
-            } else {
-                None
-            };
+            let grows = growth(drawn, numbers, step, side);
+            most = share(side.slack, grows);
         }
     }
     most
 }
 
-// The least number that is no less than the quotient of two negative numbers.
-fn share(slack: i64, grows: i64) -> i64 {
-    if slack >= 0 || grows >= 0 || slack == i64::MIN {
-        return 1;
+// The least number that is no less than the quotient of two negative numbers; none where one of them is not negative.
+fn share(slack: i64, grows: i64) -> Option<i64> {
+    if 0 <= slack || 0 <= grows {
+        return None;
     }
-    let missing = -(slack + 1);
-    if grows == i64::MIN {
-        return 1;
-    }
-    (missing / -grows).saturating_add(1)
-}
-
-// The lesser of two numbers, one of which may be missing.
-fn lesser(least: Option<i64>, other: i64) -> Option<i64> {
-    match least {
-        Some(value) if value <= other => Some(value),
-        _ => Some(other),
-    }
+    let whole = slack.saturating_add(1).checked_div(grows)?;
+    Some(whole.saturating_add(1))
 }
 
 // By how much the separation behind a bound grows for each picosecond of a move, less what the end of the requirement gives.
-fn growth(
-    drawn: &DrawnNetwork,
-    numbers: &[&DrawnNumber],
-    step: Step,
-    side: &SideChain,
-) -> i64 {
-    let mut sum = row_growth(drawn, numbers, step, side);
+fn growth(drawn: &DrawnNetwork, numbers: &[&DrawnNumber], step: Step, side: &SideChain) -> i64 {
+    let mut sum: i64 = 0;
+    if draw_row(drawn, numbers, side.row) {
+        sum = row_growth(step, side.is_high);
+    }
     for name in side.names.as_slice() {
-        if is_drawn(drawn, numbers, *name) {
+        if draw_edge(drawn, numbers, *name) {
             sum = sum.saturating_add(edge_growth(step, name.side));
         }
     }
     sum
 }
 
+// What the end of a requirement that is moved takes.
+fn row_growth(step: Step, is_high: bool) -> i64 {
+    match step {
+        Step::Widen(_) | Step::Narrow(_) => 0,
+        Step::Up => { if is_high { -1 } else { 1 } }
+        Step::Down => { if is_high { 1 } else { -1 } }
+    }
+}
+
 // The growth of the weight of an edge on a side of a range that is moved.
 fn edge_growth(step: Step, side: Side) -> i64 {
-    match (step, side) {
-        (Step::Widen(Side::Lower), Side::Lower) | (Step::Widen(Side::Upper), Side::Upper) => 1,
-        (Step::Narrow(Side::Lower), Side::Lower) | (Step::Narrow(Side::Upper), Side::Upper) => -1,
-        (Step::Widen(_), _) | (Step::Narrow(_), _) => 0,
-        (Step::Up, Side::Upper) | (Step::Down, Side::Lower) => 1,
-        (Step::Up, Side::Lower) | (Step::Down, Side::Upper) => -1,
+    match step {
+        Step::Widen(moved) => { if moved == side { 1 } else { 0 } }
+        Step::Narrow(moved) => { if moved == side { -1 } else { 0 } }
+        Step::Up => upward(side),
+        Step::Down => downward(side),
     }
 }
 
-// What the end of the requirement gives, if one of the numbers draws it.
-fn row_growth(
-    drawn: &DrawnNetwork,
-    numbers: &[&DrawnNumber],
-    step: Step,
-    side: &SideChain,
-) -> i64 {
-    if !is_row_drawn(drawn, numbers, side.row) {
-        return 0;
-    }
-    match (step, side.is_high) {
-        (Step::Widen(_), _) | (Step::Narrow(_), _) => 0,
-        (Step::Up, true) | (Step::Down, false) => -1,
-        (Step::Up, false) | (Step::Down, true) => 1,
+// The growth of the weight of an edge where its range goes up by one.
+fn upward(side: Side) -> i64 {
+    match side {
+        Side::Lower => -1,
+        Side::Upper => 1,
     }
 }
 
-// Whether one of the numbers draws a row.
-fn is_row_drawn(drawn: &DrawnNetwork, numbers: &[&DrawnNumber], number: u32) -> bool {
-    if drawn.rows().len() <= u64::from(number) {
-        return false;
+// The growth of the weight of an edge where its range goes down by one.
+fn downward(side: Side) -> i64 {
+    match side {
+        Side::Lower => 1,
+        Side::Upper => -1,
     }
-    let row = drawn.rows().get(u64::from(number));
-    draw(numbers, drawn.name(row.from).part, row.origin)
-}
-
-// Whether one of the numbers draws the cause of an edge.
-fn is_drawn(drawn: &DrawnNetwork, numbers: &[&DrawnNumber], name: EdgeName) -> bool {
-    let Some(origin) = origin_at(drawn, name) else {
-        return false;
-    };
-    let net = drawn.network();
-    // The network is within its limits.
-    let _events = net.events();
-    if net.len() <= name.constraint {
-        return false;
-    }
-    draw(
-        numbers,
-        drawn.name(net.target(name.constraint)).part,
-        origin,
-    )
-}
-
-// What draws the cause of an edge, if it is there.
-fn origin_at(drawn: &DrawnNetwork, name: EdgeName) -> Option<Origin> {
-    let constraints = drawn.origins();
-    if constraints.len() <= u64::from(name.constraint) {
-        return None;
-    }
-    let causes = constraints.get(u64::from(name.constraint));
-    if causes.len() <= u64::from(name.cause) {
-        return None;
-    }
-    Some(*causes.get(u64::from(name.cause)))
 }

@@ -1,42 +1,37 @@
 //! How far an end has to be moved for given times to satisfy a network: a guess.
 
-ghost use Rattle.std.specs.Prelude.{◌≡◌, ◌<◌, All, length};
+ghost use Rattle.std.specs.Prelude.{◌<◌, All, length};
 ghost use Rattle.event_graph.specs.Times.{IsTime};
 
+use crate::drawing::draw_edge;
 use drawn::DrawnNetwork;
-use event_graph::Cause;
-use itv_base::{EventId, RuleKind, Side};
-use moves::draw;
+use event_graph::{Network, separation};
+use itv_base::{EdgeName, RuleKind, Side};
 use numbers::DrawnNumber;
-use std::cmp::max;
 
 /// The least move of an end outward with which given times satisfy a network, where they satisfy it with the end open. It is `None` where no constraint asks
-/// for a move. The times are in picoseconds, one per event.
-pub fn need(
-    drawn: &DrawnNetwork,
-    number: &DrawnNumber,
-    side: Side,
-    times: &[i64],
-) -> Option<i64>
-    requires count { length times.now ≡ drawn.now.net.events }
+/// for a move. The times are in picoseconds, one per event, each below 2^61 in absolute value.
+pub fn need(drawn: &DrawnNetwork, number: &DrawnNumber, side: Side, times: &[i64]) -> Option<i64>
     requires times { All IsTime times.now }
 {
-    let net = drawn.network();
-    // The network is within its limits.
-    let _events = net.events();
     let mut most = None;
-    for constraint in 0..net.len() {
+    for constraint in 0..drawn.network().len() {
         if let Some(asked) = asked_by(drawn, number, side, times, constraint) {
-            most = Some(match most {
-                Some(other) => max(other, asked),
-                None => asked,
-            });
+            most = greater(most, asked);
         }
     }
     most
 }
 
-// The least move that a constraint asks for.
+// The greater of two numbers, one of which may be missing.
+fn greater(most: Option<i64>, other: i64) -> Option<i64> {
+    match most {
+        Some(value) if other <= value => Some(value),
+        _ => Some(other),
+    }
+}
+
+// The least move that a constraint asks for. Where another cause is enough it asks for none.
 fn asked_by(
     drawn: &DrawnNetwork,
     number: &DrawnNumber,
@@ -45,30 +40,22 @@ fn asked_by(
     constraint: u32,
 ) -> Option<i64>
     requires there { constraint < length drawn.now.net.constraints }
-    requires count { length times.now ≡ drawn.now.net.events }
     requires times { All IsTime times.now }
 {
     let net = drawn.network();
-    // The network is within its limits.
-    let _events = net.events();
-    let target = net.target(constraint);
-    let part = drawn.name(target).part;
-    let origins = drawn.origins().get(u64::from(constraint)).as_slice();
     let is_choice = is_choice_side(net.kind(constraint), side);
-    let mut asked: Option<i64> = None;
-    for k in 0..origins.len() {
-        let cause = net.cause(constraint, k as u32);
-        let lack = lack_of(cause, target, side, times);
-        if draw(&[number], part, origins[k]) {
-            if let Some(lack) = lack {
-                asked = Some(match asked {
-                    None => lack,
-                    Some(other) if is_choice == (lack < other) => lack,
-                    Some(other) => other,
-                });
-            }
-        } else if is_choice && lack.is_none_or(|lack| lack <= 0) {
-            // Another cause holds.
+    let mut asked = None;
+    // A linear constraint names no cause, and has its from-event as cause 0.
+    for cause in 0..net.cause_count(constraint).max(1) {
+        let name = EdgeName {
+            constraint,
+            cause,
+            side,
+        };
+        let lack = lack_at(net, name, times);
+        if draw_edge(drawn, &[number], name) {
+            asked = asked_too(asked, lack, is_choice);
+        } else if is_choice && is_met(lack) {
             return None;
         }
     }
@@ -77,20 +64,36 @@ fn asked_by(
 
 // Whether some cause is enough on this side.
 fn is_choice_side(kind: RuleKind, side: Side) -> bool {
-    match (kind, side) {
-        (RuleKind::Late, Side::Upper) | (RuleKind::Early, Side::Lower) => true,
-        _ => false,
+    match kind {
+        RuleKind::Lin => false,
+        RuleKind::Late => side == Side::Upper,
+        RuleKind::Early => side == Side::Lower,
     }
 }
 
 // How far times are past the end of a cause on a side; none where it is open.
-fn lack_of(cause: Cause, target: EventId, side: Side, times: &[i64]) -> Option<i64>
-    requires cause { cause.event.0 < length times.now }
-    requires target { target.0 < length times.now }
+fn lack_at(net: &Network, name: EdgeName, times: &[i64]) -> Option<i64>
+    requires times { All IsTime times.now }
 {
-    let apart = times[target.0 as usize].saturating_sub(times[cause.event.0 as usize]);
-    match side {
-        Side::Lower => Some(cause.range.low()?.saturating_sub(apart)),
-        Side::Upper => Some(apart.saturating_sub(cause.range.high()?)),
+    let edge = net.edge(name)?;
+    Some(separation(times, edge.from, edge.to).saturating_sub(edge.weight))
+}
+
+// Whether times are within an end, according to how far they are past it.
+fn is_met(lack: Option<i64>) -> bool {
+    match lack {
+        None => true,
+        Some(lack) => lack <= 0,
+    }
+}
+
+// What two causes ask for: the lesser where one is enough, else the greater.
+fn asked_too(asked: Option<i64>, lack: Option<i64>, is_choice: bool) -> Option<i64> {
+    let Some(lack) = lack else {
+        return asked;
+    };
+    match asked {
+        Some(other) if is_choice != (lack < other) => Some(other),
+        _ => Some(lack),
     }
 }

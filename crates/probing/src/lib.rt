@@ -3,10 +3,11 @@
 //! a guess is a good one.
 #![tactic(auto)]
 
-mod desk;
+mod drawing;
 mod effort;
 mod gauge;
 mod lacking;
+mod noting;
 mod probed;
 mod searching;
 mod side;
@@ -14,5 +15,5 @@ mod side;
 pub use effort::Effort;
 pub use gauge::{Step, excess, room};
 pub use lacking::need;
-pub use searching::probe;
 pub use probed::{Probed, SideChain};
+pub use searching::probe;

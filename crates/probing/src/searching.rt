@@ -1,19 +1,19 @@
 //! Probing a network with its rows.
 
-ghost use Rattle.std.specs.Prelude.{◌≡◌, ◌<◌, ◌≤◌, neg_ℤ, All, IfOk, Some, length, false};
+ghost use Rattle.std.specs.Prelude.{◌≡◌, ◌≤◌, ℕ, All, IfOk, IsTrue, length, false};
 ghost use Rattle.itv_base.specs.Range.{IsEnd};
 ghost use Rattle.itv_base.specs.declared.limits.TheConstants.{MAX_ROWS};
 ghost use Rattle.event_graph.specs.Edges.{cause_choices};
 ghost use Rattle.drawn.specs.Drawn.{IsRowOf};
-ghost use Rattle.extremes.specs.Ready.{IsReady};
+ghost use Rattle.extremes.specs.Ready.{IsFor, IsReady};
 ghost use Rattle.moves.specs.Found.{IsNetFound, is_net_open};
 ghost use Rattle.moves.specs.Step.{bare};
-ghost use Rattle.probing.specs.Step.{IsDesk, IsProbed, IsRangeFound, IsRowFound};
+ghost use Rattle.probing.specs.Step.{IsHighFound, IsLowFound, IsNoted, IsProbed, IsRangeFound, IsRowFound, passes_unless};
 
-use crate::desk::{Desk, Limit};
 use crate::effort::Effort;
+use crate::noting::{Noted, high_limit, look, low_limit};
 use crate::probed::Probed;
-use crate::side::SideFound;
+use crate::side::{SideFound, both_of};
 use drawn::Row;
 use event_graph::Network;
 use extremes::{Consistency, Extremes};
@@ -22,23 +22,37 @@ use moves::NetFound;
 use std::alloc::Global;
 
 /// Looks for times that satisfy a network, and for times that break the requirement of a row, from the first row on. It ends with the first row that is
-/// found to break. What is found is not left open where the budget is no less than the number of cause choices.
-pub fn probe(
-    alloc: Global,
-    net: &Network,
-    rows: &[Row],
-    effort: Effort,
-) -> Result<Probed, NoMemory>
+/// found to break. What is found is not left open where the budget is no less than the number of cause choices. Times that it leaves fit the network.
+pub fn probe(alloc: Global, net: &Network, rows: &[Row], effort: Effort) -> Result<Probed, NoMemory>
     requires rows { All (IsRowOf net.now) rows.now }
     requires few { length rows.now ≤ MAX_ROWS }
     requires budget { 1 ≤ effort.budget }
     ensures found { IfOk result (λ probed. IsNetFound (bare net.now rows.now) probed.found) }
     ensures settles { IfOk result (λ probed. cause_choices net.now.constraints ≤ effort.budget → is_net_open probed.found ≡ false) }
-    ensures fits { IfOk result (IsProbed net.now) }
+    ensures fits { IfOk result (IsProbed net.now.events) }
 {
     let mut extremes = Extremes::new(alloc, net, effort.budget, effort.turns)?;
+    let probed = probe_with(alloc, net, rows, &mut extremes);
+    drop(extremes);
+    probed
+}
+
+// Looks for times that satisfy the network, and for times that break the requirement of a row.
+fn probe_with(
+    alloc: Global,
+    net: &Network,
+    rows: &[Row],
+    extremes: &mut Extremes,
+) -> Result<Probed, NoMemory>
+    requires rows { All (IsRowOf net.now) rows.now }
+    requires few { length rows.now ≤ MAX_ROWS }
+    requires made { IsFor net.now extremes.old }
+    ensures found { IfOk result (λ probed. IsNetFound (bare net.now rows.now) probed.found) }
+    ensures settles { IfOk result (λ probed. cause_choices net.now.constraints ≤ extremes.old.budget → is_net_open probed.found ≡ false) }
+    ensures fits { IfOk result (IsProbed net.now.events) }
+{
     match extremes.find(alloc, net)? {
-        Consistency::Consistent => probe_rows(alloc, net, rows, Desk::new(alloc, net, extremes)?),
+        Consistency::Consistent => probe_rows(alloc, net, rows, extremes),
         Consistency::Inconsistent => Ok(nothing_more(alloc, NetFound::Inconsistent)),
         Consistency::Open => Ok(nothing_more(alloc, NetFound::Spent)),
     }
@@ -47,6 +61,7 @@ pub fn probe(
 // What was found, where nothing was noted.
 fn nothing_more(alloc: Global, found: NetFound) -> Probed
     ensures found { result.found ≡ found }
+    ensures fits { (events : ℕ) → IsProbed events result }
 {
     Probed {
         found,
@@ -60,105 +75,168 @@ fn probe_rows(
     alloc: Global,
     net: &Network,
     rows: &[Row],
-    desk: Desk,
+    extremes: &mut Extremes,
 ) -> Result<Probed, NoMemory>
     requires rows { All (IsRowOf net.now) rows.now }
     requires few { length rows.now ≤ MAX_ROWS }
-    requires desk { IsDesk net.now desk.extremes.budget desk }
+    requires ready { IsReady net.now extremes.old }
     ensures found { IfOk result (λ probed. IsNetFound (bare net.now rows.now) probed.found) }
-    ensures settles { IfOk result (λ probed. cause_choices net.now.constraints ≤ desk.extremes.budget → is_net_open probed.found ≡ false) }
-    ensures fits { IfOk result (IsProbed net.now) }
+    ensures settles { IfOk result (λ probed. cause_choices net.now.constraints ≤ extremes.old.budget → is_net_open probed.found ≡ false) }
+    ensures fits { IfOk result (IsProbed net.now.events) }
 {
-    let mut desk = desk;
+    let mut noted = Noted::new(alloc, net)?;
+    let found = look_at_rows(alloc, net, rows, extremes, &mut noted);
+    noted.probed(found)
+}
+
+// Looks for times that break the requirement of a row, and notes what was found of each end.
+fn look_at_rows(
+    alloc: Global,
+    net: &Network,
+    rows: &[Row],
+    extremes: &mut Extremes,
+    noted: &mut Noted,
+) -> Result<NetFound, NoMemory>
+    requires rows { All (IsRowOf net.now) rows.now }
+    requires few { length rows.now ≤ MAX_ROWS }
+    requires ready { IsReady net.now extremes.old }
+    requires noted { IsNoted net.now.events noted.old }
+    ensures noted { IsNoted net.now.events noted.new }
+    ensures found { IfOk result (IsNetFound (bare net.now rows.now)) }
+    ensures settles { IfOk result (λ found. cause_choices net.now.constraints ≤ extremes.old.budget → is_net_open found ≡ false) }
+{
     let mut is_open = false;
     for number in 0..rows.len() {
-        match probe_row(alloc, net, number as u32, &rows[number], &mut desk)? {
+        match look_at_row(alloc, net, number as u32, &rows[number], extremes, noted)? {
             SideFound::Meets => {}
-            SideFound::Exceeds => return Ok(desk.probed(NetFound::Breaks(number as u32))),
+            SideFound::Exceeds => return Ok(NetFound::Breaks(number as u32)),
             SideFound::Open => is_open = true,
         }
     }
+    Ok(passes_unless(is_open))
+}
+
+// What is found where no row breaks.
+fn passes_unless(is_open: bool) -> NetFound
+    ensures { result ≡ passes_unless is_open }
+{
     if is_open {
-        Ok(desk.probed(NetFound::Open))
+        NetFound::Open
     } else {
-        Ok(desk.probed(NetFound::Passes))
+        NetFound::Passes
     }
 }
 
 // Looks for times that break the requirement of a row.
-fn probe_row(
+fn look_at_row(
     alloc: Global,
     net: &Network,
     number: u32,
     row: &Row,
-    desk: &mut Desk,
+    extremes: &mut Extremes,
+    noted: &mut Noted,
 ) -> Result<SideFound, NoMemory>
     requires row { IsRowOf net.now row.now }
-    requires desk { IsDesk net.now desk.old.extremes.budget desk.old }
-    ensures desk { IsDesk net.now desk.old.extremes.budget desk.new }
+    requires ready { IsReady net.now extremes.old }
+    requires noted { IsNoted net.now.events noted.old }
+    ensures ready { IsReady net.now extremes.new }
+    ensures budget { extremes.new.budget ≡ extremes.old.budget }
+    ensures noted { IsNoted net.now.events noted.new }
     ensures found { IfOk result (IsRowFound net.now row.now) }
-    ensures settles { IfOk result (λ found. cause_choices net.now.constraints ≤ desk.old.extremes.budget → found ≡ SideFound.Open → ⊥) }
+    ensures settles { IfOk result (λ found. cause_choices net.now.constraints ≤ extremes.old.budget → found ≡ SideFound.Open → ⊥) }
 {
     match row.kind {
         RowKind::Ask => Ok(SideFound::Meets),
-        RowKind::Req(range) => probe_range(alloc, net, number, row, range, desk),
+        RowKind::Req(range) => look_at_range(alloc, net, number, row, range, extremes, noted),
     }
 }
 
 // Looks for times whose separation of the pair of a row is out of a range: past the high end, and else past the low end.
-fn probe_range(
+fn look_at_range(
     alloc: Global,
     net: &Network,
     number: u32,
     row: &Row,
     range: Range,
-    desk: &mut Desk,
+    extremes: &mut Extremes,
+    noted: &mut Noted,
 ) -> Result<SideFound, NoMemory>
     requires row { IsRowOf net.now row.now }
-    requires desk { IsDesk net.now desk.old.extremes.budget desk.old }
-    ensures desk { IsDesk net.now desk.old.extremes.budget desk.new }
+    requires ready { IsReady net.now extremes.old }
+    requires noted { IsNoted net.now.events noted.old }
+    ensures ready { IsReady net.now extremes.new }
+    ensures budget { extremes.new.budget ≡ extremes.old.budget }
+    ensures noted { IsNoted net.now.events noted.new }
     ensures found { IfOk result (IsRangeFound net.now row.now.from row.now.to range) }
-    ensures settles { IfOk result (λ found. cause_choices net.now.constraints ≤ desk.old.extremes.budget → found ≡ SideFound.Open → ⊥) }
+    ensures settles { IfOk result (λ found. cause_choices net.now.constraints ≤ extremes.old.budget → found ≡ SideFound.Open → ⊥) }
 {
-    let high = match range.high() {
-        None => SideFound::Meets,
-        Some(high) => desk.look(alloc, net, high_limit(number, row, high))?,
-    };
-    if high == SideFound::Exceeds {
+    let high = look_high(alloc, net, number, row, range.high(), extremes, noted)?;
+    if is_exceeded(high) {
         return Ok(SideFound::Exceeds);
     }
-    let low = match range.low() {
-        None => SideFound::Meets,
-        Some(low) => desk.look(alloc, net, low_limit(number, row, low))?,
-    };
-    if low == SideFound::Meets {
-        Ok(high)
-    } else {
-        Ok(low)
-    }
+    let low = look_low(alloc, net, number, row, range.low(), extremes, noted)?;
+    Ok(both_of(high, low))
 }
 
-// The high end of the range of a row.
-fn high_limit(number: u32, row: &Row, high: i64) -> Limit {
-    Limit {
-        row: number,
-        is_high: true,
-        from: row.from,
-        to: row.to,
-        limit: high,
-    }
-}
-
-// The low end of the range of a row.
-fn low_limit(number: u32, row: &Row, low: i64) -> Limit
-    requires { IsEnd (Some low) }
-    ensures { result.limit ≡ neg_ℤ low }
+// Whether some satisfying times are past an end.
+fn is_exceeded(found: SideFound) -> bool
+    ensures { IsTrue result → found ≡ SideFound.Exceeds }
 {
-    Limit {
-        row: number,
-        is_high: false,
-        from: row.to,
-        to: row.from,
-        limit: -low,
+    match found {
+        SideFound::Exceeds => true,
+        SideFound::Meets => false,
+        SideFound::Open => false,
+    }
+}
+
+// Looks for times past the high end of the range of a row.
+fn look_high(
+    alloc: Global,
+    net: &Network,
+    number: u32,
+    row: &Row,
+    end: Option<i64>,
+    extremes: &mut Extremes,
+    noted: &mut Noted,
+) -> Result<SideFound, NoMemory>
+    requires row { IsRowOf net.now row.now }
+    requires end { IsEnd end }
+    requires ready { IsReady net.now extremes.old }
+    requires noted { IsNoted net.now.events noted.old }
+    ensures ready { IsReady net.now extremes.new }
+    ensures budget { extremes.new.budget ≡ extremes.old.budget }
+    ensures noted { IsNoted net.now.events noted.new }
+    ensures found { IfOk result (IsHighFound net.now row.now.from row.now.to end) }
+    ensures settles { IfOk result (λ found. cause_choices net.now.constraints ≤ extremes.old.budget → found ≡ SideFound.Open → ⊥) }
+{
+    match end {
+        None => Ok(SideFound::Meets),
+        Some(high) => look(alloc, net, high_limit(number, row, high), extremes, noted),
+    }
+}
+
+// Looks for times past the low end of the range of a row.
+fn look_low(
+    alloc: Global,
+    net: &Network,
+    number: u32,
+    row: &Row,
+    end: Option<i64>,
+    extremes: &mut Extremes,
+    noted: &mut Noted,
+) -> Result<SideFound, NoMemory>
+    requires row { IsRowOf net.now row.now }
+    requires end { IsEnd end }
+    requires ready { IsReady net.now extremes.old }
+    requires noted { IsNoted net.now.events noted.old }
+    ensures ready { IsReady net.now extremes.new }
+    ensures budget { extremes.new.budget ≡ extremes.old.budget }
+    ensures noted { IsNoted net.now.events noted.new }
+    ensures found { IfOk result (IsLowFound net.now row.now.from row.now.to end) }
+    ensures settles { IfOk result (λ found. cause_choices net.now.constraints ≤ extremes.old.budget → found ≡ SideFound.Open → ⊥) }
+{
+    match end {
+        None => Ok(SideFound::Meets),
+        Some(low) => look(alloc, net, low_limit(number, row, low), extremes, noted),
     }
 }
