@@ -3,3 +3,4 @@ pub mod Multiples
 pub mod Ends
 pub mod Covered
 pub mod Found
+pub mod Borders
