@@ -3,7 +3,7 @@ use Rattle.std.proofs.Common.{◌≡◌, ◌<◌, ◌≤◌, ◌+◌, ℕ, ℤ, 
 use Rattle.std.specs.Prelude.{if◌then◌else◌, unwrap_or}
 use lib.IntN.{◌*ℤ◌}
 use Rattle.std.specs.List.{AllZip}
-use Rattle.std.proofs.lemmas.List.{map_push, take_all}
+use Rattle.std.proofs.lemmas.List.{length_push, map_push, take_all}
 use Rattle.std.proofs.lemmas.List.Elements.{AllZip-push}
 use Rattle.itv_base.specs.Range.{Ends}
 use Rattle.itv_base.specs.declared.names.EventId.{EventId}
@@ -186,3 +186,14 @@ pub rows_whole : (counts : List ℤ) (drawn : Drawn) (numbers : List DrawnNumber
     → FrontRows counts drawn numbers k items value → CoversRows counts drawn numbers items value
 rows_whole counts drawn numbers k items value all covers =
     subst (λ (rs : List Row). AllZip IsTighterRow (map (row_counted counts value) (map (row_moved (shifted value) drawn numbers) rs)) items) (take_all k drawn.rows all) covers
+
+-- ---- a constraint that was added
+
+pub added_events : (o : Option Constraint) (causes : List Cause) (old new : Net) → IsSomeAnd o (λ c. new ≡ with_constraint old (record c { causes = causes })) → new.events ≡ old.events
+added_events None causes old new added = absurd added
+added_events (Some c) causes old new added = ap (λ (n : Net). n.events) added
+
+pub added_count : (o : Option Constraint) (causes : List Cause) (old new : Net) → IsSomeAnd o (λ c. new ≡ with_constraint old (record c { causes = causes }))
+    → length new.constraints ≡ length old.constraints + 1
+added_count None causes old new added = absurd added
+added_count (Some c) causes old new added = ap (λ (n : Net). length n.constraints) added ∙ length_push old.constraints (record c { causes = causes })

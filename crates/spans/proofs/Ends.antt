@@ -1,12 +1,16 @@
 -- Ends of ranges that cover an end with all values of an interval.
-use Rattle.std.proofs.Common.{◌≡◌, ℤ, pos, neg_ℤ, ◌+ℤ◌, ◌-ℤ◌, ◌≤ℤ◌, Bool, true, false, IfSome, IsSomeAnd, Option, Some, None, refl, sym, ap, ◌∙◌, arith}
+use Rattle.std.proofs.Common.{◌≡◌, ℤ, pos, neg_ℤ, ◌+ℤ◌, ◌-ℤ◌, ◌≤ℤ◌, Bool, true, false, IfSome, IfOk, IsSomeAnd, Option, Some, None, Ok, Err, Result, refl, sym, ap, subst, ◌∙◌, arith}
 use Rattle.std.specs.Prelude.{if◌then◌else◌}
+use Rattle.std.specs.Result.{result_ok}
 use lib.IntN.{◌*ℤ◌}
 use Rattle.std.proofs.lemmas.Int.{ints}
 use Rattle.itv_base.specs.Range.{Allows, Ends}
+use Rattle.itv_base.specs.declared.range.RangeFault.{RangeFault}
+use Rattle.itv_base.specs.declared.row_kind.RowKind.TheVariants as kinds
 use Rattle.event_graph.specs.Widening.{IsHigherEnd, IsLowerEnd}
 use Rattle.moves.proofs.Covering.{free_offset, own_offset}
-use Rattle.spans.specs.Step.{IsWithinRange, range_at, times_by}
+use Rattle.moves.specs.Passing.{IsWanted}
+use Rattle.spans.specs.Step.{IsWithinRange, kind_at, range_at, times_by}
 
 low_own : (w l a x s v : ℤ) → x ≡ (v -ℤ s) → w ≤ℤ (l +ℤ a) → a ≤ℤ x → w ≤ℤ ((l +ℤ v) +ℤ neg_ℤ s)
 low_own w l a x s v e h g = omega (arith, ints, e, h, g)
@@ -93,3 +97,13 @@ range_tight In apart is_drawn times range tight least most is low high at_least 
     let last : IfSome most (λ a. (times_by is_drawn apart *ℤ v) ≤ℤ a) =
     rw is at (at_value_ge In most (λ u. times *ℤ u) at_most v within) in
     (low_tight apart v is_drawn range.low range.high most tight.low x low last allowed.0, high_tight apart v is_drawn range.low range.high least tight.high x high first allowed.1)
+
+-- a range that was made of two ends, if it was made
+pub kept_range : (answer : Result Ends RangeFault) (kept : Option Ends) (ends : Ends) (P : Ends → Type 0) → kept ≡ result_ok answer → IfOk answer (λ r. r ≡ ends) → P ends → IfSome kept P
+kept_range (Ok r) kept ends P is made here = let Q : Option Ends → Type 0 = λ o. IfSome o P in subst Q (sym is) (subst P (sym made) here)
+kept_range (Err e) kept ends P is made here = let Q : Option Ends → Type 0 = λ o. IfSome o P in subst Q (sym is) tt
+
+-- what is wanted by a requirement at a value
+pub kind_tight : (is_drawn : Bool) (apart value : ℤ) (range : Ends) (x : ℤ) → Allows (range_at is_drawn apart value range) x → IsWanted (kind_at is_drawn apart value (kinds.Req range)) x
+kind_tight true apart value range x h = h
+kind_tight false apart value range x h = h

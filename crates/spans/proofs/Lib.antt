@@ -2,3 +2,5 @@ pub mod Ways
 pub mod Multiples
 pub mod Ends
 pub mod Covered
+pub mod Found
+pub mod Borders

@@ -142,14 +142,14 @@ pub record IsShownTo (sought : SpanSought) (direction : Direction) (from goal la
 -- what is known of the way from a value to a goal
 abbrev pub IsAdvance : SpanSought → Direction → ℤ → ℤ → Advance → Type 0
 IsAdvance sought direction from goal advances.Reached = IsShownTo sought direction from goal goal
-IsAdvance sought direction from goal (advances.Breaks last row) = IsShownTo sought direction from goal last × Breaks (at_value sought (last +ℤ on_of direction)) row
-IsAdvance sought direction from goal (advances.Spent last) = IsShownTo sought direction from goal last
+IsAdvance sought direction from goal (advances.Breaks last row) = IsShownTo sought direction from goal last.by × Breaks (at_value sought (last.by +ℤ on_of direction)) row
+IsAdvance sought direction from goal (advances.Spent last) = IsShownTo sought direction from goal last.by
 
 -- what is known of a value that was found ahead
 abbrev pub IsAhead : SpanSought → Direction → ℤ → Ahead → Type 0
-IsAhead sought direction from (heads.Breaks at row) = IsMoveBy at × IsPast direction from at × Breaks (at_value sought at) row
-IsAhead sought direction from (heads.Contradicts at) = IsMoveBy at × IsPast direction from at × IsInconsistent (at_value sought at).net
-IsAhead sought direction from (heads.Limit at) = IsMoveBy at × IsOn direction from at
+IsAhead sought direction from (heads.Breaks at row) = IsMoveBy at.by × IsPast direction from at.by × Breaks (at_value sought at.by) row
+IsAhead sought direction from (heads.Contradicts at) = IsMoveBy at.by × IsPast direction from at.by × IsInconsistent (at_value sought at.by).net
+IsAhead sought direction from (heads.Limit at) = IsMoveBy at.by × IsOn direction from at.by
 IsAhead sought direction from heads.Spent = Unit {0}
 
 -- a border in a direction from a value with which every requirement passes

@@ -5,7 +5,7 @@ ghost use Rattle.moves.specs.Passing.{NoneBreaks};
 ghost use Rattle.moves.specs.Step.{IsMoveBy};
 ghost use Rattle.spans.specs.Step.{IsAdvance, IsOn, IsSought, at_value};
 
-use crate::direction::{Direction, between, distance, next_of, value_on};
+use crate::direction::{Direction, Value, between, distance, is_same, next_of, value_on};
 use crate::sought::{SpanSought, ValueFound};
 use itv_base::NoMemory;
 use moves::NetFound;
@@ -20,31 +20,31 @@ pub enum Advance {
     /// No requirement breaks up to the goal.
     Reached,
     /// No requirement breaks up to this value, and with the next one the row with this number does.
-    Breaks { last: i64, row: u32 },
+    Breaks { last: Value, row: u32 },
     /// No requirement breaks up to this value. A search was left open, or too many covers were tried.
-    Spent(i64),
+    Spent(Value),
 }
 
 /// Shows by covers that no requirement breaks with the values from one to a goal, in a direction: half as many at once where a cover does not hold,
 /// and twice as many where it does.
-pub fn advance(
+pub fn show_to(
     alloc: Global,
     sought: &SpanSought<'_>,
-    from: i64,
-    goal: i64,
+    from: Value,
+    goal: Value,
     direction: Direction,
 ) -> Result<Advance, NoMemory>
     requires sought { IsSought sought.now }
-    requires from { IsMoveBy from }
-    requires goal { IsMoveBy goal }
-    requires ahead { IsOn direction from goal }
-    requires none { NoneBreaks (at_value sought.now from) }
-    ensures advance { IfOk result (IsAdvance sought.now direction from goal) }
+    requires from { IsMoveBy from.by }
+    requires goal { IsMoveBy goal.by }
+    requires ahead { IsOn direction from.by goal.by }
+    requires none { NoneBreaks (at_value sought.now from.by) }
+    ensures advance { IfOk result (IsAdvance sought.now direction from.by goal.by) }
 {
-    let mut done: i64 = from;
+    let mut done: Value = from;
     let mut size = distance(from, goal);
-    for _ in 0..MOST_COVERS {
-        if done == goal {
+    for _turn in 0..MOST_COVERS {
+        if is_same(done, goal) {
             return Ok(Advance::Reached);
         }
         size = size.min(distance(done, goal));

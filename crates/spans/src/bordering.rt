@@ -6,8 +6,8 @@ ghost use Rattle.moves.specs.Passing.{Breaks, Passes};
 ghost use Rattle.moves.specs.Step.{IsMoveBy};
 ghost use Rattle.spans.specs.Step.{IsBorderFrom, IsOn, IsPast, IsShownTo, IsSought, at_value, on_of};
 
-use crate::advance::{Advance, advance};
-use crate::direction::{Direction, beyond, distance, last_before, limit_of, next_of, step_of, value_on};
+use crate::advance::{Advance, show_to};
+use crate::direction::{Direction, Value, beyond, distance, is_same, last_before, limit_of, next_of, step_of, value_on};
 use crate::looking::{Ahead, look_ahead};
 use crate::shift_reach::ShiftReach;
 use crate::sought::SpanSought;
@@ -23,15 +23,15 @@ const MOST_HALVES: u32 = 64;
 pub fn border_of(
     alloc: Global,
     sought: &SpanSought<'_>,
-    from: i64,
+    from: Value,
     sides: &[SideChain],
     direction: Direction,
     reach: ShiftReach,
 ) -> Result<Border, NoMemory>
     requires sought { IsSought sought.now }
-    requires from { IsMoveBy from }
-    requires passes { Passes (at_value sought.now from) }
-    ensures border { IfOk result (IsBorderFrom sought.now direction from) }
+    requires from { IsMoveBy from.by }
+    requires passes { Passes (at_value sought.now from.by) }
+    ensures border { IfOk result (IsBorderFrom sought.now direction from.by) }
 {
     let is_free = sought.room(step_of(direction), sides).is_none();
     if is_free && sought.is_covered(alloc, beyond(from, direction))? {
@@ -42,7 +42,7 @@ pub fn border_of(
         Ahead::Breaks { at, row } => border_before(alloc, sought, from, at, row, direction),
         Ahead::Contradicts(at) => border_in(alloc, sought, from, at, direction),
         Ahead::Limit(at) => border_at_limit(alloc, sought, from, at, direction),
-        Ahead::Spent => Ok(Border::Spent(from)),
+        Ahead::Spent => Ok(spent(from)),
     }
 }
 
@@ -50,24 +50,24 @@ pub fn border_of(
 fn border_before(
     alloc: Global,
     sought: &SpanSought<'_>,
-    from: i64,
-    at: i64,
+    from: Value,
+    at: Value,
     row: u32,
     direction: Direction,
 ) -> Result<Border, NoMemory>
     requires sought { IsSought sought.now }
-    requires from { IsMoveBy from }
-    requires passes { Passes (at_value sought.now from) }
-    requires at { IsMoveBy at }
-    requires past { IsPast direction from at }
-    requires breaks { Breaks (at_value sought.now at) row }
-    ensures border { IfOk result (IsBorderFrom sought.now direction from) }
+    requires from { IsMoveBy from.by }
+    requires passes { Passes (at_value sought.now from.by) }
+    requires at { IsMoveBy at.by }
+    requires past { IsPast direction from.by at.by }
+    requires breaks { Breaks (at_value sought.now at.by) row }
+    ensures border { IfOk result (IsBorderFrom sought.now direction from.by) }
 {
     let last = last_before(at, direction);
-    match advance(alloc, sought, from, last, direction)? {
+    match show_to(alloc, sought, from, last, direction)? {
         Advance::Reached => border_by_row(alloc, sought, from, last, row, direction),
         Advance::Breaks { last, row } => border_by_row(alloc, sought, from, last, row, direction),
-        Advance::Spent(last) => Ok(Border::Spent(last)),
+        Advance::Spent(last) => Ok(spent(last)),
     }
 }
 
@@ -75,22 +75,22 @@ fn border_before(
 fn border_in(
     alloc: Global,
     sought: &SpanSought<'_>,
-    from: i64,
-    at: i64,
+    from: Value,
+    at: Value,
     direction: Direction,
 ) -> Result<Border, NoMemory>
     requires sought { IsSought sought.now }
-    requires from { IsMoveBy from }
-    requires passes { Passes (at_value sought.now from) }
-    requires at { IsMoveBy at }
-    requires past { IsPast direction from at }
-    requires contradicts { IsInconsistent (at_value sought.now at).net }
-    ensures border { IfOk result (IsBorderFrom sought.now direction from) }
+    requires from { IsMoveBy from.by }
+    requires passes { Passes (at_value sought.now from.by) }
+    requires at { IsMoveBy at.by }
+    requires past { IsPast direction from.by at.by }
+    requires contradicts { IsInconsistent (at_value sought.now at.by).net }
+    ensures border { IfOk result (IsBorderFrom sought.now direction from.by) }
 {
-    match advance(alloc, sought, from, at, direction)? {
+    match show_to(alloc, sought, from, at, direction)? {
         Advance::Reached => border_by_contradiction(alloc, sought, from, at, direction),
         Advance::Breaks { last, row } => border_by_row(alloc, sought, from, last, row, direction),
-        Advance::Spent(last) => Ok(Border::Spent(last)),
+        Advance::Spent(last) => Ok(spent(last)),
     }
 }
 
@@ -98,21 +98,21 @@ fn border_in(
 fn border_at_limit(
     alloc: Global,
     sought: &SpanSought<'_>,
-    from: i64,
-    at: i64,
+    from: Value,
+    at: Value,
     direction: Direction,
 ) -> Result<Border, NoMemory>
     requires sought { IsSought sought.now }
-    requires from { IsMoveBy from }
-    requires passes { Passes (at_value sought.now from) }
-    requires at { IsMoveBy at }
-    requires on { IsOn direction from at }
-    ensures border { IfOk result (IsBorderFrom sought.now direction from) }
+    requires from { IsMoveBy from.by }
+    requires passes { Passes (at_value sought.now from.by) }
+    requires at { IsMoveBy at.by }
+    requires on { IsOn direction from.by at.by }
+    ensures border { IfOk result (IsBorderFrom sought.now direction from.by) }
 {
-    match advance(alloc, sought, from, at, direction)? {
+    match show_to(alloc, sought, from, at, direction)? {
         Advance::Reached => border_beyond(alloc, sought, from, at, direction),
         Advance::Breaks { last, row } => border_by_row(alloc, sought, from, last, row, direction),
-        Advance::Spent(last) => Ok(Border::Spent(last)),
+        Advance::Spent(last) => Ok(spent(last)),
     }
 }
 
@@ -120,26 +120,26 @@ fn border_at_limit(
 fn border_beyond(
     alloc: Global,
     sought: &SpanSought<'_>,
-    from: i64,
-    at: i64,
+    from: Value,
+    at: Value,
     direction: Direction,
 ) -> Result<Border, NoMemory>
     requires sought { IsSought sought.now }
-    requires from { IsMoveBy from }
-    requires passes { Passes (at_value sought.now from) }
-    requires at { IsMoveBy at }
-    requires shown { IsShownTo sought.now direction from at at }
-    ensures border { IfOk result (IsBorderFrom sought.now direction from) }
+    requires from { IsMoveBy from.by }
+    requires passes { Passes (at_value sought.now from.by) }
+    requires at { IsMoveBy at.by }
+    requires shown { IsShownTo sought.now direction from.by at.by at.by }
+    ensures border { IfOk result (IsBorderFrom sought.now direction from.by) }
 {
     if sought.is_covered(alloc, beyond(at, direction))? {
         return Ok(Border::Endless);
     }
     if !sought.is_beyond(alloc, next_of(at, direction))? {
-        return Ok(Border::Spent(at));
+        return Ok(spent(at));
     }
     match sought.consistency_at(alloc, at)? {
-        None => Ok(Border::Spent(at)),
-        Some(true) => Ok(Border::Limit(at)),
+        None => Ok(spent(at)),
+        Some(true) => Ok(limit(at)),
         Some(false) => border_by_contradiction(alloc, sought, from, at, direction),
     }
 }
@@ -148,22 +148,22 @@ fn border_beyond(
 fn border_by_row(
     alloc: Global,
     sought: &SpanSought<'_>,
-    from: i64,
-    last: i64,
+    from: Value,
+    last: Value,
     row: u32,
     direction: Direction,
 ) -> Result<Border, NoMemory>
     requires sought { IsSought sought.now }
-    requires from { IsMoveBy from }
-    requires passes { Passes (at_value sought.now from) }
-    requires last { IsMoveBy last }
-    requires shown { IsShownTo sought.now direction from last last }
-    requires breaks { Breaks (at_value sought.now (last +ℤ on_of direction)) row }
-    ensures border { IfOk result (IsBorderFrom sought.now direction from) }
+    requires from { IsMoveBy from.by }
+    requires passes { Passes (at_value sought.now from.by) }
+    requires last { IsMoveBy last.by }
+    requires shown { IsShownTo sought.now direction from.by last.by last.by }
+    requires breaks { Breaks (at_value sought.now (last.by +ℤ on_of direction)) row }
+    ensures border { IfOk result (IsBorderFrom sought.now direction from.by) }
 {
     match sought.consistency_at(alloc, last)? {
-        None => Ok(Border::Spent(last)),
-        Some(true) => Ok(Border::Breaks { by: last, row }),
+        None => Ok(spent(last)),
+        Some(true) => Ok(breaks(last, row)),
         Some(false) => border_by_contradiction(alloc, sought, from, last, direction),
     }
 }
@@ -172,30 +172,58 @@ fn border_by_row(
 fn border_by_contradiction(
     alloc: Global,
     sought: &SpanSought<'_>,
-    from: i64,
-    at: i64,
+    from: Value,
+    at: Value,
     direction: Direction,
 ) -> Result<Border, NoMemory>
     requires sought { IsSought sought.now }
-    requires from { IsMoveBy from }
-    requires passes { Passes (at_value sought.now from) }
-    requires at { IsMoveBy at }
-    requires shown { IsShownTo sought.now direction from at at }
-    requires contradicts { IsInconsistent (at_value sought.now at).net }
-    ensures border { IfOk result (IsBorderFrom sought.now direction from) }
+    requires from { IsMoveBy from.by }
+    requires passes { Passes (at_value sought.now from.by) }
+    requires at { IsMoveBy at.by }
+    requires shown { IsShownTo sought.now direction from.by at.by at.by }
+    requires contradicts { IsInconsistent (at_value sought.now at.by).net }
+    ensures border { IfOk result (IsBorderFrom sought.now direction from.by) }
 {
-    let mut has: i64 = from;
-    let mut lacks: i64 = at;
-    for _ in 0..MOST_HALVES {
-        if next_of(has, direction) == lacks {
-            return Ok(Border::Contradicts(has));
+    let mut has: Value = from;
+    let mut lacks: Value = at;
+    for _turn in 0..MOST_HALVES {
+        if is_same(next_of(has, direction), lacks) {
+            return Ok(contradicts(has));
         }
         let middle = value_on(has, distance(has, lacks) / 2, lacks, direction);
         match sought.consistency_at(alloc, middle)? {
-            None => return Ok(Border::Spent(from)),
+            None => return Ok(spent(from)),
             Some(true) => has = middle,
             Some(false) => lacks = middle,
         }
     }
-    Ok(Border::Spent(from))
+    Ok(spent(from))
+}
+
+fn breaks(last: Value, row: u32) -> Border
+    requires { IsMoveBy last.by }
+    ensures { result ≡ Border.Breaks last.by row }
+{
+    Border::Breaks { by: last.by, row }
+}
+
+fn contradicts(last: Value) -> Border
+    requires { IsMoveBy last.by }
+    ensures { result ≡ Border.Contradicts last.by }
+{
+    Border::Contradicts(last.by)
+}
+
+fn limit(last: Value) -> Border
+    requires { IsMoveBy last.by }
+    ensures { result ≡ Border.Limit last.by }
+{
+    Border::Limit(last.by)
+}
+
+fn spent(last: Value) -> Border
+    requires { IsMoveBy last.by }
+    ensures { result ≡ Border.Spent last.by }
+{
+    Border::Spent(last.by)
 }

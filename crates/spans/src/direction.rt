@@ -1,6 +1,6 @@
 //! Directions of values.
 
-ghost use Rattle.std.specs.Prelude.{◌≡◌, ◌+ℤ◌, ℤ};
+ghost use Rattle.std.specs.Prelude.{◌≡◌, ◌↔◌, ◌+ℤ◌, ℤ, IsTrue, pos};
 ghost use Rattle.moves.specs.Step.{IsMoveBy};
 ghost use Rattle.spans.specs.Step.{IsIn, IsInterval, IsOn, IsPast, IsValue, on_of};
 
@@ -24,94 +24,125 @@ pub fn step_of(direction: Direction) -> Step {
     }
 }
 
+/// A value of numbers that move as one: by how many picoseconds they are moved up.
+#[derive(Clone, Copy)]
+pub struct Value {
+    pub by: i64,
+}
+
+/// The drawn value.
+pub fn drawn_value() -> Value
+    ensures { result.by ≡ pos 0 }
+{
+    Value { by: 0 }
+}
+
+/// Whether two values are one.
+pub fn is_same(one: Value, other: Value) -> bool
+    ensures { IsTrue result ↔ (one.by ≡ other.by) }
+{
+    one.by == other.by
+}
+
 /// The next value in a direction.
-pub fn next_of(value: i64, direction: Direction) -> i64
-    requires { IsMoveBy value }
-    ensures next { result ≡ value +ℤ on_of direction }
-    ensures value { IsValue result }
+pub fn next_of(value: Value, direction: Direction) -> Value
+    requires { IsMoveBy value.by }
+    ensures next { result.by ≡ value.by +ℤ on_of direction }
+    ensures value { IsValue result.by }
 {
     match direction {
-        Direction::Down => value - 1,
-        Direction::Up => value + 1,
+        Direction::Down => Value { by: value.by - 1 },
+        Direction::Up => Value { by: value.by + 1 },
     }
 }
 
 /// The value before one in a direction.
-pub fn last_before(value: i64, direction: Direction) -> i64
-    requires { IsMoveBy value }
-    ensures next { value ≡ result +ℤ on_of direction }
-    ensures value { IsValue result }
+pub fn last_before(value: Value, direction: Direction) -> Value
+    requires { IsMoveBy value.by }
+    ensures next { value.by ≡ result.by +ℤ on_of direction }
+    ensures value { IsValue result.by }
 {
     match direction {
-        Direction::Down => value + 1,
-        Direction::Up => value - 1,
+        Direction::Down => Value { by: value.by + 1 },
+        Direction::Up => Value { by: value.by - 1 },
     }
 }
 
 /// The value this far on in a direction, and no further than a goal.
-pub fn value_on(from: i64, far: i64, goal: i64, direction: Direction) -> i64
-    requires { IsOn direction from goal }
-    ensures before { IsOn direction from result }
-    ensures within { IsOn direction result goal }
+pub fn value_on(from: Value, far: i64, goal: Value, direction: Direction) -> Value
+    requires from { IsMoveBy from.by }
+    requires goal { IsMoveBy goal.by }
+    requires on { IsOn direction from.by goal.by }
+    ensures before { IsOn direction from.by result.by }
+    ensures within { IsOn direction result.by goal.by }
+    ensures by { IsMoveBy result.by }
 {
     match direction {
-        Direction::Down => from.saturating_sub(far).clamp(goal, from),
-        Direction::Up => from.saturating_add(far).clamp(from, goal),
+        Direction::Down => Value {
+            by: from.by.saturating_sub(far).clamp(goal.by, from.by),
+        },
+        Direction::Up => Value {
+            by: from.by.saturating_add(far).clamp(from.by, goal.by),
+        },
     }
 }
 
 /// The last value that can be drawn in a direction, or this one, where it is past that.
-pub fn limit_of(from: i64, direction: Direction, reach: ShiftReach) -> i64
-    requires { IsMoveBy from }
-    ensures on { IsOn direction from result }
-    ensures by { IsMoveBy result }
+pub fn limit_of(from: Value, direction: Direction, reach: ShiftReach) -> Value
+    requires { IsMoveBy from.by }
+    ensures on { IsOn direction from.by result.by }
+    ensures by { IsMoveBy result.by }
 {
     match direction {
-        Direction::Down => reach.least.clamp(-MOVE_LIMIT, from),
-        Direction::Up => reach.most.clamp(from, MOVE_LIMIT),
+        Direction::Down => Value {
+            by: reach.least.clamp(-MOVE_LIMIT, from.by),
+        },
+        Direction::Up => Value {
+            by: reach.most.clamp(from.by, MOVE_LIMIT),
+        },
     }
 }
 
 /// The values behind one up to another one, in a direction.
-pub fn between(from: i64, to: i64, direction: Direction) -> Interval
-    requires from { IsMoveBy from }
-    requires to { IsMoveBy to }
+pub fn between(from: Value, to: Value, direction: Direction) -> Interval
+    requires from { IsMoveBy from.by }
+    requires to { IsMoveBy to.by }
     ensures interval { IsInterval result }
-    ensures each { (value : ℤ) → IsPast direction from value → IsOn direction value to → IsIn result value }
+    ensures each { (value : ℤ) → IsPast direction from.by value → IsOn direction value to.by → IsIn result value }
 {
     let first = next_of(from, direction);
     match direction {
         Direction::Down => Interval {
-            least: Some(to),
-            most: Some(first),
+            least: Some(to.by),
+            most: Some(first.by),
         },
         Direction::Up => Interval {
-            least: Some(first),
-            most: Some(to),
+            least: Some(first.by),
+            most: Some(to.by),
         },
     }
 }
 
 /// All values behind one, in a direction.
-pub fn beyond(from: i64, direction: Direction) -> Interval
-    requires { IsMoveBy from }
+pub fn beyond(from: Value, direction: Direction) -> Interval
+    requires { IsMoveBy from.by }
     ensures interval { IsInterval result }
-    ensures each { (value : ℤ) → IsPast direction from value → IsIn result value }
+    ensures each { (value : ℤ) → IsPast direction from.by value → IsIn result value }
 {
     let first = next_of(from, direction);
     match direction {
         Direction::Down => Interval {
             least: None,
-            most: Some(first),
+            most: Some(first.by),
         },
         Direction::Up => Interval {
-            least: Some(first),
+            least: Some(first.by),
             most: None,
         },
     }
 }
 
 /// How far two values are apart. No contract says so: it is by how many values a cover is begun with.
-pub fn distance(from: i64, to: i64) -> i64 {
-    from.saturating_sub(to).max(to.saturating_sub(from))
+pub fn distance(from: Value, to: Value) -> i64 {
+    from.by.saturating_sub(to.by).max(to.by.saturating_sub(from.by))
 }

@@ -8,7 +8,7 @@ ghost use Rattle.spans.specs.Step.{HasMoves, IsSought, at_value};
 
 use crate::bordering::border_of;
 use crate::counts::{counts_of, no_counts};
-use crate::direction::{Direction, limit_of, step_of, value_on};
+use crate::direction::{Direction, Value, drawn_value, limit_of, step_of, value_on};
 use crate::shift_reach::{ShiftReach, shift_reach_of};
 use crate::sought::SpanSought;
 use drawn::DrawnNetwork;
@@ -60,7 +60,7 @@ fn span_from(
 {
     let reach = shift_reach_of(sought.drawn, sought.numbers);
     match base.found {
-        NetFound::Passes => span_around(alloc, sought, 0, &base.sides, reach),
+        NetFound::Passes => span_around(alloc, sought, drawn_value(), &base.sides, reach),
         NetFound::Breaks(row) => span_elsewhere(alloc, sought, row, &base.sides, reach),
         NetFound::Inconsistent | NetFound::Open | NetFound::Spent => Ok(SpanFound::Spent),
     }
@@ -71,14 +71,14 @@ fn span_from(
 fn span_around(
     alloc: Global,
     sought: &SpanSought<'_>,
-    from: i64,
+    from: Value,
     sides: &[SideChain],
     reach: ShiftReach,
 ) -> Result<SpanFound, NoMemory>
     requires sought { IsSought sought.now }
-    requires from { IsMoveBy from }
-    requires passes { Passes (at_value sought.now from) }
-    requires own { Passes sought.now.drawn.now → from ≡ pos 0 }
+    requires from { IsMoveBy from.by }
+    requires passes { Passes (at_value sought.now from.by) }
+    requires own { Passes sought.now.drawn.now → from.by ≡ pos 0 }
     ensures found { IfOk result (IsSpanFound sought.now.drawn.now (lent sought.now.numbers.now)) }
     ensures moves { IfOk result HasMoves }
 {
@@ -120,10 +120,10 @@ fn span_towards(
     ensures found { IfOk result (IsSpanFound sought.now.drawn.now (lent sought.now.numbers.now)) }
     ensures moves { IfOk result HasMoves }
 {
-    let goal = limit_of(0, direction, reach);
-    let mut at: i64 = 0;
+    let goal = limit_of(drawn_value(), direction, reach);
+    let mut at: Value = drawn_value();
     let mut far = sought.excess(step_of(direction), sides);
-    for _ in 0..GUIDED_ROUNDS {
+    for _turn in 0..GUIDED_ROUNDS {
         let Some(more) = far else {
             return Ok(SpanFound::Nothing);
         };

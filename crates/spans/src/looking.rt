@@ -4,7 +4,7 @@ ghost use Rattle.std.specs.Prelude.{IfOk};
 ghost use Rattle.moves.specs.Step.{IsMoveBy};
 ghost use Rattle.spans.specs.Step.{IsAhead, IsOn, IsSought};
 
-use crate::direction::{Direction, step_of, value_on};
+use crate::direction::{Direction, Value, is_same, step_of, value_on};
 use crate::sought::SpanSought;
 use itv_base::NoMemory;
 use moves::NetFound;
@@ -21,11 +21,11 @@ const GUESSED_VALUES: u32 = 8;
 #[derive(Clone, Copy)]
 pub enum Ahead {
     /// With this value the row with this number breaks.
-    Breaks { at: i64, row: u32 },
+    Breaks { at: Value, row: u32 },
     /// With this value the rules contradict each other.
-    Contradicts(i64),
+    Contradicts(Value),
     /// The goal was reached.
-    Limit(i64),
+    Limit(Value),
     /// A search was left open.
     Spent,
 }
@@ -34,28 +34,28 @@ pub enum Ahead {
 pub fn look_ahead(
     alloc: Global,
     sought: &SpanSought<'_>,
-    from: i64,
-    goal: i64,
+    from: Value,
+    goal: Value,
     sides: &[SideChain],
     direction: Direction,
 ) -> Result<Ahead, NoMemory>
     requires sought { IsSought sought.now }
-    requires from { IsMoveBy from }
-    requires goal { IsMoveBy goal }
-    requires ahead { IsOn direction from goal }
-    ensures ahead { IfOk result (IsAhead sought.now direction from) }
+    requires from { IsMoveBy from.by }
+    requires goal { IsMoveBy goal.by }
+    requires ahead { IsOn direction from.by goal.by }
+    ensures ahead { IfOk result (IsAhead sought.now direction from.by) }
 {
     let step = step_of(direction);
-    let mut at: i64 = from;
+    let mut at: Value = from;
     let mut room = sought.room(step, sides);
     let mut stride: i64 = 1;
     for round in 0..MOST_VALUES {
-        if at == goal {
+        if is_same(at, goal) {
             return Ok(Ahead::Limit(at));
         }
         let next = value_on(at, far_of(room, stride, round), goal, direction);
         stride = stride.saturating_mul(4);
-        if next == at {
+        if is_same(next, at) {
             return Ok(Ahead::Spent);
         }
         let Some(probed) = sought.probe_at(alloc, next)? else {

@@ -1,12 +1,14 @@
 //! Numbers whose span is sought.
 
-ghost use Rattle.std.specs.Prelude.{◌≡◌, ◌≤◌, ℤ, IfOk, IfSome, IsTrue, IsFalse};
+ghost use Rattle.std.specs.Prelude.{◌≡◌, ◌≤◌, ℤ, IfOk, IfSome, IsTrue};
+ghost use Rattle.drawn.specs.Drawn.{Drawn};
 ghost use Rattle.moves.specs.Found.{IsNetFound};
 ghost use Rattle.moves.specs.Passing.{HasRanges, HasRowRanges, NoneBreaks};
 ghost use Rattle.moves.specs.Step.{IsMoveBy, lent};
 ghost use Rattle.spans.specs.Step.{AreCounts, IsConsistency, IsIn, IsInterval, IsSought, IsValueFound, at_value};
 
 use crate::cover::cover_of;
+use crate::direction::Value;
 use crate::interval::Interval;
 use drawn::DrawnNetwork;
 use itv_base::NoMemory;
@@ -38,12 +40,12 @@ pub enum ValueFound {
 
 impl SpanSought<'_> {
     /// What is found of the network with the numbers moved up by a number of picoseconds, or `None` where that can't be drawn.
-    pub fn probe_at(&self, alloc: Global, by: i64) -> Result<Option<Probed>, NoMemory>
+    pub fn probe_at(&self, alloc: Global, at: Value) -> Result<Option<Probed>, NoMemory>
         requires sought { IsSought self.now }
-        requires by { IsMoveBy by }
-        ensures found { IfOk result (λ probed. IfSome probed (λ probed. IsNetFound (at_value self.now by) probed.found)) }
+        requires by { IsMoveBy at.by }
+        ensures found { IfOk result (λ probed. IfSome probed (λ probed. IsNetFound (at_value self.now at.by) probed.found)) }
     {
-        let by = Move::Shift(by);
+        let by = Move::Shift(at.by);
         let Some(net) = moved_network(alloc, self.drawn, self.numbers, by)? else {
             return Ok(None);
         };
@@ -54,46 +56,38 @@ impl SpanSought<'_> {
     }
 
     /// What is found of a value by itself.
-    pub fn value_at(&self, alloc: Global, by: i64) -> Result<ValueFound, NoMemory>
+    pub fn value_at(&self, alloc: Global, at: Value) -> Result<ValueFound, NoMemory>
         requires sought { IsSought self.now }
-        requires by { IsMoveBy by }
-        ensures found { IfOk result (IsValueFound (at_value self.now by)) }
+        requires by { IsMoveBy at.by }
+        ensures found { IfOk result (IsValueFound (at_value self.now at.by)) }
     {
-        match self.probe_at(alloc, by)? {
+        match self.probe_at(alloc, at)? {
             None => Ok(ValueFound::Spent),
-            Some(probed) => match probed.found {
-                NetFound::Passes | NetFound::Inconsistent => Ok(ValueFound::Shown),
-                NetFound::Breaks(row) => Ok(ValueFound::Breaks(row)),
-                NetFound::Open | NetFound::Spent => Ok(ValueFound::Spent),
-            },
+            Some(probed) => Ok(value_of(probed.found)),
         }
     }
 
     /// Whether some times satisfy with a value, or `None` where that was left open.
-    pub fn consistency_at(&self, alloc: Global, by: i64) -> Result<Option<bool>, NoMemory>
+    pub fn consistency_at(&self, alloc: Global, at: Value) -> Result<Option<bool>, NoMemory>
         requires sought { IsSought self.now }
-        requires by { IsMoveBy by }
-        ensures consistency { IfOk result (IsConsistency (at_value self.now by)) }
+        requires by { IsMoveBy at.by }
+        ensures consistency { IfOk result (IsConsistency (at_value self.now at.by)) }
     {
-        match self.probe_at(alloc, by)? {
+        match self.probe_at(alloc, at)? {
             None => Ok(None),
-            Some(probed) => match probed.found {
-                NetFound::Passes | NetFound::Breaks(_) | NetFound::Open => Ok(Some(true)),
-                NetFound::Inconsistent => Ok(Some(false)),
-                NetFound::Spent => Ok(None),
-            },
+            Some(probed) => Ok(consistency_of(probed.found)),
         }
     }
 
     /// Whether the numbers can't be moved up by a number of picoseconds: a range would be beyond the limit.
-    pub fn is_beyond(&self, alloc: Global, by: i64) -> Result<bool, NoMemory>
-        ensures beyond { IfOk result (λ beyond. IsTrue beyond → HasRanges (at_value self.now by) (lent self.now.numbers.now)
-            → HasRowRanges (at_value self.now by) (lent self.now.numbers.now) → ⊥) }
+    pub fn is_beyond(&self, alloc: Global, at: Value) -> Result<bool, NoMemory>
+        ensures beyond { IfOk result (λ beyond. IsTrue beyond → HasRanges (at_value self.now at.by) (lent self.now.numbers.now)
+            → HasRowRanges (at_value self.now at.by) (lent self.now.numbers.now) → ⊥) }
     {
-        if by < -MOVE_LIMIT || MOVE_LIMIT < by {
+        if at.by < -MOVE_LIMIT || MOVE_LIMIT < at.by {
             return Ok(false);
         }
-        let by = Move::Shift(by);
+        let by = Move::Shift(at.by);
         if moved_network(alloc, self.drawn, self.numbers, by)?.is_none() {
             return Ok(true);
         }
@@ -130,10 +124,7 @@ impl SpanSought<'_> {
             return Ok(false);
         };
         let probed = probe(alloc, &cover.net, &cover.rows, self.effort)?;
-        match probed.found {
-            NetFound::Passes | NetFound::Inconsistent => Ok(true),
-            NetFound::Breaks(_) | NetFound::Open | NetFound::Spent => Ok(false),
-        }
+        Ok(shows(probed.found))
     }
 
     /// How far the numbers may be moved by the edges behind the bounds: a guess.
@@ -144,5 +135,44 @@ impl SpanSought<'_> {
     /// How far the numbers should be moved for a row that breaks to pass: a guess.
     pub fn excess(&self, step: Step, sides: &[SideChain]) -> Option<i64> {
         excess(self.drawn, self.numbers, step, sides)
+    }
+}
+
+// What is found of a value, by what is found of the network there.
+fn value_of(found: NetFound) -> ValueFound
+    ensures { (drawn : Drawn) → IsNetFound drawn found → IsValueFound drawn result }
+{
+    match found {
+        NetFound::Passes => ValueFound::Shown,
+        NetFound::Breaks(row) => ValueFound::Breaks(row),
+        NetFound::Inconsistent => ValueFound::Shown,
+        NetFound::Open => ValueFound::Spent,
+        NetFound::Spent => ValueFound::Spent,
+    }
+}
+
+// Whether some times satisfy a network, by what is found of it; or `None` where that was left open.
+fn consistency_of(found: NetFound) -> Option<bool>
+    ensures { (drawn : Drawn) → IsNetFound drawn found → IsConsistency drawn result }
+{
+    match found {
+        NetFound::Passes => Some(true),
+        NetFound::Breaks(_) => Some(true),
+        NetFound::Inconsistent => Some(false),
+        NetFound::Open => Some(true),
+        NetFound::Spent => None,
+    }
+}
+
+// Whether no requirement of a network breaks, by what is found of it.
+fn shows(found: NetFound) -> bool
+    ensures { IsTrue result → (drawn : Drawn) → IsNetFound drawn found → NoneBreaks drawn }
+{
+    match found {
+        NetFound::Passes => true,
+        NetFound::Breaks(_) => false,
+        NetFound::Inconsistent => true,
+        NetFound::Open => false,
+        NetFound::Spent => false,
     }
 }
