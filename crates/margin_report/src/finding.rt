@@ -1,12 +1,14 @@
 //! Finding what is asked of a drawing.
 
 ghost use Rattle.std.specs.Prelude.{◌≡◌, ◌≤◌, false, IfOk};
-ghost use Rattle.std.specs.List.{list_any};
+ghost use Rattle.std.specs.List.{AllZip, list_any};
 ghost use Rattle.itv_base.specs.declared.limits.TheConstants.{MAX_BUDGET};
 ghost use Rattle.moves.specs.Found.{IsEnough, IsNetFound, is_net_open};
 ghost use Rattle.moves.specs.Listed.{numbers_of};
 ghost use Rattle.margins.specs.Ends.{are_ends_spent};
-ghost use Rattle.margin_report.specs.Found.{AreNumbersFound, is_single};
+ghost use Rattle.event_graph.specs.Edges.{cause_choices};
+ghost use Rattle.probing.specs.Step.{IsProbed};
+ghost use Rattle.margin_report.specs.Found.{AreNumbersFound, IsNumberFound, IsSpanOf, is_single};
 ghost use Rattle.margin_report.specs.declared.number_found.NumberFound.{NumberFound as FoundView};
 
 use crate::margin_found::MarginFound;
@@ -34,17 +36,38 @@ pub fn find_all(alloc: Global, drawn: &DrawnNetwork, budget: u64) -> Result<Marg
     let effort = effort_of(budget);
     let base = base_of(alloc, drawn, effort)?;
     let seen = numbers_of(alloc, drawn)?;
-    let numbers = match base.found {
-        NetFound::Inconsistent | NetFound::Spent => Vec::new(alloc),
-        NetFound::Passes | NetFound::Breaks(_) | NetFound::Open => {
-            find_numbers(alloc, drawn, &seen, &base, effort)?
-        }
-    };
+    let numbers = numbers_by(alloc, drawn, &seen, &base, effort)?;
     Ok(MarginFound {
         base: base.found,
         seen,
         numbers,
     })
+}
+
+// What is found of each number. Nothing is looked for where no times are known to satisfy the network.
+fn numbers_by(
+    alloc: Global,
+    drawn: &DrawnNetwork,
+    seen: &[NumberSeen],
+    base: &Probed,
+    effort: Effort,
+) -> Result<Vec<NumberFound>, NoMemory>
+    requires seen { seen.now ≡ numbers_of drawn.now }
+    requires base { IsNetFound drawn.now base.now.found }
+    requires settles { cause_choices drawn.now.net.constraints ≤ effort.budget → is_net_open base.now.found ≡ false }
+    requires fits { IsProbed drawn.now.net.events base.now }
+    requires budget { 1 ≤ effort.budget }
+    ensures numbers { IfOk result (λ numbers. AreNumbersFound drawn.now base.now.found numbers.items) }
+    ensures settles { IfOk result (λ numbers. cause_choices drawn.now.net.constraints ≤ effort.budget
+        → list_any (λ (f : FoundView). are_ends_spent f.ends) numbers.items ≡ false) }
+{
+    match base.found {
+        NetFound::Inconsistent => Ok(Vec::new(alloc)),
+        NetFound::Spent => Ok(Vec::new(alloc)),
+        NetFound::Passes => find_numbers(alloc, drawn, seen, base, effort),
+        NetFound::Breaks(_) => find_numbers(alloc, drawn, seen, base, effort),
+        NetFound::Open => find_numbers(alloc, drawn, seen, base, effort),
+    }
 }
 
 /// How long each search may go on, for a budget of cases.
@@ -65,7 +88,16 @@ fn find_numbers(
     seen: &[NumberSeen],
     base: &Probed,
     effort: Effort,
-) -> Result<Vec<NumberFound>, NoMemory> {
+) -> Result<Vec<NumberFound>, NoMemory>
+    requires base { IsNetFound drawn.now base.now.found }
+    requires consistent { base.now.found ≡ NetFound.Inconsistent → ⊥ }
+    requires settles { cause_choices drawn.now.net.constraints ≤ effort.budget → is_net_open base.now.found ≡ false }
+    requires fits { IsProbed drawn.now.net.events base.now }
+    requires budget { 1 ≤ effort.budget }
+    ensures numbers { IfOk result (λ numbers. AllZip (IsNumberFound drawn.now) seen.now numbers.items) }
+    ensures settles { IfOk result (λ numbers. cause_choices drawn.now.net.constraints ≤ effort.budget
+        → list_any (λ (f : FoundView). are_ends_spent f.ends) numbers.items ≡ false) }
+{
     let ends = find_ends(alloc, drawn, seen, base, effort)?;
     let mut numbers = Vec::new(alloc);
     for k in 0..seen.len() {
@@ -85,7 +117,11 @@ fn find_values(
     seen: &NumberSeen,
     base: &Probed,
     effort: Effort,
-) -> Result<Option<SpanFound>, NoMemory> {
+) -> Result<Option<SpanFound>, NoMemory>
+    requires base { IsNetFound drawn.now base.now.found }
+    requires budget { 1 ≤ effort.budget }
+    ensures span { IfOk result (IsSpanOf (is_single seen.now.range) drawn.now seen.now.number) }
+{
     if !is_single(seen.range) {
         return Ok(None);
     }
