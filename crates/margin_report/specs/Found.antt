@@ -11,7 +11,7 @@ use Rattle.moves.specs.declared.net_found.NetFound.{NetFound}
 use Rattle.moves.specs.declared.net_found.NetFound.TheVariants as nets
 use Rattle.moves.specs.declared.number_seen.NumberSeen.{NumberSeen}
 use Rattle.moves.specs.declared.span.SpanFound.{SpanFound}
-use Rattle.margins.specs.Ends.{AreEndsFound, are_ends_spent}
+use Rattle.margins.specs.Ends.{AreBothFound, are_ends_spent}
 use Rattle.margin_report.specs.declared.number_found.NumberFound.{NumberFound}
 
 -- a range has one value
@@ -27,7 +27,7 @@ IsSpanOf false drawn number None = Unit {0}
 
 -- what is found of a number
 pub record IsNumberFound (drawn : Drawn) (seen : NumberSeen) (found : NumberFound) : Type 0 where
-  pub ends : AreEndsFound drawn seen found.ends
+  pub ends : AreBothFound drawn seen found.ends
   pub span : IsSpanOf (is_single seen.range) drawn seen.number found.span
 
 -- what is found of each number of the drawing, in order, behind a network that some times satisfy; nothing behind another one

@@ -9,7 +9,7 @@ use Rattle.moves.specs.declared.end_found.EndFound.TheVariants as ends
 use Rattle.moves.specs.declared.net_found.NetFound.TheVariants as nets
 use Rattle.probing.specs.declared.probed.Probed.{Probed}
 use Rattle.margins.specs.Reaching.{IsStill, any_reach}
-use Rattle.margins.specs.Step.{IsBracket, IsClimbed, IsFound, IsGap, IsGapAbove, IsGapSearched, IsProbedAt, IsProbedIn, IsProbedOpen, IsSought, moved_in, open_in}
+use Rattle.margins.specs.Step.{IsBracket, IsClimbFound, IsFoundOf, IsGapOf, IsGapAbove, IsGapSearched, IsProbedAt, IsProbedIn, IsProbedOpen, IsEndSought, moved_in, open_in}
 use Rattle.margins.specs.declared.bracket.Bracket.{Bracket}
 use Rattle.margins.specs.declared.falling_short.Gap.{Gap}
 use Rattle.margins.specs.declared.falling_short.GapSearched.TheVariants as gaps
@@ -71,18 +71,18 @@ module _ (sought : EndSought) where
 
   -- ---- what is left open
 
-  pub left_open : (other : Drawn) (probed : Probed) → IsProbedIn sought.drawn.now other sought.effort probed → is_net_open probed.found ≡ true → IsFound sought ends.Spent
+  pub left_open : (other : Drawn) (probed : Probed) → IsProbedIn sought.drawn.now other sought.effort probed → is_net_open probed.found ≡ true → IsFoundOf sought ends.Spent
   left_open other probed is open_ = record { found = tt; settles = λ enough. absurd (cc (is.settles enough, open_)) }
 
   -- ---- free ends
 
-  pub found_free : Passes (open_in sought) → IsFound sought ends.Free
+  pub found_free : Passes (open_in sought) → IsFoundOf sought ends.Free
   found_free passes = record { found = passes; settles = λ enough. refl }
 
   -- ---- margins
 
-  pub found_margin : (bracket : Bracket) → IsSought sought → IsBracket sought bracket → bracket.breaks ≤ℤ (bracket.passes +ℤ pos 1)
-      → IsFound sought (ends.Moves bracket.passes bracket.row)
+  pub found_margin : (bracket : Bracket) → IsEndSought sought → IsBracket sought bracket → bracket.breaks ≤ℤ (bracket.passes +ℤ pos 1)
+      → IsFoundOf sought (ends.Moves bracket.passes bracket.row)
   found_margin bracket is between near =
       let low : bracket.passes ≤ℤ sought.reach.most = omega (arith, ints, between.apart, between.most) in
       let next : bracket.breaks ≡ (bracket.passes +ℤ pos 1) = next_to bracket.passes bracket.breaks between.apart near in
@@ -98,7 +98,7 @@ module _ (sought : EndSought) where
       excluded (moved_in sought by) row passes.1 (breaks_more sought.drawn.now sought.number.now sought.side at by row le breaks)
 
   -- a row breaks with a move no greater than the least one that can be drawn
-  pub found_never : (row : ℕ) (at : ℤ) → IsSought sought → at ≤ℤ sought.reach.least → Breaks (moved_in sought at) row → IsFound sought ends.Never
+  pub found_never : (row : ℕ) (at : ℤ) → IsEndSought sought → at ≤ℤ sought.reach.least → Breaks (moved_in sought at) row → IsFoundOf sought ends.Never
   found_never row at is le breaks = record {
     found = λ by can passes. by_cases by passes (is.reach.within by can);
     settles = λ enough. refl;
@@ -112,7 +112,7 @@ module _ (sought : EndSought) where
           (subst (λ (d : Drawn). Breaks d row) (still.0.widened at ∙ sym (still.0.widened by)) breaks)
 
   -- no move can be drawn
-  pub found_nowhere : IsSought sought → pos 0 <ℤ sought.reach.least → sought.reach.most <ℤ sought.reach.least → IsFound sought ends.Never
+  pub found_nowhere : IsEndSought sought → pos 0 <ℤ sought.reach.least → sought.reach.most <ℤ sought.reach.least → IsFoundOf sought ends.Never
   found_nowhere is inward none = record {
     found = λ by can passes. by_cases by (is.reach.within by can);
     settles = λ enough. refl;
@@ -123,7 +123,7 @@ module _ (sought : EndSought) where
       by_cases by (inr still) = let least : sought.reach.least ≡ any_reach.least = ap (λ (r : Reach). r.least) still.1 in omega (arith, ints, least, inward)
 
   -- up to some move the rules contradict each other, and from the next one on a row breaks
-  pub found_gap : (gap : Gap) → IsGap sought gap → gap.breaks ≤ℤ (gap.contradicts +ℤ pos 1) → IsFound sought ends.Never
+  pub found_gap : (gap : Gap) → IsGapOf sought gap → gap.breaks ≤ℤ (gap.contradicts +ℤ pos 1) → IsFoundOf sought ends.Never
   found_gap gap is near = record {
     found = λ by can passes. by_lt_z gap.contradicts by
         (λ more. never gap.row gap.breaks by is.0.breaks (omega (arith, ints, near, more)) passes)
@@ -133,8 +133,8 @@ module _ (sought : EndSought) where
 
   -- ---- the limit
 
-  pub found_limit : (row : ℕ) (at : ℤ) → IsSought sought → sought.reach.least ≤ℤ at → at ≡ sought.reach.most → Passes (moved_in sought at) → Breaks (open_in sought) row
-      → IsFound sought ends.Limit
+  pub found_limit : (row : ℕ) (at : ℤ) → IsEndSought sought → sought.reach.least ≤ℤ at → at ≡ sought.reach.most → Passes (moved_in sought at) → Breaks (open_in sought) row
+      → IsFoundOf sought ends.Limit
   found_limit row at is least last passes breaks = record {
     found = (
       (at, is.reach.can at least (omega (arith, ints, last)), passes, (λ can. by_cases (is.reach.within (at +ℤ pos 1) can))),
@@ -173,9 +173,9 @@ module _ (sought : EndSought) where
       ((record { apart = apart; least = least; most = most; breaks = break }, none), smaller))
 
   pub climb_made : (climb : Climb) (passes low stride : ℤ) (room : Option ℤ) → low ≡ passes → climb.passes <ℤ passes → sought.reach.least ≤ℤ passes → passes ≤ℤ sought.reach.most
-      → Passes (moved_in sought passes) → IsClimbed sought climb (climbs.Higher (record { passes = low; stride = stride; room = room }))
+      → Passes (moved_in sought passes) → IsClimbFound sought climb (climbs.Higher (record { passes = low; stride = stride; room = room }))
   climb_made climb passes low stride room same more least most pass =
-      subst (λ (z : ℤ). IsClimbed sought climb (climbs.Higher (record { passes = z; stride = stride; room = room }))) (sym same)
+      subst (λ (z : ℤ). IsClimbFound sought climb (climbs.Higher (record { passes = z; stride = stride; room = room }))) (sym same)
       (record { least = least; most = most; passes = pass }, more)
 
   pub gap_above_made : (contradicts breaks low high : ℤ) (row : ℕ) → low ≡ contradicts → high ≡ breaks → contradicts <ℤ breaks → sought.reach.least ≤ℤ contradicts

@@ -16,7 +16,7 @@ use Rattle.moves.specs.Step.{lent}
 use Rattle.moves.specs.declared.end_found.EndFound.{EndFound}
 use Rattle.moves.specs.declared.number_seen.NumberSeen.{NumberSeen}
 use Rattle.margins.specs.Ends.{IsEndOf}
-use Rattle.margins.specs.Step.{AreFree, IsFreeAt, IsFreeBetween, IsOpening}
+use Rattle.margins.specs.Step.{AreFree, IsFreeAt, IsFreeBetween, IsOpeningOf}
 use Rattle.margins.specs.declared.free.Opening.{Opening}
 use Rattle.margins.proofs.Opening.{each_free}
 
@@ -61,7 +61,7 @@ pub marked_free : (opening : Opening) (start end : ℕ) (old new : List Bool) �
 marked_free opening start end old new free between marked = λ k is. elim (marked k is) [ inl before ↦ free k before | inr now ↦ between k now.0 now.1 now.2 ]
 
 -- the ends of numbers that were opened together are free
-pub together_free : (opening : Opening) (start end : ℕ) (numbers : List DrawnNumber) → IsOpening opening
+pub together_free : (opening : Opening) (start end : ℕ) (numbers : List DrawnNumber) → IsOpeningOf opening
     → Passes (record opening.drawn.now { net = net_moved (opened opening.side) opening.drawn.now numbers })
     → ((k : ℕ) → start ≤ k → k < end → IsTrue (slice_index_or opening.unused.now k false) → IfSome (slice_get opening.seen.now k) (λ (s : NumberSeen). Contains numbers s.number))
     → IsFreeBetween opening start end

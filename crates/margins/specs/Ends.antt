@@ -18,7 +18,7 @@ IsEndOf drawn number side (Some end) None = ⊥
 IsEndOf drawn number side (Some end) (Some found) = IsEndFound drawn number side found
 
 -- what is found of both ends of a number
-pub record AreEndsFound (drawn : Drawn) (seen : NumberSeen) (found : EndsFound) : Type 0 where
+pub record AreBothFound (drawn : Drawn) (seen : NumberSeen) (found : EndsFound) : Type 0 where
   pub low : IsEndOf drawn seen.number Lower seen.range.low found.low
   pub high : IsEndOf drawn seen.number Upper seen.range.high found.high
 

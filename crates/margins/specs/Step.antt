@@ -33,7 +33,7 @@ pub record IsNetOf (drawn : Drawn) (net : Net) : Type 0 where
   pub choices : cause_choices net.constraints ≡ cause_choices drawn.net.constraints
 
 -- a search may close at least one case, and the reach is that of the end
-pub record IsSought (sought : EndSought) : Type 0 where
+pub record IsEndSought (sought : EndSought) : Type 0 where
   pub budget : 1 ≤ sought.effort.budget
   pub reach : IsReachOf sought.drawn.now sought.number.now sought.side sought.reach
 
@@ -64,7 +64,7 @@ abbrev pub IsProbedOpen : EndSought → Probed → Type 0
 IsProbedOpen sought = IsProbedIn sought.drawn.now (open_in sought) sought.effort
 
 -- what is found of an end, which is left open only where the cause choices are more than the budget
-pub record IsFound (sought : EndSought) (end : EndFound) : Type 0 where
+pub record IsFoundOf (sought : EndSought) (end : EndFound) : Type 0 where
   pub found : IsEndFound sought.drawn.now sought.number.now sought.side end
   pub settles : cause_choices sought.drawn.now.net.constraints ≤ sought.effort.budget → is_end_spent end ≡ false
 
@@ -85,15 +85,15 @@ pub record IsBracket (sought : EndSought) (bracket : Bracket) : Type 0 where
   pub breaks : Breaks (moved_in sought bracket.breaks) bracket.row
 
 -- with a move that can be drawn every requirement passes
-pub record IsClimb (sought : EndSought) (climb : Climb) : Type 0 where
+pub record IsClimbOf (sought : EndSought) (climb : Climb) : Type 0 where
   pub least : sought.reach.least ≤ℤ climb.passes
   pub most : climb.passes ≤ℤ sought.reach.most
   pub passes : Passes (moved_in sought climb.passes)
 
 -- a greater move with which every requirement passes, or what is found of the end
-abbrev pub IsClimbed : EndSought → Climb → Climbed → Type 0
-IsClimbed sought climb (climbs.Higher next) = IsClimb sought next × (climb.passes <ℤ next.passes)
-IsClimbed sought climb (climbs.Found found) = IsFound sought found
+abbrev pub IsClimbFound : EndSought → Climb → Climbed → Type 0
+IsClimbFound sought climb (climbs.Higher next) = IsClimbOf sought next × (climb.passes <ℤ next.passes)
+IsClimbFound sought climb (climbs.Found found) = IsFoundOf sought found
 
 -- with the greater one of two moves that can be drawn a row breaks
 pub record IsGapAbove (sought : EndSought) (gap : Gap) : Type 0 where
@@ -103,13 +103,13 @@ pub record IsGapAbove (sought : EndSought) (gap : Gap) : Type 0 where
   pub breaks : Breaks (moved_in sought gap.breaks) gap.row
 
 -- and with the lesser one the rules contradict each other
-abbrev pub IsGap : EndSought → Gap → Type 0
-IsGap sought gap = IsGapAbove sought gap × IsInconsistent (moved_in sought gap.contradicts).net
+abbrev pub IsGapOf : EndSought → Gap → Type 0
+IsGapOf sought gap = IsGapAbove sought gap × IsInconsistent (moved_in sought gap.contradicts).net
 
 -- a narrower gap, or what is found of the end
 abbrev pub IsGapSearched : EndSought → Gap → GapSearched → Type 0
-IsGapSearched sought gap (gaps.Narrower next) = IsGap sought next × ((next.breaks -ℤ next.contradicts) <ℤ (gap.breaks -ℤ gap.contradicts))
-IsGapSearched sought gap (gaps.Found found) = IsFound sought found
+IsGapSearched sought gap (gaps.Narrower next) = IsGapOf sought next × ((next.breaks -ℤ next.contradicts) <ℤ (gap.breaks -ℤ gap.contradicts))
+IsGapSearched sought gap (gaps.Found found) = IsFoundOf sought found
 
 -- ---- ends that are opened together
 
@@ -127,7 +127,7 @@ abbrev pub AreFree : Drawn → Side → List NumberSeen → List Bool → Type 0
 AreFree drawn side seen free = (k : ℕ) → IsTrue (slice_index_or free k false) → IfSome (slice_get seen k) (IsFreeAt drawn side)
 
 -- every requirement passes as drawn, and a search may close at least one case
-pub record IsOpening (opening : Opening) : Type 0 where
+pub record IsOpeningOf (opening : Opening) : Type 0 where
   pub passes : Passes opening.drawn.now
   pub budget : 1 ≤ opening.effort.budget
 

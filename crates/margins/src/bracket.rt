@@ -5,7 +5,7 @@ ghost use Rattle.event_graph.specs.Edges.{cause_choices};
 ghost use Rattle.moves.specs.Moving.{widened_at};
 ghost use Rattle.moves.specs.Passing.{Breaks, Passes};
 ghost use Rattle.probing.specs.Step.{IsProbed};
-ghost use Rattle.margins.specs.Step.{IsBracket, IsFound, IsProbedAt, IsSought};
+ghost use Rattle.margins.specs.Step.{IsBracket, IsFoundOf, IsProbedAt, IsEndSought};
 
 use crate::sought::EndSought;
 use itv_base::NoMemory;
@@ -32,9 +32,9 @@ pub fn margin_in(
     sought: &EndSought<'_>,
     bracket: Bracket,
 ) -> Result<EndFound, NoMemory>
-    requires sought { IsSought sought.now }
+    requires sought { IsEndSought sought.now }
     requires bracket { IsBracket sought.now bracket }
-    ensures { IfOk result (IsFound sought.now) }
+    ensures { IfOk result (IsFoundOf sought.now) }
 {
     let mut bracket = bracket;
     let mut rounds: u32 = 0;
@@ -102,7 +102,7 @@ fn tighter(
     bracket: Bracket,
     by: i64,
 ) -> Result<Option<Bracket>, NoMemory>
-    requires sought { IsSought sought.now }
+    requires sought { IsEndSought sought.now }
     requires bracket { IsBracket sought.now bracket }
     requires above { bracket.passes <ℤ by }
     requires below { by <ℤ bracket.breaks }
@@ -124,7 +124,7 @@ fn tightened(
     by: i64,
     probed: &Probed,
 ) -> Result<Option<Bracket>, NoMemory>
-    requires sought { IsSought sought.now }
+    requires sought { IsEndSought sought.now }
     requires bracket { IsBracket sought.now bracket }
     requires above { bracket.passes <ℤ by }
     requires below { by <ℤ bracket.breaks }
@@ -168,7 +168,7 @@ pub fn bracket_below(
     row: u32,
     probed: &Probed,
 ) -> Result<Bracket, NoMemory>
-    requires sought { IsSought sought.now }
+    requires sought { IsEndSought sought.now }
     requires least { sought.now.reach.least ≤ℤ passes }
     requires above { passes <ℤ by }
     requires most { by ≤ℤ sought.now.reach.most }
@@ -204,7 +204,7 @@ pub fn broken_at(
     row: u32,
     probed: &Probed,
 ) -> Result<i64, NoMemory>
-    requires sought { IsSought sought.now }
+    requires sought { IsEndSought sought.now }
     requires least { sought.now.reach.least ≤ℤ above }
     requires above { above <ℤ by }
     requires most { by ≤ℤ sought.now.reach.most }

@@ -7,8 +7,8 @@ ghost use Rattle.moves.specs.Found.{IsNetFound, is_net_open};
 ghost use Rattle.moves.specs.Moving.{opened_at};
 ghost use Rattle.moves.specs.Passing.{Passes};
 ghost use Rattle.probing.specs.Step.{IsProbed};
-ghost use Rattle.margins.specs.Ends.{AreEndsFound, IsEndOf, are_ends_spent, is_end_left};
-ghost use Rattle.margins.specs.Step.{AreFree, IsBase, IsFound, IsFreeAt, IsSought, end_on};
+ghost use Rattle.margins.specs.Ends.{AreBothFound, IsEndOf, are_ends_spent, is_end_left};
+ghost use Rattle.margins.specs.Step.{AreFree, IsBase, IsFoundOf, IsFreeAt, IsEndSought, end_on};
 ghost use Rattle.margins.specs.declared.ends.EndsFound.{EndsFound as EndsSeen};
 
 use crate::falling_short::margin_from_break;
@@ -43,7 +43,7 @@ pub fn find_ends(
     requires settles { cause_choices drawn.now.net.constraints ≤ effort.budget → is_net_open base.now.found ≡ false }
     requires fits { IsProbed drawn.now.net.events base.now }
     requires budget { 1 ≤ effort.budget }
-    ensures ends { IfOk result (λ ends. AllZip (AreEndsFound drawn.now) seen.now ends.items) }
+    ensures ends { IfOk result (λ ends. AllZip (AreBothFound drawn.now) seen.now ends.items) }
     ensures settles { IfOk result (λ ends. cause_choices drawn.now.net.constraints ≤ effort.budget → All (λ (found : EndsSeen). are_ends_spent found ≡ false) ends.items) }
 {
     let lows = free_or_none(alloc, drawn, seen, Side::Lower, base, effort)?;
@@ -89,7 +89,7 @@ fn find_both(
     requires base { IsBase drawn.now effort base.now }
     requires low { IsTrue is_low_free → IsFreeAt drawn.now Side.Lower seen.now }
     requires high { IsTrue is_high_free → IsFreeAt drawn.now Side.Upper seen.now }
-    ensures ends { IfOk result (AreEndsFound drawn.now seen.now) }
+    ensures ends { IfOk result (AreBothFound drawn.now seen.now) }
     ensures settles { IfOk result (λ found. cause_choices drawn.now.net.constraints ≤ effort.budget → are_ends_spent found ≡ false) }
 {
     let low = find_side(alloc, drawn, seen, Side::Lower, base, effort, is_low_free)?;
@@ -134,10 +134,10 @@ fn find_end(
     base: &Probed,
     is_free: bool,
 ) -> Result<EndFound, NoMemory>
-    requires sought { IsSought sought.now }
+    requires sought { IsEndSought sought.now }
     requires base { IsBase sought.now.drawn.now sought.now.effort base.now }
     requires free { IsTrue is_free → Passes (opened_at sought.now.drawn.now sought.now.number.now sought.now.side) }
-    ensures { IfOk result (IsFound sought.now) }
+    ensures { IfOk result (IsFoundOf sought.now) }
 {
     if is_free {
         return Ok(EndFound::Free);

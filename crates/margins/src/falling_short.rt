@@ -3,7 +3,7 @@
 ghost use Rattle.std.specs.Prelude.{◌≡◌, ◌≤◌, pos, ◌+ℤ◌, ◌≤ℤ◌, ◌<ℤ◌, ◌↔◌, IfOk, IsTrue};
 ghost use Rattle.moves.specs.Passing.{Breaks};
 ghost use Rattle.probing.specs.Step.{IsProbed};
-ghost use Rattle.margins.specs.Step.{IsFound, IsGap, IsGapAbove, IsGapSearched, IsProbedAt, IsSought, moved_in};
+ghost use Rattle.margins.specs.Step.{IsFoundOf, IsGapOf, IsGapAbove, IsGapSearched, IsProbedAt, IsEndSought, moved_in};
 
 use crate::bracket::{Bracket, broken_at, inside, margin_in, middle};
 use crate::sought::EndSought;
@@ -34,10 +34,10 @@ pub fn margin_from_break(
     row: u32,
     base: &Probed,
 ) -> Result<EndFound, NoMemory>
-    requires sought { IsSought sought.now }
+    requires sought { IsEndSought sought.now }
     requires breaks { Breaks sought.now.drawn.now row }
     requires fits { IsProbed sought.now.drawn.now.net.events base.now }
-    ensures { IfOk result (IsFound sought.now) }
+    ensures { IfOk result (IsFoundOf sought.now) }
 {
     let least = sought.reach.least;
     if 0 <= least {
@@ -64,7 +64,7 @@ fn breaks_at_least(
     row: u32,
     base: &Probed,
 ) -> Result<bool, NoMemory>
-    requires sought { IsSought sought.now }
+    requires sought { IsEndSought sought.now }
     requires fits { IsProbed sought.now.drawn.now.net.events base.now }
     ensures { IfOk result (λ breaks. IsTrue breaks → Breaks (moved_in sought.now sought.now.reach.least) row) }
 {
@@ -97,10 +97,10 @@ fn margin_from_least(
     gap: Gap,
     guess: Option<i64>,
 ) -> Result<EndFound, NoMemory>
-    requires sought { IsSought sought.now }
+    requires sought { IsEndSought sought.now }
     requires gap { IsGapAbove sought.now gap }
     requires least { gap.contradicts ≡ sought.now.reach.least }
-    ensures { IfOk result (IsFound sought.now) }
+    ensures { IfOk result (IsFoundOf sought.now) }
 {
     let probed = sought.probe_at(alloc, gap.contradicts)?;
     let found = margin_by_least(alloc, sought, gap, guess, &probed);
@@ -116,11 +116,11 @@ fn margin_by_least(
     guess: Option<i64>,
     probed: &Probed,
 ) -> Result<EndFound, NoMemory>
-    requires sought { IsSought sought.now }
+    requires sought { IsEndSought sought.now }
     requires gap { IsGapAbove sought.now gap }
     requires least { gap.contradicts ≡ sought.now.reach.least }
     requires probed { IsProbedAt sought.now gap.contradicts probed.now }
-    ensures { IfOk result (IsFound sought.now) }
+    ensures { IfOk result (IsFoundOf sought.now) }
 {
     match probed.found {
         NetFound::Passes => margin_in(alloc, sought, bracket_of(gap, guess)),
@@ -149,9 +149,9 @@ fn margin_past_contradiction(
     sought: &EndSought<'_>,
     gap: Gap,
 ) -> Result<EndFound, NoMemory>
-    requires sought { IsSought sought.now }
-    requires gap { IsGap sought.now gap }
-    ensures { IfOk result (IsFound sought.now) }
+    requires sought { IsEndSought sought.now }
+    requires gap { IsGapOf sought.now gap }
+    ensures { IfOk result (IsFoundOf sought.now) }
 {
     let mut gap = gap;
     while is_wide(gap) {
@@ -189,8 +189,8 @@ fn gap_with(
     gap: Gap,
     by: i64,
 ) -> Result<GapSearched, NoMemory>
-    requires sought { IsSought sought.now }
-    requires gap { IsGap sought.now gap }
+    requires sought { IsEndSought sought.now }
+    requires gap { IsGapOf sought.now gap }
     requires above { gap.contradicts <ℤ by }
     requires below { by <ℤ gap.breaks }
     ensures { IfOk result (IsGapSearched sought.now gap) }
@@ -209,8 +209,8 @@ fn gap_by(
     by: i64,
     probed: &Probed,
 ) -> Result<GapSearched, NoMemory>
-    requires sought { IsSought sought.now }
-    requires gap { IsGap sought.now gap }
+    requires sought { IsEndSought sought.now }
+    requires gap { IsGapOf sought.now gap }
     requires above { gap.contradicts <ℤ by }
     requires below { by <ℤ gap.breaks }
     requires probed { IsProbedAt sought.now by probed.now }

@@ -4,7 +4,7 @@ ghost use Rattle.std.specs.Prelude.{◌≡◌, ◌<◌, ◌≤◌, ◌⊎◌, �
 ghost use Rattle.moves.specs.Passing.{Passes};
 ghost use Rattle.moves.specs.Step.{lent};
 ghost use Rattle.moves.specs.declared.number_seen.NumberSeen.{NumberSeen as Seen};
-ghost use Rattle.margins.specs.Step.{AreFree, IsFreeBetween, IsOpening, end_on};
+ghost use Rattle.margins.specs.Step.{AreFree, IsFreeBetween, IsOpeningOf, end_on};
 
 use crate::sought::probe_opened;
 use drawn::DrawnNetwork;
@@ -96,7 +96,7 @@ fn open_between(
     end: usize,
     free: &mut [bool],
 ) -> Result<(), NoMemory>
-    requires opening { IsOpening opening.now }
+    requires opening { IsOpeningOf opening.now }
     requires order { start ≤ end }
     requires end { end ≤ length opening.now.seen.now }
     requires free { AreFree opening.now.drawn.now opening.now.side opening.now.seen.now free.old }
@@ -134,7 +134,7 @@ fn are_free_together(
     start: usize,
     end: usize,
 ) -> Result<bool, NoMemory>
-    requires opening { IsOpening opening.now }
+    requires opening { IsOpeningOf opening.now }
     requires order { start ≤ end }
     requires end { end ≤ length opening.now.seen.now }
     ensures free { IfOk result (λ are_free. IsTrue are_free → IsFreeBetween opening.now start end) }

@@ -4,7 +4,7 @@ ghost use Rattle.std.specs.Prelude.{◌≡◌, pos, ℕ, ◌≤ℤ◌, ◌<ℤ�
 ghost use Rattle.moves.specs.Moving.{opened_at, widened_at};
 ghost use Rattle.moves.specs.Passing.{Breaks, Passes};
 ghost use Rattle.probing.specs.Step.{IsProbed};
-ghost use Rattle.margins.specs.Step.{IsClimb, IsClimbed, IsFound, IsProbedAt, IsProbedOpen, IsSought};
+ghost use Rattle.margins.specs.Step.{IsClimbOf, IsClimbFound, IsFoundOf, IsProbedAt, IsProbedOpen, IsEndSought};
 
 use crate::bracket::{bracket_below, margin_in};
 use crate::sought::EndSought;
@@ -34,9 +34,9 @@ pub fn margin_from_pass(
     sought: &EndSought<'_>,
     sides: &[SideChain],
 ) -> Result<EndFound, NoMemory>
-    requires sought { IsSought sought.now }
+    requires sought { IsEndSought sought.now }
     requires passes { Passes sought.now.drawn.now }
-    ensures { IfOk result (IsFound sought.now) }
+    ensures { IfOk result (IsFoundOf sought.now) }
 {
     if 0 < sought.reach.least {
         // No range is empty as drawn, so this is never so.
@@ -47,10 +47,10 @@ pub fn margin_from_pass(
 
 // The margin of an end that can't be drawn where it is.
 fn margin_from_least(alloc: Global, sought: &EndSought<'_>) -> Result<EndFound, NoMemory>
-    requires sought { IsSought sought.now }
+    requires sought { IsEndSought sought.now }
     requires inward { pos 0 <ℤ sought.now.reach.least }
     requires passes { Passes sought.now.drawn.now }
-    ensures { IfOk result (IsFound sought.now) }
+    ensures { IfOk result (IsFoundOf sought.now) }
 {
     if sought.reach.most < sought.reach.least {
         return Ok(EndFound::Never);
@@ -67,12 +67,12 @@ fn margin_at_least(
     sought: &EndSought<'_>,
     probed: &Probed,
 ) -> Result<EndFound, NoMemory>
-    requires sought { IsSought sought.now }
+    requires sought { IsEndSought sought.now }
     requires inward { pos 0 <ℤ sought.now.reach.least }
     requires least { sought.now.reach.least ≤ℤ sought.now.reach.most }
     requires passes { Passes sought.now.drawn.now }
     requires probed { IsProbedAt sought.now sought.now.reach.least probed.now }
-    ensures { IfOk result (IsFound sought.now) }
+    ensures { IfOk result (IsFoundOf sought.now) }
 {
     match probed.found {
         NetFound::Passes => margin_above(alloc, sought, sought.reach.least, &probed.sides),
@@ -91,11 +91,11 @@ fn margin_above(
     passes: i64,
     sides: &[SideChain],
 ) -> Result<EndFound, NoMemory>
-    requires sought { IsSought sought.now }
+    requires sought { IsEndSought sought.now }
     requires least { sought.now.reach.least ≤ℤ passes }
     requires most { passes ≤ℤ sought.now.reach.most }
     requires passes { Passes (widened_at sought.now.drawn.now sought.now.number.now sought.now.side passes) }
-    ensures { IfOk result (IsFound sought.now) }
+    ensures { IfOk result (IsFoundOf sought.now) }
 {
     let mut climb = Climb {
         passes,
@@ -133,11 +133,11 @@ fn climbed_to(
     climb: Climb,
     by: i64,
 ) -> Result<Climbed, NoMemory>
-    requires sought { IsSought sought.now }
-    requires climb { IsClimb sought.now climb }
+    requires sought { IsEndSought sought.now }
+    requires climb { IsClimbOf sought.now climb }
     requires above { climb.passes <ℤ by }
     requires most { by ≤ℤ sought.now.reach.most }
-    ensures { IfOk result (IsClimbed sought.now climb) }
+    ensures { IfOk result (IsClimbFound sought.now climb) }
 {
     let probed = sought.probe_at(alloc, by)?;
     let next = climbed_by(alloc, sought, climb, by, &probed);
@@ -153,12 +153,12 @@ fn climbed_by(
     by: i64,
     probed: &Probed,
 ) -> Result<Climbed, NoMemory>
-    requires sought { IsSought sought.now }
-    requires climb { IsClimb sought.now climb }
+    requires sought { IsEndSought sought.now }
+    requires climb { IsClimbOf sought.now climb }
     requires above { climb.passes <ℤ by }
     requires most { by ≤ℤ sought.now.reach.most }
     requires probed { IsProbedAt sought.now by probed.now }
-    ensures { IfOk result (IsClimbed sought.now climb) }
+    ensures { IfOk result (IsClimbFound sought.now climb) }
 {
     match probed.found {
         NetFound::Passes => Ok(Climbed::Higher(Climb {
@@ -183,11 +183,11 @@ fn margin_by_opening(
     sought: &EndSought<'_>,
     passes: i64,
 ) -> Result<EndFound, NoMemory>
-    requires sought { IsSought sought.now }
+    requires sought { IsEndSought sought.now }
     requires least { sought.now.reach.least ≤ℤ passes }
     requires most { passes ≤ℤ sought.now.reach.most }
     requires passes { Passes (widened_at sought.now.drawn.now sought.now.number.now sought.now.side passes) }
-    ensures { IfOk result (IsFound sought.now) }
+    ensures { IfOk result (IsFoundOf sought.now) }
 {
     let opened = sought.probe_open(alloc)?;
     let found = margin_by_open(alloc, sought, passes, &opened);
@@ -202,12 +202,12 @@ fn margin_by_open(
     passes: i64,
     opened: &Probed,
 ) -> Result<EndFound, NoMemory>
-    requires sought { IsSought sought.now }
+    requires sought { IsEndSought sought.now }
     requires least { sought.now.reach.least ≤ℤ passes }
     requires most { passes ≤ℤ sought.now.reach.most }
     requires passes { Passes (widened_at sought.now.drawn.now sought.now.number.now sought.now.side passes) }
     requires opened { IsProbedOpen sought.now opened.now }
-    ensures { IfOk result (IsFound sought.now) }
+    ensures { IfOk result (IsFoundOf sought.now) }
 {
     match opened.found {
         NetFound::Passes => Ok(EndFound::Free),
@@ -227,13 +227,13 @@ fn margin_below_open(
     row: u32,
     opened: &Probed,
 ) -> Result<EndFound, NoMemory>
-    requires sought { IsSought sought.now }
+    requires sought { IsEndSought sought.now }
     requires least { sought.now.reach.least ≤ℤ passes }
     requires most { passes ≤ℤ sought.now.reach.most }
     requires passes { Passes (widened_at sought.now.drawn.now sought.now.number.now sought.now.side passes) }
     requires breaks { Breaks (opened_at sought.now.drawn.now sought.now.number.now sought.now.side) row }
     requires fits { IsProbed sought.now.drawn.now.net.events opened.now }
-    ensures { IfOk result (IsFound sought.now) }
+    ensures { IfOk result (IsFoundOf sought.now) }
 {
     if sought.reach.most <= passes {
         return Ok(EndFound::Limit);
@@ -266,12 +266,12 @@ fn margin_to_limit(
     passes: i64,
     row: u32,
 ) -> Result<EndFound, NoMemory>
-    requires sought { IsSought sought.now }
+    requires sought { IsEndSought sought.now }
     requires least { sought.now.reach.least ≤ℤ passes }
     requires most { passes <ℤ sought.now.reach.most }
     requires passes { Passes (widened_at sought.now.drawn.now sought.now.number.now sought.now.side passes) }
     requires breaks { Breaks (opened_at sought.now.drawn.now sought.now.number.now sought.now.side) row }
-    ensures { IfOk result (IsFound sought.now) }
+    ensures { IfOk result (IsFoundOf sought.now) }
 {
     let probed = sought.probe_at(alloc, sought.reach.most)?;
     let found = margin_at_limit(alloc, sought, passes, row, &probed);
@@ -287,13 +287,13 @@ fn margin_at_limit(
     row: u32,
     probed: &Probed,
 ) -> Result<EndFound, NoMemory>
-    requires sought { IsSought sought.now }
+    requires sought { IsEndSought sought.now }
     requires least { sought.now.reach.least ≤ℤ passes }
     requires most { passes <ℤ sought.now.reach.most }
     requires passes { Passes (widened_at sought.now.drawn.now sought.now.number.now sought.now.side passes) }
     requires breaks { Breaks (opened_at sought.now.drawn.now sought.now.number.now sought.now.side) row }
     requires probed { IsProbedAt sought.now sought.now.reach.most probed.now }
-    ensures { IfOk result (IsFound sought.now) }
+    ensures { IfOk result (IsFoundOf sought.now) }
 {
     match probed.found {
         NetFound::Passes => Ok(EndFound::Limit),

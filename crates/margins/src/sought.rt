@@ -7,7 +7,7 @@ ghost use Rattle.moves.specs.Moving.{net_moved, opened, widened, widened_at};
 ghost use Rattle.moves.specs.Passing.{Breaks, MeetsRow};
 ghost use Rattle.moves.specs.Step.{IsMoveBy, lent};
 ghost use Rattle.probing.specs.Step.{AreFitting, IsProbed};
-ghost use Rattle.margins.specs.Step.{IsNetOf, IsProbedAt, IsProbedIn, IsProbedOpen, IsSought};
+ghost use Rattle.margins.specs.Step.{IsNetOf, IsProbedAt, IsProbedIn, IsProbedOpen, IsEndSought};
 
 use crate::reach::Reach;
 use drawn::{DrawnNetwork, Row};
@@ -31,7 +31,7 @@ pub struct EndSought<'a> {
 impl EndSought<'_> {
     /// What is found of the network with the end moved outward. The moved end can be drawn.
     pub fn probe_at(&self, alloc: Global, by: i64) -> Result<Probed, NoMemory>
-        requires sought { IsSought self.now }
+        requires sought { IsEndSought self.now }
         requires least { self.now.reach.least ≤ℤ by }
         requires most { by ≤ℤ self.now.reach.most }
         ensures { IfOk result (IsProbedAt self.now by) }
@@ -57,7 +57,7 @@ impl EndSought<'_> {
 
     /// What is found of the network with the end open.
     pub fn probe_open(&self, alloc: Global) -> Result<Probed, NoMemory>
-        requires sought { IsSought self.now }
+        requires sought { IsEndSought self.now }
         ensures { IfOk result (IsProbedOpen self.now) }
     {
         probe_opened(alloc, self.drawn, &[self.number], self.side, self.effort)

@@ -10,7 +10,7 @@ use Rattle.drawn.specs.declared.row.Row.{Row}
 use Rattle.moves.specs.Passing.{IsWanted}
 use Rattle.moves.specs.declared.net_found.NetFound.{NetFound}
 use Rattle.moves.specs.declared.net_found.NetFound.TheVariants as nets
-use Rattle.probing.specs.declared.noting.Noted.{Noted}
+use Rattle.probing.specs.declared.noting.ProbeNotes.{ProbeNotes}
 use Rattle.probing.specs.declared.probed.Probed.{Probed}
 use Rattle.probing.specs.declared.side.SideFound.{SideFound}
 use Rattle.probing.specs.declared.side.SideFound.TheVariants.{Meets, Exceeds, Open}
@@ -47,8 +47,8 @@ IsKindFound net kind from to =
     IsSideFound net (λ times. IsWanted kind (separation times from to)) (λ times. IsWanted kind (separation times from to) → ⊥)
 
 -- the requirement of a row
-abbrev pub IsRowFound : Net → Row → SideFound → Type 0
-IsRowFound net row = IsKindFound net row.kind row.from row.to
+abbrev pub IsRowLookedAt : Net → Row → SideFound → Type 0
+IsRowLookedAt net row = IsKindFound net row.kind row.from row.to
 
 -- what is found of both ends of a requirement
 abbrev pub both_of : SideFound → SideFound → SideFound
@@ -71,7 +71,7 @@ pub record AreFitting (events : ℕ) (times : List ℤ) : Type 0 where
   pub within : All IsTime times
 
 -- the memory is made for a number of events, and the times that were noted fit them
-pub record IsNoted (events : ℕ) (noted : Noted) : Type 0 where
+pub record IsNotedFor (events : ℕ) (noted : ProbeNotes) : Type 0 where
   pub chains : noted.chains.events ≡ events
   pub times : IfSome noted.times (λ times. AreFitting events times.items)
 

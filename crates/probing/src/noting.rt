@@ -6,7 +6,7 @@ ghost use Rattle.event_graph.specs.Edges.{cause_choices};
 ghost use Rattle.event_graph.specs.Times.{IsTime};
 ghost use Rattle.extremes.specs.Found.{IsAttainedBy};
 ghost use Rattle.extremes.specs.Ready.{IsReady};
-ghost use Rattle.probing.specs.Step.{IsLimitFound, IsNoted};
+ghost use Rattle.probing.specs.Step.{IsLimitFound, IsNotedFor};
 
 use crate::probed::{Probed, SideChain};
 use crate::side::SideFound;
@@ -20,7 +20,7 @@ use std::alloc::Global;
 
 /// What was noted of the ends of requirements so far, and the memory in which their edges are found.
 #[derive(Drop)]
-pub struct Noted {
+pub struct ProbeNotes {
     chains: Chains,
     times: Option<Vec<i64>>,
     sides: Vec<SideChain>,
@@ -29,7 +29,7 @@ pub struct Noted {
 /// An end of a requirement: the greatest separation from an event to an event is wanted to be within a limit. For a low end the pair is reversed, and the
 /// limit is minus the end.
 #[derive(Clone, Copy)]
-pub struct Limit {
+pub struct EndLimit {
     pub row: u32,
     pub is_high: bool,
     pub from: EventId,
@@ -37,12 +37,12 @@ pub struct Limit {
     pub limit: i64,
 }
 
-impl Noted {
+impl ProbeNotes {
     /// The memory for a network. Nothing is noted yet.
-    pub fn new(alloc: Global, net: &Network) -> Result<Noted, NoMemory>
-        ensures noted { IfOk result (IsNoted net.now.events) }
+    pub fn new(alloc: Global, net: &Network) -> Result<ProbeNotes, NoMemory>
+        ensures noted { IfOk result (IsNotedFor net.now.events) }
     {
-        Ok(Noted {
+        Ok(ProbeNotes {
             chains: Chains::new(alloc, net)?,
             times: None,
             sides: Vec::new(alloc),
@@ -54,7 +54,7 @@ impl Noted {
         ensures found { IfOk result (λ probed. answer ≡ Ok probed.found) }
         ensures times { IfOk result (λ probed. probed.times ≡ self.times) }
     {
-        let Noted {
+        let ProbeNotes {
             chains,
             times,
             sides,
@@ -70,10 +70,10 @@ impl Noted {
 }
 
 /// The high end of the range of a row with a number.
-pub fn high_limit(number: u32, row: &Row, high: i64) -> Limit
+pub fn high_limit(number: u32, row: &Row, high: i64) -> EndLimit
     ensures limit { result ≡ record { row = number; is_high = true; from = row.now.from; to = row.now.to; limit = high } }
 {
-    Limit {
+    EndLimit {
         row: number,
         is_high: true,
         from: row.from,
@@ -83,11 +83,11 @@ pub fn high_limit(number: u32, row: &Row, high: i64) -> Limit
 }
 
 /// The low end of the range of a row with a number.
-pub fn low_limit(number: u32, row: &Row, low: i64) -> Limit
+pub fn low_limit(number: u32, row: &Row, low: i64) -> EndLimit
     requires { IsEnd (Some low) }
     ensures limit { result ≡ record { row = number; is_high = false; from = row.now.to; to = row.now.from; limit = neg_ℤ low } }
 {
-    Limit {
+    EndLimit {
         row: number,
         is_high: false,
         from: row.to,
@@ -100,17 +100,17 @@ pub fn low_limit(number: u32, row: &Row, low: i64) -> Limit
 pub fn look(
     alloc: Global,
     net: &Network,
-    limit: Limit,
+    limit: EndLimit,
     extremes: &mut Extremes,
-    noted: &mut Noted,
+    noted: &mut ProbeNotes,
 ) -> Result<SideFound, NoMemory>
     requires ready { IsReady net.now extremes.old }
-    requires noted { IsNoted net.now.events noted.old }
+    requires noted { IsNotedFor net.now.events noted.old }
     requires from { limit.from.0 < net.now.events }
     requires to { limit.to.0 < net.now.events }
     ensures ready { IsReady net.now extremes.new }
     ensures budget { extremes.new.budget ≡ extremes.old.budget }
-    ensures noted { IsNoted net.now.events noted.new }
+    ensures noted { IsNotedFor net.now.events noted.new }
     ensures found { IfOk result (IsLimitFound net.now limit.from limit.to limit.limit) }
     ensures settles { IfOk result (λ found. cause_choices net.now.constraints ≤ extremes.old.budget → found ≡ SideFound.Open → ⊥) }
 {
@@ -125,16 +125,16 @@ pub fn look(
 fn note(
     alloc: Global,
     net: &Network,
-    limit: Limit,
+    limit: EndLimit,
     value: i64,
     times: Vec<i64>,
-    noted: &mut Noted,
+    noted: &mut ProbeNotes,
 ) -> Result<SideFound, NoMemory>
     requires attained { IsAttainedBy net.now limit.from limit.to value times.items }
-    requires noted { IsNoted net.now.events noted.old }
+    requires noted { IsNotedFor net.now.events noted.old }
     requires from { limit.from.0 < net.now.events }
     requires to { limit.to.0 < net.now.events }
-    ensures noted { IsNoted net.now.events noted.new }
+    ensures noted { IsNotedFor net.now.events noted.new }
     ensures found { IfOk result (IsLimitFound net.now limit.from limit.to limit.limit) }
     ensures settled { IfOk result (λ found. found ≡ SideFound.Open → ⊥) }
 {
@@ -150,17 +150,17 @@ fn note(
 fn note_chain(
     alloc: Global,
     net: &Network,
-    limit: Limit,
+    limit: EndLimit,
     value: i64,
     times: &[i64],
-    noted: &mut Noted,
+    noted: &mut ProbeNotes,
 ) -> Result<(), NoMemory>
     requires count { length times.now ≡ net.now.events }
     requires times { All IsTime times.now }
-    requires noted { IsNoted net.now.events noted.old }
+    requires noted { IsNotedFor net.now.events noted.old }
     requires from { limit.from.0 < net.now.events }
     requires to { limit.to.0 < net.now.events }
-    ensures noted { IsNoted net.now.events noted.new }
+    ensures noted { IsNotedFor net.now.events noted.new }
 {
     if !noted.chains.find(net, times, limit.from, limit.to) {
         return Ok(());

@@ -8,10 +8,10 @@ ghost use Rattle.drawn.specs.Drawn.{IsRowOf};
 ghost use Rattle.extremes.specs.Ready.{IsFor, IsReady};
 ghost use Rattle.moves.specs.Found.{IsNetFound, is_net_open};
 ghost use Rattle.moves.specs.Step.{bare};
-ghost use Rattle.probing.specs.Step.{IsHighFound, IsLowFound, IsNoted, IsProbed, IsRangeFound, IsRowFound, passes_unless};
+ghost use Rattle.probing.specs.Step.{IsHighFound, IsLowFound, IsNotedFor, IsProbed, IsRangeFound, IsRowLookedAt, passes_unless};
 
 use crate::effort::Effort;
-use crate::noting::{Noted, high_limit, look, low_limit};
+use crate::noting::{ProbeNotes, high_limit, look, low_limit};
 use crate::probed::Probed;
 use crate::side::{SideFound, both_of};
 use drawn::Row;
@@ -84,7 +84,7 @@ fn probe_rows(
     ensures settles { IfOk result (λ probed. cause_choices net.now.constraints ≤ extremes.old.budget → is_net_open probed.found ≡ false) }
     ensures fits { IfOk result (IsProbed net.now.events) }
 {
-    let mut noted = Noted::new(alloc, net)?;
+    let mut noted = ProbeNotes::new(alloc, net)?;
     let found = look_at_rows(alloc, net, rows, extremes, &mut noted);
     noted.probed(found)
 }
@@ -95,13 +95,13 @@ fn look_at_rows(
     net: &Network,
     rows: &[Row],
     extremes: &mut Extremes,
-    noted: &mut Noted,
+    noted: &mut ProbeNotes,
 ) -> Result<NetFound, NoMemory>
     requires rows { All (IsRowOf net.now) rows.now }
     requires few { length rows.now ≤ MAX_ROWS }
     requires ready { IsReady net.now extremes.old }
-    requires noted { IsNoted net.now.events noted.old }
-    ensures noted { IsNoted net.now.events noted.new }
+    requires noted { IsNotedFor net.now.events noted.old }
+    ensures noted { IsNotedFor net.now.events noted.new }
     ensures found { IfOk result (IsNetFound (bare net.now rows.now)) }
     ensures settles { IfOk result (λ found. cause_choices net.now.constraints ≤ extremes.old.budget → is_net_open found ≡ false) }
 {
@@ -134,15 +134,15 @@ fn look_at_row(
     number: u32,
     row: &Row,
     extremes: &mut Extremes,
-    noted: &mut Noted,
+    noted: &mut ProbeNotes,
 ) -> Result<SideFound, NoMemory>
     requires row { IsRowOf net.now row.now }
     requires ready { IsReady net.now extremes.old }
-    requires noted { IsNoted net.now.events noted.old }
+    requires noted { IsNotedFor net.now.events noted.old }
     ensures ready { IsReady net.now extremes.new }
     ensures budget { extremes.new.budget ≡ extremes.old.budget }
-    ensures noted { IsNoted net.now.events noted.new }
-    ensures found { IfOk result (IsRowFound net.now row.now) }
+    ensures noted { IsNotedFor net.now.events noted.new }
+    ensures found { IfOk result (IsRowLookedAt net.now row.now) }
     ensures settles { IfOk result (λ found. cause_choices net.now.constraints ≤ extremes.old.budget → found ≡ SideFound.Open → ⊥) }
 {
     match row.kind {
@@ -159,14 +159,14 @@ fn look_at_range(
     row: &Row,
     range: Range,
     extremes: &mut Extremes,
-    noted: &mut Noted,
+    noted: &mut ProbeNotes,
 ) -> Result<SideFound, NoMemory>
     requires row { IsRowOf net.now row.now }
     requires ready { IsReady net.now extremes.old }
-    requires noted { IsNoted net.now.events noted.old }
+    requires noted { IsNotedFor net.now.events noted.old }
     ensures ready { IsReady net.now extremes.new }
     ensures budget { extremes.new.budget ≡ extremes.old.budget }
-    ensures noted { IsNoted net.now.events noted.new }
+    ensures noted { IsNotedFor net.now.events noted.new }
     ensures found { IfOk result (IsRangeFound net.now row.now.from row.now.to range) }
     ensures settles { IfOk result (λ found. cause_choices net.now.constraints ≤ extremes.old.budget → found ≡ SideFound.Open → ⊥) }
 {
@@ -197,15 +197,15 @@ fn look_high(
     row: &Row,
     end: Option<i64>,
     extremes: &mut Extremes,
-    noted: &mut Noted,
+    noted: &mut ProbeNotes,
 ) -> Result<SideFound, NoMemory>
     requires row { IsRowOf net.now row.now }
     requires end { IsEnd end }
     requires ready { IsReady net.now extremes.old }
-    requires noted { IsNoted net.now.events noted.old }
+    requires noted { IsNotedFor net.now.events noted.old }
     ensures ready { IsReady net.now extremes.new }
     ensures budget { extremes.new.budget ≡ extremes.old.budget }
-    ensures noted { IsNoted net.now.events noted.new }
+    ensures noted { IsNotedFor net.now.events noted.new }
     ensures found { IfOk result (IsHighFound net.now row.now.from row.now.to end) }
     ensures settles { IfOk result (λ found. cause_choices net.now.constraints ≤ extremes.old.budget → found ≡ SideFound.Open → ⊥) }
 {
@@ -223,15 +223,15 @@ fn look_low(
     row: &Row,
     end: Option<i64>,
     extremes: &mut Extremes,
-    noted: &mut Noted,
+    noted: &mut ProbeNotes,
 ) -> Result<SideFound, NoMemory>
     requires row { IsRowOf net.now row.now }
     requires end { IsEnd end }
     requires ready { IsReady net.now extremes.old }
-    requires noted { IsNoted net.now.events noted.old }
+    requires noted { IsNotedFor net.now.events noted.old }
     ensures ready { IsReady net.now extremes.new }
     ensures budget { extremes.new.budget ≡ extremes.old.budget }
-    ensures noted { IsNoted net.now.events noted.new }
+    ensures noted { IsNotedFor net.now.events noted.new }
     ensures found { IfOk result (IsLowFound net.now row.now.from row.now.to end) }
     ensures settles { IfOk result (λ found. cause_choices net.now.constraints ≤ extremes.old.budget → found ≡ SideFound.Open → ⊥) }
 {

@@ -1,7 +1,7 @@
 use Rattle.std.proofs.Common.{◌≡◌, ◌+◌, ◌<◌, Bool, Some, length, slice_get, subst, sym, arith}
 use Rattle.moves.specs.Found.{IsNetFound}
 use Rattle.moves.specs.Step.{bare}
-use Rattle.probing.specs.Step.{IsRowFound}
+use Rattle.probing.specs.Step.{IsRowLookedAt}
 use Rattle.probing.proofs.Looking.{IsLookedTo, looked_found, read_row, row_breaks, row_met, row_open}
 use Rattle.probing.proofs.searching.look_at_rows.Goals as goal
 use Rattle.probing.proofs.searching.look_at_rows.Goals.{in-Meets, in-Open}
@@ -24,7 +24,7 @@ loop-number-preserved c =
           subst L (sym w.is_open-is)
           (row_met c.args.net.now c.args.rows.now c.args.extremes.now.budget c.loop-number.extremes c.look_at_row.new.extremes c.loop-number.noted c.look_at_row.new.noted c.loop-number.number
           c.loop-number.is_open c.loop-number.invariant c.look_at_row.ensures.ready c.look_at_row.ensures.budget c.look_at_row.ensures.noted row at
-          (subst (IsRowFound c.args.net.now row) w.in-Meets.is c.in_ok-look_at_row.ensures.found))
+          (subst (IsRowLookedAt c.args.net.now row) w.in-Meets.is c.in_ok-look_at_row.ensures.found))
       | in-Open w ↦
           subst L (sym w.is_open-is)
           (row_open c.args.net.now c.args.rows.now c.args.extremes.now.budget c.loop-number.extremes c.look_at_row.new.extremes c.loop-number.noted c.look_at_row.new.noted c.loop-number.number
