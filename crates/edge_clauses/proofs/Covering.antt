@@ -239,7 +239,7 @@ line_keeps net goal times state (Loop event steps result) next between keeps (lo
       kept = All-push (MeetsClause times) state.kept result keeps.kept (loop_met net state.kept times event steps result between.within.satisfies keeps.kept loop);
       block = keeps.block;
     })
-line_keeps net goal times state (Assume edges) next between keeps (near, is_next) =
+line_keeps net goal times state (Assume edges) next between keeps (near, opposite, is_next) =
     subst (Keeps times) (sym is_next) (record {
       frame = keeps.frame;
       kept = keeps.kept;

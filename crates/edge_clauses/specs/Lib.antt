@@ -2,3 +2,4 @@
 pub mod Clauses
 pub mod Lines
 pub mod Laws
+pub mod Checking

@@ -175,7 +175,7 @@ IsLine net goal state (Loop event steps result) next =
     IsClauseLoop net state.kept event steps result
     × (next ≡ record { frame = state.frame; kept = state.kept ++ result ∷ []; block = state.block })
 IsLine net goal state (Assume edges) next =
-    IsNearClause edges
+    IsNearClause edges × IsNearClause (refuting edges)
     × (next ≡ record { frame = state.frame; kept = state.kept; block = Some (record { assumed = edges; frame = with_known state.frame edges }) })
 IsLine net goal state Close next =
     IsSomeAnd state.block (λ (block : Block). IsEnded goal block.frame
