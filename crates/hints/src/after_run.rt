@@ -1,8 +1,8 @@
 //! What is said after a run.
 
 use crate::again::can_read_again;
+use crate::answered::answered_says;
 use crate::budget::budget_says;
-use crate::counted::warnings_said;
 use crate::look::{Looked, NameLook};
 use crate::named::files_of;
 use crate::refused::refusal_says;
@@ -75,7 +75,7 @@ fn task_says<H: Shelf, L: NameLook>(
     look: &L,
 ) -> Result<String, NoMemory> {
     match status {
-        0 | 1 | 2 => count_says(alloc, task, shelf, look),
+        0 | 1 | 2 => design_says(alloc, task, status, shelf, look),
         3 => Ok(format!(in alloc; "{}", budget_says(task))?),
         4 => refused_says(alloc, task, shelf, look),
         5 => unread_says(alloc, files_of(task), shelf, look),
@@ -83,24 +83,25 @@ fn task_says<H: Shelf, L: NameLook>(
     }
 }
 
-// Of a design that was answered: how many warnings job lint has.
-fn count_says<H: Shelf, L: NameLook>(
+// Of a design that was answered.
+fn design_says<H: Shelf, L: NameLook>(
     alloc: Global,
     task: Task<'_>,
+    status: u8,
     shelf: &mut H,
     look: &L,
 ) -> Result<String, NoMemory> {
     let files = files_of(task);
     match files.design {
-        Some(design) if has_warnings(task) && can_read_again(alloc, files, shelf, look) => {
-            warnings_said(alloc, design, shelf)
+        Some(design) if is_about_design(task) && can_read_again(alloc, files, shelf, look) => {
+            answered_says(alloc, design, status, shelf)
         }
         _ => Ok(String::new(alloc)),
     }
 }
 
-// Whether job lint may warn of the design of a task. Job lint prints its warnings itself, and jobs check and confirm judge a report.
-fn has_warnings(task: Task<'_>) -> bool {
+// Whether the design of a task is looked at once more. Job lint prints its warnings itself, and jobs check and confirm judge a report.
+fn is_about_design(task: Task<'_>) -> bool {
     match task {
         Task::Lint { .. } | Task::Check { .. } | Task::Confirm { .. } => false,
         _ => true,

@@ -5,12 +5,14 @@
 
 mod after_run;
 mod again;
+mod answered;
 mod budget;
 mod counted;
 mod edge;
 mod edits_fault;
 mod file_fault;
 mod grades_fault;
+mod held;
 mod job_fault;
 mod join_fault;
 mod json_fault;
@@ -26,6 +28,7 @@ mod part;
 mod refused;
 mod sheet_fault;
 mod tree;
+mod unbounded;
 mod unread;
 mod words_fault;
 mod written;

@@ -94,9 +94,8 @@ fn is_meant(plan: &Plan, design: &Design<'_>, warning: &Warning) -> bool {
         Warning::Both(first, other) | Warning::Periods(first, other) => {
             is_place_meant(plan, design, first) || is_place_meant(plan, design, other)
         }
-        Warning::Single(place) | Warning::Period { follows: place, .. } => {
-            is_place_meant(plan, design, place)
-        }
+        Warning::Single(place) | Warning::Unit(place) | Warning::Period { follows: place, .. } =>
+            is_place_meant(plan, design, place),
         _ => false,
     }
 }

@@ -178,6 +178,7 @@ is_place_meant plan network at = is_meant plan (event_part network at.event) at.
 abbrev pub is_warning_meant : Planned → Composed → Warning → Bool
 is_warning_meant plan d (said.Both first other) = is_spot_meant plan d first || is_spot_meant plan d other
 is_warning_meant plan d (said.Single spot) = is_spot_meant plan d spot
+is_warning_meant plan d (said.Unit spot) = is_spot_meant plan d spot
 is_warning_meant plan d (said.Periods first other) = is_spot_meant plan d first || is_spot_meant plan d other
 is_warning_meant plan d (said.Period mark follows) = is_spot_meant plan d follows
 is_warning_meant plan d warning = false

@@ -27,8 +27,13 @@ pub fn find_all(alloc: Global, drawn: &DrawnNetwork, budget: u64) -> Result<Lint
 {
     let net = drawn.network();
     let mut extremes = Extremes::new(alloc, net, budget, turns_of(budget))?;
-    let found = extremes.find(alloc, net)?;
-    find_after(alloc, drawn, budget, extremes, found)
+    match extremes.find(alloc, net) {
+        Ok(found) => find_after(alloc, drawn, budget, extremes, found),
+        Err(NoMemory) => {
+            drop(extremes);
+            Err(NoMemory)
+        }
+    }
 }
 
 // Looks on after the search for times.
@@ -51,10 +56,14 @@ fn find_after(
     match found {
         Consistency::Consistent => find_behind(alloc, drawn, budget, extremes),
         Consistency::Inconsistent => {
+            drop(extremes);
             let by = contradicts_by_order(alloc, drawn, budget)?;
             Ok(LintFound::Inconsistent(by))
         }
-        Consistency::Open => Ok(LintFound::Open),
+        Consistency::Open => {
+            drop(extremes);
+            Ok(LintFound::Open)
+        }
     }
 }
 

@@ -51,7 +51,7 @@ fn is_warning_meant(plan: &Plan, design: &Design<'_>, warning: &Warning) -> bool
         Warning::Both(first, other) | Warning::Periods(first, other) => {
             is_spot_meant(plan, design, first) || is_spot_meant(plan, design, other)
         }
-        Warning::Single(spot) | Warning::Period { follows: spot, .. } => {
+        Warning::Single(spot) | Warning::Unit(spot) | Warning::Period { follows: spot, .. } => {
             is_spot_meant(plan, design, spot)
         }
         _ => false,

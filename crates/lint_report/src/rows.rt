@@ -53,6 +53,7 @@ pub fn see_rows(
         → All (λ (row : RowIsSeen). is_row_open row ≡ false) rows.items) }
 {
     if !has_order(drawn) {
+        drop(extremes);
         return Ok(Vec::new(alloc));
     }
     let chains = Chains::new(alloc, drawn.network())?;
@@ -62,7 +63,9 @@ pub fn see_rows(
         chains,
         apart,
     };
-    see_each(alloc, drawn, &mut search)
+    let rows = see_each(alloc, drawn, &mut search);
+    drop(search);
+    rows
 }
 
 // Whether some constraint keeps the order of a lane.

@@ -22,10 +22,16 @@ pub fn levels(alloc: Global, net: &Network, rows: &str, out: &mut String) -> Res
         return Err(Unfit);
     }
     let mut bounds = Bounds::new(alloc, net)?;
-    match bounds.start(net, Some(EventId(from))) {
-        Fit::Loop => Ok(out.push_str("loop\n")?),
+    let taken = match bounds.start(net, Some(EventId(from))) {
+        Fit::Loop => put_loop(out),
         Fit::Fits => take_rows(alloc, net, &mut bounds, rows, out),
-    }
+    };
+    drop(bounds);
+    taken
+}
+
+fn put_loop(out: &mut String) -> Result<(), Unfit> {
+    Ok(out.push_str("loop\n")?)
 }
 
 fn take_rows(
@@ -126,11 +132,12 @@ pub fn along(alloc: Global, net: &Network, row: &str, out: &mut String) -> Resul
         return Err(Unfit);
     }
     let mut bounds = Bounds::new(alloc, net)?;
-    match bounds.start(net, Some(EventId(from))) {
-        Fit::Loop => out.push_str("loop")?,
-        Fit::Fits => put_even(net, &bounds, out)?,
-    }
-    Ok(())
+    let put = match bounds.start(net, Some(EventId(from))) {
+        Fit::Loop => out.push_str("loop"),
+        Fit::Fits => put_even(net, &bounds, out),
+    };
+    drop(bounds);
+    Ok(put?)
 }
 
 fn put_even(net: &Network, bounds: &Bounds, out: &mut String) -> Result<(), AllocError>

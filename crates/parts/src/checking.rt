@@ -14,10 +14,27 @@ use std::fmt::Write;
 /// whether the lines are a whole proof.
 pub fn check(alloc: Global, net: &Network, rows: &str, out: &mut String) -> Result<(), Unfit> {
     let mut checker = Checker::new(alloc, net)?;
-    write!(out, "at first {}\n", checker.is_done())?;
+    let is_done = checker.is_done();
     checker.begin(net, Goal::Nothing);
+    let taken = take_rows(alloc, net, &mut checker, is_done, rows, out);
+    drop(checker);
+    taken
+}
+
+// Says whether the checker was done at first, and gives it the lines.
+fn take_rows(
+    alloc: Global,
+    net: &Network,
+    checker: &mut Checker,
+    is_done: bool,
+    rows: &str,
+    out: &mut String,
+) -> Result<(), Unfit>
+    requires { IsProofCheckerFor net.now checker.old }
+{
+    write!(out, "at first {is_done}\n")?;
     for row in rows.lines() {
-        take_row(alloc, net, &mut checker, row, out)?;
+        take_row(alloc, net, checker, row, out)?;
     }
     Ok(())
 }

@@ -30,7 +30,22 @@ pub fn clauses(alloc: Global, net: &Network, rows: &str, out: &mut String) -> Re
     }
     let claim = Claim { value };
     let mut checker = ClauseChecker::new(alloc, net, EventId(0), EventId(3), claim)?;
-    take_each(alloc, net, &mut checker, rows, out)?;
+    let taken = take_all(alloc, net, &mut checker, rows, out);
+    drop(checker);
+    taken
+}
+
+// Gives the checker the lines, and writes whether they are a proof.
+fn take_all(
+    alloc: Global,
+    net: &Network,
+    checker: &mut ClauseChecker,
+    rows: &str,
+    out: &mut String,
+) -> Result<(), Unfit>
+    requires checking { IsChecking net.now checker.old }
+{
+    take_each(alloc, net, checker, rows, out)?;
     Ok(write!(out, "{}\n", checker.is_over(net))?)
 }
 

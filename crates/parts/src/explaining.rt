@@ -23,9 +23,16 @@ pub fn chain(alloc: Global, net: &Network, row: &str, out: &mut String) -> Resul
         return Err(Unfit);
     }
     let mut chains = Chains::new(alloc, net)?;
-    if chains.find(net, &times, EventId(from), EventId(to)) {
-        return put_line(alloc, &Line::Path(chains.names()), out);
-    }
+    let put = if chains.find(net, &times, EventId(from), EventId(to)) {
+        put_line(alloc, &Line::Path(chains.names()), out)
+    } else {
+        put_none(out)
+    };
+    drop(chains);
+    put
+}
+
+fn put_none(out: &mut String) -> Result<(), Unfit> {
     Ok(out.push_str("none")?)
 }
 

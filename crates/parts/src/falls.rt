@@ -1,9 +1,11 @@
 //! Greatest separations by falling values, and the check of their lines.
 
+ghost use Rattle.std.specs.Prelude.{◌<◌};
 ghost use Rattle.falling.specs.Checking.{IsBegun};
+ghost use Rattle.falling.specs.Solving.{IsMadeFor};
 
 use crate::unfit::Unfit;
-use crate::writing::{asked_of, put_flags, put_numbers, put_taken};
+use crate::writing::{PairQuestion, asked_of, put_flags, put_numbers, put_taken};
 use clauses::Basis;
 use event_graph::Network;
 use falling::{FallChecker, Fallen, Falling, QuietFall, View};
@@ -32,8 +34,24 @@ pub fn fall(alloc: Global, net: &Network, row: &str, out: &mut String) -> Result
     }
     let turns = u64::try_from(asked.number)?;
     let mut falling = Falling::new(alloc, net, View::of(net)?)?;
+    let put = fall_pair(net, &mut falling, asked, turns, out);
+    drop(falling);
+    put
+}
+
+fn fall_pair(
+    net: &Network,
+    falling: &mut Falling,
+    asked: PairQuestion<'_>,
+    turns: u64,
+    out: &mut String,
+) -> Result<(), Unfit>
+    requires made { IsMadeFor net.now falling.old }
+    requires from { asked.from.0 < net.now.events }
+    requires to { asked.to.0 < net.now.events }
+{
     let fallen = falling.greatest(net, asked.from, asked.to, turns, &mut QuietFall)?;
-    Ok(put_asked(asked.word, &falling, fallen, out)?)
+    Ok(put_asked(asked.word, falling, fallen, out)?)
 }
 
 fn put_asked(
@@ -68,8 +86,22 @@ pub fn lines(alloc: Global, net: &Network, rows: &str, out: &mut String) -> Resu
     }
     let mut checker = FallChecker::new(alloc, net)?;
     checker.begin(net, EventId(0));
+    let taken = take_rows(alloc, net, &mut checker, rows, out);
+    drop(checker);
+    taken
+}
+
+fn take_rows(
+    alloc: Global,
+    net: &Network,
+    checker: &mut FallChecker,
+    rows: &str,
+    out: &mut String,
+) -> Result<(), Unfit>
+    requires begun { IsBegun net.now checker.old }
+{
     for row in rows.lines() {
-        take_row(alloc, net, &mut checker, row, out)?;
+        take_row(alloc, net, checker, row, out)?;
     }
     Ok(())
 }

@@ -91,13 +91,31 @@ fn answer(
         "trail" => stacks::trail(alloc, rows, out),
         "tree" => proof_lines::tree(alloc, rows, out),
         "lent" => proof_lines::lent(alloc, rows, out),
-        "bounds" => bounds::levels(alloc, &network(alloc, subject, out)?, rows, out),
-        "check" => checking::check(alloc, &network(alloc, subject, out)?, rows, out),
-        "clauses" => clause_lines::clauses(alloc, &network(alloc, subject, out)?, rows, out),
-        "fall lines" => falls::lines(alloc, &network(alloc, subject, out)?, rows, out),
-        "marks" => explaining::marks(alloc, &network(alloc, subject, out)?, rows, out),
+        "bounds" | "check" | "clauses" | "fall lines" | "marks" => {
+            answer_over(alloc, verb, subject, rows, out)
+        }
         _ => answer_each(alloc, verb, subject, rows, out),
     }
+}
+
+// Answers the rows of a verb about a network together.
+fn answer_over(
+    alloc: Global,
+    verb: &str,
+    subject: &str,
+    rows: &str,
+    out: &mut String,
+) -> Result<(), Unfit> {
+    let net = network(alloc, subject, out)?;
+    let answered = match verb {
+        "bounds" => bounds::levels(alloc, &net, rows, out),
+        "check" => checking::check(alloc, &net, rows, out),
+        "clauses" => clause_lines::clauses(alloc, &net, rows, out),
+        "fall lines" => falls::lines(alloc, &net, rows, out),
+        _ => explaining::marks(alloc, &net, rows, out),
+    };
+    drop(net);
+    answered
 }
 
 // Answers rows one by one.
@@ -146,12 +164,26 @@ fn answer_row(
         "edits" => edit_files::edits(alloc, subject, row, out),
         "margin" => margin_texts::margin(alloc, subject, row, out),
         "no memory" => networks::no_memory(out),
-        _ => answer_over(alloc, &network(alloc, subject, out)?, verb, row, out),
+        _ => answer_row_over(alloc, verb, subject, row, out),
     }
 }
 
 // Answers a row of a verb about a network.
-fn answer_over(
+fn answer_row_over(
+    alloc: Global,
+    verb: &str,
+    subject: &str,
+    row: &str,
+    out: &mut String,
+) -> Result<(), Unfit> {
+    let net = network(alloc, subject, out)?;
+    let answered = answer_of(alloc, &net, verb, row, out);
+    drop(net);
+    answered
+}
+
+// The same over the network that was read.
+fn answer_of(
     alloc: Global,
     net: &event_graph::Network,
     verb: &str,

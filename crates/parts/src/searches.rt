@@ -1,6 +1,8 @@
 //! Greatest separations by searches over choices of causes, whatever the choices, and by both searches.
 
+ghost use Rattle.std.specs.Prelude.{◌<◌};
 ghost use Rattle.branch.specs.Work.{IsMadeFor};
+ghost use Rattle.extremes.specs.Ready.{IsFor};
 
 use crate::proof_lines::put_tree;
 use crate::unfit::Unfit;
@@ -19,7 +21,9 @@ pub fn search(alloc: Global, net: &Network, row: &str, out: &mut String) -> Resu
     let asked = asked_of(row)?;
     let mut kept = TreeScribe::new(alloc, 1000, 10_000)?;
     let mut work = Work::new(alloc, net)?;
-    search_pair(alloc, net, &mut work, &mut kept, asked, out)
+    let put = search_pair(alloc, net, &mut work, &mut kept, asked, out);
+    drop(work);
+    put
 }
 
 fn search_pair(
@@ -97,8 +101,12 @@ pub fn settle(alloc: Global, net: &Network, row: &str, out: &mut String) -> Resu
     }
     let turns = u64::try_from(asked.number)?;
     let settler = Settler::new(alloc, net)?;
-    let found = settler.greatest(alloc, net, asked.from, asked.to, turns)?;
-    Ok(put_settled(found.answer, out)?)
+    let found = settler.greatest(alloc, net, asked.from, asked.to, turns);
+    drop(settler);
+    let found = found?;
+    let answer = found.answer;
+    drop(found);
+    Ok(put_settled(answer, out)?)
 }
 
 fn put_settled(answer: Settled, out: &mut String) -> Result<(), AllocError> {
@@ -120,6 +128,22 @@ pub fn extremes(alloc: Global, net: &Network, row: &str, out: &mut String) -> Re
         return Err(Unfit);
     }
     let mut extremes = Extremes::new(alloc, net, budget, turns)?;
+    let put = extremes_of(alloc, net, asked, &mut extremes, out);
+    drop(extremes);
+    put
+}
+
+fn extremes_of(
+    alloc: Global,
+    net: &Network,
+    asked: PairQuestion<'_>,
+    extremes: &mut Extremes,
+    out: &mut String,
+) -> Result<(), Unfit>
+    requires made { IsFor net.now extremes.old }
+    requires from { asked.from.0 < net.now.events }
+    requires to { asked.to.0 < net.now.events }
+{
     match extremes.find(alloc, net)? {
         Consistency::Consistent => {
             let found = extremes.greatest(alloc, net, asked.from, asked.to)?;

@@ -35,15 +35,19 @@ driver_warnings d = each_behind join_drivers [] d.joins
 
 -- ---- marks with a driver and a rule of their own from above
 
--- the rule holds this mark of its sheet from above; a rule of the order of a lane holds no mark from above
+-- a cause holds a mark from above, and is another mark
+abbrev pub is_high_from_other : ℕ → Source → Bool
+is_high_from_other mark source = is_high source && not (source.mark == mark)
+
+-- the rule holds this mark of its sheet from above, after another mark; so neither a period does, nor the order of a lane
 abbrev pub holds : ℕ → SheetRule → Bool
-holds mark rule = rule.target == mark && list_any is_high rule.causes
+holds mark rule = rule.target == mark && list_any (is_high_from_other mark) rule.causes
 
 abbrev pub own_by : Join → Option SheetRule → List Warning
 own_by join None = []
 own_by join (Some rule) = option_to_list (option_map (Own join.to join.origin) (drawn_by rule))
 
--- the first rule of the sheet of a part that holds a mark of the sheet from above
+-- the first rule of the sheet of a part that holds a mark of the sheet from above, after another mark
 abbrev pub own_rule : List SheetContents → DesignMark → Option SheetRule
 own_rule sheets mark = find (holds mark.mark) (rules_at sheets mark.part)
 

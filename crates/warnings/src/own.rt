@@ -1,18 +1,18 @@
-//! Marks that follow a driver, and that an edge of their own sheet holds from above.
+//! Marks that follow a driver, and that an edge of their own sheet holds from above, after another mark.
 
 ghost use Rattle.std.specs.Prelude.{◌≡◌, ◌<◌, ◌++◌, OnOk, find, length};
 ghost use Rattle.std.specs.List.{flat_map};
 ghost use Rattle.std.specs.Option.{option_copied};
 ghost use Rattle.compose.specs.Joins.{pin_joins};
-ghost use Rattle.warnings.specs.Driven.{holds, own_join, own_warnings};
+ghost use Rattle.warnings.specs.Driven.{holds, is_high_from_other, own_join, own_warnings};
 ghost use Rattle.warnings.specs.Step.{IsPinOf};
 
 use crate::pins::join_of;
-use crate::rule::{drawn_by, holds_above};
+use crate::rule::{drawn_by, is_high};
 use crate::warning::Warning;
 use compose::{Design, Join, PinJoins};
 use itv_base::NoMemory;
-use sheet::Rule;
+use sheet::{Rule, Source};
 
 /// Puts the warnings of marks with a driver and an edge of their own at the end.
 pub fn push_own(warnings: &mut Vec<Warning>, design: &Design<'_>) -> Result<(), NoMemory>
@@ -59,7 +59,7 @@ fn push_join(warnings: &mut Vec<Warning>, join: &Join, design: &Design<'_>) -> R
     Ok(())
 }
 
-// The first of some rules that holds a mark from above.
+// The first of some rules that holds a mark from above, after another mark.
 fn first_holding(mark: u32, rules: &[Rule]) -> Option<&Rule>
     ensures { option_copied result ≡ find (holds mark) rules.now }
 {
@@ -69,5 +69,16 @@ fn first_holding(mark: u32, rules: &[Rule]) -> Option<&Rule>
 fn holds(mark: u32, rule: &Rule) -> bool
     ensures { result ≡ holds mark rule.now }
 {
-    rule.target() == mark && holds_above(rule)
+    rule.target() == mark
+        && rule
+            .causes()
+            .as_slice()
+            .iter()
+            .any(|cause| is_high_from_other(mark, cause))
+}
+
+fn is_high_from_other(mark: u32, cause: &Source) -> bool
+    ensures { result ≡ is_high_from_other mark cause.now }
+{
+    is_high(cause) && cause.mark != mark
 }

@@ -50,14 +50,15 @@ pub fn is_upper(rule: &Rule) -> bool
     is_linear(rule.kind()) && holds_above(rule)
 }
 
-/// Whether a cause of a rule holds its target from above.
+/// Whether some cause of a rule holds its target from above.
 pub fn holds_above(rule: &Rule) -> bool
     ensures { result ≡ list_any is_high rule.now.causes }
 {
     rule.causes().as_slice().iter().any(|cause| is_high(cause))
 }
 
-fn is_high(cause: &Source) -> bool
+/// Whether a cause of a rule holds its target from above.
+pub fn is_high(cause: &Source) -> bool
     ensures { result ≡ is_high cause.now }
 {
     cause.range.high().is_some()
