@@ -5,7 +5,7 @@
 
 Writes the modules `clauses`, `settle`, `falling::gap` and `event_graph::times` into FOLDER/src (this folder without it): the same
 statements, over the vectors of Rust's own library (`src/shim.rs`). What they stand on, networks and their limits, is written by hand beside
-them. `tools/test-bench` tries that all of it compiles."""
+them. `tools/dev/test-bench` tries that all of it compiles."""
 import os
 import re
 import sys

@@ -23,7 +23,7 @@ class BrowserError(Exception):
 def installed(name):
     """The path of a browser, which is installed where it is missing."""
     if not shutil.which(name):
-        print(f"test-web: {name} is installed from the system's packages", flush=True)
+        print(f"test-browser: {name} is installed from the system's packages", flush=True)
         for words in (["update"], ["install", "-y", "--no-install-recommends", *PACKAGES[name]]):
             subprocess.run(["apt-get", "-qq", *words], stdin=subprocess.DEVNULL, stdout=subprocess.DEVNULL, check=True)
     return shutil.which(name)

@@ -102,7 +102,7 @@ def give_stamps(crates, order, kit):
 
 
 def check_words(crate, crates, kit, jobs):
-    """The words behind `rattle check` or `rattle build` by which a crate is checked over the statements of the crates below it."""
+    """The words after `rattle check` or `rattle build` with which a crate is checked over the statements of the crates below it."""
     words = ["--crate-name", crate.name, crate.root, "--extern", f"std={kit.folder}/rlibs/std.rlib"]
     for library in crate.libraries:
         words += ["--extern", f"{library}={kit.folder}/rlibs/{library}.rlib"]

@@ -21,8 +21,8 @@ def lines_of(top, names):
 def sum_of(top, name, folders=kits.FOLDERS):
     """The sum of a crate and of all crates below it: their lines in crates.txt, and their files in these folders.
 
-    With all folders it is what `sha256sum` gives of the lines, behind which stand the lines that `sha256sum` gives of the files, both in
-    the order of their bytes.
+    With all folders it is what `sha256sum` gives of the lines, followed by the lines that `sha256sum` gives of the files, both in the order
+    of their bytes.
     """
     crates = kits.read_crates(top, lambda word: False)
     order = kits.closure(crates, [name])
