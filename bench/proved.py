@@ -14,7 +14,7 @@ def lines_of(crates):
 
 
 def build(folder, name, sources, crates, libraries):
-    """Builds the program in FOLDER and answers its path. Its files stand in SOURCES with `.txt` behind their names, because the gate
+    """Builds the program in FOLDER and answers its path. Its files are in SOURCES with `.txt` after their names, because the gate
     wants each source in a crate that crates.txt lists. It uses CRATES of this repository and LIBRARIES of the toolchain."""
     for crate in crates:
         if not os.path.exists(os.path.join(folder, "crates", crate)):
