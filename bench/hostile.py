@@ -1,5 +1,5 @@
 #!/usr/bin/env python3
-"""Runs job settle on small networks that once took it minutes or gigabytes, each within 5 seconds of the processor and 500 MB.
+"""Runs job settle on small networks on which a search may run away, each within 5 seconds of the processor and 500 MB.
 
     bench/hostile.py PROGRAM [NAME ..]            a built `itv`, on designs
     bench/hostile.py --lines PROGRAM [NAME ..]    the plain search of bench/settle, on networks as lines
