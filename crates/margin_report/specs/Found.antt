@@ -1,41 +1,50 @@
 -- What job margin finds of each number, and when it is right.
-use Rattle.std.specs.Prelude.{◌≡◌, int_le, Bool, true, false, ◌||◌, List, [], ◌∷◌, Option, Some, None}
-use Rattle.std.specs.List.{AllZip}
+use Rattle.std.specs.Prelude.{◌≡◌, ℕ, ℤ, int_le, is_some, Bool, true, false, List, [], ◌∷◌, ◌++◌, codes, Option, Some, None, IsSomeAnd}
+use Rattle.std.specs.List.{list_any}
 use Rattle.std.specs.Option.{option_map_or}
 use Rattle.itv_base.specs.Range.{Ends}
+use Rattle.itv_base.specs.declared.names.Side.TheVariants.{Lower, Upper}
+use Rattle.line_words.specs.Words.{Word}
 use Rattle.drawn.specs.Drawn.{Drawn}
-use Rattle.numbers.specs.declared.drawn_number.DrawnNumber.{DrawnNumber}
-use Rattle.moves.specs.Found.{IsSpanFound, is_span_spent}
-use Rattle.moves.specs.Listed.{numbers_of}
-use Rattle.moves.specs.declared.net_found.NetFound.{NetFound}
-use Rattle.moves.specs.declared.net_found.NetFound.TheVariants as nets
+use Rattle.moves.specs.Found.{IsEndMargin, IsSpanFound}
+use Rattle.moves.specs.declared.margin.Margin.{Margin}
+use Rattle.moves.specs.declared.margin.Margin.TheVariants as margins
 use Rattle.moves.specs.declared.number_seen.NumberSeen.{NumberSeen}
 use Rattle.moves.specs.declared.span.SpanFound.{SpanFound}
-use Rattle.margins.specs.Ends.{AreBothFound, are_ends_spent}
+use Rattle.margins.specs.Ends.{AreBothFound}
 use Rattle.margin_report.specs.declared.number_found.NumberFound.{NumberFound}
+
+-- ---- what is found
+
+-- something right is there if it is wanted, and else nothing
+abbrev pub IsThereIf : {X : Type 0} → Bool → (X → Type 0) → Option X → Type 0
+IsThereIf true IsRight found = IsSomeAnd found IsRight
+IsThereIf false IsRight found = found ≡ None
 
 -- a range has one value
 abbrev pub is_single : Ends → Bool
 is_single range = option_map_or (λ low. option_map_or (λ high. int_le high low) range.high false) range.low false
 
--- something is found of the values of a number whose range has one value, and nothing of another one
-abbrev pub IsSpanOf : Bool → Drawn → DrawnNumber → Option SpanFound → Type 0
-IsSpanOf true drawn number (Some found) = IsSpanFound drawn (number ∷ []) found
-IsSpanOf true drawn number None = ⊥
-IsSpanOf false drawn number (Some found) = ⊥
-IsSpanOf false drawn number None = Unit {0}
+-- what is found of a number: of its ends, and of its values if its range has one value
+pub record IsNumberFound (drawn : Drawn) (budget : ℕ) (seen : NumberSeen) (found : NumberFound) : Type 0 where
+  pub ends : AreBothFound drawn budget seen found.ends
+  pub span : IsThereIf (is_single seen.range) (λ (span : SpanFound). IsSpanFound drawn (seen.number ∷ []) span.down span.up) found.span
 
--- what is found of a number
-pub record IsNumberFound (drawn : Drawn) (seen : NumberSeen) (found : NumberFound) : Type 0 where
-  pub ends : AreBothFound drawn seen found.ends
-  pub span : IsSpanOf (is_single seen.range) drawn seen.number found.span
+-- ---- margins by their words
 
--- what is found of each number of the drawing, in order, behind a network that some times satisfy; nothing behind another one
-abbrev pub AreNumbersFound : Drawn → NetFound → List NumberFound → Type 0
-AreNumbersFound drawn nets.Inconsistent found = found ≡ []
-AreNumbersFound drawn nets.Spent found = found ≡ []
-AreNumbersFound drawn base found = AllZip (IsNumberFound drawn) (numbers_of drawn) found
+-- a margin by a word, if there is one
+abbrev pub margin_by : Word → Option Margin → List (Word × Margin)
+margin_by which None = []
+margin_by which (Some margin) = (which, margin) ∷ []
 
--- something of a number was left open
-abbrev pub is_number_spent : NumberFound → Bool
-is_number_spent found = are_ends_spent found.ends || option_map_or is_span_spent found.span false
+abbrev pub span_margins : SpanFound → List (Word × Margin)
+span_margins span = (codes "down", span.down) ∷ (codes "up", span.up) ∷ []
+
+-- the margins of a number, each by the word of its line
+abbrev pub margins_of : NumberFound → List (Word × Margin)
+margins_of found = margin_by (codes "low") found.ends.low ++ (margin_by (codes "high") found.ends.high ++ option_map_or span_margins found.span [])
+
+-- the searches for a margin were left open
+abbrev pub is_open : Word × Margin → Bool
+is_open (which, margins.Spent) = true
+is_open (which, margin) = false

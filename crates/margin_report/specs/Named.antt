@@ -1,26 +1,13 @@
 -- The numbers that a list names, as `wire 0,net 1,CPU edge 3`.
-use Rattle.std.specs.Prelude.{ℕ, ◌==◌, Bool, if◌then◌else◌, List, [], ◌∷◌, ◌++◌, find, fold, map, Result, Ok, Err}
+use Rattle.std.specs.Prelude.{ℕ, ◌==◌, Bool, if◌then◌else◌, List, [], ◌∷◌, ◌++◌, find, Result, Ok, Err}
 use Rattle.std.specs.List.{list_any, slice_split}
 use Rattle.std.specs.Option.{option_map_or}
 use Rattle.std.specs.Str.{bytes_eq}
 use Rattle.itv_base.specs.Reading.{walk}
-use Rattle.itv_base.specs.declared.row_kind.RowKind.TheVariants.{Ask, Req}
-use Rattle.itv_base.specs.declared.row_kind.RowKind.{RowKind}
-use Rattle.origin.specs.declared.origin.Origin.{Origin}
-use Rattle.drawn.specs.Drawn.{Drawn, name_of}
-use Rattle.drawn.specs.declared.row.Row.{Row}
+use Rattle.drawn.specs.Drawn.{Drawn}
 use Rattle.numbers.specs.Numbers.{drawn_number_text}
-use Rattle.moves.specs.Listed.{numbers_of, with_number}
+use Rattle.moves.specs.Listed.{all_numbers_of}
 use Rattle.moves.specs.declared.number_seen.NumberSeen.{NumberSeen}
-
--- and the number that draws a requirement, where none of them does; a question has no range
-abbrev pub with_wanted : RowKind → List ℕ → Origin → List NumberSeen → List NumberSeen
-with_wanted Ask part origin seen = seen
-with_wanted (Req range) part origin seen = with_number part seen origin range
-
--- the numbers that draw a cause, and then those that draw requirements alone, each with its range
-abbrev pub all_numbers : Drawn → List NumberSeen
-all_numbers drawn = fold (λ seen (row : Row). with_wanted row.kind (name_of drawn row.from).part row.origin seen) (numbers_of drawn) drawn.rows
 
 abbrev pub is_comma : ℕ → Bool
 is_comma b = b == 44
@@ -36,4 +23,4 @@ with_named all place named text =
 
 -- the numbers of a list, or the place of the first that is not taken, counted from 0
 abbrev pub numbers_in : Drawn → List ℕ → Result (List NumberSeen) ℕ
-numbers_in drawn list = walk (with_named (all_numbers drawn)) 0 [] (slice_split is_comma list)
+numbers_in drawn list = walk (with_named (all_numbers_of drawn)) 0 [] (slice_split is_comma list)

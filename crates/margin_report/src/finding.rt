@@ -1,22 +1,24 @@
 //! Finding what is asked of a drawing.
 
-ghost use Rattle.std.specs.Prelude.{◌≡◌, ◌≤◌, false, IfOk};
-ghost use Rattle.std.specs.List.{AllZip, list_any};
-ghost use Rattle.itv_base.specs.declared.limits.TheConstants.{MAX_BUDGET};
-ghost use Rattle.moves.specs.Found.{IsEnough, IsNetFound, is_net_open};
-ghost use Rattle.moves.specs.Listed.{numbers_of};
-ghost use Rattle.margins.specs.Ends.{are_ends_spent};
+ghost use Rattle.std.specs.Prelude.{◌≡◌, ◌≤◌, IfOk, false, map, true};
+ghost use Rattle.std.specs.List.{AllZip};
 ghost use Rattle.event_graph.specs.Edges.{cause_choices};
+ghost use Rattle.itv_base.specs.declared.limits.TheConstants.{MAX_BUDGET};
+ghost use Rattle.moves.specs.Found.{IsShort, IsSpanFound};
+ghost use Rattle.moves.specs.Networks.{IsNetFound, is_net_open};
+ghost use Rattle.moves.specs.declared.number_seen.NumberSeen.{NumberSeen as Seen};
+ghost use Rattle.moves.specs.declared.span.SpanFound.{SpanFound as Span};
 ghost use Rattle.probing.specs.Step.{IsProbed};
-ghost use Rattle.margin_report.specs.Found.{AreNumbersFound, IsNumberFound, IsSpanOf, is_single};
-ghost use Rattle.margin_report.specs.declared.number_found.NumberFound.{NumberFound as FoundView};
+ghost use Rattle.margin_report.specs.Found.{IsNumberFound, IsThereIf, is_single};
+ghost use Rattle.margin_report.specs.Margin.{is_known};
+ghost use Rattle.margin_report.specs.Step.{IsBase};
 
-use crate::margin_found::MarginFound;
 use crate::number_found::NumberFound;
 use drawn::DrawnNetwork;
 use itv_base::{NoMemory, Range};
 use margins::{base_of, find_ends};
-use moves::{NetFound, NumberSeen, SpanFound, numbers_of};
+use moves::{NetFound, NumberSeen, SpanFound};
+use numbers::DrawnNumber;
 use probing::{Effort, Probed};
 use spans::find_span;
 use std::alloc::Global;
@@ -24,54 +26,9 @@ use std::alloc::Global;
 // Turns for each case of the budget, as in job settle.
 const CASE_TURNS: u64 = 1000;
 
-/// Finds what holds of a drawn network and of each of its numbers. Each search closes at most `budget` cases, and takes at most a thousand turns for each.
-pub fn find_all(alloc: Global, drawn: &DrawnNetwork, budget: u64) -> Result<MarginFound, NoMemory>
-    requires least { 1 ≤ budget }
-    requires most { budget ≤ MAX_BUDGET }
-    ensures base { IfOk result (λ found. IsNetFound drawn.now found.base) }
-    ensures seen { IfOk result (λ found. found.seen.items ≡ numbers_of drawn.now) }
-    ensures numbers { IfOk result (λ found. AreNumbersFound drawn.now found.base found.numbers.items) }
-    ensures settles { IfOk result (λ found. IsEnough drawn.now budget → (is_net_open found.base ≡ false) × (list_any (λ (f : FoundView). are_ends_spent f.ends) found.numbers.items ≡ false)) }
-{
-    let effort = effort_of(budget);
-    let base = base_of(alloc, drawn, effort)?;
-    let seen = numbers_of(alloc, drawn)?;
-    let numbers = numbers_by(alloc, drawn, &seen, &base, effort)?;
-    Ok(MarginFound {
-        base: base.found,
-        seen,
-        numbers,
-    })
-}
-
-// What is found of each number. Nothing is looked for where no times are known to satisfy the network.
-fn numbers_by(
-    alloc: Global,
-    drawn: &DrawnNetwork,
-    seen: &[NumberSeen],
-    base: &Probed,
-    effort: Effort,
-) -> Result<Vec<NumberFound>, NoMemory>
-    requires seen { seen.now ≡ numbers_of drawn.now }
-    requires base { IsNetFound drawn.now base.now.found }
-    requires settles { cause_choices drawn.now.net.constraints ≤ effort.budget → is_net_open base.now.found ≡ false }
-    requires fits { IsProbed drawn.now.net.events base.now }
-    requires budget { 1 ≤ effort.budget }
-    ensures numbers { IfOk result (λ numbers. AreNumbersFound drawn.now base.now.found numbers.items) }
-    ensures settles { IfOk result (λ numbers. cause_choices drawn.now.net.constraints ≤ effort.budget
-        → list_any (λ (f : FoundView). are_ends_spent f.ends) numbers.items ≡ false) }
-{
-    match base.found {
-        NetFound::Inconsistent => Ok(Vec::new(alloc)),
-        NetFound::Spent => Ok(Vec::new(alloc)),
-        NetFound::Passes => find_numbers(alloc, drawn, seen, base, effort),
-        NetFound::Breaks(_) => find_numbers(alloc, drawn, seen, base, effort),
-        NetFound::Open => find_numbers(alloc, drawn, seen, base, effort),
-    }
-}
-
 /// How long each search may go on, for a budget of cases.
 pub fn effort_of(budget: u64) -> Effort
+    requires least { 1 ≤ budget }
     requires most { budget ≤ MAX_BUDGET }
     ensures budget { result.budget ≡ budget }
 {
@@ -81,7 +38,67 @@ pub fn effort_of(budget: u64) -> Effort
     }
 }
 
-// What is found of each number.
+/// What is found of each number, if some times are known to satisfy the network.
+pub fn numbers_by(
+    alloc: Global,
+    drawn: &DrawnNetwork,
+    seen: &[NumberSeen],
+    base: &Probed,
+    effort: Effort,
+) -> Result<Option<Vec<NumberFound>>, NoMemory>
+    requires base { IsBase drawn.now effort.budget base.now }
+    ensures found { IfOk result (IsThereIf (is_known base.now.found) (λ found. AllZip (IsNumberFound drawn.now effort.budget) seen.now found.items)) }
+{
+    if !is_known(base.found) {
+        return Ok(None);
+    }
+    Ok(Some(find_numbers(alloc, drawn, seen, base, effort)?))
+}
+
+/// What is found of the values of numbers that move as one, if some times are known to satisfy the network.
+pub fn span_by(
+    alloc: Global,
+    drawn: &DrawnNetwork,
+    seen: &[NumberSeen],
+    base: &Probed,
+    effort: Effort,
+) -> Result<Option<SpanFound>, NoMemory>
+    requires base { IsBase drawn.now effort.budget base.now }
+    ensures found { IfOk result (IsThereIf (is_known base.now.found)
+        (λ span. IsSpanFound drawn.now (map (λ (s : Seen). s.number) seen.now) span.down span.up)) }
+{
+    if !is_known(base.found) {
+        return Ok(None);
+    }
+    let numbers = lent_numbers(alloc, seen)?;
+    Ok(Some(find_span(alloc, drawn, &numbers, base, effort)?))
+}
+
+// The numbers of those that are seen.
+fn lent_numbers<'a>(
+    alloc: Global,
+    seen: &'a [NumberSeen],
+) -> Result<Vec<&'a DrawnNumber>, NoMemory>
+    ensures { IfOk result (λ numbers. lent numbers.items ≡ map (λ (s : Seen). s.number) seen.now) }
+{
+    let mut numbers = Vec::new(alloc);
+    for k in 0..seen.len() {
+        numbers.push(&seen[k].number)?;
+    }
+    Ok(numbers)
+}
+
+// Whether some times are known to satisfy the network.
+fn is_known(base: NetFound) -> bool
+    ensures { result ≡ is_known base }
+{
+    match base {
+        NetFound::Passes | NetFound::Breaks(_) | NetFound::Open => true,
+        NetFound::Inconsistent | NetFound::Spent => false,
+    }
+}
+
+// What is found of each number of a network that some times satisfy.
 fn find_numbers(
     alloc: Global,
     drawn: &DrawnNetwork,
@@ -89,25 +106,19 @@ fn find_numbers(
     base: &Probed,
     effort: Effort,
 ) -> Result<Vec<NumberFound>, NoMemory>
-    requires base { IsNetFound drawn.now base.now.found }
-    requires consistent { base.now.found ≡ NetFound.Inconsistent → ⊥ }
-    requires settles { cause_choices drawn.now.net.constraints ≤ effort.budget → is_net_open base.now.found ≡ false }
-    requires fits { IsProbed drawn.now.net.events base.now }
-    requires budget { 1 ≤ effort.budget }
-    ensures numbers { IfOk result (λ numbers. AllZip (IsNumberFound drawn.now) seen.now numbers.items) }
-    ensures settles { IfOk result (λ numbers. cause_choices drawn.now.net.constraints ≤ effort.budget
-        → list_any (λ (f : FoundView). are_ends_spent f.ends) numbers.items ≡ false) }
+    requires base { IsBase drawn.now effort.budget base.now }
+    requires known { is_known base.now.found ≡ true }
+    ensures { IfOk result (λ found. AllZip (IsNumberFound drawn.now effort.budget) seen.now found.items) }
 {
     let ends = find_ends(alloc, drawn, seen, base, effort)?;
-    let mut numbers = Vec::new(alloc);
+    let mut found = Vec::new(alloc);
     for k in 0..seen.len() {
-        let span = find_values(alloc, drawn, &seen[k], base, effort)?;
-        numbers.push(NumberFound {
+        found.push(NumberFound {
             ends: ends[k],
-            span,
+            span: find_values(alloc, drawn, &seen[k], base, effort)?,
         })?;
     }
-    Ok(numbers)
+    Ok(found)
 }
 
 // What is found of the values of a number, if its range has one value.
@@ -118,15 +129,13 @@ fn find_values(
     base: &Probed,
     effort: Effort,
 ) -> Result<Option<SpanFound>, NoMemory>
-    requires base { IsNetFound drawn.now base.now.found }
-    requires budget { 1 ≤ effort.budget }
-    ensures span { IfOk result (IsSpanOf (is_single seen.now.range) drawn.now seen.now.number) }
+    requires base { IsBase drawn.now effort.budget base.now }
+    ensures { IfOk result (IsThereIf (is_single seen.now.range) (λ span. IsSpanFound drawn.now (seen.now.number ∷ []) span.down span.up)) }
 {
     if !is_single(seen.range) {
         return Ok(None);
     }
-    let span = find_span(alloc, drawn, &[&seen.number], base, effort)?;
-    Ok(Some(span))
+    Ok(Some(find_span(alloc, drawn, &[&seen.number], base, effort)?))
 }
 
 // Whether a range has one value.

@@ -1,23 +1,20 @@
 //! Reading a list of numbers.
 
-ghost use Rattle.std.specs.Prelude.{◌≡◌, ◌++◌, [], IfOk, OnOk, find, map};
+ghost use Rattle.std.specs.Prelude.{◌≡◌, ◌++◌, [], IfOk, find};
 ghost use Rattle.std.specs.List.{list_any, slice_split};
 ghost use Rattle.std.specs.Option.{option_copied};
 ghost use Rattle.std.specs.Str.{bytes_eq};
 ghost use Rattle.itv_base.specs.Numerals.{number_text};
 ghost use Rattle.itv_base.specs.Reading.{walk};
 ghost use Rattle.line_words.specs.Views.{texts};
-ghost use Rattle.drawn.specs.Drawn.{name_of};
-ghost use Rattle.numbers.specs.Numbers.{drawn_number_text};
-ghost use Rattle.moves.specs.declared.number_seen.NumberSeen.{NumberSeen as Seen};
-ghost use Rattle.margin_report.specs.Named.{all_numbers, is_called, is_comma, numbers_in, with_named, with_wanted};
+ghost use Rattle.margin_report.specs.Named.{is_called, is_comma, numbers_in, with_named};
 ghost use Rattle.margin_report.specs.Step.{IsListRead};
 
 use crate::list_fault::ListFault;
-use drawn::{DrawnNetwork, Row};
+use drawn::DrawnNetwork;
 use itoa::Buffer;
-use itv_base::{Listing, NoMemory, RowKind, Text, number_text, strip};
-use moves::{NumberSeen, add_number, numbers_of};
+use itv_base::{Listing, NoMemory, Text, number_text, strip};
+use moves::{NumberSeen, all_numbers_of};
 use numbers::DrawnNumber;
 use std::alloc::{AllocError, Global};
 
@@ -28,40 +25,12 @@ pub fn read_numbers(
     drawn: &DrawnNetwork,
     list: &str,
 ) -> Result<Listing<NumberSeen>, ListFault>
-    ensures numbers { IsListRead (λ (named : Listing). named) result (numbers_in drawn.now list.now) }
+    ensures numbers { IsListRead (λ named. named) result (numbers_in drawn.now list.now) }
 {
-    let all = all_numbers(alloc, drawn)?;
+    let all = all_numbers_of(alloc, drawn)?;
     let texts = split_list(alloc, list)?;
     let named = named_numbers(alloc, &all, &texts)?;
     Ok(Listing::from(named))
-}
-
-// The numbers that draw a cause, and those that draw requirements alone.
-fn all_numbers(alloc: Global, drawn: &DrawnNetwork) -> Result<Vec<NumberSeen>, NoMemory>
-    ensures { IfOk result (λ all. all.items ≡ all_numbers drawn.now) }
-{
-    let mut all = numbers_of(alloc, drawn)?;
-    let rows = drawn.rows().as_slice();
-    for k in 0..rows.len() {
-        let row = &rows[k];
-        add_wanted(alloc, drawn.name(row.from).part, row, &mut all)?;
-    }
-    Ok(all)
-}
-
-// Adds the number that draws a requirement, where none of the numbers does. The part is the part of the row's from-event.
-fn add_wanted(
-    alloc: Global,
-    part: &str,
-    row: &Row,
-    all: &mut Vec<NumberSeen>,
-) -> Result<(), NoMemory>
-    ensures { OnOk result (all.new.items ≡ with_wanted row.now.kind part.now row.now.origin all.old.items) }
-{
-    match row.kind {
-        RowKind::Ask => Ok(()),
-        RowKind::Req(range) => add_number(alloc, part, row.origin, range, all),
-    }
 }
 
 // The texts of a list between its commas.
