@@ -1,0 +1,6 @@
+pub mod Ways
+pub mod Multiples
+pub mod Ends
+pub mod Covered
+pub mod Found
+pub mod Borders
