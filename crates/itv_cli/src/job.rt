@@ -70,7 +70,7 @@ pub fn answer<K: Sink>(alloc: Global, given: &Ready, sink: &mut K) -> Result<Ans
             drawn,
             numbers,
             budget,
-        } => write_margin(alloc, plan, drawn, numbers.as_ref(), *budget, sink),
+        } => write_margin(alloc, plan, drawn, numbers, *budget, sink),
     }
 }
 

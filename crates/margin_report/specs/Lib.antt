@@ -1,6 +1,5 @@
--- The definitions of this crate: what job margin finds, its text, the numbers that a list names, and what the job answers.
-pub mod Found
+-- The definitions of this crate: the text of job margin, what the job answers, and the numbers that a list names.
 pub mod Text
-pub mod Named
 pub mod Margin
+pub mod Named
 pub mod Step

@@ -1,36 +1,32 @@
 //! The words of the finding and of the end.
 
-ghost use Rattle.std.specs.Prelude.{◌≡◌, ◌++◌, Bool, OnOk};
+ghost use Rattle.std.specs.Prelude.{◌≡◌, ◌++◌, OnOk};
 ghost use Rattle.slack_report.specs.Entry.{ending};
 ghost use Rattle.slack_report.specs.Text.{entry_text};
-ghost use Rattle.margin_report.specs.Text.{base_words};
+ghost use Rattle.margin_report.specs.Text.{end_of, finding_word};
 
 use crate::words::add;
 use itv_base::NoMemory;
-use moves::NetFound;
 use slack_report::EndWord;
 
-/// The word of the finding.
-pub fn finding_word(base: NetFound) -> &'static [u8]
-    ensures word { (is_open : Bool) → result.now ≡ (base_words base is_open).0 }
+/// The word of the finding, by the word that the network as drawn would end with.
+pub fn finding_word(word: EndWord) -> &'static [u8]
+    ensures word { result.now ≡ finding_word word }
 {
-    match base {
-        NetFound::Passes | NetFound::Breaks(_) | NetFound::Open => b"consistent",
-        NetFound::Inconsistent => b"inconsistent",
-        NetFound::Spent => b"spent",
+    match word {
+        EndWord::Pass | EndWord::Fail => b"consistent",
+        EndWord::Inconsistent => b"inconsistent",
+        EndWord::Undecided => b"spent",
     }
 }
 
 /// The word at the end. It is undecided too where every requirement passes and a search for a margin was left open.
-pub fn end_word(base: NetFound, is_open: bool) -> EndWord
-    ensures word { result ≡ (base_words base is_open).1 }
+pub fn end_of(word: EndWord, is_left: bool) -> EndWord
+    ensures word { result ≡ end_of word is_left }
 {
-    match base {
-        NetFound::Passes if is_open => EndWord::Undecided,
-        NetFound::Passes => EndWord::Pass,
-        NetFound::Breaks(_) => EndWord::Fail,
-        NetFound::Inconsistent => EndWord::Inconsistent,
-        NetFound::Open | NetFound::Spent => EndWord::Undecided,
+    match word {
+        EndWord::Pass if is_left => EndWord::Undecided,
+        _ => word,
     }
 }
 

@@ -1,13 +1,13 @@
 //! Adding the lines of numbers after a text that is gathered.
 
-ghost use Rattle.std.specs.Prelude.{◌≡◌, ◌++◌, [], OnOk, length};
+ghost use Rattle.std.specs.Prelude.{◌≡◌, ◌≤◌, ◌∷◌, ◌++◌, [], OnOk, codes, length};
 ghost use Rattle.std.specs.List.{flat_map};
 ghost use Rattle.std.specs.Option.{option_map_or};
 ghost use Rattle.line_words.specs.Lines.{spaced};
 ghost use Rattle.numbers.specs.Numbers.{drawn_number_text};
 ghost use Rattle.slack_report.specs.Text.{range_word};
-ghost use Rattle.margin_report.specs.Found.{margin_by, margins_of, span_margins};
-ghost use Rattle.margin_report.specs.Text.{margin_line, number_note, numbers_text, together_line, together_text, told, value_line};
+ghost use Rattle.margin_report.specs.Text.{margin_line, margins_of, number_note, numbers_text, told};
+ghost use Rattle.moves.specs.declared.span.SpanFound.{SpanFound as Span};
 
 use crate::number_found::NumberFound;
 use crate::words::{add, add_drawn, add_number, add_range, add_signed, add_some, add_spaced};
@@ -17,19 +17,17 @@ use notes::Notes;
 use numbers::DrawnNumber;
 use origin::Origin;
 
-// ---- numbers by themselves
-
-/// Adds the lines of all numbers. There is as much found as there are numbers.
+/// Adds the lines of the numbers of which something is found, which are the first ones.
 pub fn add_numbers<N: Notes>(
     text: &mut Vec<u8>,
     notes: &N,
     seen: &[NumberSeen],
     found: &[NumberFound],
 ) -> Result<(), NoMemory>
-    requires count { length seen.now ≡ length found.now }
+    requires count { length found.now ≤ length seen.now }
     ensures added { OnOk result (text.new.items ≡ text.old.items ++ numbers_text (N.noted notes.now) seen.now found.now) }
 {
-    for k in 0..seen.len() {
+    for k in 0..found.len() {
         add_found(text, notes, &seen[k], &found[k])?;
     }
     Ok(())
@@ -57,7 +55,8 @@ fn add_end<N: Notes>(
     which: &str,
     margin: Option<Margin>,
 ) -> Result<(), NoMemory>
-    ensures { OnOk result (text.new.items ≡ text.old.items ++ flat_map (margin_line (N.noted notes.now) seen.now) (margin_by which.now margin)) }
+    ensures { OnOk result (text.new.items ≡ text.old.items
+        ++ flat_map (margin_line (N.noted notes.now) seen.now) (option_map_or (λ margin. (which.now, margin) ∷ []) margin [])) }
 {
     match margin {
         None => Ok(()),
@@ -72,8 +71,8 @@ fn add_span<N: Notes>(
     seen: &NumberSeen,
     span: Option<SpanFound>,
 ) -> Result<(), NoMemory>
-    ensures { OnOk result (text.new.items ≡ text.old.items
-        ++ flat_map (margin_line (N.noted notes.now) seen.now) (option_map_or span_margins span [])) }
+    ensures { OnOk result (text.new.items ≡ text.old.items ++ flat_map (margin_line (N.noted notes.now) seen.now)
+        (option_map_or (λ (span : Span). (codes "down", span.down) ∷ (codes "up", span.up) ∷ []) span [])) }
 {
     match span {
         None => Ok(()),
@@ -102,53 +101,7 @@ fn add_line<N: Notes>(
     add(text, b"\n")
 }
 
-// ---- numbers that move as one
-
-/// Adds a line for each of some numbers that move as one, and the lines of their values.
-pub fn add_together<N: Notes>(
-    text: &mut Vec<u8>,
-    notes: &N,
-    seen: &[NumberSeen],
-    span: SpanFound,
-) -> Result<(), NoMemory>
-    ensures added { OnOk result (text.new.items ≡ text.old.items ++ together_text (N.noted notes.now) seen.now span) }
-{
-    add_all(text, notes, seen)?;
-    add_value(text, "down", span.down)?;
-    add_value(text, "up", span.up)
-}
-
-// Adds a line for each number.
-fn add_all<N: Notes>(text: &mut Vec<u8>, notes: &N, seen: &[NumberSeen]) -> Result<(), NoMemory>
-    ensures { OnOk result (text.new.items ≡ text.old.items ++ flat_map (together_line (N.noted notes.now)) seen.now) }
-{
-    for k in 0..seen.len() {
-        add_one(text, notes, &seen[k])?;
-    }
-    Ok(())
-}
-
-// Adds the line of a number that is moved with others.
-fn add_one<N: Notes>(text: &mut Vec<u8>, notes: &N, seen: &NumberSeen) -> Result<(), NoMemory>
-    ensures { OnOk result (text.new.items ≡ text.old.items ++ together_line (N.noted notes.now) seen.now) }
-{
-    add(text, b"together")?;
-    add_seen(text, seen)?;
-    add_some(text, note_of(notes, &seen.number))?;
-    add(text, b"\n")
-}
-
-// Adds the line of a direction for all of them.
-fn add_value(text: &mut Vec<u8>, which: &str, margin: Margin) -> Result<(), NoMemory>
-    ensures { OnOk result (text.new.items ≡ text.old.items ++ value_line (which.now, margin)) }
-{
-    add(text, which.as_bytes())?;
-    add_amount(text, margin)?;
-    add_row(text, margin)?;
-    add(text, b"\n")
-}
-
-// ---- parts of lines
+// ---- parts of a line
 
 // Adds a space and how far something may be moved.
 fn add_amount(text: &mut Vec<u8>, margin: Margin) -> Result<(), NoMemory>
