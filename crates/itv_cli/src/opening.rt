@@ -2,6 +2,7 @@
 
 ghost use Rattle.std.specs.Prelude.{◌≡◌, ◌≤◌, IfOk, codes, length, option_map};
 ghost use Rattle.design_gen.specs.Files.{IsSize, design_files};
+ghost use Rattle.reading.specs.FileReading.{gives, ◌>>=◌};
 ghost use Rattle.reading.specs.Step.{Opens, ReadsAs};
 ghost use Rattle.words.specs.Task.{IsBudget, IsWithinLimits};
 ghost use Rattle.words.specs.Task as said;
@@ -9,6 +10,8 @@ ghost use Rattle.words.specs.View.{task_view};
 ghost use Rattle.unroll.specs.declared.limit.TheConstants.{MAX_SESSION_ROWS};
 ghost use Rattle.itv_cli.specs.Job.{edits_at, edits_in, fall_at, list_at, list_in, matrix_at, opening, whatif_at};
 ghost use Rattle.itv_cli.specs.Step.{IsAllowed, OpensFor, OpensMade};
+ghost use Rattle.itv_cli.specs.declared.ready.Ready.TheVariants as ready;
+ghost use Rattle.moves.specs.Listed.{numbers_of};
 
 use crate::planned_network::{PlannedNetwork, open_planned};
 use crate::ready::Ready;
@@ -19,6 +22,7 @@ use falling::{Mixed, View};
 use itv_base::{Listing, MAX_MATRIX_EVENTS, NoMemory, REPORT_LIMIT, Shelf};
 use margin_report::{ListFault, read_numbers};
 use moves::{NumberSeen, numbers_of};
+use plan::Plan;
 use reading::{Refusal, RefusalPlace, Stop, edits_stop, fetch_file, open_design};
 use std::alloc::Global;
 use unroll::{Limit, MAX_NUMBERS, MAX_SESSION_ROWS, UnrollFault};
@@ -281,21 +285,32 @@ fn open_margin<H: Shelf>(
         (opening (said.margin design.now (option_map (λ text. text.now) list.entry) budget)) result }
     ensures allowed { IfOk result IsAllowed }
 {
-    let planned = open_planned(alloc, design, shelf)?;
-    let numbers = match list_at(alloc, &planned.drawn, list) {
-        Ok(numbers) => numbers,
-        Err(stop) => {
-            drop(planned);
-            return Err(stop);
-        }
-    };
-    let PlannedNetwork { plan, drawn } = planned;
-    Ok(Ready::Margin {
-        plan,
-        drawn,
-        numbers,
-        budget,
-    })
+    let PlannedNetwork { plan, drawn } = open_planned(alloc, design, shelf)?;
+    for_margin(alloc, plan, drawn, list, budget)
+}
+
+// The same for a plan and the network that it draws.
+fn for_margin(
+    alloc: Global,
+    plan: Plan,
+    drawn: DrawnNetwork,
+    list: Option<&str>,
+    budget: u64,
+) -> Result<Ready, Stop>
+    requires budget { IsBudget budget }
+    ensures reads { ReadsAs (λ given. given) (list_at drawn (option_map (λ text. text.now) list.entry)
+        >>= (λ numbers. gives (ready.Margin plan drawn numbers budget))) result }
+    ensures allowed { IfOk result IsAllowed }
+{
+    match list_at(alloc, &drawn, list) {
+        Ok(numbers) => Ok(Ready::Margin {
+            plan,
+            drawn,
+            numbers,
+            budget,
+        }),
+        Err(stop) => Err(stop),
+    }
 }
 
 // The numbers of a list, if there is one, or the refusal of a network with too many numbers.

@@ -1,6 +1,8 @@
 -- What job margin answers and writes.
-use Rattle.std.specs.Prelude.{◌≡◌, ◌&&◌, ℕ, int_eq, is_some, List, [], ◌∷◌, Option, Some, None, IfSome, length, map, option_eq, replicate, unwrap_or}
+use Rattle.std.specs.Prelude.{◌≡◌, ◌&&◌, ℕ, is_some, List, [], ◌∷◌, Option, Some, None, IfSome, length, map, replicate, unwrap_or}
 use Rattle.std.specs.List.{AllZip}
+use Rattle.std.specs.Option.{option_eq}
+use Rattle.std.specs.Ordering.{int_eq}
 use Rattle.event_graph.specs.Bounds.{IsInconsistent}
 use Rattle.drawn.specs.Drawn.{Drawn}
 use Rattle.jobs.specs.Ending.{answer_of}

@@ -1,7 +1,9 @@
 //! Finding how far the numbers of a drawing may be moved.
 
-ghost use Rattle.std.specs.Prelude.{◌≡◌, ◌≤◌, ◌∷◌, ◌&&◌, [], IfOk, IfSome, int_eq, is_some, option_eq, replicate, true};
+ghost use Rattle.std.specs.Prelude.{◌≡◌, ◌≤◌, ◌∷◌, ◌&&◌, [], IfOk, IfSome, is_some, replicate, true};
 ghost use Rattle.std.specs.List.{AllZip};
+ghost use Rattle.std.specs.Option.{option_eq};
+ghost use Rattle.std.specs.Ordering.{int_eq};
 ghost use Rattle.itv_base.specs.declared.limits.TheConstants.{MAX_BUDGET};
 ghost use Rattle.moves.specs.Found.{IsSpanFound};
 ghost use Rattle.moves.specs.Step.{lent};
