@@ -203,7 +203,7 @@ fn repeated(alloc: Global, count: usize, span: SpanFound) -> Result<Vec<NumberFo
     ensures { IfOk result (λ found. found.items ≡ replicate count (found_of span)) }
 {
     let mut found = Vec::new(alloc);
-    for _ in 0..count {
+    for _k in 0..count {
         found.push(found_of(span))?;
     }
     Ok(found)

@@ -1,0 +1,4 @@
+pub mod Lining
+pub mod Called
+pub mod Finding
+pub mod Whole
