@@ -35,3 +35,7 @@ none_of_none drawn none = λ times sat. absurd (none times sat)
 -- times that break a row satisfy the network
 pub some_of_breaks : (drawn : Drawn) (row : ℕ) → BreaksRow drawn row → IsConsistent drawn
 some_of_breaks drawn row breaks = (breaks.0, breaks.1)
+
+-- what was found, by another name
+pub found_as : (drawn : Drawn) (found is : NetFound) → found ≡ is → IsNetFound drawn found → IsNetFound drawn is
+found_as drawn found is same h = subst (IsNetFound drawn) same h
