@@ -1,6 +1,6 @@
 -- Borders of a span.
-use Rattle.std.proofs.Common.{◌≡◌, ℕ, ℤ, pos, neg_ℤ, ◌+ℤ◌, ◌≤ℤ◌, ◌<ℤ◌, Bool, true, false, Option, Some, None, IfSome, List, refl, sym, ap, subst, ◌∙◌, arith}
-use Rattle.std.proofs.lemmas.Int.{by_lt_z, ints}
+use Rattle.std.proofs.Common.{◌≡◌, ℕ, ℤ, pos, neg_ℤ, ◌+ℤ◌, ◌≤ℤ◌, Bool, true, false, Option, Some, None, List, sym, ap, subst, ◌∙◌, arith}
+use Rattle.std.proofs.lemmas.Int.{ints}
 use Rattle.event_graph.specs.Bounds.{IsInconsistent}
 use Rattle.drawn.specs.Drawn.{Drawn}
 use Rattle.numbers.specs.declared.drawn_number.DrawnNumber.{DrawnNumber}
@@ -17,7 +17,7 @@ use Rattle.spans.specs.declared.direction.Direction.{Direction}
 use Rattle.spans.specs.declared.direction.Direction.TheVariants.{Down, Up}
 use Rattle.spans.specs.declared.sought.SpanSought.{SpanSought}
 use Rattle.moves.proofs.Thresholds.{excluded}
-use Rattle.spans.proofs.Ways.{on_same, way_start}
+use Rattle.spans.proofs.Ways.{way_start}
 
 pub is_some_true : (drawn : Drawn) (o : Option Bool) (b : Bool) → o ≡ Some b → b ≡ true → TellsConsistency drawn o → IsConsistent drawn
 is_some_true drawn o b is test h = subst (TellsConsistency drawn) (is ∙ ap (λ (x : Bool). Some x) test) h

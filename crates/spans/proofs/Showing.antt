@@ -1,7 +1,7 @@
 -- Values that were shown, one after another.
-use Rattle.std.proofs.Common.{◌≡◌, ℕ, ℤ, ◌+ℤ◌, Option, Some, None, IfSome, refl, sym, ap, subst, ◌∙◌}
+use Rattle.std.proofs.Common.{◌≡◌, ℤ, ◌+ℤ◌, sym, subst}
 use Rattle.event_graph.specs.Bounds.{IsInconsistent}
-use Rattle.moves.specs.Passing.{BreaksRow, IsConsistent, NoneBreaks}
+use Rattle.moves.specs.Passing.{IsConsistent, NoneBreaks}
 use Rattle.moves.specs.Step.{IsMoveBy}
 use Rattle.spans.specs.Step.{IsAdvance, IsGapIn, IsOn, IsPast, IsShownTo, IsStretched, at_value, on_of}
 use Rattle.spans.specs.declared.advance.Advance.TheVariants as advances

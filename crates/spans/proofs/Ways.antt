@@ -1,8 +1,7 @@
 -- Ways from value to value in a direction.
-use Rattle.std.proofs.Common.{◌≡◌, ◌⊎◌, ℤ, pos, neg_ℤ, ◌+ℤ◌, ◌-ℤ◌, ◌≤ℤ◌, ◌<ℤ◌, IfSome, Option, Some, None, refl, sym, subst, arith}
+use Rattle.std.proofs.Common.{◌≡◌, ℤ, ◌+ℤ◌, Some, None, subst, arith}
 use Rattle.std.proofs.lemmas.Int.{by_lt_z, ints}
 use Rattle.moves.specs.Step.{IsMoveBy}
-use Rattle.moves.specs.declared.moving.TheConstants.{MOVE_LIMIT}
 use Rattle.spans.specs.Step.{IsOn, IsPast, IsTowards, on_of}
 use Rattle.spans.specs.declared.direction.Direction.{Direction}
 use Rattle.spans.specs.declared.direction.Direction.TheVariants.{Down, Up}

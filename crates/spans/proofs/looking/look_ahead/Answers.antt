@@ -1,5 +1,4 @@
-use Rattle.std.proofs.Common.{sym}
-use Rattle.spans.proofs.Looks.{WayOf, look_next, look_start}
+use Rattle.spans.proofs.Looks.{look_next, look_start}
 use Rattle.spans.proofs.Ways.{past_from, past_through}
 use Rattle.spans.proofs.looking.look_ahead.Goals as goal
 

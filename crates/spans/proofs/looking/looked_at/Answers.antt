@@ -1,4 +1,3 @@
-use Rattle.moves.specs.Networks.{IsNetFound}
 use Rattle.spans.specs.Step.{at_value}
 use Rattle.spans.proofs.Found.{found_as}
 use Rattle.spans.proofs.looking.looked_at.Goals as goal
