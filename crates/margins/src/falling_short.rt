@@ -1,6 +1,6 @@
 //! The margin of an end of a design that fails as it is drawn: how far the end has to be moved inward.
 
-ghost use Rattle.std.specs.Prelude.{◌≡◌, ◌≤◌, pos, ◌+ℤ◌, ◌≤ℤ◌, ◌<ℤ◌, ◌↔◌, IfOk, IsTrue};
+ghost use Rattle.std.specs.Prelude.{◌≡◌, pos, ◌+ℤ◌, ◌<ℤ◌, ◌↔◌, IfOk, IsTrue};
 ghost use Rattle.moves.specs.Passing.{BreaksRow};
 ghost use Rattle.probing.specs.Step.{IsProbed};
 ghost use Rattle.margins.specs.Step.{IsFoundOf, IsGapOf, IsGapAbove, IsGapSearched, IsProbedAt, IsEndSought, moved_in};

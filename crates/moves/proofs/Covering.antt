@@ -1,28 +1,27 @@
 -- If no requirement of a cover breaks, none breaks with the value that it covers; and what covers two values covers each value between them.
-use Rattle.std.proofs.Common.{◌≡◌, ℕ, zero, suc, ℤ, pos, neg_ℤ, ◌+ℤ◌, ◌-ℤ◌, ◌≤ℤ◌, Bool, true, false, List, [], ◌∷◌, All, length, map, get_or, Option, Some, None, IfSome, option_map, refl, sym, ap, subst, ◌∙◌, arith}
-use Rattle.std.specs.Prelude.{◌<◌, IsSomeAnd, if◌then◌else◌}
+use Rattle.std.proofs.Common.{◌≡◌, ℕ, zero, suc, ℤ, pos, neg_ℤ, ◌+ℤ◌, ◌-ℤ◌, ◌≤ℤ◌, Bool, true, false, List, [], ◌∷◌, length, map, get_or, Option, Some, None, IfSome, option_map, refl, sym, subst, ◌∙◌, arith}
+use Rattle.std.specs.Prelude.{◌<◌, if◌then◌else◌}
 use lib.IntN.{◌*ℤ◌}
 use Rattle.std.specs.List.{AllZip}
 use Rattle.std.proofs.lemmas.Int.{ints}
-use Rattle.std.proofs.lemmas.List.Elements.{AllZip-get_or, length_all_zip}
-use Rattle.itv_base.specs.Range.{Allows, Ends}
+use Rattle.itv_base.specs.Range.{Ends}
 use Rattle.itv_base.specs.declared.names.EventId.{EventId}
 use Rattle.itv_base.specs.declared.row_kind.RowKind.{RowKind}
 use Rattle.itv_base.specs.declared.row_kind.RowKind.TheVariants as kinds
 use Rattle.origin.specs.declared.origin.Origin.{Origin}
 use Rattle.event_graph.proofs.Widening.{wider_keeps_satisfying}
 use Rattle.event_graph.specs.declared.cause.Cause.{Cause}
-use Rattle.event_graph.specs.Network.{Constraint, Net}
+use Rattle.event_graph.specs.Network.{Constraint}
 use Rattle.event_graph.specs.Satisfying.{Satisfies}
 use Rattle.event_graph.specs.Times.{separation}
-use Rattle.event_graph.specs.Widening.{IsHigherEnd, IsLowerEnd, IsWider, IsWiderCause, IsWiderConstraint}
+use Rattle.event_graph.specs.Widening.{IsHigherEnd, IsLowerEnd, IsWiderCause, IsWiderConstraint}
 use Rattle.drawn.specs.Drawn.{Drawn, name_of}
 use Rattle.drawn.specs.declared.row.Row.{Row}
 use Rattle.numbers.specs.declared.drawn_number.DrawnNumber.{DrawnNumber}
-use Rattle.moves.specs.Covers.{Covers, IsTighterRow, cause_counted, constraint_counted, times_counted, lag, net_counted, row_counted}
+use Rattle.moves.specs.Covers.{IsTighterRow, cause_counted, constraint_counted, times_counted, lag, net_counted, row_counted}
 use Rattle.moves.specs.Laws.{CoverHolds, CoversBetween}
 use Rattle.moves.specs.Moving.{cause_moved, constraint_moved, draw, kind_moved, row_moved, moved_up, shifted_at}
-use Rattle.moves.specs.Passing.{MeetsKind, MeetsRow, NoneBreaks}
+use Rattle.moves.specs.Passing.{MeetsKind, MeetsRow}
 use Rattle.moves.proofs.Counting.{satisfies_counted, separation_counted}
 use Rattle.moves.proofs.Lists.{each_between, map_between}
 use Rattle.moves.proofs.Products.{above_between, below_between, less_times, one_times, zero_times}

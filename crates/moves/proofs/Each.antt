@@ -1,6 +1,6 @@
 -- Each cause that one of the numbers draws is moved, and each other one stays.
 use Rattle.std.proofs.Common.{◌≡◌, ℕ, zero, suc, ℤ, pos, ◌+ℤ◌, ◌-ℤ◌, Bool, true, false, List, [], ◌∷◌, map, Option, Some, None, option_map, option_and_then, slice_get, refl, sym, ap, ◌∙◌, arith}
-use Rattle.std.specs.Prelude.{if◌then◌else◌, ◌||◌, unwrap_or}
+use Rattle.std.specs.Prelude.{if◌then◌else◌, unwrap_or}
 use Rattle.std.specs.List.{list_any}
 use Rattle.std.specs.Option.{option_map_or}
 use Rattle.std.proofs.lemmas.Int.{ints}
@@ -14,11 +14,10 @@ use Rattle.event_graph.specs.declared.cause.Cause.{Cause}
 use Rattle.event_graph.specs.Network.{Constraint, Net, cause_at}
 use Rattle.drawn.specs.Drawn.{Drawn, name_of}
 use Rattle.drawn.specs.declared.row.Row.{Row}
-use Rattle.numbers.specs.Numbers.{draws, draws_cause, origins_of, part_of_target}
-use Rattle.numbers.specs.declared.cause_name.CauseName.{CauseName}
+use Rattle.numbers.specs.Numbers.{draws, origins_of, part_of_target}
 use Rattle.numbers.specs.declared.drawn_number.DrawnNumber.{DrawnNumber}
 use Rattle.moves.specs.Laws.{EachIsMoved, MovedByNothing}
-use Rattle.moves.specs.Moving.{cause_moved, constraint_moved, draw, each_by, kind_moved, net_moved, row_moved, moved_up, shifted_at, widened, widened_at}
+use Rattle.moves.specs.Moving.{cause_moved, constraint_moved, draw, each_by, kind_moved, net_moved, row_moved, moved_up, shifted_at, widened}
 use Rattle.moves.proofs.Lists.{each_same}
 
 -- ---- which causes are drawn

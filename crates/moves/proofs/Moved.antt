@@ -1,11 +1,10 @@
 -- The network with ranges moved, constraint by constraint and cause by cause.
-use Rattle.std.proofs.Common.{◌≡◌, ◌<◌, ◌≤◌, ◌+◌, ◌*◌, ℕ, zero, suc, Bool, true, false, IsTrue, IsSomeAnd, List, [], ◌∷◌, ◌++◌, length, map, take, Option, Some, None, option_map, slice_get, refl, sym, ap, subst, ◌∙◌, arith, below_more}
+use Rattle.std.proofs.Common.{◌≡◌, ◌<◌, ◌≤◌, ◌+◌, ◌*◌, ℕ, Bool, true, false, IsTrue, IsSomeAnd, List, [], ◌∷◌, ◌++◌, length, map, take, Option, Some, option_map, slice_get, refl, sym, ap, subst, ◌∙◌, arith, below_more}
 use Rattle.std.specs.Prelude.{if◌then◌else◌, unwrap_or}
 use Rattle.std.proofs.lemmas.List.{length-map, length-take-le, take_all}
 use Rattle.std.proofs.lemmas.Option.{same_Some, slice_get_within}
 use Rattle.itv_base.specs.Range.{Ends, IsRange}
 use Rattle.itv_base.specs.declared.limits.TheConstants.{MAX_CONSTRAINTS}
-use Rattle.itv_base.specs.declared.names.EventId.{EventId}
 use Rattle.origin.specs.declared.origin.Origin.{Origin}
 use Rattle.event_graph.proofs.EdgesMet.{found_below}
 use Rattle.event_graph.specs.Edges.{cause_choices, choices_of}

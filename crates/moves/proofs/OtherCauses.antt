@@ -1,5 +1,5 @@
 -- Constraints as they are drawn, with other causes.
-use Rattle.std.proofs.Common.{◌≡◌, ◌<◌, ◌≤◌, ℕ, zero, suc, List, [], ◌∷◌, length, map, get_or, All, IsSomeAnd, Option, Some, None, option_map, slice_get, refl, sym, ap, subst, ◌∙◌, arith}
+use Rattle.std.proofs.Common.{◌≡◌, ◌<◌, ℕ, List, [], ◌∷◌, length, map, get_or, IsSomeAnd, Option, Some, None, option_map, slice_get, refl, sym, ap, subst, ◌∙◌, arith}
 use Rattle.std.specs.Prelude.{unwrap_or}
 use Rattle.std.proofs.lemmas.List.{length-map}
 use Rattle.std.proofs.lemmas.List.Elements.{All-cons, All-head, All-nil, All-tail}
@@ -10,7 +10,7 @@ use Rattle.itv_base.specs.declared.names.RuleKind.TheVariants.{Lin}
 use Rattle.event_graph.proofs.EdgesMet.{All-found}
 use Rattle.event_graph.specs.declared.cause.Cause.{Cause}
 use Rattle.event_graph.specs.Network.{Constraint, IsCauseCount, IsConstraint, IsNet, Net, linear, with_constraint}
-use Rattle.moves.specs.Step.{AreOn, HasEventsOf, causes_at}
+use Rattle.moves.specs.Step.{AreOn, HasEventsOf}
 
 abbrev events_in : List Cause → List EventId
 events_in causes = map (λ (c : Cause). c.event) causes

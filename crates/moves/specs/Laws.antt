@@ -1,5 +1,5 @@
 -- Laws of moved numbers, over the definitions alone.
-use Rattle.std.specs.Prelude.{◌≡◌, ℕ, ℤ, pos, ◌≤ℤ◌, ◌<ℤ◌, if◌then◌else◌, List, ◌∷◌, [], option_map}
+use Rattle.std.specs.Prelude.{◌≡◌, ℕ, ℤ, pos, ◌≤ℤ◌, ◌<ℤ◌, if◌then◌else◌, List, option_map}
 use Rattle.std.specs.List.{list_any}
 use Rattle.itv_base.specs.Range.{Ends}
 use Rattle.itv_base.specs.declared.names.Side.{Side}

@@ -1,6 +1,6 @@
 -- Borders of a span.
-use Rattle.std.proofs.Common.{◌≡◌, ℕ, ℤ, pos, neg_ℤ, ◌+ℤ◌, ◌≤ℤ◌, ◌<ℤ◌, Bool, true, Option, Some, None, IfSome, List, refl, sym, ap, subst, ◌∙◌, arith}
-use Rattle.std.proofs.lemmas.Int.{by_lt_z, ints}
+use Rattle.std.proofs.Common.{◌≡◌, ℕ, ℤ, pos, neg_ℤ, ◌+ℤ◌, ◌≤ℤ◌, Bool, true, false, Option, Some, None, List, sym, ap, subst, ◌∙◌, arith}
+use Rattle.std.proofs.lemmas.Int.{ints}
 use Rattle.event_graph.specs.Bounds.{IsInconsistent}
 use Rattle.drawn.specs.Drawn.{Drawn}
 use Rattle.numbers.specs.declared.drawn_number.DrawnNumber.{DrawnNumber}
@@ -10,18 +10,20 @@ use Rattle.moves.specs.Step.{IsMoveBy, lent}
 use Rattle.moves.specs.Moving.{shifted_at}
 use Rattle.moves.specs.declared.margin.Margin.{Margin}
 use Rattle.moves.specs.declared.margin.Margin.TheVariants as margins
-use Rattle.spans.specs.Step.{IsBorderFrom, IsOn, IsShown, IsSpanOf, TellsConsistency, at_value, margin_of, on_of}
+use Rattle.spans.specs.Step.{IsBorderFrom, IsOn, IsShown, TellsConsistency, at_value, margin_of, on_of}
 use Rattle.spans.specs.declared.border.Border.{Border}
 use Rattle.spans.specs.declared.border.Border.TheVariants as borders
 use Rattle.spans.specs.declared.direction.Direction.{Direction}
 use Rattle.spans.specs.declared.direction.Direction.TheVariants.{Down, Up}
 use Rattle.spans.specs.declared.sought.SpanSought.{SpanSought}
-use Rattle.moves.specs.declared.span.SpanFound.{SpanFound}
 use Rattle.moves.proofs.Thresholds.{excluded}
-use Rattle.spans.proofs.Ways.{on_same, way_start}
+use Rattle.spans.proofs.Ways.{way_start}
 
 pub is_some_true : (drawn : Drawn) (o : Option Bool) (b : Bool) → o ≡ Some b → b ≡ true → TellsConsistency drawn o → IsConsistent drawn
 is_some_true drawn o b is test h = subst (TellsConsistency drawn) (is ∙ ap (λ (x : Bool). Some x) test) h
+
+pub is_none_true : (drawn : Drawn) (o : Option Bool) (b : Bool) → o ≡ Some b → b ≡ false → TellsConsistency drawn o → IsInconsistent drawn.net
+is_none_true drawn o b is test h = subst (TellsConsistency drawn) (is ∙ ap (λ (x : Bool). Some x) test) h
 
 module _ (sought : SpanSought) (d : Direction) (from : ℤ) where
   pub own_shown : NoneBreaks (at_value sought from) → IsShown sought d from (Some from)
@@ -112,9 +114,10 @@ found_span drawn numbers margins.Never margins.Never span = absurd span.below
 found_span drawn numbers down up span = span
 
 -- the span between a border below a value and one above it
-pub span_of : (sought : SpanSought) (from : ℤ) (low high : Border) (span : SpanFound) → IsBorderFrom sought Down from low → IsBorderFrom sought Up from high
-    → Passes (at_value sought from) → (Passes sought.drawn.now → from ≡ pos 0) → span.down ≡ margin_of Down low → span.up ≡ margin_of Up high → IsSpanOf sought span
-span_of sought from low high span below above passes own is_down is_up =
+pub span_of : (sought : SpanSought) (from : ℤ) (low high : Border) (down up : Margin) → IsBorderFrom sought Down from low → IsBorderFrom sought Up from high
+    → Passes (at_value sought from) → (Passes sought.drawn.now → from ≡ pos 0) → down ≡ margin_of Down low → up ≡ margin_of Up high
+    → IsSpanFound sought.drawn.now (lent sought.numbers.now) down up
+span_of sought from low high down up below above passes own is_down is_up =
     let made : IsSpan sought.drawn.now (lent sought.numbers.now) (margin_of Down low) (margin_of Up high) = record {
       from = from;
       some = passes;
@@ -122,8 +125,8 @@ span_of sought from low high span below above passes own is_down is_up =
       below = margin_down sought from low below;
       above = margin_up sought from high above;
     } in
-    found_span sought.drawn.now (lent sought.numbers.now) span.down span.up
-    (subst (λ (m : Margin). IsSpan sought.drawn.now (lent sought.numbers.now) m span.up) (sym is_down)
+    found_span sought.drawn.now (lent sought.numbers.now) down up
+    (subst (λ (m : Margin). IsSpan sought.drawn.now (lent sought.numbers.now) m up) (sym is_down)
     (subst (λ (m : Margin). IsSpan sought.drawn.now (lent sought.numbers.now) (margin_of Down low) m) (sym is_up) made))
 
 -- nothing was found, and a row breaks as drawn

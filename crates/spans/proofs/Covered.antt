@@ -1,28 +1,26 @@
 -- A cover, cause by cause and row by row.
-use Rattle.std.proofs.Common.{◌≡◌, ◌<◌, ◌≤◌, ◌+◌, ℕ, ℤ, pos, neg_ℤ, ◌+ℤ◌, ◌-ℤ◌, Bool, true, false, IsTrue, IsSomeAnd, IfSome, List, [], ◌∷◌, ◌++◌, length, map, take, All, Option, Some, None, option_map, slice_get, refl, sym, ap, subst, ◌∙◌, arith}
+use Rattle.std.proofs.Common.{◌≡◌, ◌<◌, ◌≤◌, ◌+◌, ℕ, ℤ, Bool, true, false, IsSomeAnd, List, [], ◌∷◌, ◌++◌, length, map, take, Option, Some, None, option_map, slice_get, refl, sym, ap, subst, ◌∙◌, arith}
 use Rattle.std.specs.Prelude.{if◌then◌else◌, unwrap_or}
 use lib.IntN.{◌*ℤ◌}
 use Rattle.std.specs.List.{AllZip}
 use Rattle.std.proofs.lemmas.List.{length_push, map_push, take_all}
 use Rattle.std.proofs.lemmas.List.Elements.{AllZip-push}
-use Rattle.itv_base.specs.Range.{Ends}
 use Rattle.itv_base.specs.declared.names.EventId.{EventId}
-use Rattle.itv_base.specs.declared.row_kind.RowKind.{RowKind}
 use Rattle.origin.specs.declared.origin.Origin.{Origin}
 use Rattle.event_graph.proofs.EdgesMet.{found_below, take_next}
 use Rattle.event_graph.specs.Network.{Constraint, Net, with_constraint}
 use Rattle.event_graph.specs.Times.{separation}
-use Rattle.event_graph.specs.Widening.{IsWider, IsWiderCause, IsWiderConstraint}
+use Rattle.event_graph.specs.Widening.{IsWiderCause, IsWiderConstraint}
 use Rattle.event_graph.specs.declared.cause.Cause.{Cause}
 use Rattle.drawn.specs.Drawn.{Drawn, OriginsFit, name_of}
 use Rattle.drawn.specs.declared.row.Row.{Row}
 use Rattle.numbers.specs.Numbers.{origins_of, part_of_target}
 use Rattle.numbers.specs.declared.drawn_number.DrawnNumber.{DrawnNumber}
-use Rattle.moves.specs.Covers.{IsTighterRow, cause_counted, constraint_counted, lag, row_counted}
-use Rattle.moves.specs.Moving.{cause_moved, constraint_moved, draw, each_by, kind_moved, row_moved, moved_up, shifted_at}
+use Rattle.moves.specs.Covers.{IsTighterRow, cause_counted, constraint_counted, row_counted}
+use Rattle.moves.specs.Moving.{cause_moved, constraint_moved, draw, each_by, kind_moved, row_moved, moved_up}
 use Rattle.moves.specs.Passing.{MeetsKind}
-use Rattle.moves.specs.Step.{HasEventsOf, causes_at, causes_moved}
-use Rattle.moves.proofs.Lists.{each_length, each_next}
+use Rattle.moves.specs.Step.{causes_at}
+use Rattle.moves.proofs.Lists.{each_next}
 use Rattle.moves.proofs.Moved.{fit_length, front_causes, front_moved}
 use Rattle.moves.proofs.Drew.{same_count}
 use Rattle.spans.specs.Step.{CoversCauses, CoversNet, CoversRows, IsWithinRange, kind_at, range_at}

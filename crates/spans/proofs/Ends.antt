@@ -1,6 +1,5 @@
 -- Ends of ranges that cover an end with all values of an interval.
-use Rattle.std.proofs.Common.{◌≡◌, ℤ, pos, neg_ℤ, ◌+ℤ◌, ◌-ℤ◌, ◌≤ℤ◌, Bool, true, false, IfSome, IfOk, IsSomeAnd, Option, Some, None, Ok, Err, Result, refl, sym, ap, subst, ◌∙◌, arith}
-use Rattle.std.specs.Prelude.{if◌then◌else◌}
+use Rattle.std.proofs.Common.{◌≡◌, ℤ, neg_ℤ, ◌+ℤ◌, ◌-ℤ◌, ◌≤ℤ◌, Bool, true, false, IfSome, IfOk, IsSomeAnd, Option, Some, None, Ok, Err, Result, sym, subst, arith}
 use Rattle.std.specs.Result.{result_ok}
 use lib.IntN.{◌*ℤ◌}
 use Rattle.std.proofs.lemmas.Int.{ints}

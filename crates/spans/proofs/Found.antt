@@ -1,8 +1,7 @@
 -- What was found of a network, as what is found of a drawn network with numbers moved.
-use Rattle.std.proofs.Common.{◌≡◌, ℕ, ℤ, List, Bool, true, false, not, refl, sym, subst}
+use Rattle.std.proofs.Common.{◌≡◌, ℕ, List, Bool, true, false, not, subst}
 use Rattle.event_graph.specs.Bounds.{IsInconsistent}
 use Rattle.event_graph.specs.Network.{Net}
-use Rattle.event_graph.specs.Satisfying.{Satisfies}
 use Rattle.drawn.specs.Drawn.{Drawn}
 use Rattle.drawn.specs.declared.row.Row.{Row}
 use Rattle.moves.specs.Networks.{IsNetFound}
@@ -35,3 +34,7 @@ none_of_none drawn none = λ times sat. absurd (none times sat)
 -- times that break a row satisfy the network
 pub some_of_breaks : (drawn : Drawn) (row : ℕ) → BreaksRow drawn row → IsConsistent drawn
 some_of_breaks drawn row breaks = (breaks.0, breaks.1)
+
+-- what was found, by another name
+pub found_as : (drawn : Drawn) (found is : NetFound) → found ≡ is → IsNetFound drawn found → IsNetFound drawn is
+found_as drawn found is same h = subst (IsNetFound drawn) same h

@@ -1,5 +1,5 @@
 -- Multiples of the values of an interval.
-use Rattle.std.proofs.Common.{◌≡◌, ℕ, Bool, true, false, ℤ, pos, negsuc, neg_ℤ, ◌+ℤ◌, ◌-ℤ◌, ◌≤ℤ◌, ◌<ℤ◌, IfSome, Option, Some, None, refl, sym, ap, subst, ◌∙◌, arith}
+use Rattle.std.proofs.Common.{◌≡◌, true, false, ℤ, pos, negsuc, neg_ℤ, ◌≤ℤ◌, IfSome, Option, Some, sym, subst, ◌∙◌, arith}
 use lib.IntN.{◌*ℤ◌, *ℤ_comm}
 use lib.Signed.{lt_z}
 use mir.Syntax.{w64}

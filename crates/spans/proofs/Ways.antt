@@ -1,8 +1,7 @@
 -- Ways from value to value in a direction.
-use Rattle.std.proofs.Common.{◌≡◌, ◌⊎◌, ℤ, pos, neg_ℤ, ◌+ℤ◌, ◌-ℤ◌, ◌≤ℤ◌, ◌<ℤ◌, IfSome, Option, Some, None, refl, sym, subst, arith}
+use Rattle.std.proofs.Common.{◌≡◌, ℤ, ◌+ℤ◌, Some, None, subst, arith}
 use Rattle.std.proofs.lemmas.Int.{by_lt_z, ints}
 use Rattle.moves.specs.Step.{IsMoveBy}
-use Rattle.moves.specs.declared.moving.TheConstants.{MOVE_LIMIT}
 use Rattle.spans.specs.Step.{IsOn, IsPast, IsTowards, on_of}
 use Rattle.spans.specs.declared.direction.Direction.{Direction}
 use Rattle.spans.specs.declared.direction.Direction.TheVariants.{Down, Up}
@@ -75,3 +74,16 @@ way_next P Up done next is here v past within = let same : next ≡ v = omega (a
 -- a shorter way
 pub way_less : (P : ℤ → Type 0) (d : Direction) (from last end : ℤ) → IsOn d last end → ((v : ℤ) → IsTowards d from (Some end) v → P v) → (v : ℤ) → IsTowards d from (Some last) v → P v
 way_less P d from last end on all v way = all v (way.0, on_through d v last end way.1 on)
+
+-- between a value and itself there is none
+pub none_past : (P : ℤ → Type 0) (d : Direction) (a v : ℤ) → IsPast d a v → IsOn d v a → P v
+none_past P Down a v past on = absurd (omega (arith, ints, past, on))
+none_past P Up a v past on = absurd (omega (arith, ints, past, on))
+
+pub past_through : (d : Direction) (a b c : ℤ) → IsOn d a b → IsPast d b c → IsPast d a c
+past_through Down a b c on past = omega (arith, ints, on, past)
+past_through Up a b c on past = omega (arith, ints, on, past)
+
+-- a value before another one has a next value that is no further
+pub next_move : (d : Direction) (a b : ℤ) → IsMoveBy a → IsMoveBy b → IsPast d a b → IsMoveBy (a +ℤ on_of d)
+next_move d a b first last past = move_between d a (a +ℤ on_of d) b first last (on_next d a) (next_on d a b past)

@@ -21,13 +21,20 @@ use Rattle.moves.specs.declared.margin.Margin.TheVariants as margins
 use Rattle.moves.specs.declared.span.SpanFound.{SpanFound}
 use Rattle.spans.specs.declared.advance.Advance.{Advance}
 use Rattle.spans.specs.declared.advance.Advance.TheVariants as advances
+use Rattle.spans.specs.declared.advance.Stretched.{Stretched}
+use Rattle.spans.specs.declared.advance.Stretched.TheVariants as stretches
 use Rattle.spans.specs.declared.border.Border.{Border}
 use Rattle.spans.specs.declared.border.Border.TheVariants as borders
+use Rattle.spans.specs.declared.bordering.ValueGap.{ValueGap}
 use Rattle.spans.specs.declared.direction.Direction.{Direction}
 use Rattle.spans.specs.declared.direction.Direction.TheVariants.{Down, Up}
+use Rattle.spans.specs.declared.finding.Tried.{Tried}
+use Rattle.spans.specs.declared.finding.Tried.TheVariants as tries
 use Rattle.spans.specs.declared.interval.Interval.{Interval}
 use Rattle.spans.specs.declared.looking.Ahead.{Ahead}
 use Rattle.spans.specs.declared.looking.Ahead.TheVariants as heads
+use Rattle.spans.specs.declared.looking.Looked.{Looked}
+use Rattle.spans.specs.declared.looking.Looked.TheVariants as looks
 use Rattle.spans.specs.declared.sought.SpanSought.{SpanSought}
 use Rattle.spans.specs.declared.sought.ValueFound.{ValueFound}
 use Rattle.spans.specs.declared.sought.ValueFound.TheVariants as values
@@ -147,12 +154,33 @@ IsAdvance sought direction from goal advances.Reached = IsShownTo sought directi
 IsAdvance sought direction from goal (advances.Breaks last row) = IsShownTo sought direction from goal last.by × BreaksRow (at_value sought (last.by +ℤ on_of direction)) row
 IsAdvance sought direction from goal (advances.Spent last) = IsShownTo sought direction from goal last.by
 
+-- what one more cover shows of the way from a value to a goal
+abbrev pub IsStretched : SpanSought → Direction → ℤ → ℤ → Stretched → Type 0
+IsStretched sought direction done goal (stretches.On next) =
+    IsOn direction done next.done.by × IsOn direction next.done.by goal
+    × ((value : ℤ) → IsPast direction done value → IsOn direction value next.done.by → NoneBreaks (at_value sought value))
+IsStretched sought direction done goal (stretches.Breaks row) = BreaksRow (at_value sought (done +ℤ on_of direction)) row
+IsStretched sought direction done goal stretches.Spent = Unit {0}
+
 -- what is known of a value that was found ahead
 abbrev pub IsAhead : SpanSought → Direction → ℤ → Ahead → Type 0
 IsAhead sought direction from (heads.Breaks at row) = IsMoveBy at.by × IsPast direction from at.by × BreaksRow (at_value sought at.by) row
 IsAhead sought direction from (heads.Contradicts at) = IsMoveBy at.by × IsPast direction from at.by × IsInconsistent (at_value sought at.by).net
 IsAhead sought direction from (heads.Limit at) = IsMoveBy at.by × IsOn direction from at.by
 IsAhead sought direction from heads.Spent = Unit {0}
+
+-- what a look at a value came to
+abbrev pub IsLooked : SpanSought → Direction → ℤ → ℤ → Looked → Type 0
+IsLooked sought direction from next (looks.On look) = look.at.by ≡ next
+IsLooked sought direction from next (looks.Found ahead) = IsAhead sought direction from ahead
+
+-- two values on the way from one value to another one: some times satisfy with the first of them, and none with the second
+pub record IsGapIn (sought : SpanSought) (direction : Direction) (from to : ℤ) (gap : ValueGap) : Type 0 where
+  pub before : IsOn direction from gap.has.by
+  pub between : IsOn direction gap.has.by gap.lacks.by
+  pub within : IsOn direction gap.lacks.by to
+  pub some : IsConsistent (at_value sought gap.has.by)
+  pub none : IsInconsistent (at_value sought gap.lacks.by).net
 
 -- ---- borders
 
@@ -198,6 +226,12 @@ margin_of direction (borders.Spent by) = margins.Spent
 -- what is found of the numbers is right
 abbrev pub IsSpanOf : SpanSought → SpanFound → Type 0
 IsSpanOf sought span = IsSpanFound sought.drawn.now (lent sought.numbers.now) span.down span.up
+
+-- what is found of a value beside the drawn one
+abbrev pub IsTried : SpanSought → Tried → Type 0
+IsTried sought (tries.Span span) = IsSpanOf sought span
+IsTried sought (tries.On far) = Unit {0}
+IsTried sought tries.Nothing = Unit {0}
 
 -- ---- what a look at a value finds
 

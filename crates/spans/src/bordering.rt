@@ -1,10 +1,10 @@
 //! One border of a span.
 
-ghost use Rattle.std.specs.Prelude.{◌≡◌, ◌+ℤ◌, Some, IfOk};
+ghost use Rattle.std.specs.Prelude.{◌≡◌, ◌+ℤ◌, IfOk, IfSome};
 ghost use Rattle.event_graph.specs.Bounds.{IsInconsistent};
 ghost use Rattle.moves.specs.Passing.{BreaksRow, Passes};
 ghost use Rattle.moves.specs.Step.{IsMoveBy};
-ghost use Rattle.spans.specs.Step.{IsBorderFrom, IsOn, IsPast, IsShownTo, IsSought, at_value, on_of};
+ghost use Rattle.spans.specs.Step.{IsBorderFrom, IsGapIn, IsOn, IsPast, IsShownTo, IsSought, at_value, on_of};
 
 use crate::advance::{Advance, show_to};
 use crate::border::Border;
@@ -18,6 +18,13 @@ use std::alloc::Global;
 
 // Values that are looked at between one that some times satisfy and one that none satisfy. Each halves the rest.
 const MOST_HALVES: u32 = 64;
+
+/// Two values: some times satisfy with the one, and none with the other one.
+#[derive(Clone, Copy)]
+pub struct ValueGap {
+    pub has: Value,
+    pub lacks: Value,
+}
 
 /// The border of a span in a direction from a value with which every requirement passes; these are the edges behind its bounds.
 pub fn border_of(
@@ -184,20 +191,48 @@ fn border_by_contradiction(
     requires contradicts { IsInconsistent (at_value sought.now at.by).net }
     ensures border { IfOk result (IsBorderFrom sought.now direction from.by) }
 {
-    let mut has: Value = from;
-    let mut lacks: Value = at;
+    let mut gap = ValueGap {
+        has: from,
+        lacks: at,
+    };
     for _turn in 0..MOST_HALVES {
-        if is_same(next_of(has, direction), lacks) {
-            return Ok(contradicts(has));
+        if is_same(next_of(gap.has, direction), gap.lacks) {
+            return Ok(contradicts(gap.has));
         }
-        let middle = value_on(has, distance(has, lacks) / 2, lacks, direction);
-        match sought.consistency_at(alloc, middle)? {
+        match halved(alloc, sought, gap, direction)? {
             None => return Ok(spent(from)),
-            Some(true) => has = middle,
-            Some(false) => lacks = middle,
+            Some(half) => gap = half,
         }
     }
     Ok(spent(from))
+}
+
+// One half of what is between two values: some times satisfy with the one, and none with the other one.
+fn halved(
+    alloc: Global,
+    sought: &SpanSought<'_>,
+    gap: ValueGap,
+    direction: Direction,
+) -> Result<Option<ValueGap>, NoMemory>
+    requires sought { IsSought sought.now }
+    requires has { IsMoveBy gap.has.by }
+    requires lacks { IsMoveBy gap.lacks.by }
+    requires gap { IsGapIn sought.now direction gap.has.by gap.lacks.by gap }
+    ensures half { IfOk result (λ half. IfSome half (IsGapIn sought.now direction gap.has.by gap.lacks.by)) }
+{
+    let far = distance(gap.has, gap.lacks) / 2;
+    let middle = value_on(gap.has, far, gap.lacks, direction);
+    match sought.consistency_at(alloc, middle)? {
+        None => Ok(None),
+        Some(true) => Ok(Some(ValueGap {
+            has: middle,
+            lacks: gap.lacks,
+        })),
+        Some(false) => Ok(Some(ValueGap {
+            has: gap.has,
+            lacks: middle,
+        })),
+    }
 }
 
 fn breaks(last: Value, row: u32) -> Border

@@ -5,7 +5,7 @@ ghost use Rattle.moves.specs.Found.{IsSpanFound};
 ghost use Rattle.moves.specs.Networks.{IsNetFound, is_net_open};
 ghost use Rattle.moves.specs.Passing.{BreaksRow, Passes};
 ghost use Rattle.moves.specs.Step.{IsMoveBy, lent};
-ghost use Rattle.spans.specs.Step.{IsSought, IsSpanOf, at_value};
+ghost use Rattle.spans.specs.Step.{IsSought, IsSpanOf, IsTried, at_value};
 
 use crate::border::margin_of;
 use crate::bordering::border_of;
@@ -22,6 +22,17 @@ use std::alloc::Global;
 
 // How often the next value is guessed, where a design fails as drawn.
 const GUIDED_ROUNDS: u32 = 20;
+
+/// What is found of a value beside the drawn one.
+#[derive(Clone, Copy)]
+pub enum Tried {
+    /// The span around it, since every requirement passes there.
+    Span(SpanFound),
+    /// A row breaks. The next value is this far on, if the edges behind its bounds say so.
+    On(Option<i64>),
+    /// It is not worth to look further.
+    Nothing,
+}
 
 /// Finds how far some numbers may be moved down and up as one before a requirement breaks. The base is what was found of the network as drawn: every requirement
 /// passes, or a row breaks. A margin is left open where a search is, or where it takes too many covers to come to it.
@@ -141,19 +152,40 @@ fn span_towards(
             return Ok(None);
         };
         at = value_on(at, more, goal, direction);
-        let Some(probed) = sought.probe_at(alloc, at)? else {
-            return Ok(None);
-        };
-        match probed.found {
-            NetFound::Passes => {
-                let span = span_around(alloc, sought, at, &probed.sides, reach)?;
-                return Ok(Some(span));
-            }
-            NetFound::Breaks(_) => far = sought.excess(step_of(direction), &probed.sides),
-            NetFound::Inconsistent => return Ok(None),
-            NetFound::Open => return Ok(None),
-            NetFound::Spent => return Ok(None),
+        match tried(alloc, sought, row, at, direction, reach)? {
+            Tried::Span(span) => return Ok(Some(span)),
+            Tried::On(next) => far = next,
+            Tried::Nothing => return Ok(None),
         }
     }
     Ok(None)
+}
+
+// The span around a value, if every requirement passes there. As drawn a row breaks.
+fn tried(
+    alloc: Global,
+    sought: &SpanSought<'_>,
+    row: u32,
+    at: Value,
+    direction: Direction,
+    reach: ShiftReach,
+) -> Result<Tried, NoMemory>
+    requires sought { IsSought sought.now }
+    requires breaks { BreaksRow sought.now.drawn.now row }
+    requires at { IsMoveBy at.by }
+    ensures { IfOk result (IsTried sought.now) }
+{
+    let Some(probed) = sought.probe_at(alloc, at)? else {
+        return Ok(Tried::Nothing);
+    };
+    match probed.found {
+        NetFound::Passes => {
+            let span = span_around(alloc, sought, at, &probed.sides, reach)?;
+            Ok(Tried::Span(span))
+        }
+        NetFound::Breaks(_) => Ok(Tried::On(sought.excess(step_of(direction), &probed.sides))),
+        NetFound::Inconsistent => Ok(Tried::Nothing),
+        NetFound::Open => Ok(Tried::Nothing),
+        NetFound::Spent => Ok(Tried::Nothing),
+    }
 }

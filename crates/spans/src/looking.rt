@@ -2,7 +2,7 @@
 
 ghost use Rattle.std.specs.Prelude.{IfOk};
 ghost use Rattle.moves.specs.Step.{IsMoveBy};
-ghost use Rattle.spans.specs.Step.{IsAhead, IsOn, IsSought};
+ghost use Rattle.spans.specs.Step.{IsAhead, IsLooked, IsOn, IsPast, IsSought};
 
 use crate::direction::{Direction, Value, is_same, step_of, value_on};
 use crate::sought::SpanSought;
@@ -30,6 +30,23 @@ pub enum Ahead {
     Spent,
 }
 
+/// The last value that was looked at: how far its bounds let the numbers be moved on, and how long the next stride is.
+#[derive(Clone, Copy)]
+pub struct Look {
+    pub at: Value,
+    pub room: Option<i64>,
+    pub stride: i64,
+}
+
+/// What a look at a value came to.
+#[derive(Clone, Copy)]
+pub enum Looked {
+    /// Every requirement passes, and the look goes on from here.
+    On(Look),
+    /// This ends the look.
+    Found(Ahead),
+}
+
 /// Looks ahead from a value to a goal; these are the edges behind the bounds at the value.
 pub fn look_ahead(
     alloc: Global,
@@ -45,39 +62,65 @@ pub fn look_ahead(
     requires ahead { IsOn direction from.by goal.by }
     ensures ahead { IfOk result (IsAhead sought.now direction from.by) }
 {
-    let step = step_of(direction);
-    let mut at: Value = from;
-    let mut room = sought.room(step, sides);
-    let mut stride: i64 = 1;
+    let mut look = Look {
+        at: from,
+        room: sought.room(step_of(direction), sides),
+        stride: 1,
+    };
     for round in 0..MOST_VALUES {
-        if is_same(at, goal) {
-            return Ok(Ahead::Limit(at));
+        if is_same(look.at, goal) {
+            return Ok(Ahead::Limit(look.at));
         }
-        let next = value_on(at, far_of(room, stride, round), goal, direction);
-        stride = stride.saturating_mul(4);
-        if is_same(next, at) {
+        let next = value_on(look.at, far_of(look, round), goal, direction);
+        if is_same(next, look.at) {
             return Ok(Ahead::Spent);
         }
-        let Some(probed) = sought.probe_at(alloc, next)? else {
-            return Ok(Ahead::Spent);
-        };
-        match probed.found {
-            NetFound::Passes => {
-                at = next;
-                room = sought.room(step, &probed.sides);
-            }
-            NetFound::Breaks(row) => return Ok(Ahead::Breaks { at: next, row }),
-            NetFound::Inconsistent => return Ok(Ahead::Contradicts(next)),
-            NetFound::Open | NetFound::Spent => return Ok(Ahead::Spent),
+        match looked_at(alloc, sought, from, next, look.stride, direction)? {
+            Looked::On(further) => look = further,
+            Looked::Found(ahead) => return Ok(ahead),
         }
     }
     Ok(Ahead::Spent)
 }
 
+// Looks at a value. The stride to it was this long.
+fn looked_at(
+    alloc: Global,
+    sought: &SpanSought<'_>,
+    from: Value,
+    next: Value,
+    stride: i64,
+    direction: Direction,
+) -> Result<Looked, NoMemory>
+    requires sought { IsSought sought.now }
+    requires by { IsMoveBy next.by }
+    requires past { IsPast direction from.by next.by }
+    ensures { IfOk result (IsLooked sought.now direction from.by next.by) }
+{
+    let Some(probed) = sought.probe_at(alloc, next)? else {
+        return Ok(Looked::Found(Ahead::Spent));
+    };
+    match probed.found {
+        NetFound::Passes => {
+            let room = sought.room(step_of(direction), &probed.sides);
+            let stride = stride.saturating_mul(4);
+            Ok(Looked::On(Look {
+                at: next,
+                room,
+                stride,
+            }))
+        }
+        NetFound::Breaks(row) => Ok(Looked::Found(Ahead::Breaks { at: next, row })),
+        NetFound::Inconsistent => Ok(Looked::Found(Ahead::Contradicts(next))),
+        NetFound::Open => Ok(Looked::Found(Ahead::Spent)),
+        NetFound::Spent => Ok(Looked::Found(Ahead::Spent)),
+    }
+}
+
 // How far on the next value is looked for.
-fn far_of(room: Option<i64>, stride: i64, round: u32) -> i64 {
-    match room {
+fn far_of(look: Look, round: u32) -> i64 {
+    match look.room {
         Some(gap) if round < GUESSED_VALUES => gap.saturating_add(1),
-        _ => stride,
+        _ => look.stride,
     }
 }

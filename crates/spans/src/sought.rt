@@ -1,6 +1,6 @@
 //! Numbers whose span is sought.
 
-ghost use Rattle.std.specs.Prelude.{◌≡◌, ◌≤◌, ℤ, IfOk, IfSome, IsTrue};
+ghost use Rattle.std.specs.Prelude.{◌≤◌, ℤ, IfOk, IfSome, IsTrue};
 ghost use Rattle.drawn.specs.Drawn.{Drawn};
 ghost use Rattle.moves.specs.Networks.{IsNetFound};
 ghost use Rattle.moves.specs.Passing.{HasDrawableCauses, HasDrawableRows, NoneBreaks};

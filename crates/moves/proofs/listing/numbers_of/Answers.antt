@@ -1,4 +1,4 @@
-use Rattle.std.proofs.Common.{◌≡◌, ◌<◌, ◌≤◌, length, ap, arith}
+use Rattle.std.proofs.Common.{◌<◌, ◌≤◌, length, ap, arith}
 use Rattle.event_graph.specs.Network.{Net}
 use Rattle.moves.proofs.Seen.{numbers_more, numbers_whole}
 use Rattle.moves.proofs.listing.numbers_of.Goals as goal

@@ -1,4 +1,4 @@
-use Rattle.std.proofs.Common.{◌≡◌, ◌≤◌, length, refl, slice_get, Some, get_or, subst, ap, arith}
+use Rattle.std.proofs.Common.{◌≤◌, length, refl, ap, arith}
 use Rattle.std.proofs.lemmas.Option.{slice_get-get_or}
 use Rattle.numbers.specs.Numbers.{origins_of}
 use Rattle.moves.specs.Step.{lent, moved_by}

@@ -1,4 +1,4 @@
-use Rattle.std.proofs.Common.{◌≡◌, ◌<◌, ◌≤◌, length, refl, ap, ◌∙◌, arith, below_more}
+use Rattle.std.proofs.Common.{◌<◌, ◌≤◌, length, refl, ap, ◌∙◌, arith, below_more}
 use Rattle.event_graph.specs.Network.{Net}
 use Rattle.moves.specs.Step.{lent, moved_by}
 use Rattle.moves.proofs.Moved.{CanMove, choices_kept, net_more, net_whole, ranges_at, ranges_whole, room_more}

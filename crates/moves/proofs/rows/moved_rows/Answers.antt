@@ -1,4 +1,4 @@
-use Rattle.std.proofs.Common.{◌≡◌, ◌≤◌, List, length, refl, ap, sym, subst, arith, All}
+use Rattle.std.proofs.Common.{◌≤◌, List, length, refl, ap, sym, subst, arith, All}
 use Rattle.drawn.specs.Drawn.{IsRowOf}
 use Rattle.drawn.specs.declared.row.Row.{Row}
 use Rattle.moves.specs.Moving.{row_moved}

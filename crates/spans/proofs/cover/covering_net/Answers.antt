@@ -1,4 +1,4 @@
-use Rattle.std.proofs.Common.{◌≡◌, ◌+◌, ◌<◌, ℕ, List, length, slice_get, sym, ap, subst, ◌∙◌, arith}
+use Rattle.std.proofs.Common.{◌+◌, ◌<◌, ℕ, List, length, slice_get, sym, ap, subst, ◌∙◌, arith}
 use Rattle.event_graph.specs.Network.{Net}
 use Rattle.event_graph.specs.declared.cause.Cause.{Cause}
 use Rattle.moves.specs.Step.{lent}
