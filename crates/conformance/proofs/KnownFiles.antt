@@ -290,7 +290,6 @@ refused_redraws files (whatif design edits budget) bytes own h =
     let (list, had, is) = told_then files (at Edits refusals.Edits (edits_of drawn file)) (λ es. given.Whatif drawn es budget) h.given behind in
     let answered : Answers (given.Whatif drawn list budget) answers.DesignRefused bytes = subst (λ g. Answers g answers.DesignRefused bytes) (sym is) h.answers in
     absurd (never_from drawn answered.0 (kinds_of drawn.rows) list bytes answered.2)
-
 refused_redraws files (margin design list budget) bytes own h =
     let (both, draws, comes) = told_behind files (planned_at design) (λ p. list_at p.1 list >>= (λ numbers. gives (given.Margin p.0 p.1 numbers budget))) h.given h.reads in
     let (numbers, had, is) = told_then files (list_at both.1 list) (λ ns. given.Margin both.0 both.1 ns budget) h.given comes in

@@ -1,4 +1,4 @@
 pub mod Lining
 pub mod Called
-pub mod Finding
+pub mod Endings
 pub mod Whole

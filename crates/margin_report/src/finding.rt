@@ -185,10 +185,7 @@ fn as_one_found(
 }
 
 // The numbers that were seen.
-fn lent_numbers<'a>(
-    alloc: Global,
-    seen: &'a [NumberSeen],
-) -> Result<Vec<&'a DrawnNumber>, NoMemory>
+fn lent_numbers<'a>(alloc: Global, seen: &'a [NumberSeen]) -> Result<Vec<&'a DrawnNumber>, NoMemory>
     ensures { IfOk result (λ numbers. lent numbers.items ≡ numbers_in_seen seen.now) }
 {
     let mut numbers = Vec::new(alloc);
