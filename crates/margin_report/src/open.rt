@@ -1,0 +1,53 @@
+//! Whether a search for a margin was left open.
+
+ghost use Rattle.std.specs.Prelude.{◌≡◌, ℕ, List};
+ghost use Rattle.std.specs.List.{list_any};
+ghost use Rattle.margin_report.specs.Step.{is_end_spent, is_span_spent};
+ghost use Rattle.margin_report.specs.Text.{are_spent, is_spent, margins_of};
+
+use crate::number_found::NumberFound;
+use moves::{Margin, SpanFound};
+
+/// Whether a search for a margin of one of some numbers was left open.
+pub fn are_spent(found: &[NumberFound]) -> bool
+    ensures spent { result ≡ are_spent found.now }
+{
+    found.iter().any(|found| is_number_spent(found))
+}
+
+fn is_number_spent(found: &NumberFound) -> bool
+    ensures { result ≡ list_any is_spent (margins_of found.now) }
+{
+    is_end_spent(found.ends.low) || is_end_spent(found.ends.high) || is_span_spent(found.span)
+}
+
+fn is_end_spent(margin: Option<Margin>) -> bool
+    ensures { result ≡ is_end_spent margin }
+{
+    match margin {
+        Some(margin) => is_spent(margin),
+        None => false,
+    }
+}
+
+fn is_span_spent(span: Option<SpanFound>) -> bool
+    ensures { result ≡ is_span_spent span }
+{
+    match span {
+        Some(span) => is_spent(span.down) || is_spent(span.up),
+        None => false,
+    }
+}
+
+fn is_spent(margin: Margin) -> bool
+    ensures { (which : List ℕ) → result ≡ is_spent (which, margin) }
+{
+    match margin {
+        Margin::Spent => true,
+        Margin::Free
+        | Margin::Until { .. }
+        | Margin::UntilContradiction { .. }
+        | Margin::Never
+        | Margin::Limit => false,
+    }
+}

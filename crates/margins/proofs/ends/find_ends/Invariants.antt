@@ -1,0 +1,8 @@
+use Rattle.std.proofs.Common.{take}
+use Rattle.std.specs.List.{AllZip}
+use Rattle.margins.specs.Ends.{AreBothFound}
+use Rattle.margins.proofs.ends.find_ends.Given as goal
+
+-- the numbers so far
+abbrev pub invariant-loop-k : goal.invariant-loop-k
+invariant-loop-k l = AllZip (AreBothFound l.drawn l.effort.budget) (take l.k l.seen) l.ends.items

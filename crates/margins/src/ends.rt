@@ -1,0 +1,149 @@
+//! The ends of all numbers.
+
+ghost use Rattle.std.specs.Prelude.{◌≡◌, ◌≤◌, IfOk, IsTrue, false, length};
+ghost use Rattle.std.specs.List.{AllZip};
+ghost use Rattle.event_graph.specs.Edges.{cause_choices};
+ghost use Rattle.moves.specs.Moving.{opened_at};
+ghost use Rattle.moves.specs.Networks.{IsNetFound, is_net_open};
+ghost use Rattle.moves.specs.Passing.{Passes};
+ghost use Rattle.probing.specs.Step.{IsProbed};
+ghost use Rattle.margins.specs.Ends.{AreBothFound};
+ghost use Rattle.margins.specs.Step.{AreFree, IsBase, IsEndOf, IsEndSought, IsFoundOf, IsFreeAt, end_on};
+
+use crate::falling_short::margin_from_break;
+use crate::free::{free_ends, has_end, none_free};
+use crate::passing::margin_from_pass;
+use crate::reach::reach_of;
+use crate::sought::EndSought;
+use drawn::DrawnNetwork;
+use itv_base::{NoMemory, Side};
+use moves::{Margin, NetFound, NumberSeen};
+use probing::{Effort, Probed};
+use std::alloc::Global;
+
+/// What is found of the ends of a number. An end that is open as drawn has nothing.
+#[derive(Clone, Copy)]
+pub struct EndsFound {
+    pub low: Option<Margin>,
+    pub high: Option<Margin>,
+}
+
+/// Finds how far each end of each of some numbers may be moved; the base is what was found of the network as drawn, which some times satisfy. Nothing is left
+/// open where the budget is no less than the number of cause choices.
+pub fn find_ends(
+    alloc: Global,
+    drawn: &DrawnNetwork,
+    seen: &[NumberSeen],
+    base: &Probed,
+    effort: Effort,
+) -> Result<Vec<EndsFound>, NoMemory>
+    requires base { IsNetFound drawn.now base.now.found }
+    requires consistent { base.now.found ≡ NetFound.Inconsistent → ⊥ }
+    requires settles { cause_choices drawn.now.net.constraints ≤ effort.budget → is_net_open base.now.found ≡ false }
+    requires fits { IsProbed drawn.now.net.events base.now }
+    requires budget { 1 ≤ effort.budget }
+    ensures ends { IfOk result (λ ends. AllZip (AreBothFound drawn.now effort.budget) seen.now ends.items) }
+{
+    let lows = free_or_none(alloc, drawn, seen, Side::Lower, base, effort)?;
+    let highs = free_or_none(alloc, drawn, seen, Side::Upper, base, effort)?;
+    let mut ends = Vec::new(alloc);
+    for k in 0..seen.len() {
+        let found = find_both(alloc, drawn, &seen[k], base, effort, lows[k], highs[k])?;
+        ends.push(found)?;
+    }
+    Ok(ends)
+}
+
+// Of each number whether its end was found to be free. Of a design that does not pass no end is.
+fn free_or_none(
+    alloc: Global,
+    drawn: &DrawnNetwork,
+    seen: &[NumberSeen],
+    side: Side,
+    base: &Probed,
+    effort: Effort,
+) -> Result<Vec<bool>, NoMemory>
+    requires base { IsNetFound drawn.now base.now.found }
+    requires budget { 1 ≤ effort.budget }
+    ensures free { IfOk result (λ free. AreFree drawn.now side seen.now free.items) }
+    ensures each { IfOk result (λ free. length free.items ≡ length seen.now) }
+{
+    match base.found {
+        NetFound::Passes => free_ends(alloc, drawn, seen, side, &base.sides, effort),
+        _ => none_free(alloc, seen),
+    }
+}
+
+// What is found of the ends of a number.
+fn find_both(
+    alloc: Global,
+    drawn: &DrawnNetwork,
+    seen: &NumberSeen,
+    base: &Probed,
+    effort: Effort,
+    is_low_free: bool,
+    is_high_free: bool,
+) -> Result<EndsFound, NoMemory>
+    requires base { IsBase drawn.now effort base.now }
+    requires low { IsTrue is_low_free → IsFreeAt drawn.now Side.Lower seen.now }
+    requires high { IsTrue is_high_free → IsFreeAt drawn.now Side.Upper seen.now }
+    ensures ends { IfOk result (AreBothFound drawn.now effort.budget seen.now) }
+{
+    let low = find_side(alloc, drawn, seen, Side::Lower, base, effort, is_low_free)?;
+    let high = find_side(alloc, drawn, seen, Side::Upper, base, effort, is_high_free)?;
+    Ok(EndsFound { low, high })
+}
+
+// What is found of the end of a number on a side, unless the end is open.
+fn find_side(
+    alloc: Global,
+    drawn: &DrawnNetwork,
+    seen: &NumberSeen,
+    side: Side,
+    base: &Probed,
+    effort: Effort,
+    is_free: bool,
+) -> Result<Option<Margin>, NoMemory>
+    requires base { IsBase drawn.now effort base.now }
+    requires free { IsTrue is_free → IsFreeAt drawn.now side seen.now }
+    ensures end { IfOk result (IsEndOf drawn.now effort.budget seen.now.number side (end_on side seen.now.range)) }
+{
+    if !has_end(seen, side) {
+        return Ok(None);
+    }
+    let number = &seen.number;
+    let sought = EndSought {
+        drawn,
+        number,
+        side,
+        reach: reach_of(drawn, number, side),
+        effort,
+    };
+    let found = find_end(alloc, &sought, base, is_free)?;
+    Ok(Some(found))
+}
+
+// What is found of an end.
+fn find_end(
+    alloc: Global,
+    sought: &EndSought<'_>,
+    base: &Probed,
+    is_free: bool,
+) -> Result<Margin, NoMemory>
+    requires sought { IsEndSought sought.now }
+    requires base { IsBase sought.now.drawn.now sought.now.effort base.now }
+    requires free { IsTrue is_free → Passes (opened_at sought.now.drawn.now sought.now.number.now sought.now.side) }
+    ensures { IfOk result (IsFoundOf sought.now) }
+{
+    if is_free {
+        return Ok(Margin::Free);
+    }
+    match base.found {
+        NetFound::Passes => margin_from_pass(alloc, sought, &base.sides),
+        NetFound::Breaks(row) => margin_from_break(alloc, sought, row, base),
+        // Some times satisfy the network.
+        NetFound::Inconsistent => unreachable!(),
+        NetFound::Open => Ok(Margin::Spent),
+        NetFound::Spent => Ok(Margin::Spent),
+    }
+}

@@ -1,0 +1,12 @@
+pub mod Lists
+pub mod Widened
+pub mod Thresholds
+pub mod Each
+pub mod Products
+pub mod Counting
+pub mod Covering
+pub mod Drew
+pub mod OtherCauses
+pub mod Moved
+pub mod MovedRows
+pub mod Seen

@@ -1,0 +1,75 @@
+-- Words of private contracts.
+use Rattle.std.specs.Prelude.{◌≡◌, ◌<◌, ℕ, ℤ, neg_ℤ, ◌≤ℤ◌, Bool, if◌then◌else◌, List, [], All, map, option_map, slice_get, unwrap_or}
+use Rattle.std.specs.Borrow.{Bor}
+use Rattle.itv_base.specs.Range.{Ends}
+use Rattle.event_graph.specs.declared.cause.Cause.{Cause}
+use Rattle.event_graph.specs.Network.{Constraint, Net}
+use Rattle.drawn.specs.Drawn.{Drawn}
+use Rattle.drawn.specs.declared.row.Row.{Row}
+use Rattle.numbers.specs.Numbers.{origins_of, part_of_target}
+use Rattle.numbers.specs.declared.drawn_number.DrawnNumber.{DrawnNumber}
+use Rattle.moves.specs.declared.moving.Move.{Move}
+use Rattle.moves.specs.declared.moving.Move.TheVariants as moves
+use Rattle.moves.specs.declared.moving.TheConstants.{MOVE_LIMIT}
+use Rattle.moves.specs.declared.number_seen.NumberSeen.{NumberSeen}
+use Rattle.moves.specs.Moving.{cause_moved, draw, each_by, opened, moved_up, widened}
+
+-- ---- moves
+
+-- a number of picoseconds by which a range may be moved
+abbrev pub IsMoveBy : ℤ → Type 0
+IsMoveBy by = (neg_ℤ MOVE_LIMIT ≤ℤ by) × (by ≤ℤ MOVE_LIMIT)
+
+abbrev pub IsMove : Move → Type 0
+IsMove (moves.Widen side by) = IsMoveBy by
+IsMove (moves.Open side) = Unit {0}
+IsMove (moves.Shift by) = IsMoveBy by
+
+-- the move opens an end
+abbrev pub IsOpening : Move → Type 0
+IsOpening (moves.Widen side by) = ⊥
+IsOpening (moves.Open side) = Unit {0}
+IsOpening (moves.Shift by) = ⊥
+
+-- what a move makes of a range
+abbrev pub moved_by : Move → Ends → Ends
+moved_by (moves.Widen side by) range = widened side by range
+moved_by (moves.Open side) range = opened side range
+moved_by (moves.Shift by) range = moved_up by range
+
+-- ---- numbers
+
+-- numbers that are lent
+abbrev pub lent : List (Bor DrawnNumber) → List DrawnNumber
+lent numbers = map (λ (number : Bor DrawnNumber). number.now) numbers
+
+-- the numbers of those that were seen
+abbrev pub numbers_seen : List NumberSeen → List DrawnNumber
+numbers_seen seen = map (λ (s : NumberSeen). s.number) seen
+
+-- ---- networks
+
+-- a drawn network of which nothing but its network and its rows is looked at
+abbrev pub bare_drawn : Net → List Row → Drawn
+bare_drawn net rows = record { net = net; origins = []; names = []; rows = rows }
+
+-- the causes of a constraint
+abbrev pub causes_at : Net → ℕ → List Cause
+causes_at net constraint = unwrap_or (option_map (λ (c : Constraint). c.causes) (slice_get net.constraints constraint)) []
+
+-- the causes of a constraint, with each range moved that one of the numbers draws
+abbrev pub causes_moved : (Ends → Ends) → Drawn → List DrawnNumber → ℕ → List Cause
+causes_moved move drawn numbers constraint =
+    each_by (cause_moved move (draw numbers (part_of_target drawn constraint))) (causes_at drawn.net constraint) (origins_of drawn constraint)
+
+-- a cause, with its range moved where it is drawn
+abbrev pub cause_by : Bool → Move → Cause → Cause
+cause_by is_drawn by cause = if is_drawn then record cause { range = moved_by by cause.range } else cause
+
+-- causes on events with numbers below `events`
+abbrev pub AreOn : ℕ → List Cause → Type 0
+AreOn events causes = All (λ (c : Cause). c.event.0 < events) causes
+
+-- causes on the events of the causes of a constraint that is there
+abbrev pub HasEventsOf : Net → ℕ → List Cause → Type 0
+HasEventsOf net constraint causes = map (λ (c : Cause). c.event) causes ≡ map (λ (c : Cause). c.event) (causes_at net constraint)

@@ -1,0 +1,27 @@
+//! Laws of moved numbers. Each is the contract of a function that does nothing.
+
+ghost use Rattle.moves.specs.Laws.{CoverHolds, CoversBetween, EachIsMoved, FreeIsForAll, MarginIsThreshold, MovedByNothing, OneMargin};
+
+/// In a moved network each cause that one of the numbers draws has its range moved, and each other cause is as it was. An end that is moved by nothing is
+/// as it was.
+pub fn numbers_are_moved()
+    ensures each { EachIsMoved }
+    ensures nothing { MovedByNothing }
+{}
+
+/// With each greater move than a margin the row breaks that the margin names, and with no lesser move any requirement breaks. So an end has one margin.
+pub fn margin_is_threshold()
+    ensures threshold { MarginIsThreshold }
+    ensures one { OneMargin }
+{}
+
+/// If an end is free, no move of it breaks a requirement.
+pub fn free_is_for_all()
+    ensures law { FreeIsForAll }
+{}
+
+/// If no requirement of a cover breaks, none breaks with a value that it covers. What covers two values covers each value between them.
+pub fn cover_holds()
+    ensures holds { CoverHolds }
+    ensures between { CoversBetween }
+{}

@@ -1,0 +1,11 @@
+//! Numbers of a drawing with their ranges.
+
+use itv_base::Range;
+use numbers::DrawnNumber;
+
+/// A number of a drawing, and the range of the first cause that it draws.
+#[derive(Drop)]
+pub struct NumberSeen {
+    pub number: DrawnNumber,
+    pub range: Range,
+}

@@ -1,0 +1,12 @@
+use Rattle.std.proofs.Common.{refl}
+use Rattle.probing.proofs.Finding.{both_looked, high_exceeds}
+use Rattle.probing.proofs.searching.look_at_range.Goals as goal
+
+pub returns-then-is_exceeded-clause-found : goal.returns-then-is_exceeded-clause-found
+returns-then-is_exceeded-clause-found c =
+    high_exceeds c.args.net.now c.args.row.now.from c.args.row.now.to c.args.range c.high.result c.in_ok-high.high c.high.ensures.end (c.if-is_exceeded.ensures refl) c.in_ok-high.ensures.found
+
+pub returns-clause-found : goal.returns-clause-found
+returns-clause-found c =
+    both_looked c.args.net.now c.args.row.now.from c.args.row.now.to c.args.range c.high.result c.low.result c.in_ok-high.high c.in_ok-low.low c.both_of.result c.high.ensures.end
+    c.low.ensures.end c.both_of.ensures.both c.in_ok-high.ensures.found c.in_ok-low.ensures.found

@@ -1,0 +1,19 @@
+//! Whether every requirement of a network passes, which row breaks, or whether the rules contradict each other; and what the next move of a number may be
+//! guessed from. The contract: what `probe` finds is right, and is left open only where the cause choices are more than the budget. No contract says that
+//! a guess is a good one.
+#![tactic(auto)]
+
+mod drawing;
+mod effort;
+mod gauge;
+mod lacking;
+mod noting;
+mod probed;
+mod searching;
+mod side;
+
+pub use effort::Effort;
+pub use gauge::{Step, excess, room};
+pub use lacking::need;
+pub use probed::{Probed, SideChain};
+pub use searching::probe;

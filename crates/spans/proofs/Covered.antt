@@ -1,0 +1,197 @@
+-- A cover, cause by cause and row by row.
+use Rattle.std.proofs.Common.{◌≡◌, ◌<◌, ◌≤◌, ◌+◌, ℕ, ℤ, Bool, true, false, IsSomeAnd, List, [], ◌∷◌, ◌++◌, length, map, take, Option, Some, None, option_map, slice_get, refl, sym, ap, subst, ◌∙◌, arith}
+use Rattle.std.specs.Prelude.{if◌then◌else◌, unwrap_or}
+use lib.IntN.{◌*ℤ◌}
+use Rattle.std.specs.List.{AllZip}
+use Rattle.std.proofs.lemmas.List.{length_push, map_push, take_all}
+use Rattle.std.proofs.lemmas.List.Elements.{AllZip-push}
+use Rattle.itv_base.specs.declared.names.EventId.{EventId}
+use Rattle.origin.specs.declared.origin.Origin.{Origin}
+use Rattle.event_graph.proofs.EdgesMet.{found_below, take_next}
+use Rattle.event_graph.specs.Network.{Constraint, Net, with_constraint}
+use Rattle.event_graph.specs.Times.{separation}
+use Rattle.event_graph.specs.Widening.{IsWiderCause, IsWiderConstraint}
+use Rattle.event_graph.specs.declared.cause.Cause.{Cause}
+use Rattle.drawn.specs.Drawn.{Drawn, OriginsFit, name_of}
+use Rattle.drawn.specs.declared.row.Row.{Row}
+use Rattle.numbers.specs.Numbers.{origins_of, part_of_target}
+use Rattle.numbers.specs.declared.drawn_number.DrawnNumber.{DrawnNumber}
+use Rattle.moves.specs.Covers.{IsTighterRow, cause_counted, constraint_counted, row_counted}
+use Rattle.moves.specs.Moving.{cause_moved, constraint_moved, draw, each_by, kind_moved, row_moved, moved_up}
+use Rattle.moves.specs.Passing.{MeetsKind}
+use Rattle.moves.specs.Step.{causes_at}
+use Rattle.moves.proofs.Lists.{each_next}
+use Rattle.moves.proofs.Moved.{fit_length, front_causes, front_moved}
+use Rattle.moves.proofs.Drew.{same_count}
+use Rattle.spans.specs.Step.{CoversCauses, CoversNet, CoversRows, IsWithinRange, kind_at, range_at}
+
+-- ---- one cause
+
+abbrev moved_if : ℤ → Bool → Cause → Cause
+moved_if value is_drawn c = if is_drawn then record c { range = moved_up value c.range } else c
+
+one_covers : (counts : List ℤ) (target : EventId) (value : ℤ) (is_drawn : Bool) (c wide : Cause) → c.event ≡ wide.event
+    → IsWithinRange (range_at is_drawn (separation counts c.event target) value c.range) wide.range → IsWiderCause (cause_counted counts value target (moved_if value is_drawn c)) wide
+one_covers counts target value true c wide event within = record { event = event; low = within.0; high = within.1 }
+one_covers counts target value false c wide event within = record { event = event; low = within.0; high = within.1 }
+
+-- ---- the causes of a constraint
+
+-- the first causes allow no less than the drawn ones
+abbrev pub FrontCauses : List ℤ → Drawn → List DrawnNumber → ℕ → EventId → ℕ → List Cause → ℤ → Type 0
+FrontCauses counts drawn numbers constraint target k causes value =
+    AllZip IsWiderCause (map (cause_counted counts value target) (front_causes (moved_up value) drawn numbers constraint k)) causes
+
+pub causes_more : (counts : List ℤ) (drawn : Drawn) (numbers : List DrawnNumber) (constraint k : ℕ) (target : EventId) (part : List ℕ) (origins : List Origin) (c wide : Cause) (o : Origin)
+    (is_drawn : Bool) (apart value : ℤ) (old new : List Cause) → OriginsFit drawn.net drawn.origins → part ≡ part_of_target drawn constraint → origins ≡ origins_of drawn constraint
+    → slice_get (causes_at drawn.net constraint) k ≡ Some c → slice_get origins k ≡ Some o → is_drawn ≡ draw numbers part o → apart ≡ separation counts c.event target
+    → c.event ≡ wide.event → IsWithinRange (range_at is_drawn apart value c.range) wide.range → FrontCauses counts drawn numbers constraint target k old value
+    → new ≡ old ++ wide ∷ [] → FrontCauses counts drawn numbers constraint target (k + 1) new value
+causes_more counts drawn numbers constraint k target part origins c wide o is_drawn apart value old new fit is_part is_origins at_c at_o test is_apart event within before pushed =
+    let own : slice_get (origins_of drawn constraint) k ≡ Some o = subst (λ (os : List Origin). slice_get os k ≡ Some o) is_origins at_o in
+    let own_test : Origin → Bool = draw numbers (part_of_target drawn constraint) in
+    let right : is_drawn ≡ own_test o = test ∙ ap (λ (p : List ℕ). draw numbers p o) is_part in
+    let holds : IsWithinRange (range_at (own_test o) (separation counts c.event target) value c.range) wide.range =
+    subst (λ (b : Bool). IsWithinRange (range_at b (separation counts c.event target) value c.range) wide.range) right
+    (subst (λ (a : ℤ). IsWithinRange (range_at is_drawn a value c.range) wide.range) is_apart within) in
+    let here : IsWiderCause (cause_counted counts value target (cause_moved (moved_up value) own_test c o)) wide = one_covers counts target value (own_test o) c wide event holds in
+    let next = each_next (cause_moved (moved_up value) own_test) (causes_at drawn.net constraint) (origins_of drawn constraint) k c o (same_count drawn constraint fit) at_c own in
+    let whole : map (cause_counted counts value target) (front_causes (moved_up value) drawn numbers constraint (k + 1))
+        ≡ map (cause_counted counts value target) (front_causes (moved_up value) drawn numbers constraint k) ++ cause_counted counts value target (cause_moved (moved_up value) own_test c o) ∷ [] =
+    ap (λ (cs : List Cause). map (cause_counted counts value target) cs) next
+    ∙ map_push (cause_counted counts value target) (front_causes (moved_up value) drawn numbers constraint k) (cause_moved (moved_up value) own_test c o) in
+    subst (λ (cs : List Cause). AllZip IsWiderCause cs new) (sym whole)
+    (subst (λ (cs : List Cause). AllZip IsWiderCause (map (cause_counted counts value target) (front_causes (moved_up value) drawn numbers constraint k)
+    ++ cause_counted counts value target (cause_moved (moved_up value) own_test c o) ∷ []) cs) (sym pushed)
+    (AllZip-push IsWiderCause (map (cause_counted counts value target) (front_causes (moved_up value) drawn numbers constraint k)) old
+    (cause_counted counts value target (cause_moved (moved_up value) own_test c o)) wide before here))
+
+pub causes_whole : (counts : List ℤ) (drawn : Drawn) (numbers : List DrawnNumber) (constraint k : ℕ) (target : EventId) (items : List Cause) (value : ℤ) → OriginsFit drawn.net drawn.origins
+    → length (origins_of drawn constraint) ≤ k → FrontCauses counts drawn numbers constraint target k items value → CoversCauses counts drawn numbers constraint target items value
+causes_whole counts drawn numbers constraint k target items value fit all covers =
+    let same : length (origins_of drawn constraint) ≡ length (causes_at drawn.net constraint) = same_count drawn constraint fit in
+    let first : take k (causes_at drawn.net constraint) ≡ causes_at drawn.net constraint = take_all k (causes_at drawn.net constraint) (omega (arith, same, all)) in
+    let second : take k (origins_of drawn constraint) ≡ origins_of drawn constraint = take_all k (origins_of drawn constraint) all in
+    let P : List Cause → List Origin → Type 0 = λ cs os.
+        AllZip IsWiderCause (map (cause_counted counts value target) (each_by (cause_moved (moved_up value) (draw numbers (part_of_target drawn constraint))) cs os)) items in
+    subst (λ (os : List Origin). P (causes_at drawn.net constraint) os) second (subst (λ (cs : List Cause). P cs (take k (origins_of drawn constraint))) first covers)
+
+-- the events of the first causes
+pub events_more : (cs : List Cause) (k : ℕ) (c wide : Cause) (old new : List Cause) → slice_get cs k ≡ Some c → c.event ≡ wide.event
+    → map (λ (x : Cause). x.event) old ≡ map (λ (x : Cause). x.event) (take k cs) → new ≡ old ++ wide ∷ []
+    → map (λ (x : Cause). x.event) new ≡ map (λ (x : Cause). x.event) (take (k + 1) cs)
+events_more cs k c wide old new at event before pushed =
+    let v : Cause → EventId = λ x. x.event in
+    ap (map v) pushed ∙ (map_push v old wide ∙ (ap (λ (es : List EventId). es ++ v wide ∷ []) before ∙ (ap (λ (e : EventId). map v (take k cs) ++ e ∷ []) (sym event)
+    ∙ (sym (map_push v (take k cs) c) ∙ ap (map v) (sym (take_next cs k c at))))))
+
+-- ---- the constraints
+
+-- the first constraints allow no less than the drawn ones
+abbrev pub FrontNet : List ℤ → Drawn → List DrawnNumber → ℕ → List Constraint → ℤ → Type 0
+FrontNet counts drawn numbers k constraints value =
+    AllZip IsWiderConstraint (map (constraint_counted counts value) (front_moved (moved_up value) drawn numbers k).constraints) constraints
+
+-- the causes of a constraint that is there
+causes_there : (counts : List ℤ) (drawn : Drawn) (numbers : List DrawnNumber) (value : ℤ) (c : Constraint) (o : List Origin) (causes : List Cause) (x : Option Constraint) (y : Option (List Origin))
+    → x ≡ Some c → y ≡ Some o
+    → AllZip IsWiderCause (map (cause_counted counts value c.target)
+    (each_by (cause_moved (moved_up value) (draw numbers (unwrap_or (option_map (λ (d : Constraint). (name_of drawn d.target).part) x) [])))
+    (unwrap_or (option_map (λ (d : Constraint). d.causes) x) []) (unwrap_or y []))) causes
+    → AllZip IsWiderCause (constraint_counted counts value (constraint_moved (moved_up value) drawn numbers c o)).causes causes
+causes_there counts drawn numbers value c o causes x y at_x at_y covers =
+    let P : Option Constraint → Option (List Origin) → Type 0 = λ p q.
+        AllZip IsWiderCause (map (cause_counted counts value c.target)
+        (each_by (cause_moved (moved_up value) (draw numbers (unwrap_or (option_map (λ (d : Constraint). (name_of drawn d.target).part) p) [])))
+        (unwrap_or (option_map (λ (d : Constraint). d.causes) p) []) (unwrap_or q []))) causes in
+    subst (λ (q : Option (List Origin)). P (Some c) q) at_y (subst (λ (p : Option Constraint). P p y) at_x covers)
+
+pub net_more : (counts : List ℤ) (drawn : Drawn) (numbers : List DrawnNumber) (k : ℕ) (causes : List Cause) (value : ℤ) (old new : Net) → OriginsFit drawn.net drawn.origins
+    → k < length drawn.net.constraints
+    → ((target : EventId) → option_map (λ (c : Constraint). c.target) (slice_get drawn.net.constraints k) ≡ Some target → CoversCauses counts drawn numbers k target causes value)
+    → FrontNet counts drawn numbers k old.constraints value
+    → IsSomeAnd (slice_get drawn.net.constraints k) (λ c. new ≡ with_constraint old (record c { causes = causes })) → FrontNet counts drawn numbers (k + 1) new.constraints value
+net_more counts drawn numbers k causes value old new fit within covers before pushed =
+    let same : length drawn.origins ≡ length drawn.net.constraints = fit_length drawn fit in
+    let c = found_below drawn.net.constraints k within in
+    let o = found_below drawn.origins k (omega (arith, same, within)) in
+    let P : Option Constraint → Type 0 = λ x. IsSomeAnd x (λ d. new ≡ with_constraint old (record d { causes = causes })) in
+    let added : new ≡ with_constraint old (record c.0 { causes = causes }) = subst P c.1 pushed in
+    let moved : Constraint = constraint_moved (moved_up value) drawn numbers c.0 o.0 in
+    let own : AllZip IsWiderCause (constraint_counted counts value moved).causes causes =
+    causes_there counts drawn numbers value c.0 o.0 causes (slice_get drawn.net.constraints k) (slice_get drawn.origins k) c.1 o.1
+    (covers c.0.target (ap (option_map (λ (d : Constraint). d.target)) c.1)) in
+    let here : IsWiderConstraint (constraint_counted counts value moved) (record c.0 { causes = causes }) = record { kind = refl; target = refl; causes = own } in
+    let front : List Constraint = (front_moved (moved_up value) drawn numbers k).constraints in
+    let next : (front_moved (moved_up value) drawn numbers (k + 1)).constraints ≡ front ++ moved ∷ [] =
+    each_next (constraint_moved (moved_up value) drawn numbers) drawn.net.constraints drawn.origins k c.0 o.0 same c.1 o.1 in
+    let whole : map (constraint_counted counts value) (front_moved (moved_up value) drawn numbers (k + 1)).constraints
+        ≡ map (constraint_counted counts value) front ++ constraint_counted counts value moved ∷ [] =
+    ap (λ (cs : List Constraint). map (constraint_counted counts value) cs) next ∙ map_push (constraint_counted counts value) front moved in
+    subst (λ (cs : List Constraint). AllZip IsWiderConstraint cs new.constraints) (sym whole)
+    (subst (λ (n : Net). AllZip IsWiderConstraint (map (constraint_counted counts value) front ++ constraint_counted counts value moved ∷ []) n.constraints) (sym added)
+    (AllZip-push IsWiderConstraint (map (constraint_counted counts value) front) old.constraints (constraint_counted counts value moved) (record c.0 { causes = causes }) before here))
+
+pub net_whole : (counts : List ℤ) (drawn : Drawn) (numbers : List DrawnNumber) (k : ℕ) (net : Net) (value : ℤ) → OriginsFit drawn.net drawn.origins → length drawn.net.constraints ≤ k
+    → net.events ≡ drawn.net.events → FrontNet counts drawn numbers k net.constraints value → CoversNet counts drawn numbers net value
+net_whole counts drawn numbers k net value fit all events covers =
+    let same : length drawn.origins ≡ length drawn.net.constraints = fit_length drawn fit in
+    let first : take k drawn.net.constraints ≡ drawn.net.constraints = take_all k drawn.net.constraints all in
+    let second : take k drawn.origins ≡ drawn.origins = take_all k drawn.origins (omega (arith, same, all)) in
+    let P : List Constraint → List (List Origin) → Type 0 = λ cs os.
+        AllZip IsWiderConstraint (map (constraint_counted counts value) (each_by (constraint_moved (moved_up value) drawn numbers) cs os)) net.constraints in
+    record {
+      events = sym events;
+      constraints = subst (λ (os : List (List Origin)). P drawn.net.constraints os) second (subst (λ (cs : List Constraint). P cs (take k drawn.origins)) first covers);
+    }
+
+-- ---- the rows
+
+row_covers : (counts : List ℤ) (value : ℤ) (is_drawn : Bool) (row tight : Row) → row.from ≡ tight.from → row.to ≡ tight.to
+    → ((x : ℤ) → MeetsKind tight.kind x → MeetsKind (kind_at is_drawn (separation counts row.from row.to) value row.kind) x)
+    → IsTighterRow (row_counted counts value (if is_drawn then record row { kind = kind_moved (moved_up value) row.kind } else row)) tight
+row_covers counts value true row tight from to wants = record { from = from; to = to; wants = wants }
+row_covers counts value false row tight from to wants = record { from = from; to = to; wants = wants }
+
+-- the first rows want no less than the drawn ones
+abbrev pub FrontRows : List ℤ → Drawn → List DrawnNumber → ℕ → List Row → ℤ → Type 0
+FrontRows counts drawn numbers k rows value =
+    AllZip IsTighterRow (map (row_counted counts value) (map (row_moved (moved_up value) drawn numbers) (take k drawn.rows))) rows
+
+pub rows_more : (counts : List ℤ) (drawn : Drawn) (numbers : List DrawnNumber) (given : List Row) (k : ℕ) (row tight : Row) (part : List ℕ) (is_drawn : Bool) (apart value : ℤ) (old new : List Row)
+    → given ≡ drawn.rows → slice_get given k ≡ Some row → part ≡ (name_of drawn row.from).part → is_drawn ≡ draw numbers part row.origin → apart ≡ separation counts row.from row.to
+    → row.from ≡ tight.from → row.to ≡ tight.to → ((x : ℤ) → MeetsKind tight.kind x → MeetsKind (kind_at is_drawn apart value row.kind) x)
+    → FrontRows counts drawn numbers k old value → new ≡ old ++ tight ∷ [] → FrontRows counts drawn numbers (k + 1) new value
+rows_more counts drawn numbers given k row tight part is_drawn apart value old new same at is_part test is_apart from to wants before pushed =
+    let own : slice_get drawn.rows k ≡ Some row = subst (λ (xs : List Row). slice_get xs k ≡ Some row) same at in
+    let own_test : Bool = draw numbers (name_of drawn row.from).part row.origin in
+    let right : is_drawn ≡ own_test = test ∙ ap (λ (p : List ℕ). draw numbers p row.origin) is_part in
+    let wanted : (x : ℤ) → MeetsKind tight.kind x → MeetsKind (kind_at own_test (separation counts row.from row.to) value row.kind) x =
+    subst (λ (b : Bool). (x : ℤ) → MeetsKind tight.kind x → MeetsKind (kind_at b (separation counts row.from row.to) value row.kind) x) right
+    (subst (λ (a : ℤ). (x : ℤ) → MeetsKind tight.kind x → MeetsKind (kind_at is_drawn a value row.kind) x) is_apart wants) in
+    let F : Row → Row = λ r. row_counted counts value (row_moved (moved_up value) drawn numbers r) in
+    let G : Row → Row = row_moved (moved_up value) drawn numbers in
+    let H : Row → Row = row_counted counts value in
+    let here : IsTighterRow (F row) tight = row_covers counts value own_test row tight from to wanted in
+    let whole : map H (map G (take (k + 1) drawn.rows)) ≡ map H (map G (take k drawn.rows)) ++ F row ∷ [] =
+    ap (λ (rs : List Row). map H (map G rs)) (take_next drawn.rows k row own)
+    ∙ (ap (λ (rs : List Row). map H rs) (map_push G (take k drawn.rows) row) ∙ map_push H (map G (take k drawn.rows)) (G row)) in
+    subst (λ (rs : List Row). AllZip IsTighterRow rs new) (sym whole)
+    (subst (λ (rs : List Row). AllZip IsTighterRow (map H (map G (take k drawn.rows)) ++ F row ∷ []) rs) (sym pushed)
+    (AllZip-push IsTighterRow (map H (map G (take k drawn.rows))) old (F row) tight before here))
+
+pub rows_whole : (counts : List ℤ) (drawn : Drawn) (numbers : List DrawnNumber) (k : ℕ) (items : List Row) (value : ℤ) → length drawn.rows ≤ k
+    → FrontRows counts drawn numbers k items value → CoversRows counts drawn numbers items value
+rows_whole counts drawn numbers k items value all covers =
+    subst (λ (rs : List Row). AllZip IsTighterRow (map (row_counted counts value) (map (row_moved (moved_up value) drawn numbers) rs)) items) (take_all k drawn.rows all) covers
+
+-- ---- a constraint that was added
+
+pub added_events : (o : Option Constraint) (causes : List Cause) (old new : Net) → IsSomeAnd o (λ c. new ≡ with_constraint old (record c { causes = causes })) → new.events ≡ old.events
+added_events None causes old new added = absurd added
+added_events (Some c) causes old new added = ap (λ (n : Net). n.events) added
+
+pub added_count : (o : Option Constraint) (causes : List Cause) (old new : Net) → IsSomeAnd o (λ c. new ≡ with_constraint old (record c { causes = causes }))
+    → length new.constraints ≡ length old.constraints + 1
+added_count None causes old new added = absurd added
+added_count (Some c) causes old new added = ap (λ (n : Net). length n.constraints) added ∙ length_push old.constraints (record c { causes = causes })

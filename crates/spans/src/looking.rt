@@ -1,0 +1,126 @@
+//! Looking ahead for what ends a span: a guess, which covers have to show.
+
+ghost use Rattle.std.specs.Prelude.{IfOk};
+ghost use Rattle.moves.specs.Step.{IsMoveBy};
+ghost use Rattle.spans.specs.Step.{IsAhead, IsLooked, IsOn, IsPast, IsSought};
+
+use crate::direction::{Direction, Value, is_same, step_of, value_on};
+use crate::sought::SpanSought;
+use itv_base::NoMemory;
+use moves::NetFound;
+use probing::SideChain;
+use std::alloc::Global;
+
+// Values that are looked at. They are guessed by the edges behind bounds, and after the first few of them, or without such an edge, the strides grow, so that no way
+// is too long.
+const MOST_VALUES: u32 = 64;
+
+const GUESSED_VALUES: u32 = 8;
+
+/// What a look ahead found.
+#[derive(Clone, Copy)]
+pub enum Ahead {
+    /// With this value the row with this number breaks.
+    Breaks { at: Value, row: u32 },
+    /// With this value the rules contradict each other.
+    Contradicts(Value),
+    /// The goal was reached.
+    Limit(Value),
+    /// A search was left open.
+    Spent,
+}
+
+/// The last value that was looked at: how far its bounds let the numbers be moved on, and how long the next stride is.
+#[derive(Clone, Copy)]
+pub struct Look {
+    pub at: Value,
+    pub room: Option<i64>,
+    pub stride: i64,
+}
+
+/// What a look at a value came to.
+#[derive(Clone, Copy)]
+pub enum Looked {
+    /// Every requirement passes, and the look goes on from here.
+    On(Look),
+    /// This ends the look.
+    Found(Ahead),
+}
+
+/// Looks ahead from a value to a goal; these are the edges behind the bounds at the value.
+pub fn look_ahead(
+    alloc: Global,
+    sought: &SpanSought<'_>,
+    from: Value,
+    goal: Value,
+    sides: &[SideChain],
+    direction: Direction,
+) -> Result<Ahead, NoMemory>
+    requires sought { IsSought sought.now }
+    requires from { IsMoveBy from.by }
+    requires goal { IsMoveBy goal.by }
+    requires ahead { IsOn direction from.by goal.by }
+    ensures ahead { IfOk result (IsAhead sought.now direction from.by) }
+{
+    let mut look = Look {
+        at: from,
+        room: sought.room(step_of(direction), sides),
+        stride: 1,
+    };
+    for round in 0..MOST_VALUES {
+        if is_same(look.at, goal) {
+            return Ok(Ahead::Limit(look.at));
+        }
+        let next = value_on(look.at, far_of(look, round), goal, direction);
+        if is_same(next, look.at) {
+            return Ok(Ahead::Spent);
+        }
+        match looked_at(alloc, sought, from, next, look.stride, direction)? {
+            Looked::On(further) => look = further,
+            Looked::Found(ahead) => return Ok(ahead),
+        }
+    }
+    Ok(Ahead::Spent)
+}
+
+// Looks at a value. The stride to it was this long.
+fn looked_at(
+    alloc: Global,
+    sought: &SpanSought<'_>,
+    from: Value,
+    next: Value,
+    stride: i64,
+    direction: Direction,
+) -> Result<Looked, NoMemory>
+    requires sought { IsSought sought.now }
+    requires by { IsMoveBy next.by }
+    requires past { IsPast direction from.by next.by }
+    ensures { IfOk result (IsLooked sought.now direction from.by next.by) }
+{
+    let Some(probed) = sought.probe_at(alloc, next)? else {
+        return Ok(Looked::Found(Ahead::Spent));
+    };
+    match probed.found {
+        NetFound::Passes => {
+            let room = sought.room(step_of(direction), &probed.sides);
+            let stride = stride.saturating_mul(4);
+            Ok(Looked::On(Look {
+                at: next,
+                room,
+                stride,
+            }))
+        }
+        NetFound::Breaks(row) => Ok(Looked::Found(Ahead::Breaks { at: next, row })),
+        NetFound::Inconsistent => Ok(Looked::Found(Ahead::Contradicts(next))),
+        NetFound::Open => Ok(Looked::Found(Ahead::Spent)),
+        NetFound::Spent => Ok(Looked::Found(Ahead::Spent)),
+    }
+}
+
+// How far on the next value is looked for.
+fn far_of(look: Look, round: u32) -> i64 {
+    match look.room {
+        Some(gap) if round < GUESSED_VALUES => gap.saturating_add(1),
+        _ => look.stride,
+    }
+}
