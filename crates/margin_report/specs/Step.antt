@@ -65,11 +65,11 @@ AreFoundIf false drawn budget seen as_one found = found ≡ []
 
 -- the search for the margin of an end was left open, if there is one
 abbrev pub is_end_spent : Option Margin → Bool
-is_end_spent margin = option_map_or (λ m. is_spent ([], m)) margin false
+is_end_spent margin = option_map_or is_spent margin false
 
 -- a search for the values was left open, if there is one
 abbrev pub is_span_spent : Option SpanFound → Bool
-is_span_spent span = option_map_or (λ (s : SpanFound). is_spent ([], s.down) || is_spent ([], s.up)) span false
+is_span_spent span = option_map_or (λ (s : SpanFound). is_spent s.down || is_spent s.up) span false
 
 -- what is true of the network as drawn, and what is found of the numbers
 abbrev pub IsEndingOf : Drawn → ℕ → List NumberSeen → Bool → EndWord → List NumberFound → Type 0

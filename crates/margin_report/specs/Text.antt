@@ -52,12 +52,12 @@ abbrev pub numbers_text : NotesKept → List NumberSeen → List NumberFound →
 numbers_text noted seen found = flat_map (λ (both : NumberSeen × NumberFound). flat_map (margin_line noted both.0) (margins_of both.1)) (zip seen found)
 
 -- a search for a margin was left open
-abbrev pub is_spent : Word × Margin → Bool
-is_spent (which, margins.Spent) = true
-is_spent (which, margin) = false
+abbrev pub is_spent : Margin → Bool
+is_spent margins.Spent = true
+is_spent margin = false
 
 abbrev pub are_spent : List NumberFound → Bool
-are_spent found = list_any (λ (f : NumberFound). list_any is_spent (margins_of f)) found
+are_spent found = list_any (λ (f : NumberFound). list_any (λ (m : Word × Margin). is_spent m.1) (margins_of f)) found
 
 -- the finding, by the word that the network as drawn would end with
 abbrev pub finding_word : EndWord → Word

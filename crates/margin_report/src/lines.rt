@@ -98,7 +98,8 @@ fn add_line<N: Notes>(
     add_seen(text, seen)?;
     add_row(text, margin)?;
     add_some(text, note_of(notes, &seen.number))?;
-    add(text, b"\n")
+    add(text, b"\n")?;
+    Ok(())
 }
 
 // ---- parts of a line

@@ -1,6 +1,6 @@
 //! Reading a list of numbers.
 
-ghost use Rattle.std.specs.Prelude.{◌≡◌, ◌++◌, [], IfOk, find};
+ghost use Rattle.std.specs.Prelude.{◌≡◌, ◌<◌, ◌++◌, [], IfOk, Some, find, length, slice_get};
 ghost use Rattle.std.specs.List.{list_any, slice_split};
 ghost use Rattle.std.specs.Option.{option_copied};
 ghost use Rattle.std.specs.Str.{bytes_eq};
@@ -56,9 +56,17 @@ fn named_numbers(
 {
     let mut named = Vec::new(alloc);
     for k in 0..names.len() {
-        add_named(alloc, all, k as u64, names[k], &mut named)?;
+        add_named(alloc, all, k as u64, name_at(names, k), &mut named)?;
     }
     Ok(named)
+}
+
+// The text at a place of a list.
+fn name_at<'a>(names: &[&'a str], k: usize) -> &'a str
+    requires { k < length names.now }
+    ensures { slice_get (texts names.now) k ≡ Some result.now }
+{
+    names[k]
 }
 
 // Adds the number that a text names, at this place of the list.

@@ -1,7 +1,9 @@
 //! Whether a search for a margin was left open.
 
-ghost use Rattle.std.specs.Prelude.{◌≡◌, ℕ, List};
+ghost use Rattle.std.specs.Prelude.{◌≡◌};
 ghost use Rattle.std.specs.List.{list_any};
+ghost use Rattle.line_words.specs.Words.{Word};
+ghost use Rattle.moves.specs.declared.margin.Margin.{Margin as Spared};
 ghost use Rattle.margin_report.specs.Step.{is_end_spent, is_span_spent};
 ghost use Rattle.margin_report.specs.Text.{are_spent, is_spent, margins_of};
 
@@ -16,7 +18,7 @@ pub fn are_spent(found: &[NumberFound]) -> bool
 }
 
 fn is_number_spent(found: &NumberFound) -> bool
-    ensures { result ≡ list_any is_spent (margins_of found.now) }
+    ensures { result ≡ list_any (λ (m : Word × Spared). is_spent m.1) (margins_of found.now) }
 {
     is_end_spent(found.ends.low) || is_end_spent(found.ends.high) || is_span_spent(found.span)
 }
@@ -40,7 +42,7 @@ fn is_span_spent(span: Option<SpanFound>) -> bool
 }
 
 fn is_spent(margin: Margin) -> bool
-    ensures { (which : List ℕ) → result ≡ is_spent (which, margin) }
+    ensures { result ≡ is_spent margin }
 {
     match margin {
         Margin::Spent => true,
