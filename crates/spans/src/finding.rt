@@ -152,7 +152,7 @@ fn span_towards(
             return Ok(None);
         };
         at = value_on(at, more, goal, direction);
-        match tried(alloc, sought, row, at, direction, reach)? {
+        match try_value(alloc, sought, row, at, direction, reach)? {
             Tried::Span(span) => return Ok(Some(span)),
             Tried::On(next) => far = next,
             Tried::Nothing => return Ok(None),
@@ -162,7 +162,7 @@ fn span_towards(
 }
 
 // The span around a value, if every requirement passes there. As drawn a row breaks.
-fn tried(
+fn try_value(
     alloc: Global,
     sought: &SpanSought<'_>,
     row: u32,

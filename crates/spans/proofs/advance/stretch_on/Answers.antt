@@ -1,7 +1,7 @@
 use Rattle.std.proofs.Common.{refl}
 use Rattle.spans.proofs.Showing.{stretched_on, stretched_still}
 use Rattle.spans.proofs.Ways.{on_past}
-use Rattle.spans.proofs.advance.stretched.Goals as goal
+use Rattle.spans.proofs.advance.stretch_on.Goals as goal
 
 pub value_on-end-requires-clause-on : goal.value_on-end-requires-clause-on
 value_on-end-requires-clause-on c = on_past c.args.direction c.args.stretch.done.by c.args.goal.by c.requires.past

@@ -2,7 +2,7 @@ use Rattle.moves.specs.declared.net_found.NetFound.TheVariants as nets
 use Rattle.spans.specs.Step.{at_value}
 use Rattle.spans.proofs.Borders.{nothing_found}
 use Rattle.spans.proofs.Found.{found_as}
-use Rattle.spans.proofs.finding.tried.Goals as goal
+use Rattle.spans.proofs.finding.try_value.Goals as goal
 
 pub span_around-requires-clause-passes : goal.span_around-requires-clause-passes
 span_around-requires-clause-passes c =
