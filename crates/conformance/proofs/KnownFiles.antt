@@ -66,7 +66,7 @@ use Rattle.lint_report.specs.Lines.{is_clean, lines_of}
 use Rattle.warnings.specs.Warnings.{warnings_of}
 use Rattle.margin_report.specs.Text.{are_spent, end_of}
 use Rattle.why_report.specs.Text.{ending_of as explained_ending}
-use Rattle.itv_cli.specs.Job.{Answers, edits_at, edits_in, fall_at, fall_in, list_at, list_in, made_for, matrix_at, opening, planned_at, whatif_at}
+use Rattle.itv_cli.specs.Job.{Answers, edits_at, edits_in, fall_at, fall_in, list_at, made_for, matrix_at, opening, planned_at, whatif_at}
 use Rattle.itv_cli.specs.Run.{Call, HasRead, Completes, OutcomeBy, ReadsOver, FilesDecide, HasAnswered, HasRefused, IsRefused, OutcomeMeans, Wrote, call_of}
 use Rattle.itv_cli.specs.declared.outcome.Outcome.{Outcome}
 use Rattle.itv_cli.specs.declared.outcome.Outcome.TheVariants as ends
@@ -301,7 +301,7 @@ pub few_then : (files : Files) (plan : Planned) (drawn : Drawn) (budget : ℕ) (
     → given.Margin plan drawn None budget ≡ to
 few_then files plan drawn budget to comes = by_count (nat_lt MAX_NUMBERS (length (numbers_of drawn))) comes
   where
-    by_count : (b : Bool) → end_over files ((if b then refuses Design (refusals.Limits (TooMany Numbers (length (numbers_of drawn)))) else list_in drawn None) >>= (λ numbers. gives (given.Margin plan drawn numbers budget))) ≡ ready to
+    by_count : (b : Bool) → end_over files ((if b then refuses Design (refusals.Limits (TooMany Numbers (length (numbers_of drawn)))) else gives None) >>= (λ numbers. gives (given.Margin plan drawn numbers budget))) ≡ ready to
         → given.Margin plan drawn None budget ≡ to
     by_count true e = absurd (cc e)
     by_count false e = same_ready (given.Margin plan drawn None budget) to e

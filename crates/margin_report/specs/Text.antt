@@ -8,7 +8,7 @@ use Rattle.line_words.specs.Lines.{ended, line_of}
 use Rattle.line_words.specs.Words.{Word}
 use Rattle.notes.specs.NotesKept.{NotesKept}
 use Rattle.slack_report.specs.declared.words.EndWord.{EndWord}
-use Rattle.slack_report.specs.declared.words.EndWord.TheVariants.{Pass, Fail, Inconsistent, Undecided}
+use Rattle.slack_report.specs.declared.words.EndWord.TheVariants.{Pass, Inconsistent, Undecided}
 use Rattle.slack_report.specs.Entry.{ending}
 use Rattle.slack_report.specs.Text.{entry_text, range_word}
 use Rattle.why_report.specs.Text.{some_word}
@@ -61,10 +61,9 @@ are_spent found = list_any (λ (f : NumberFound). list_any (λ (m : Word × Marg
 
 -- the finding, by the word that the network as drawn would end with
 abbrev pub finding_word : EndWord → Word
-finding_word Pass = codes "consistent"
-finding_word Fail = codes "consistent"
 finding_word Inconsistent = codes "inconsistent"
 finding_word Undecided = codes "spent"
+finding_word word = codes "consistent"
 
 -- the word at the end: undecided too where every requirement passes and a search for a margin was left open
 abbrev pub end_of : EndWord → Bool → EndWord
