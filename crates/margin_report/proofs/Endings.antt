@@ -12,13 +12,13 @@ use Rattle.moves.specs.declared.number_seen.NumberSeen.{NumberSeen}
 use Rattle.slack_report.specs.declared.words.EndWord.{EndWord}
 use Rattle.slack_report.specs.declared.words.EndWord.TheVariants.{Pass, Fail, Inconsistent, Undecided}
 use Rattle.margin_report.specs.Margin.{IsNumberFound}
-use Rattle.margin_report.specs.Step.{AreFoundIf, AreFoundOf, IsEndingOf, is_decided, word_of}
+use Rattle.margin_report.specs.Step.{AreFoundIf, AreFoundOf, EndsByOf, is_decided, word_of}
 use Rattle.margin_report.specs.declared.number_found.NumberFound.{NumberFound}
 
 -- the word of what was found of the network, and what was found of the numbers
 pub ending_by : (drawn : Drawn) (budget : ℕ) (seen : List NumberSeen) (as_one : Bool) (base : NetFound) (found : List NumberFound) → IsNetFound drawn base
     → (cause_choices drawn.net.constraints ≤ budget → is_net_open base ≡ false) → AreFoundIf (is_decided base) drawn budget seen as_one found
-    → IsEndingOf drawn budget seen as_one (word_of base) found
+    → EndsByOf drawn budget seen as_one (word_of base) found
 ending_by drawn budget seen as_one nets.Passes found is settles are = (is, are)
 ending_by drawn budget seen as_one (nets.Breaks row) found is settles are = ((row, is), are)
 ending_by drawn budget seen as_one nets.Inconsistent found is settles are = (is, are)
@@ -55,7 +55,7 @@ ending_length drawn budget seen false found are = zip_length (IsNumberFound draw
 ending_length drawn budget seen true found are =
     let same : length found ≡ length seen = ap length are.2 ∙ length-replicate (length seen) _ in omega (arith, same)
 
-pub found_length : (drawn : Drawn) (budget : ℕ) (seen : List NumberSeen) (as_one : Bool) (word : EndWord) (found : List NumberFound) → IsEndingOf drawn budget seen as_one word found
+pub found_length : (drawn : Drawn) (budget : ℕ) (seen : List NumberSeen) (as_one : Bool) (word : EndWord) (found : List NumberFound) → EndsByOf drawn budget seen as_one word found
     → length found ≤ length seen
 found_length drawn budget seen as_one Pass found is = ending_length drawn budget seen as_one found is.1
 found_length drawn budget seen as_one Fail found is = ending_length drawn budget seen as_one found is.1

@@ -14,4 +14,4 @@ pub returns : goal.returns
 returns g c = λ list of.
     answers_margin (g.N.Notes.noted c.args.notes.now) c.args.drawn.now c.args.budget c.args.seen.now c.args.as_one list c.in_ok-found.found.word c.in_ok-found.found.numbers.items c.answer_of.result
     c.in_ok-text.text.items c.in_ok-found.ensures.ending c.in_ok-text.ensures
-    (c.answer_of.ensures ∙ ap answer_of (c.end_of.ensures.word ∙ ap (end_of c.in_ok-found.found.word) (rw c.deref.ensures.value at c.are_spent.ensures.spent))) of
+    (c.answer_of.ensures ∙ ap answer_of (c.end_of.ensures.word ∙ ap (end_of c.in_ok-found.found.word) (rw c.deref.ensures.value at c.are_left_open.ensures.spent))) of
