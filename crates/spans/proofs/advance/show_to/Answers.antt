@@ -19,4 +19,4 @@ returns-then-is_same c = record {
 pub loop-turn-preserved : goal.loop-turn-preserved
 loop-turn-preserved c =
     stretch_next c.args.sought.now c.args.direction c.args.from.by c.args.goal.by c.loop-turn.stretch.done.by c.in-On.next c.requires.goal c.loop-turn.invariant
-    (rw c.in-On.is at c.in_ok-stretch_on.ensures)
+    (rw c.in-On.is at c.in_ok-next.ensures)
