@@ -64,9 +64,9 @@ use Rattle.itv_cli.specs.Bounds.{AnswersBounds}
 use Rattle.lint_report.specs.Lint.{answer_by}
 use Rattle.lint_report.specs.Lines.{is_clean, lines_of}
 use Rattle.warnings.specs.Warnings.{warnings_of}
-use Rattle.margin_report.specs.Text.{are_spent, end_of}
+use Rattle.margin_report.specs.Text.{are_left_open, end_of}
 use Rattle.why_report.specs.Text.{ending_of as explained_ending}
-use Rattle.itv_cli.specs.Job.{Answers, edits_at, edits_in, fall_at, fall_in, list_at, list_in, made_for, matrix_at, opening, planned_at, whatif_at}
+use Rattle.itv_cli.specs.Job.{Answers, edits_at, edits_in, fall_at, fall_in, list_at, made_for, matrix_at, opening, planned_at, whatif_at}
 use Rattle.itv_cli.specs.Run.{Call, HasRead, Completes, OutcomeBy, ReadsOver, FilesDecide, HasAnswered, HasRefused, IsRefused, OutcomeMeans, Wrote, call_of}
 use Rattle.itv_cli.specs.declared.outcome.Outcome.{Outcome}
 use Rattle.itv_cli.specs.declared.outcome.Outcome.TheVariants as ends
@@ -294,14 +294,14 @@ refused_redraws files (margin design list budget) bytes own h =
     let (both, draws, comes) = told_behind files (planned_at design) (λ p. list_at p.1 list >>= (λ numbers. gives (given.Margin p.0 p.1 numbers budget))) h.given h.reads in
     let (numbers, had, is) = told_then files (list_at both.1 list) (λ ns. given.Margin both.0 both.1 ns budget) h.given comes in
     let answered : Answers (given.Margin both.0 both.1 numbers budget) answers.DesignRefused bytes = subst (λ g. Answers g answers.DesignRefused bytes) (sym is) h.answers in
-    absurd (never_refused (end_of answered.word (are_spent answered.found)) answered.is_answer)
+    absurd (never_refused (end_of answered.word (are_left_open answered.found)) answered.is_answer)
 
 -- where no list is given, a drawn network with few enough numbers is given as it is
 pub few_then : (files : Files) (plan : Planned) (drawn : Drawn) (budget : ℕ) (to : Ready) → end_over files (list_at drawn None >>= (λ numbers. gives (given.Margin plan drawn numbers budget))) ≡ ready to
     → given.Margin plan drawn None budget ≡ to
 few_then files plan drawn budget to comes = by_count (nat_lt MAX_NUMBERS (length (numbers_of drawn))) comes
   where
-    by_count : (b : Bool) → end_over files ((if b then refuses Design (refusals.Limits (TooMany Numbers (length (numbers_of drawn)))) else list_in drawn None) >>= (λ numbers. gives (given.Margin plan drawn numbers budget))) ≡ ready to
+    by_count : (b : Bool) → end_over files ((if b then refuses Design (refusals.Limits (TooMany Numbers (length (numbers_of drawn)))) else gives None) >>= (λ numbers. gives (given.Margin plan drawn numbers budget))) ≡ ready to
         → given.Margin plan drawn None budget ≡ to
     by_count true e = absurd (cc e)
     by_count false e = same_ready (given.Margin plan drawn None budget) to e

@@ -20,8 +20,8 @@ use Rattle.moves.specs.declared.margin.Margin.{Margin}
 use Rattle.moves.specs.declared.margin.Margin.TheVariants.{Until}
 use Rattle.moves.specs.declared.number_seen.NumberSeen.{NumberSeen}
 use Rattle.moves.proofs.Thresholds.{margin_is_threshold}
-use Rattle.margin_report.specs.Margin.{AnswersMargin, AreFound, IsEnding, IsNumberFound}
-use Rattle.margin_report.specs.Text.{are_spent, end_of, margin_text}
+use Rattle.margin_report.specs.Margin.{AnswersMargin, AreNumbersFound, EndsBy, IsNumberFound}
+use Rattle.margin_report.specs.Text.{are_left_open, end_of, margin_text}
 use Rattle.margin_report.specs.declared.number_found.NumberFound.{NumberFound}
 use Rattle.words.specs.Task.{margin}
 use Rattle.itv_cli.specs.Job.{Answers, list_at, planned_at}
@@ -56,7 +56,7 @@ safe_highs drawn budget (s ∷ seen) (f ∷ found) all = (safe_high drawn budget
 
 -- ---- what the answer says
 
-passes_by : (drawn : Drawn) (budget : ℕ) (AreRight : List NumberFound → Type 0) (word : EndWord) (is_left : Bool) (found : List NumberFound) → IsEnding drawn budget AreRight word found
+passes_by : (drawn : Drawn) (budget : ℕ) (AreRight : List NumberFound → Type 0) (word : EndWord) (is_left : Bool) (found : List NumberFound) → EndsBy drawn budget AreRight word found
     → answers.AllPass ≡ answer_of (end_of word is_left) → Passes drawn × AreRight found
 passes_by drawn budget AreRight endings.Pass false found is e = is
 passes_by drawn budget AreRight endings.Pass true found is e = absurd (cc e)
@@ -64,7 +64,7 @@ passes_by drawn budget AreRight endings.Fail is_left found is e = absurd (cc e)
 passes_by drawn budget AreRight endings.Inconsistent is_left found is e = absurd (cc e)
 passes_by drawn budget AreRight endings.Undecided is_left found is e = absurd (cc e)
 
-breaks_by : (drawn : Drawn) (budget : ℕ) (AreRight : List NumberFound → Type 0) (word : EndWord) (is_left : Bool) (found : List NumberFound) → IsEnding drawn budget AreRight word found
+breaks_by : (drawn : Drawn) (budget : ℕ) (AreRight : List NumberFound → Type 0) (word : EndWord) (is_left : Bool) (found : List NumberFound) → EndsBy drawn budget AreRight word found
     → answers.SomeFail ≡ answer_of (end_of word is_left) → (row : ℕ) × BreaksRow drawn row
 breaks_by drawn budget AreRight endings.Fail is_left found is e = is.0
 breaks_by drawn budget AreRight endings.Pass true found is e = absurd (cc e)
@@ -72,7 +72,7 @@ breaks_by drawn budget AreRight endings.Pass false found is e = absurd (cc e)
 breaks_by drawn budget AreRight endings.Inconsistent is_left found is e = absurd (cc e)
 breaks_by drawn budget AreRight endings.Undecided is_left found is e = absurd (cc e)
 
-none_by : (drawn : Drawn) (budget : ℕ) (AreRight : List NumberFound → Type 0) (word : EndWord) (is_left : Bool) (found : List NumberFound) → IsEnding drawn budget AreRight word found
+none_by : (drawn : Drawn) (budget : ℕ) (AreRight : List NumberFound → Type 0) (word : EndWord) (is_left : Bool) (found : List NumberFound) → EndsBy drawn budget AreRight word found
     → answers.Inconsistent ≡ answer_of (end_of word is_left) → IsInconsistent drawn.net
 none_by drawn budget AreRight endings.Inconsistent is_left found is e = is.0
 none_by drawn budget AreRight endings.Pass true found is e = absurd (cc e)
@@ -99,22 +99,22 @@ module _ (call : Call) (files : Files) (budget : ℕ) (plan : Planned) (drawn : 
   pub margin_passes : (result : Outcome) → OutcomeMeans call result → result ≡ ends.AllPass → Passes drawn
   margin_passes result means e =
       let a = said answers.AllPass (answered_by call result answers.AllPass (λ same. cc same) means e) in
-      (passes_by drawn budget (AreFound drawn budget None) a.word (are_spent a.found) a.found a.is_ending a.is_answer).0
+      (passes_by drawn budget (AreNumbersFound drawn budget None) a.word (are_left_open a.found) a.found a.is_ending a.is_answer).0
 
   pub margin_safe : (result : Outcome) → OutcomeMeans call result → result ≡ ends.AllPass
       → (text : List ℕ) × HasSafeHighs (plan_notes plan) drawn text × (call.sink_after ≡ grown call.sink_before text)
   margin_safe result means e =
       let m = answered_by call result answers.AllPass (λ same. cc same) means e in
       let a = said answers.AllPass m in
-      let all = (passes_by drawn budget (AreFound drawn budget None) a.word (are_spent a.found) a.found a.is_ending a.is_answer).1 in
+      let all = (passes_by drawn budget (AreNumbersFound drawn budget None) a.word (are_left_open a.found) a.found a.is_ending a.is_answer).1 in
       (m.text, record { word = a.word; found = a.found; is_text = a.is_text; safe = safe_highs drawn budget (numbers_of drawn) a.found all }, m.wrote)
 
   pub margin_breaks : (result : Outcome) → OutcomeMeans call result → result ≡ ends.SomeFail → (row : ℕ) × BreaksRow drawn row
   margin_breaks result means e =
       let a = said answers.SomeFail (answered_by call result answers.SomeFail (λ same. cc same) means e) in
-      breaks_by drawn budget (AreFound drawn budget None) a.word (are_spent a.found) a.found a.is_ending a.is_answer
+      breaks_by drawn budget (AreNumbersFound drawn budget None) a.word (are_left_open a.found) a.found a.is_ending a.is_answer
 
   pub margin_none : (result : Outcome) → OutcomeMeans call result → result ≡ ends.Inconsistent → IsInconsistent drawn.net
   margin_none result means e =
       let a = said answers.Inconsistent (answered_by call result answers.Inconsistent (λ same. cc same) means e) in
-      none_by drawn budget (AreFound drawn budget None) a.word (are_spent a.found) a.found a.is_ending a.is_answer
+      none_by drawn budget (AreNumbersFound drawn budget None) a.word (are_left_open a.found) a.found a.is_ending a.is_answer

@@ -1,5 +1,6 @@
 -- The jobs: what each job reads, what it answers, and what it may have begun to write.
 use Rattle.std.specs.Prelude.{◌*◌, ℕ, nat_lt, if◌then◌else◌, Bool, List, length, Option, Some, None, Result, Ok, Err, codes}
+use Rattle.std.specs.Option.{option_map_or}
 use Rattle.itv_base.specs.declared.limits.TheConstants.{MAX_MATRIX_EVENTS, REPORT_LIMIT}
 use Rattle.itv_base.specs.Outside.{Files}
 use Rattle.design_gen.specs.Files.{design_files}
@@ -82,17 +83,11 @@ planned_at name = do
   drawn ← drawn_at plan.netlist plan.sheets
   gives (plan, drawn)
 
--- the numbers of a list that are moved as one, if there is a list
-abbrev pub list_in : Drawn → Option (List ℕ) → FileReading (Option (List NumberSeen))
-list_in drawn None = gives None
-list_in drawn (Some list) = do
-  numbers ← at Design refusals.Number (numbers_in drawn list)
-  gives (Some numbers)
-
--- the same of a drawn network, which is refused if it has too many numbers
+-- the numbers of a list that move as one, if there is a list; a drawn network with too many numbers is refused
 abbrev pub list_at : Drawn → Option (List ℕ) → FileReading (Option (List NumberSeen))
 list_at drawn list =
-    if nat_lt MAX_NUMBERS (length (numbers_of drawn)) then refuses Design (refusals.Limits (TooMany Numbers (length (numbers_of drawn)))) else list_in drawn list
+    if nat_lt MAX_NUMBERS (length (numbers_of drawn)) then refuses Design (refusals.Limits (TooMany Numbers (length (numbers_of drawn))))
+    else option_map_or (λ text. at Design refusals.Number (numbers_in drawn text) >>= λ numbers. gives (Some numbers)) list (gives None)
 
 abbrev pub opening : Task → FileReading Ready
 opening (searched design job budget) = do
@@ -117,10 +112,7 @@ opening (generated size budget) = do
 opening (whatif design edits budget) = do
   drawn ← design_at design
   whatif_at edits budget drawn
-opening (margin design list budget) = do
-  both ← planned_at design
-  numbers ← list_at both.1 list
-  gives (ready.Margin both.0 both.1 numbers budget)
+opening (margin design list budget) = planned_at design >>= λ both. list_at both.1 list >>= λ numbers. gives (ready.Margin both.0 both.1 numbers budget)
 
 -- the files that are made for a task, if it reads no files of the shelf
 abbrev pub made_for : Task → Option Files

@@ -46,9 +46,9 @@ numbers_step noted whole text next seen found k s d f e within have is_s is_f be
     let more : numbers_text noted (drop k seen) (drop k found) ≡ lines ++ others = rw (drop_one seen k s d within is_s, drop_one found k f e have is_f) refl in
     ap (λ t. t ++ others) is_next ∙ (append_assoc text lines others ∙ (ap (λ t. text ++ t) (sym more) ∙ before))
 
-none_left : {A B : Type 0} (xs : List A) → zip {A = A} {B = B} xs [] ≡ []
-none_left [] = refl
-none_left (x ∷ xs) = refl
+none_left : {A B : Type 0} (xs : List A) (ys : List B) → ys ≡ [] → zip xs ys ≡ []
+none_left [] ys e = refl
+none_left (x ∷ xs) ys e = rw e refl
 
 drop_all : {A : Type 0} (xs : List A) (k : ℕ) → length xs ≤ k → drop k xs ≡ []
 drop_all [] zero h = refl
@@ -60,5 +60,5 @@ drop_all (x ∷ xs) (suc k) h = drop_all xs k (omega (arith, h))
 pub numbers_end : (noted : NotesKept) (whole text : List ℕ) (seen : List NumberSeen) (found : List NumberFound) (k : ℕ) → length found ≤ k
     → text ++ numbers_text noted (drop k seen) (drop k found) ≡ whole → text ≡ whole
 numbers_end noted whole text seen found k past before =
-    let none : numbers_text noted (drop k seen) (drop k found) ≡ [] = rw (drop_all found k past, none_left {A = NumberSeen} {B = NumberFound} (drop k seen)) refl in
+    let none : numbers_text noted (drop k seen) (drop k found) ≡ [] = ap (flat_map (λ (both : NumberSeen × NumberFound). flat_map (margin_line noted both.0) (margins_of both.1))) (none_left (drop k seen) (drop k found) (drop_all found k past)) in
     sym (append-nil text) ∙ (ap (λ t. text ++ t) (sym none) ∙ before)

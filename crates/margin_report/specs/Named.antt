@@ -9,9 +9,6 @@ use Rattle.numbers.specs.Numbers.{drawn_number_text}
 use Rattle.moves.specs.Listed.{all_numbers_of}
 use Rattle.moves.specs.declared.number_seen.NumberSeen.{NumberSeen}
 
-abbrev pub is_comma : ℕ → Bool
-is_comma b = b == 44
-
 -- the number is called so
 abbrev pub is_called : List ℕ → NumberSeen → Bool
 is_called text seen = bytes_eq text (drawn_number_text seen.number)
@@ -21,6 +18,6 @@ abbrev pub with_named : List NumberSeen → ℕ → List NumberSeen → List ℕ
 with_named all place named text =
     if list_any (is_called text) named then Err place else option_map_or (λ seen. Ok (named ++ seen ∷ [])) (find (is_called text) all) (Err place)
 
--- the numbers of a list, or the place of the first that is not taken, counted from 0
+-- the numbers of a list with commas between, or the place of the first that is not taken, counted from 0
 abbrev pub numbers_in : Drawn → List ℕ → Result (List NumberSeen) ℕ
-numbers_in drawn list = walk (with_named (all_numbers_of drawn)) 0 [] (slice_split is_comma list)
+numbers_in drawn list = walk (with_named (all_numbers_of drawn)) 0 [] (slice_split (λ b. b == 44) list)

@@ -17,14 +17,14 @@ use Rattle.moves.specs.declared.number_seen.NumberSeen.{NumberSeen}
 use Rattle.moves.specs.declared.span.SpanFound.{SpanFound}
 use Rattle.probing.specs.Step.{IsProbed}
 use Rattle.probing.specs.declared.probed.Probed.{Probed}
-use Rattle.margin_report.specs.Margin.{IsEnding, IsNumberFound}
-use Rattle.margin_report.specs.Text.{is_spent}
+use Rattle.margin_report.specs.Margin.{EndsBy, IsNumberFound}
+use Rattle.margin_report.specs.Text.{is_left_open}
 use Rattle.margin_report.specs.declared.list_fault.ListFault.{ListFault}
 use Rattle.margin_report.specs.declared.list_fault.ListFault.TheVariants.{NoMemory, NoNumber}
 use Rattle.margin_report.specs.declared.number_found.NumberFound.{NumberFound}
 
 -- what was found of the network as drawn, with a budget
-pub record IsBase (drawn : Drawn) (budget : ℕ) (base : Probed) : Type 0 where
+pub record IsBaseOf (drawn : Drawn) (budget : ℕ) (base : Probed) : Type 0 where
   pub found : IsNetFound drawn base.found
   pub settles : cause_choices drawn.net.constraints ≤ budget → is_net_open base.found ≡ false
   pub fits : IsProbed drawn.net.events base
@@ -65,15 +65,15 @@ AreFoundIf false drawn budget seen as_one found = found ≡ []
 
 -- the search for the margin of an end was left open, if there is one
 abbrev pub is_end_spent : Option Margin → Bool
-is_end_spent margin = option_map_or (λ m. is_spent ([], m)) margin false
+is_end_spent margin = option_map_or is_left_open margin false
 
 -- a search for the values was left open, if there is one
 abbrev pub is_span_spent : Option SpanFound → Bool
-is_span_spent span = option_map_or (λ (s : SpanFound). is_spent ([], s.down) || is_spent ([], s.up)) span false
+is_span_spent span = option_map_or (λ (s : SpanFound). is_left_open s.down || is_left_open s.up) span false
 
 -- what is true of the network as drawn, and what is found of the numbers
-abbrev pub IsEndingOf : Drawn → ℕ → List NumberSeen → Bool → EndWord → List NumberFound → Type 0
-IsEndingOf drawn budget seen as_one word found = IsEnding drawn budget (AreFoundOf drawn budget seen as_one) word found
+abbrev pub EndsByOf : Drawn → ℕ → List NumberSeen → Bool → EndWord → List NumberFound → Type 0
+EndsByOf drawn budget seen as_one word found = EndsBy drawn budget (AreFoundOf drawn budget seen as_one) word found
 
 -- the numbers are those of the list that move as one, or if there is no list each number of the drawing
 abbrev pub IsListOf : Drawn → List NumberSeen → Bool → Option (List NumberSeen) → Type 0

@@ -8,7 +8,7 @@ use Rattle.line_words.specs.Lines.{ended, line_of}
 use Rattle.line_words.specs.Words.{Word}
 use Rattle.notes.specs.NotesKept.{NotesKept}
 use Rattle.slack_report.specs.declared.words.EndWord.{EndWord}
-use Rattle.slack_report.specs.declared.words.EndWord.TheVariants.{Pass, Fail, Inconsistent, Undecided}
+use Rattle.slack_report.specs.declared.words.EndWord.TheVariants.{Pass, Inconsistent, Undecided}
 use Rattle.slack_report.specs.Entry.{ending}
 use Rattle.slack_report.specs.Text.{entry_text, range_word}
 use Rattle.why_report.specs.Text.{some_word}
@@ -22,13 +22,13 @@ use Rattle.moves.specs.declared.span.SpanFound.{SpanFound}
 use Rattle.margin_report.specs.declared.number_found.NumberFound.{NumberFound}
 
 -- how far something may be moved, and which row breaks beyond
-abbrev pub told : Margin → Word × List Word
-told margins.Free = (codes "*", [])
-told (margins.Until by row) = (signed_text by, codes "row" ∷ number_text row ∷ [])
-told (margins.UntilContradiction by) = (signed_text by, [])
-told margins.Never = (codes "none", [])
-told margins.Limit = (codes "limit", [])
-told margins.Spent = (codes "spent", [])
+abbrev pub how_far : Margin → Word × List Word
+how_far margins.Free = (codes "*", [])
+how_far (margins.Until by row) = (signed_text by, codes "row" ∷ number_text row ∷ [])
+how_far (margins.UntilContradiction by) = (signed_text by, [])
+how_far margins.Never = (codes "none", [])
+how_far margins.Limit = (codes "limit", [])
+how_far margins.Spent = (codes "spent", [])
 
 -- the note of what draws a number, or an empty text
 abbrev pub number_note : NotesKept → DrawnNumber → List ℕ
@@ -39,7 +39,7 @@ number_note noted (numbers.Wire wire) = noted.note [] (origins.Wire wire)
 -- a line: which end or direction, how far, the number with its range as it is drawn, the row, and the note
 abbrev pub margin_line : NotesKept → NumberSeen → Word × Margin → List ℕ
 margin_line noted seen (which, margin) =
-    ended (line_of (which ∷ (told margin).0 ∷ drawn_number_text seen.number ∷ range_word seen.range ∷ ((told margin).1 ++ some_word (number_note noted seen.number))))
+    ended (line_of (which ∷ (how_far margin).0 ∷ drawn_number_text seen.number ∷ range_word seen.range ∷ ((how_far margin).1 ++ some_word (number_note noted seen.number))))
 
 -- the margins of a number, each with the word of its line
 abbrev pub margins_of : NumberFound → List (Word × Margin)
@@ -52,19 +52,18 @@ abbrev pub numbers_text : NotesKept → List NumberSeen → List NumberFound →
 numbers_text noted seen found = flat_map (λ (both : NumberSeen × NumberFound). flat_map (margin_line noted both.0) (margins_of both.1)) (zip seen found)
 
 -- a search for a margin was left open
-abbrev pub is_spent : Word × Margin → Bool
-is_spent (which, margins.Spent) = true
-is_spent (which, margin) = false
+abbrev pub is_left_open : Margin → Bool
+is_left_open margins.Spent = true
+is_left_open margin = false
 
-abbrev pub are_spent : List NumberFound → Bool
-are_spent found = list_any (λ (f : NumberFound). list_any is_spent (margins_of f)) found
+abbrev pub are_left_open : List NumberFound → Bool
+are_left_open found = list_any (λ (f : NumberFound). list_any (λ (m : Word × Margin). is_left_open m.1) (margins_of f)) found
 
 -- the finding, by the word that the network as drawn would end with
 abbrev pub finding_word : EndWord → Word
-finding_word Pass = codes "consistent"
-finding_word Fail = codes "consistent"
 finding_word Inconsistent = codes "inconsistent"
 finding_word Undecided = codes "spent"
+finding_word word = codes "consistent"
 
 -- the word at the end: undecided too where every requirement passes and a search for a margin was left open
 abbrev pub end_of : EndWord → Bool → EndWord
@@ -73,4 +72,4 @@ end_of word is_left = word
 
 abbrev pub margin_text : NotesKept → EndWord → List NumberSeen → List NumberFound → List ℕ
 margin_text noted word seen found =
-    ended (codes "itv margin 1") ++ (ended (line_of (codes "finding" ∷ finding_word word ∷ [])) ++ (numbers_text noted seen found ++ entry_text (ending (end_of word (are_spent found)))))
+    ended (codes "itv margin 1") ++ (ended (line_of (codes "finding" ∷ finding_word word ∷ [])) ++ (numbers_text noted seen found ++ entry_text (ending (end_of word (are_left_open found)))))

@@ -8,7 +8,7 @@ ghost use Rattle.itv_base.specs.declared.limits.TheConstants.{MAX_BUDGET};
 ghost use Rattle.moves.specs.Found.{IsSpanFound};
 ghost use Rattle.moves.specs.Step.{lent};
 ghost use Rattle.margin_report.specs.Margin.{IsNumberFound};
-ghost use Rattle.margin_report.specs.Step.{AreFoundIf, AreFoundOf, IsBase, IsEndingOf, found_of, is_decided, numbers_in_seen, word_of};
+ghost use Rattle.margin_report.specs.Step.{AreFoundIf, AreFoundOf, IsBaseOf, EndsByOf, found_of, is_decided, numbers_in_seen, word_of};
 
 use crate::number_found::NumberFound;
 use drawn::DrawnNetwork;
@@ -42,7 +42,7 @@ pub fn find_margins(
 ) -> Result<MarginFound, NoMemory>
     requires least { 1 ≤ budget }
     requires most { budget ≤ MAX_BUDGET }
-    ensures ending { IfOk result (λ found. IsEndingOf drawn.now budget seen.now as_one found.word found.numbers.items) }
+    ensures ending { IfOk result (λ found. EndsByOf drawn.now budget seen.now as_one found.word found.numbers.items) }
 {
     let effort = effort_of(budget);
     let base = base_of(alloc, drawn, effort)?;
@@ -86,7 +86,7 @@ fn numbers_by(
     base: &Probed,
     effort: Effort,
 ) -> Result<Vec<NumberFound>, NoMemory>
-    requires base { IsBase drawn.now effort.budget base.now }
+    requires base { IsBaseOf drawn.now effort.budget base.now }
     ensures { IfOk result (λ found. AreFoundIf (is_decided base.now.found) drawn.now effort.budget seen.now as_one found.items) }
 {
     if !is_decided(base.found) {
@@ -119,7 +119,7 @@ fn each_found(
     base: &Probed,
     effort: Effort,
 ) -> Result<Vec<NumberFound>, NoMemory>
-    requires base { IsBase drawn.now effort.budget base.now }
+    requires base { IsBaseOf drawn.now effort.budget base.now }
     requires decided { is_decided base.now.found ≡ true }
     ensures { IfOk result (λ found. AllZip (IsNumberFound drawn.now effort.budget) seen.now found.items) }
 {
@@ -143,7 +143,7 @@ fn span_of(
     base: &Probed,
     effort: Effort,
 ) -> Result<Option<SpanFound>, NoMemory>
-    requires base { IsBase drawn.now effort.budget base.now }
+    requires base { IsBaseOf drawn.now effort.budget base.now }
     requires decided { is_decided base.now.found ≡ true }
     ensures span { IfOk result (λ span. IfSome span (λ s. IsSpanFound drawn.now (seen.now.number ∷ []) s.down s.up)) }
     ensures has_span { IfOk result (λ span. is_some span ≡ (is_some seen.now.range.low && option_eq int_eq seen.now.range.low seen.now.range.high)) }
@@ -175,7 +175,7 @@ fn as_one_found(
     base: &Probed,
     effort: Effort,
 ) -> Result<Vec<NumberFound>, NoMemory>
-    requires base { IsBase drawn.now effort.budget base.now }
+    requires base { IsBaseOf drawn.now effort.budget base.now }
     requires decided { is_decided base.now.found ≡ true }
     ensures { IfOk result (λ found. AreFoundOf drawn.now effort.budget seen.now true found.items) }
 {

@@ -6,7 +6,7 @@ ghost use Rattle.std.specs.Option.{option_map_or};
 ghost use Rattle.line_words.specs.Lines.{spaced};
 ghost use Rattle.numbers.specs.Numbers.{drawn_number_text};
 ghost use Rattle.slack_report.specs.Text.{range_word};
-ghost use Rattle.margin_report.specs.Text.{margin_line, margins_of, number_note, numbers_text, told};
+ghost use Rattle.margin_report.specs.Text.{margin_line, margins_of, number_note, numbers_text, how_far};
 ghost use Rattle.moves.specs.declared.span.SpanFound.{SpanFound as Span};
 
 use crate::number_found::NumberFound;
@@ -98,14 +98,15 @@ fn add_line<N: Notes>(
     add_seen(text, seen)?;
     add_row(text, margin)?;
     add_some(text, note_of(notes, &seen.number))?;
-    add(text, b"\n")
+    add(text, b"\n")?;
+    Ok(())
 }
 
 // ---- parts of a line
 
 // Adds a space and how far something may be moved.
 fn add_amount(text: &mut Vec<u8>, margin: Margin) -> Result<(), NoMemory>
-    ensures { OnOk result (text.new.items ≡ text.old.items ++ spaced (told margin).0) }
+    ensures { OnOk result (text.new.items ≡ text.old.items ++ spaced (how_far margin).0) }
 {
     match margin {
         Margin::Free => add_spaced(text, b"*"),
@@ -128,7 +129,7 @@ fn add_seen(text: &mut Vec<u8>, seen: &NumberSeen) -> Result<(), NoMemory>
 
 // Adds the row that breaks beyond, if there is one.
 fn add_row(text: &mut Vec<u8>, margin: Margin) -> Result<(), NoMemory>
-    ensures { OnOk result (text.new.items ≡ text.old.items ++ flat_map spaced (told margin).1) }
+    ensures { OnOk result (text.new.items ≡ text.old.items ++ flat_map spaced (how_far margin).1) }
 {
     match margin {
         Margin::Until { row, .. } => {

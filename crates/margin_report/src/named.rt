@@ -1,13 +1,13 @@
 //! Reading a list of numbers.
 
-ghost use Rattle.std.specs.Prelude.{◌≡◌, ◌++◌, [], IfOk, find};
+ghost use Rattle.std.specs.Prelude.{◌≡◌, ◌==◌, ◌<◌, ◌++◌, [], IfOk, Some, find, length, slice_get};
 ghost use Rattle.std.specs.List.{list_any, slice_split};
 ghost use Rattle.std.specs.Option.{option_copied};
 ghost use Rattle.std.specs.Str.{bytes_eq};
 ghost use Rattle.itv_base.specs.Numerals.{number_text};
 ghost use Rattle.itv_base.specs.Reading.{walk};
 ghost use Rattle.line_words.specs.Views.{texts};
-ghost use Rattle.margin_report.specs.Named.{is_called, is_comma, numbers_in, with_named};
+ghost use Rattle.margin_report.specs.Named.{is_called, numbers_in, with_named};
 ghost use Rattle.margin_report.specs.Step.{IsListRead};
 
 use crate::list_fault::ListFault;
@@ -35,13 +35,13 @@ pub fn read_numbers(
 
 // The texts of a list between its commas.
 fn split_list(alloc: Global, list: &str) -> Result<Vec<&str>, NoMemory>
-    ensures { IfOk result (λ v. texts v.items ≡ slice_split is_comma list.now) }
+    ensures { IfOk result (λ v. texts v.items ≡ slice_split (λ b. b == 44) list.now) }
 {
     Ok(collect_texts(alloc, list)?)
 }
 
 fn collect_texts(alloc: Global, list: &str) -> Result<Vec<&str>, AllocError>
-    ensures { IfOk result (λ v. texts v.items ≡ slice_split is_comma list.now) }
+    ensures { IfOk result (λ v. texts v.items ≡ slice_split (λ b. b == 44) list.now) }
 {
     list.split(',').collect(alloc)
 }
@@ -56,9 +56,17 @@ fn named_numbers(
 {
     let mut named = Vec::new(alloc);
     for k in 0..names.len() {
-        add_named(alloc, all, k as u64, names[k], &mut named)?;
+        add_named(alloc, all, k as u64, name_at(names, k), &mut named)?;
     }
     Ok(named)
+}
+
+// The text at a place of a list.
+fn name_at<'a>(names: &[&'a str], k: usize) -> &'a str
+    requires { k < length names.now }
+    ensures { slice_get (texts names.now) k ≡ Some result.now }
+{
+    names[k]
 }
 
 // Adds the number that a text names, at this place of the list.

@@ -11,7 +11,7 @@ ghost use Rattle.margin_report.specs.Text.{margin_text};
 use crate::ending::{add_ending, end_of, finding_word};
 use crate::finding::{MarginFound, find_margins};
 use crate::lines::add_numbers;
-use crate::open::are_spent;
+use crate::open::are_left_open;
 use crate::words::{add, add_spaced};
 use drawn::DrawnNetwork;
 use itv_base::{Listing, NoMemory, Sink};
@@ -87,7 +87,7 @@ fn decide_on<N: Notes>(
     let text = text_of(alloc, notes, seen, &found)?;
     Ok(Decided {
         text,
-        answer: answer_of(end_of(found.word, are_spent(&found.numbers))),
+        answer: answer_of(end_of(found.word, are_left_open(&found.numbers))),
     })
 }
 
@@ -106,6 +106,6 @@ fn text_of<N: Notes>(
     add_spaced(&mut text, finding_word(found.word))?;
     add(&mut text, b"\n")?;
     add_numbers(&mut text, notes, seen, &found.numbers)?;
-    add_ending(&mut text, end_of(found.word, are_spent(&found.numbers)))?;
+    add_ending(&mut text, end_of(found.word, are_left_open(&found.numbers)))?;
     Ok(text)
 }

@@ -87,8 +87,11 @@ pub fn has_end(seen: &NumberSeen, side: Side) -> bool
     }
 }
 
+// Fewer numbers are not opened together where more of them are not free together.
+const FEWEST: usize = 4;
+
 // Opens the ends of the marked numbers from one place to another together. If every requirement passes, all of them are free. Else it opens those of the first
-// half, and those of the second one.
+// half and those of the second one, if these are not few.
 fn open_between(
     alloc: Global,
     opening: &Opening<'_>,
@@ -107,7 +110,7 @@ fn open_between(
         return Ok(());
     }
     let half = (end - start) / 2;
-    if half == 0 {
+    if half < FEWEST {
         return Ok(());
     }
     open_between(alloc, opening, start, start + half, free)?;

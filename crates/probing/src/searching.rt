@@ -21,9 +21,60 @@ use itv_base::{NoMemory, Range, RowKind};
 use moves::NetFound;
 use std::alloc::Global;
 
+// The first try. Where few cases are not enough, a search by clauses mostly is, and takes less time than many cases.
+const FIRST_CASES: u64 = 8;
+
+const FIRST_TURNS: u64 = 200_000;
+
 /// Looks for times that satisfy a network, and for times that break the requirement of a row, from the first row on. It ends with the first row that is
 /// found to break. What is found is not left open where the budget is no less than the number of cause choices. Times that it leaves fit the network.
 pub fn probe(alloc: Global, net: &Network, rows: &[Row], effort: Effort) -> Result<Probed, NoMemory>
+    requires rows { All (IsRowOf net.now) rows.now }
+    requires few { length rows.now ≤ MAX_ROWS }
+    requires budget { 1 ≤ effort.budget }
+    ensures found { IfOk result (λ probed. IsNetFound (bare_drawn net.now rows.now) probed.found) }
+    ensures settles { IfOk result (λ probed. cause_choices net.now.constraints ≤ effort.budget → is_net_open probed.found ≡ false) }
+    ensures fits { IfOk result (IsProbed net.now.events) }
+{
+    let first = probe_within(alloc, net, rows, first_effort(effort))?;
+    if !is_open(first.found) {
+        return Ok(first);
+    }
+    drop(first);
+    probe_within(alloc, net, rows, effort)
+}
+
+// How long the first try goes on.
+fn first_effort(effort: Effort) -> Effort
+    requires { 1 ≤ effort.budget }
+    ensures { 1 ≤ result.budget }
+{
+    Effort {
+        budget: effort.budget.min(FIRST_CASES),
+        turns: effort.turns.min(FIRST_TURNS),
+    }
+}
+
+// Whether a search was left open.
+fn is_open(found: NetFound) -> bool
+    ensures { result ≡ is_net_open found }
+{
+    match found {
+        NetFound::Passes => false,
+        NetFound::Breaks(_) => false,
+        NetFound::Inconsistent => false,
+        NetFound::Open => true,
+        NetFound::Spent => true,
+    }
+}
+
+// Looks for times that satisfy a network, and for times that break the requirement of a row, by one try.
+fn probe_within(
+    alloc: Global,
+    net: &Network,
+    rows: &[Row],
+    effort: Effort,
+) -> Result<Probed, NoMemory>
     requires rows { All (IsRowOf net.now) rows.now }
     requires few { length rows.now ≤ MAX_ROWS }
     requires budget { 1 ≤ effort.budget }

@@ -43,24 +43,19 @@ module _ (sought : SpanSought) (d : Direction) where
 
   -- ---- one more cover
 
-  pub stretched_on : (done goal : ℤ) (next : Stretch) → IsOn d done next.done.by → IsOn d next.done.by goal
-      → ((v : ℤ) → IsPast d done v → IsOn d v next.done.by → NoneBreaks (at_value sought v)) → IsStretched sought d done goal (stretches.On next)
-  stretched_on done goal next before within each = (before, within, each)
-
-  pub stretched_still : (done goal : ℤ) (next : Stretch) → next.done.by ≡ done → IsPast d done goal → IsStretched sought d done goal (stretches.On next)
-  stretched_still done goal next same past =
+  pub stretched_still : (done goal : ℤ) → IsPast d done goal
+      → IsOn d done done × IsOn d done goal × ((v : ℤ) → IsPast d done v → IsOn d v done → NoneBreaks (at_value sought v))
+  stretched_still done goal past =
       let P : ℤ → Type 0 = λ v. NoneBreaks (at_value sought v) in
-      subst (λ (b : ℤ). IsOn d done b × IsOn d b goal × ((v : ℤ) → IsPast d done v → IsOn d v b → P v)) (sym same)
       (on_same d done, on_past d done goal past, λ v beyond on. none_past P d done v beyond on)
 
-  pub stretched_next : (done goal : ℤ) (next : Stretch) → next.done.by ≡ (done +ℤ on_of d) → IsPast d done goal → NoneBreaks (at_value sought next.done.by)
-      → IsStretched sought d done goal (stretches.On next)
+  pub stretched_next : (done goal next : ℤ) → next ≡ (done +ℤ on_of d) → IsPast d done goal → NoneBreaks (at_value sought next)
+      → IsOn d done next × IsOn d next goal × ((v : ℤ) → IsPast d done v → IsOn d v next → NoneBreaks (at_value sought v))
   stretched_next done goal next same past none =
-      let P : ℤ → Type 0 = λ v. NoneBreaks (at_value sought v) in
-      (
+      let P : ℤ → Type 0 = λ v. NoneBreaks (at_value sought v) in (
         subst (λ (b : ℤ). IsOn d done b) (sym same) (on_next d done),
         subst (λ (b : ℤ). IsOn d b goal) (sym same) (next_on d done goal past),
-        λ v beyond on. way_next P d done next.done.by same none v beyond on,
+        λ v beyond on. way_next P d done next same none v beyond on,
       )
 
   -- ---- halves

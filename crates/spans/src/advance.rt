@@ -66,7 +66,7 @@ pub fn show_to(
         if is_same(stretch.done, goal) {
             return Ok(Advance::Reached);
         }
-        match stretched(alloc, sought, stretch, goal, direction)? {
+        match stretch_on(alloc, sought, stretch, goal, direction)? {
             Stretched::On(next) => stretch = next,
             Stretched::Breaks(row) => {
                 return Ok(Advance::Breaks {
@@ -81,7 +81,7 @@ pub fn show_to(
 }
 
 // One more cover. Where it is one of the next value alone and does not hold, the value is probed.
-fn stretched(
+fn stretch_on(
     alloc: Global,
     sought: &SpanSought<'_>,
     stretch: Stretch,

@@ -62,11 +62,7 @@ pub fn find_span(
 }
 
 // The span of the numbers, by what was found of the network as drawn.
-fn span_from(
-    alloc: Global,
-    sought: &SpanSought<'_>,
-    base: &Probed,
-) -> Result<SpanFound, NoMemory>
+fn span_from(alloc: Global, sought: &SpanSought<'_>, base: &Probed) -> Result<SpanFound, NoMemory>
     requires sought { IsSought sought.now }
     requires base { IsNetFound sought.now.drawn.now base.now.found }
     requires consistent { base.now.found ≡ NetFound.Inconsistent → ⊥ }
@@ -152,7 +148,7 @@ fn span_towards(
             return Ok(None);
         };
         at = value_on(at, more, goal, direction);
-        match tried(alloc, sought, row, at, direction, reach)? {
+        match try_value(alloc, sought, row, at, direction, reach)? {
             Tried::Span(span) => return Ok(Some(span)),
             Tried::On(next) => far = next,
             Tried::Nothing => return Ok(None),
@@ -162,7 +158,7 @@ fn span_towards(
 }
 
 // The span around a value, if every requirement passes there. As drawn a row breaks.
-fn tried(
+fn try_value(
     alloc: Global,
     sought: &SpanSought<'_>,
     row: u32,

@@ -4,4 +4,4 @@ use Rattle.margin_report.proofs.finding.repeated.Given as goal
 
 -- so many of them
 abbrev pub invariant-loop-k : goal.invariant-loop-k
-invariant-loop-k l = l.found.items ≡ replicate l.k (found_of l.span)
+invariant-loop-k l = l.found.items ≡ replicate l._k (found_of l.span)

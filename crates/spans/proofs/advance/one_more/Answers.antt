@@ -12,7 +12,7 @@ value_at-requires-clause-by c =
 
 pub returns-in-Shown : goal.returns-in-Shown
 returns-in-Shown c =
-    stretched_next c.args.sought.now c.args.direction c.args.done.by c.args.goal.by _ c.next_of-next.ensures.next c.requires.past (rw c.in-Shown.is at c.in_ok-value_at.ensures.found)
+    stretched_next c.args.sought.now c.args.direction c.args.done.by c.args.goal.by c.next_of-next.result.by c.next_of-next.ensures.next c.requires.past (rw c.in-Shown.is at c.in_ok-value_at.ensures.found)
 
 pub returns-in-Breaks : goal.returns-in-Breaks
 returns-in-Breaks c =

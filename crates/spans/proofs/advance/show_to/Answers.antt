@@ -6,8 +6,8 @@ use Rattle.spans.proofs.advance.show_to.Goals as goal
 pub loop-turn-init : goal.loop-turn-init
 loop-turn-init c = stretch_start c.args.sought.now c.args.direction c.args.from.by c.args.goal.by c.requires.from c.requires.ahead c.requires.none
 
-pub stretched-requires-clause-past : goal.stretched-requires-clause-past
-stretched-requires-clause-past c =
+pub stretch_on-requires-clause-past : goal.stretch_on-requires-clause-past
+stretch_on-requires-clause-past c =
     past_from c.args.direction c.loop-turn.stretch.done.by c.args.goal.by c.loop-turn.invariant.shown.within
     (λ same. let is = c.is_same.ensures.1 (sym same) in absurd (cc (is, c.if-is_same.false)))
 
@@ -19,4 +19,4 @@ returns-then-is_same c = record {
 pub loop-turn-preserved : goal.loop-turn-preserved
 loop-turn-preserved c =
     stretch_next c.args.sought.now c.args.direction c.args.from.by c.args.goal.by c.loop-turn.stretch.done.by c.in-On.next c.requires.goal c.loop-turn.invariant
-    (rw c.in-On.is at c.in_ok-stretched.ensures)
+    (rw c.in-On.is at c.in_ok-next.ensures)

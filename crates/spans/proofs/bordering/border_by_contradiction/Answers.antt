@@ -52,12 +52,12 @@ returns-then-is_same c =
 
 pub returns-in-None : goal.returns-in-None
 returns-in-None c = record {
-  border = spent_at c.args.sought.now c.args.direction c.args.from.by c.args.from.by c.spent-in-None.result c.spent-in-None.ensures (on_same c.args.direction c.args.from.by) c.requires.from
+  border = spent_at c.args.sought.now c.args.direction c.args.from.by c.args.from.by c.spent.result c.spent.ensures (on_same c.args.direction c.args.from.by) c.requires.from
       (own_shown c.args.sought.now c.args.direction c.args.from.by c.requires.passes.1);
 }
 
 pub returns : goal.returns
 returns c = record {
-  border = spent_at c.args.sought.now c.args.direction c.args.from.by c.args.from.by c.spent.result c.spent.ensures (on_same c.args.direction c.args.from.by) c.requires.from
+  border = spent_at c.args.sought.now c.args.direction c.args.from.by c.args.from.by c.spent-2.result c.spent-2.ensures (on_same c.args.direction c.args.from.by) c.requires.from
       (own_shown c.args.sought.now c.args.direction c.args.from.by c.requires.passes.1);
 }
