@@ -2,7 +2,7 @@
 
 use crate::edits_fault::edits_fault;
 use crate::limit::limit_fault;
-use crate::written::Plain;
+use crate::written::{Plain, said};
 use drawn::DrawnNetwork;
 use edits::{MAX_EDITS_BYTES, read_edits};
 use itv_base::{NoMemory, Shelf};
@@ -18,11 +18,11 @@ pub fn job_fault<H: Shelf>(
     shelf: &mut H,
 ) -> Result<String, NoMemory> {
     match task {
-        Task::Fall { .. } => Ok(format!(in alloc; "{MIXED}")?),
+        Task::Fall { .. } => said(alloc, MIXED),
         Task::Searched {
             job: SearchJob::Redraw,
             ..
-        } => Ok(format!(in alloc; "{WIDE}")?),
+        } => said(alloc, WIDE),
         Task::Matrix { .. } => {
             let count = u128::from(drawn.network().events());
             limit_fault(alloc, too_many(Limit::MatrixEvents, count))
