@@ -1,14 +1,12 @@
 //! What is said after a run.
 
-use crate::again::can_read_again;
 use crate::answered::answered_says;
 use crate::budget::budget_says;
-use crate::look::{Looked, NameLook};
-use crate::named::files_of;
-use crate::refused::refusal_says;
-use crate::unread::unread_says;
-use crate::words_fault::words_fault;
+use crate::margin_fault::margin_refusal;
 use itv_base::{NoMemory, Shelf, Texts};
+use refusal_hints::{
+    Looked, NameLook, can_read_again, files_of, refusal_says, said, unread_says, words_fault,
+};
 use std::alloc::Global;
 use words::{Invocation, PlanJob, Task, read_words};
 
@@ -28,13 +26,15 @@ pub fn said_after<H: Shelf, L: NameLook>(
 ) -> Result<String, NoMemory> {
     let says = match status {
         6 => written_says(alloc, look)?,
-        7 => format!(in alloc; "there was not enough memory")?,
+        7 => said(alloc, "there was not enough memory")?,
         8 => words_says(alloc, words)?,
-        9 => format!(in alloc;
-            "docs/report.md says under \"Checking a report\" when a line is wrong"
+        9 => said(
+            alloc,
+            "docs/report.md says under \"Checking a report\" when a line is wrong",
         )?,
-        10 => format!(in alloc;
-            "a word is no text in UTF-8, as a file name in Latin-1: rename the file"
+        10 => said(
+            alloc,
+            "a word is no text in UTF-8, as a file name in Latin-1: rename the file",
         )?,
         _ => match read_words(alloc, words) {
             Ok(Invocation::Task(task)) => task_says(alloc, task, status, shelf, look)?,
@@ -62,7 +62,7 @@ fn words_says(alloc: Global, words: &Texts) -> Result<String, NoMemory> {
 fn written_says<L: NameLook>(alloc: Global, look: &L) -> Result<String, NoMemory> {
     match look.look("/dev/stdout") {
         Looked::Pipe => Ok(String::new(alloc)),
-        _ => Ok(format!(in alloc; "the output could not be written whole")?),
+        _ => said(alloc, "the output could not be written whole"),
     }
 }
 
@@ -76,7 +76,7 @@ fn task_says<H: Shelf, L: NameLook>(
 ) -> Result<String, NoMemory> {
     match status {
         0 | 1 | 2 => design_says(alloc, task, status, shelf, look),
-        3 => Ok(format!(in alloc; "{}", budget_says(task))?),
+        3 => said(alloc, budget_says(task)),
         4 => refused_says(alloc, task, shelf, look),
         5 => unread_says(alloc, files_of(task), shelf, look),
         _ => Ok(String::new(alloc)),
@@ -121,13 +121,29 @@ fn refused_says<H: Shelf, L: NameLook>(
 ) -> Result<String, NoMemory> {
     let files = files_of(task);
     let says = match files.design {
-        Some(design) if can_read_again(alloc, files, shelf, look) => {
-            refusal_says(alloc, task, design, shelf)?
-        }
+        Some(design) if can_read_again(alloc, files, shelf, look) => match task {
+            Task::Margin { list, .. } => margin_says(alloc, task, list, design, shelf)?,
+            _ => refusal_says(alloc, task, design, shelf)?,
+        },
         _ => String::new(alloc),
     };
     if says.is_empty() {
-        return Ok(format!(in alloc; "{REFUSED}")?);
+        return said(alloc, REFUSED);
+    }
+    Ok(says)
+}
+
+// Of job margin: why the design is refused, or what the job refuses of it.
+fn margin_says<H: Shelf>(
+    alloc: Global,
+    task: Task<'_>,
+    list: Option<&str>,
+    design: &str,
+    shelf: &mut H,
+) -> Result<String, NoMemory> {
+    let says = refusal_says(alloc, task, design, shelf)?;
+    if says.is_empty() {
+        return margin_refusal(alloc, list, design, shelf);
     }
     Ok(says)
 }

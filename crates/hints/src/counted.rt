@@ -2,10 +2,10 @@
 
 use crate::lint_cost::{cases_for, is_countable};
 use crate::lint_count::{LintCount, count_drawn, count_searched};
-use crate::written::Plain;
 use drawn::DrawnNetwork;
 use itv_base::NoMemory;
 use plan::Plan;
+use refusal_hints::Plain;
 use std::alloc::Global;
 
 /// How many warnings job lint has of the plan of a design and of the network that it draws, if it has any. Of a large design these are the warnings of

@@ -1,7 +1,9 @@
 //! Counting the warnings of job lint.
 
-ghost use Rattle.std.specs.Prelude.{◌≤◌};
+ghost use Rattle.std.specs.Prelude.{◌≡◌, ◌≤◌, Ok};
+ghost use Rattle.compose.specs.Compose.{composed_on};
 ghost use Rattle.itv_base.specs.declared.limits.TheConstants.{MAX_BUDGET};
+ghost use Rattle.plan.specs.Plan.{sheets_on};
 
 use compose::{Design, compose};
 use drawn::DrawnNetwork;
@@ -36,7 +38,10 @@ pub fn count_searched(
 {
     let mut text = SinkMem::new(alloc, ROOM)?;
     let is_whole = match compose(alloc, plan.netlist(), plan.sheets()) {
-        Ok(_) => write_lint(alloc, plan, drawn, cases, &mut text).is_ok(),
+        Ok(design) => {
+            drop(design);
+            write_lint(alloc, plan, drawn, cases, &mut text).is_ok()
+        }
         Err(_) => false,
     };
     let count = count_lines(text.bytes());
@@ -65,17 +70,29 @@ fn count_lines(text: &[u8]) -> LintCount {
 
 /// Counts the warnings of the drawing of a plan, and searches nothing.
 pub fn count_drawn(alloc: Global, plan: &Plan) -> Result<LintCount, NoMemory> {
-    let warnings = match compose(alloc, plan.netlist(), plan.sheets()) {
-        Ok(design) => {
-            let warnings = warnings_of(alloc, plan, &design)?;
-            count_unmeant(plan, &design, &warnings)
-        }
-        Err(_) => 0,
-    };
+    let warnings = count_composed(alloc, plan)?;
     Ok(LintCount {
         warnings,
         may_be_more: true,
     })
+}
+
+fn count_composed(alloc: Global, plan: &Plan) -> Result<u64, NoMemory> {
+    match compose(alloc, plan.netlist(), plan.sheets()) {
+        Ok(design) => {
+            let count = count_in(alloc, plan, &design);
+            drop(design);
+            count
+        }
+        Err(_) => Ok(0),
+    }
+}
+
+fn count_in(alloc: Global, plan: &Plan, design: &Design<'_>) -> Result<u64, NoMemory>
+    requires design { composed_on plan.now.netlist (sheets_on plan.now.sheets plan.now.netlist.parts) ≡ Ok design.now }
+{
+    let warnings = warnings_of(alloc, plan, design)?;
+    Ok(count_unmeant(plan, design, &warnings))
 }
 
 fn count_unmeant(plan: &Plan, design: &Design<'_>, warnings: &[Warning]) -> u64 {

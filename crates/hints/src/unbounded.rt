@@ -1,9 +1,9 @@
 //! Events of requirements that nothing bounds.
 
 use crate::held::{Held, Holder, holders_of};
-use crate::written::{Plain, ShownMark};
 use drawn::{DrawnNetwork, Row};
 use itv_base::{EventId, NoMemory, RowKind, Side};
+use refusal_hints::{Plain, ShownMark};
 use std::alloc::Global;
 
 // An event that a requirement wants to be bounded on a side, and what bounds it.

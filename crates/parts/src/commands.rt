@@ -3,7 +3,7 @@
 use crate::unfit::Unfit;
 use crate::writing::put_bytes;
 use design_gen::make;
-use itv_base::{FILE_LIMIT, Shelf, Texts};
+use itv_base::{FILE_LIMIT, Shelf, ShelfMem, Texts};
 use line_words::short_in;
 use std::alloc::{AllocError, Global};
 use std::fmt::Write;
@@ -12,7 +12,13 @@ use words::{CheckJob, Invocation, PlanJob, SearchJob, Task, read_words};
 /// Writes what a list of words asks for. In the row each word stands after a comma.
 pub fn words(alloc: Global, row: &str, out: &mut String) -> Result<(), Unfit> {
     let texts = texts_of(alloc, row)?;
-    match read_words(alloc, &texts)? {
+    let put = put_words(alloc, &texts, out);
+    drop(texts);
+    put
+}
+
+fn put_words(alloc: Global, words: &Texts, out: &mut String) -> Result<(), Unfit> {
+    match read_words(alloc, words)? {
         Invocation::Task(task) => put_task(task, out)?,
         Invocation::Help(_) => out.push_str("help")?,
         Invocation::BadWords => out.push_str("bad words")?,
@@ -134,10 +140,24 @@ pub fn files(alloc: Global, row: &str, out: &mut String) -> Result<(), Unfit> {
     let size = short_in(words.next().ok_or(())?).ok_or(())?;
     let name = words.next().ok_or(())?;
     let count = words.next().ok_or(())?.parse::<usize>()?;
-    let mut shelf = match make(alloc, size) {
-        Ok(shelf) => shelf,
-        Err(fault) => return Ok(write!(out, "{fault}")?),
-    };
+    match make(alloc, size) {
+        Ok(mut shelf) => {
+            let put = put_front(alloc, &mut shelf, name, count, out);
+            drop(shelf);
+            put
+        }
+        Err(fault) => Ok(write!(out, "{fault}")?),
+    }
+}
+
+// Writes the front of a file.
+fn put_front(
+    alloc: Global,
+    shelf: &mut ShelfMem,
+    name: &str,
+    count: usize,
+    out: &mut String,
+) -> Result<(), Unfit> {
     match shelf.fetch(alloc, name, FILE_LIMIT) {
         Ok(bytes) => put_bytes(bytes.as_slice().get(..count).unwrap_or(&bytes), out),
         Err(fault) => Ok(write!(out, "{fault}")?),

@@ -5,17 +5,26 @@ use itv_base::Text;
 use serde_json::Value;
 use std::alloc::{AllocError, Global};
 use std::fmt::Write;
-use wavejson::{Diagram, read_diagram};
+use wavejson::{Diagram, DiagramFault, read_diagram};
 
 /// Writes each lane of a tree as `name,wave,node;`, and after the lanes each edge text after a bar. A hyphen stands for an absent text. Or writes
 /// the fault of the tree.
 pub fn drawing(alloc: Global, row: &str, out: &mut String) -> Result<(), Unfit> {
     let tree = Value::from_str(alloc, row)?;
-    match read_diagram(alloc, &tree) {
-        Ok(diagram) => put_drawing(&diagram, out)?,
-        Err(fault) => write!(out, "{fault}")?,
+    let read = read_diagram(alloc, &tree);
+    drop(tree);
+    Ok(put_read(read, out)?)
+}
+
+fn put_read(read: Result<Diagram, DiagramFault>, out: &mut String) -> Result<(), AllocError> {
+    match read {
+        Ok(diagram) => {
+            let put = put_drawing(&diagram, out);
+            drop(diagram);
+            put
+        }
+        Err(fault) => write!(out, "{fault}"),
     }
-    Ok(())
 }
 
 fn put_drawing(diagram: &Diagram, out: &mut String) -> Result<(), AllocError> {

@@ -13,24 +13,42 @@ use std::fmt::Write;
 /// Writes the edits of a file, or its fault. The row has a number and a text: the file has this text so many times. Each line of the subject is a
 /// file of the design: its name, a space and its text. The design is the file `d`.
 pub fn edits(alloc: Global, subject: &str, row: &str, out: &mut String) -> Result<(), Unfit> {
-    let drawn = drawn_of(alloc, subject)?;
     let bytes = repeated(alloc, row)?;
-    match read_edits(alloc, &drawn, &bytes) {
-        Ok(edits) => put_edits(edits.as_slice(), out)?,
-        Err(EditsFault::Range(line, fault)) => write!(out, "line {line}: {fault}")?,
-        Err(fault) => write!(out, "{fault}")?,
+    let drawn = drawn_of(alloc, subject)?;
+    let put = put_read(alloc, &drawn, &bytes, out);
+    drop(drawn);
+    Ok(put?)
+}
+
+// Writes the edits that bytes have for a drawn network, or the fault of the bytes.
+fn put_read(
+    alloc: Global,
+    drawn: &DrawnNetwork,
+    bytes: &[u8],
+    out: &mut String,
+) -> Result<(), AllocError> {
+    match read_edits(alloc, drawn, bytes) {
+        Ok(edits) => put_edits(edits.as_slice(), out),
+        Err(EditsFault::Range(line, fault)) => write!(out, "line {line}: {fault}"),
+        Err(fault) => write!(out, "{fault}"),
     }
-    Ok(())
 }
 
 // The drawn network of a subject.
 fn drawn_of(alloc: Global, subject: &str) -> Result<DrawnNetwork, Unfit> {
     let mut shelf = ShelfMem::new(alloc)?;
+    let drawn = draw(alloc, subject, &mut shelf);
+    drop(shelf);
+    drawn
+}
+
+// Puts the files of a subject on a shelf, and draws the design.
+fn draw(alloc: Global, subject: &str, shelf: &mut ShelfMem) -> Result<DrawnNetwork, Unfit> {
     for line in subject.lines() {
         let (name, text) = line.split_once(' ').ok_or(())?;
         shelf.add(alloc, name, text.as_bytes())?;
     }
-    Ok(open_design(alloc, "d", &mut shelf)?)
+    Ok(open_design(alloc, "d", shelf)?)
 }
 
 // The bytes of a file, as in `2 set 0.0 [0,1]\n`.

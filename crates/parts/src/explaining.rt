@@ -40,11 +40,22 @@ fn put_none(out: &mut String) -> Result<(), Unfit> {
 /// proof.
 pub fn marks(alloc: Global, net: &Network, rows: &str, out: &mut String) -> Result<(), Unfit> {
     let mut marking = Marking::new(alloc, net)?;
+    let put = mark_all(alloc, &mut marking, rows, out);
+    drop(marking);
+    put
+}
+
+fn mark_all(
+    alloc: Global,
+    marking: &mut Marking,
+    rows: &str,
+    out: &mut String,
+) -> Result<(), Unfit> {
     for row in rows.lines() {
         if row == "begin" {
             marking.begin();
         } else {
-            take_text(alloc, row, &mut marking)?;
+            take_text(alloc, row, marking)?;
         }
         put_flags(marking.marks(), out)?;
         out.push_str("\n")?;

@@ -15,13 +15,29 @@ pub fn network(alloc: Global, subject: &str, out: &mut String) -> Result<Network
     let events = head.strip_prefix("events ").ok_or(())?;
     let events = short_in(events).ok_or(())?;
     let mut net = Network::new(alloc, events.min(MAX_EVENTS))?;
-    for line in constraints.lines() {
-        match line.strip_prefix("chain ") {
-            Some(ends) => push_chain(alloc, &mut net, ends, out)?,
-            None => push_constraint(alloc, &mut net, line, out)?,
+    match push_lines(alloc, &mut net, constraints, out) {
+        Ok(()) => Ok(net),
+        Err(Unfit) => {
+            drop(net);
+            Err(Unfit)
         }
     }
-    Ok(net)
+}
+
+// Adds the constraints of some lines.
+fn push_lines(
+    alloc: Global,
+    net: &mut Network,
+    lines: &str,
+    out: &mut String,
+) -> Result<(), Unfit> {
+    for line in lines.lines() {
+        match line.strip_prefix("chain ") {
+            Some(ends) => push_chain(alloc, net, ends, out)?,
+            None => push_constraint(alloc, net, line, out)?,
+        }
+    }
+    Ok(())
 }
 
 // Adds a linear constraint from each event to the next.

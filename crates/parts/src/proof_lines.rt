@@ -56,11 +56,22 @@ pub fn take_text<S: Scribe>(alloc: Global, text: &str, scribe: &mut S) -> Result
 /// Gives lines to a scribe that keeps four lines and five edges. The row `clear` empties the scribe, and `show` writes what it has.
 pub fn tree(alloc: Global, rows: &str, out: &mut String) -> Result<(), Unfit> {
     let mut tree = TreeScribe::new(alloc, 4, 5)?;
+    let put = keep_all(alloc, &mut tree, rows, out);
+    drop(tree);
+    put
+}
+
+fn keep_all(
+    alloc: Global,
+    tree: &mut TreeScribe,
+    rows: &str,
+    out: &mut String,
+) -> Result<(), Unfit> {
     for row in rows.lines() {
         match row {
             "clear" => tree.clear(),
-            "show" => put_tree(alloc, &tree, out)?,
-            _ => out.push_str(match take_text(alloc, row, &mut tree) {
+            "show" => put_tree(alloc, tree, out)?,
+            _ => out.push_str(match take_text(alloc, row, tree) {
                 Ok(()) => "kept\n",
                 Err(Unfit) => "refused\n",
             })?,

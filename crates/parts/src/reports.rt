@@ -4,7 +4,7 @@ use crate::unfit::Unfit;
 use crate::writing::{bytes_of, put_bytes};
 use itv_base::SinkMem;
 use line_words::LineBuffer;
-use slack_report::{Item, LINE_ROOM, ReportFault, read_report, write_item};
+use slack_report::{Item, Items, LINE_ROOM, ReportFault, read_report, write_item};
 use std::alloc::Global;
 use std::fmt::Write;
 
@@ -71,13 +71,27 @@ fn again(
     is_failing: bool,
     out: &mut String,
 ) -> Result<(), Unfit> {
-    let report = match read_report(alloc, bytes) {
-        Ok(report) => report,
-        Err(ReportFault::Line(line)) => return Ok(write!(out, "refused at line {line}")?),
-        Err(ReportFault::NoMemory) => return Err(Unfit),
-    };
-    for k in 0..report.items().len() {
-        let (item, line) = report.items().get(k);
+    match read_report(alloc, bytes) {
+        Ok(report) => {
+            let put = put_items(alloc, report.items(), room, is_failing, out);
+            drop(report);
+            put
+        }
+        Err(ReportFault::Line(line)) => Ok(write!(out, "refused at line {line}")?),
+        Err(ReportFault::NoMemory) => Err(Unfit),
+    }
+}
+
+// Writes lines with their numbers.
+fn put_items(
+    alloc: Global,
+    items: &Items,
+    room: u32,
+    is_failing: bool,
+    out: &mut String,
+) -> Result<(), Unfit> {
+    for k in 0..items.len() {
+        let (item, line) = items.get(k);
         write!(out, "{line} ")?;
         put_item(alloc, &item, room, is_failing, out)?;
     }

@@ -9,20 +9,32 @@ use serde_json::Value;
 use sheet::{Mark, Pin, Rule, Sheet, SheetFault, SheetRow, read_sheet};
 use std::alloc::{AllocError, Global};
 use std::fmt::Write;
-use wavejson::read_diagram;
+use wavejson::{Diagram, read_diagram};
 
 /// Writes the marks of a sheet on one line, and then a line for each pin, rule and row. Or writes the fault of the sheet.
 pub fn sheet(alloc: Global, row: &str, out: &mut String) -> Result<(), Unfit> {
     let tree = Value::from_str(alloc, row)?;
-    let diagram = read_diagram(alloc, &tree)?;
-    match read_sheet(alloc, &diagram) {
-        Ok(sheet) => put_sheet(&sheet, out)?,
+    let diagram = read_diagram(alloc, &tree);
+    drop(tree);
+    let diagram = diagram?;
+    let put = put_drawn(alloc, &diagram, out);
+    drop(diagram);
+    Ok(put?)
+}
+
+// Writes the sheet of a diagram, or its fault.
+fn put_drawn(alloc: Global, diagram: &Diagram, out: &mut String) -> Result<(), AllocError> {
+    match read_sheet(alloc, diagram) {
+        Ok(sheet) => {
+            let put = put_sheet(&sheet, out);
+            drop(sheet);
+            put
+        }
         Err(SheetFault::Label(edge, fault)) => {
-            write!(out, "the label of edge {edge}: {}", fault_name(fault))?
-        },
-        Err(fault) => write!(out, "{fault}")?,
+            write!(out, "the label of edge {edge}: {}", fault_name(fault))
+        }
+        Err(fault) => write!(out, "{fault}"),
     }
-    Ok(())
 }
 
 fn put_sheet(sheet: &Sheet, out: &mut String) -> Result<(), AllocError> {

@@ -13,9 +13,18 @@ use trail::{Stamp, Trail};
 /// constraint 3, `set 0 5` for the label 5 in slot 0. A step that the stack has no room for does nothing.
 pub fn trail(alloc: Global, rows: &str, out: &mut String) -> Result<(), Unfit> {
     let mut trail = Trail::new(alloc, 2, 2)?;
+    let put = step_all(alloc, &mut trail, rows, out);
+    drop(trail);
+    put
+}
+
+fn step_all(alloc: Global, trail: &mut Trail, rows: &str, out: &mut String) -> Result<(), Unfit>
+    requires levels { trail.old.levels ≡ 2 }
+    requires slots { length trail.old.current.stamps ≡ 2 }
+{
     for row in rows.lines() {
-        step(alloc, &mut trail, row)?;
-        put_trail(&trail, out)?;
+        step(alloc, trail, row)?;
+        put_trail(trail, out)?;
     }
     Ok(())
 }

@@ -27,7 +27,7 @@ pub fn no_part(alloc: Global, netlist: &Netlist, name: &str) -> Result<String, N
     for part in netlist.parts().as_slice() {
         names.push(alloc, part.name.as_text())?;
     }
-    let there = what_there_is(alloc, &names, "part", "parts")?;
+    let there = what_there_is(alloc, names, "part", "parts")?;
     let there = there.as_str();
     let name = Quoted(name);
     Ok(format!(in alloc; "there is no part {name}; {there}")?)
@@ -44,11 +44,24 @@ pub fn lane_for_mark<H: Shelf>(
     let Some(sheet) = sheet_name(tree, part) else {
         return Ok(String::new(alloc));
     };
-    let Some(tree) = tree_of(alloc, sheet, shelf) else {
-        return Ok(String::new(alloc));
-    };
-    match drawing_of(alloc, &tree) {
-        Some(diagram) => lane_marks(alloc, &diagram, lane),
+    match tree_of(alloc, sheet, shelf) {
+        Some(tree) => {
+            let says = lane_in(alloc, &tree, lane);
+            drop(tree);
+            says
+        }
+        None => Ok(String::new(alloc)),
+    }
+}
+
+// The marks of the lane of a name in the drawing of a tree, if there is one.
+fn lane_in(alloc: Global, tree: &Value, name: &str) -> Result<String, NoMemory> {
+    match drawing_of(alloc, tree) {
+        Some(diagram) => {
+            let says = lane_marks(alloc, &diagram, name);
+            drop(diagram);
+            says
+        }
         None => Ok(String::new(alloc)),
     }
 }
@@ -69,7 +82,7 @@ fn lane_marks(alloc: Global, diagram: &Diagram, name: &str) -> Result<String, No
         let lane = diagram.lanes().get(k);
         if name_of(lane) == name && !name.is_empty() {
             let marks = marks_of(alloc, lane)?;
-            let marks = what_there_is(alloc, &marks, "mark", "marks")?;
+            let marks = what_there_is(alloc, marks, "mark", "marks")?;
             let marks = marks.as_str();
             let name = Short(name);
             return Ok(format!(in alloc; ", since {name} is a lane, and of it {marks}")?);

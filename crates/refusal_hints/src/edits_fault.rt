@@ -2,7 +2,7 @@
 
 use crate::edge::column_of;
 use crate::label_fault::{LabelWhy, Misfit, high_low_end, range_misfit, wide_end};
-use crate::written::Quoted;
+use crate::written::{Quoted, said};
 use edits::EditsFault;
 use itv_base::{NoMemory, RangeFault};
 use std::alloc::Global;
@@ -10,7 +10,7 @@ use std::alloc::Global;
 /// Why the bytes of a file of edits are refused.
 pub fn edits_fault(alloc: Global, bytes: &[u8], fault: EditsFault) -> Result<String, NoMemory> {
     match fault {
-        EditsFault::TooLong => Ok(format!(in alloc; "it has more than 1,048,576 bytes")?),
+        EditsFault::TooLong => said(alloc, "it has more than 1,048,576 bytes"),
         EditsFault::TooMany(count) => Ok(format!(in alloc;
             "it has {count} lines, and 1,000 are the limit"
         )?),

@@ -1,5 +1,5 @@
 use Rattle.std.proofs.Common.{◌≡◌, length}
-use Rattle.parts.proofs.stacks.trail.Given as goal
+use Rattle.parts.proofs.stacks.step_all.Given as goal
 
 -- the stack has two levels and two slots
 abbrev pub invariant-loop-row : goal.invariant-loop-row

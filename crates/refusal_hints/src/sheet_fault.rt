@@ -38,7 +38,11 @@ pub fn sheet_fault(
     match fault {
         SheetFault::BadNode(_) | SheetFault::DoubleMark(_) | SheetFault::DoublePin(_) => {
             match drawing_of(alloc, sheet.tree) {
-                Some(diagram) => lanes_fault(alloc, &diagram, fault),
+                Some(diagram) => {
+                    let says = lanes_fault(alloc, &diagram, fault);
+                    drop(diagram);
+                    says
+                }
                 None => Ok(String::new(alloc)),
             }
         }
@@ -89,7 +93,7 @@ fn mark_refused(alloc: Global, diagram: &Diagram, mark: u8) -> Result<String, No
             lanes.push(alloc, lane_said(alloc, diagram, k)?.as_str())?;
         }
     }
-    let lanes = listed(alloc, &lanes)?;
+    let lanes = listed(alloc, lanes)?;
     let lanes = lanes.as_str();
     let mark = ShownMark(mark);
     Ok(format!(in alloc; "the mark {mark} stands twice, on {lanes}: rename one")?)
@@ -135,13 +139,22 @@ pub const TOO_MANY_CAUSES: &str =
 
 // An edge names a mark that is not there.
 fn no_mark(alloc: Global, tree: &Value, n: u64, text: &str, mark: u8) -> Result<String, NoMemory> {
-    let marks = match drawing_of(alloc, tree) {
-        Some(diagram) => all_marks(alloc, &diagram)?,
-        None => Texts::new(alloc)?,
-    };
-    let marks = what_there_is(alloc, &marks, "mark", "marks")?;
+    let marks = marks_in(alloc, tree)?;
+    let marks = what_there_is(alloc, marks, "mark", "marks")?;
     let marks = marks.as_str();
     let mark = ShownMark(mark);
     let edge = Quoted(text);
     Ok(format!(in alloc; "edge {n} {edge}: no lane has the mark {mark} in its node; {marks}")?)
+}
+
+// The marks of the drawing of a tree, if it is one.
+fn marks_in(alloc: Global, tree: &Value) -> Result<Texts, NoMemory> {
+    match drawing_of(alloc, tree) {
+        Some(diagram) => {
+            let marks = all_marks(alloc, &diagram);
+            drop(diagram);
+            marks
+        }
+        None => Texts::new(alloc),
+    }
 }

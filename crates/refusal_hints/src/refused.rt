@@ -7,6 +7,7 @@ use crate::limit::limit_fault;
 use crate::part::netlist_of;
 use crate::written::Plain;
 use itv_base::{NoMemory, Shelf};
+use netlist::Netlist;
 use plan::Plan;
 use reading::{Refusal, RefusalPlace, Stop, draw_plan, open_plan};
 use std::alloc::Global;
@@ -20,7 +21,11 @@ pub fn refusal_says<H: Shelf>(
     shelf: &mut H,
 ) -> Result<String, NoMemory> {
     match open_plan(alloc, design, shelf) {
-        Ok(plan) => plan_says(alloc, task, design, &plan, shelf),
+        Ok(plan) => {
+            let says = plan_says(alloc, task, design, &plan, shelf);
+            drop(plan);
+            says
+        }
         Err(Stop::Refused(RefusalPlace::File(number), why)) => {
             place_says(alloc, design, number, why, shelf)
         }
@@ -40,11 +45,26 @@ fn place_says<H: Shelf>(
     if number == 0 {
         return file_fault(alloc, design, None, why, shelf);
     }
-    let Some(netlist) = netlist_of(alloc, design, shelf) else {
-        return Ok(String::new(alloc));
-    };
-    match netlist.sheet_names().as_slice().get(number as usize - 1) {
-        Some(name) => file_fault(alloc, name.as_text(), Some(&netlist), why, shelf),
+    match netlist_of(alloc, design, shelf) {
+        Some(netlist) => {
+            let says = sheet_says(alloc, &netlist, number as usize - 1, why, shelf);
+            drop(netlist);
+            says
+        }
+        None => Ok(String::new(alloc)),
+    }
+}
+
+// Why the sheet with a number, counted from 0, of a netlist is refused.
+fn sheet_says<H: Shelf>(
+    alloc: Global,
+    netlist: &Netlist,
+    number: usize,
+    why: Refusal,
+    shelf: &mut H,
+) -> Result<String, NoMemory> {
+    match netlist.sheet_names().as_slice().get(number) {
+        Some(name) => file_fault(alloc, name.as_text(), Some(netlist), why, shelf),
         None => Ok(String::new(alloc)),
     }
 }
@@ -57,12 +77,23 @@ fn plan_says<H: Shelf>(
     plan: &Plan,
     shelf: &mut H,
 ) -> Result<String, NoMemory> {
-    let says = match draw_plan(alloc, plan) {
-        Ok(drawn) => return job_fault(alloc, task, &drawn, shelf),
-        Err(Stop::Refused(_, Refusal::Joins(fault))) => join_fault(alloc, plan, fault)?,
-        Err(Stop::Refused(_, Refusal::Limits(fault))) => limit_fault(alloc, fault)?,
-        Err(Stop::NoMemory) => return Err(NoMemory),
-        Err(_) => return Ok(String::new(alloc)),
+    match draw_plan(alloc, plan) {
+        Ok(drawn) => {
+            let says = job_fault(alloc, task, &drawn, shelf);
+            drop(drawn);
+            says
+        }
+        Err(stop) => undrawn_says(alloc, design, plan, stop),
+    }
+}
+
+// Why a plan draws no network.
+fn undrawn_says(alloc: Global, design: &str, plan: &Plan, stop: Stop) -> Result<String, NoMemory> {
+    let says = match stop {
+        Stop::Refused(_, Refusal::Joins(fault)) => join_fault(alloc, plan, fault)?,
+        Stop::Refused(_, Refusal::Limits(fault)) => limit_fault(alloc, fault)?,
+        Stop::NoMemory => return Err(NoMemory),
+        _ => return Ok(String::new(alloc)),
     };
     let says = says.as_str();
     let design = Plain(design);

@@ -4,7 +4,7 @@ use crate::edge::{about_edge, edge_text, label_refused, no_text};
 use crate::grades_fault::range_says;
 use crate::part::lane_for_mark;
 use crate::tree::{about_key, ends_fault, is_ends, value_text};
-use crate::written::Quoted;
+use crate::written::{Quoted, said};
 use itv_base::{NoMemory, Shelf, is_mark, is_name};
 use json_tree::{list_at, text_at};
 use netlist::NetlistFault;
@@ -52,7 +52,7 @@ fn whole_fault(alloc: Global, tree: &Value, fault: NetlistFault) -> Result<Strin
         NetlistFault::TooManySheets(count) => Ok(format!(in alloc;
             "its parts name {count} sheets, and 64 are the limit"
         )?),
-        _ => Ok(format!(in alloc; "{}", plain_fault(fault))?),
+        _ => said(alloc, plain_fault(fault)),
     }
 }
 
@@ -86,7 +86,7 @@ fn part_fault(alloc: Global, tree: &Value, n: u64) -> Result<String, NoMemory> {
         return Ok(String::new(alloc));
     };
     let says = if !part.is_object() {
-        format!(in alloc; "it is no object with a name and a sheet")?
+        said(alloc, "it is no object with a name and a sheet")?
     } else if !has_name(part) {
         about_key(alloc, "name", part.get("name"), NAME)?
     } else if text_at(part, "sheet").is_none() {
@@ -136,7 +136,7 @@ fn net_fault(alloc: Global, tree: &Value, n: u64) -> Result<String, NoMemory> {
         return Ok(String::new(alloc));
     };
     let says = if !net.is_object() {
-        format!(in alloc; "it is no object with pins")?
+        said(alloc, "it is no object with pins")?
     } else if !has_pins(net) {
         about_key(
             alloc,

@@ -4,6 +4,7 @@ use crate::look::{Looked, NameLook};
 use crate::named::NamedFiles;
 use crate::part::netlist_of;
 use itv_base::Shelf;
+use netlist::Netlist;
 use std::alloc::Global;
 
 /// Whether the files of a task are plain ones, and so are the sheets that its design names: then they can be read once more. A pipe can not.
@@ -24,13 +25,20 @@ pub fn can_read_again<H: Shelf, L: NameLook>(
     }
     match netlist_of(alloc, design, shelf) {
         Some(netlist) => {
-            let names = netlist.sheet_names().as_slice();
-            names
-                .iter()
-                .all(|name| is_plain(Some(name.as_text()), look))
+            let are_plain = are_plain(&netlist, look);
+            drop(netlist);
+            are_plain
         }
         None => true,
     }
+}
+
+// Whether the sheets that a netlist names are plain.
+fn are_plain<L: NameLook>(netlist: &Netlist, look: &L) -> bool {
+    let names = netlist.sheet_names().as_slice();
+    names
+        .iter()
+        .all(|name| is_plain(Some(name.as_text()), look))
 }
 
 // Whether nothing stands under a name, or something that is no pipe.

@@ -6,7 +6,7 @@ use crate::json_fault::json_fault;
 use crate::netlist_fault::netlist_fault;
 use crate::sheet_fault::{RefusedSheet, sheet_fault};
 use crate::tree::about_key;
-use crate::written::Plain;
+use crate::written::{Plain, said};
 use itv_base::{FILE_LIMIT, NoMemory, Shelf};
 use netlist::Netlist;
 use reading::Refusal;
@@ -26,25 +26,37 @@ pub fn file_fault<H: Shelf>(
         return Ok(String::new(alloc));
     };
     let says = match why {
-        Refusal::TooLong => format!(in alloc;
-            "it has more than 4,194,304 bytes: split the drawing"
-        )?,
+        Refusal::TooLong => said(alloc, "it has more than 4,194,304 bytes: split the drawing")?,
         Refusal::NotJson => json_fault(alloc, &bytes)?,
-        _ => match Value::from_slice(alloc, &bytes) {
-            Ok(tree) => {
-                let sheet = RefusedSheet {
-                    name,
-                    tree: &tree,
-                    netlist,
-                };
-                tree_fault(alloc, sheet, why, shelf)?
-            }
-            Err(_) => String::new(alloc),
-        },
+        _ => bytes_fault(alloc, name, &bytes, netlist, why, shelf)?,
     };
     let says = says.as_str();
     let name = Plain(name);
     Ok(format!(in alloc; "{name}: {says}")?)
+}
+
+// Why the tree that these bytes of a file have is refused.
+fn bytes_fault<H: Shelf>(
+    alloc: Global,
+    name: &str,
+    bytes: &[u8],
+    netlist: Option<&Netlist>,
+    why: Refusal,
+    shelf: &mut H,
+) -> Result<String, NoMemory> {
+    match Value::from_slice(alloc, bytes) {
+        Ok(tree) => {
+            let sheet = RefusedSheet {
+                name,
+                tree: &tree,
+                netlist,
+            };
+            let says = tree_fault(alloc, sheet, why, shelf);
+            drop(tree);
+            says
+        }
+        Err(_) => Ok(String::new(alloc)),
+    }
 }
 
 // Why the tree of a file is refused.
@@ -66,7 +78,7 @@ fn tree_fault<H: Shelf>(
 // Why a tree is no drawing.
 fn diagram_fault(alloc: Global, tree: &Value, fault: DiagramFault) -> Result<String, NoMemory> {
     match fault {
-        DiagramFault::NotObject => Ok(format!(in alloc; "a drawing has to stand in {{ }}")?),
+        DiagramFault::NotObject => said(alloc, "a drawing has to stand in { }"),
         DiagramFault::NoSignal => about_key(
             alloc,
             "signal",

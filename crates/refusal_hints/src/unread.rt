@@ -5,6 +5,7 @@ use crate::named::NamedFiles;
 use crate::part::netlist_of;
 use crate::written::Plain;
 use itv_base::{NoMemory, Shelf};
+use netlist::Netlist;
 use std::alloc::Global;
 
 // What stands behind the name of a sheet that is not there.
@@ -52,9 +53,23 @@ fn sheet_says<H: Shelf, L: NameLook>(
     shelf: &mut H,
     look: &L,
 ) -> Result<String, NoMemory> {
-    let Some(netlist) = netlist_of(alloc, design, shelf) else {
-        return Ok(String::new(alloc));
-    };
+    match netlist_of(alloc, design, shelf) {
+        Some(netlist) => {
+            let says = absent_says(alloc, design, &netlist, look);
+            drop(netlist);
+            says
+        }
+        None => Ok(String::new(alloc)),
+    }
+}
+
+// Which sheet that a netlist names is no file that can be read, or an empty text.
+fn absent_says<L: NameLook>(
+    alloc: Global,
+    design: &str,
+    netlist: &Netlist,
+    look: &L,
+) -> Result<String, NoMemory> {
     for name in netlist.sheet_names().as_slice() {
         if look.look(name.as_text()) != Looked::File {
             let design = Plain(design);
@@ -72,17 +87,18 @@ fn about_file<L: NameLook>(
     behind: &str,
     look: &L,
 ) -> Result<String, NoMemory> {
-    let looked = look.look(name);
+    let (front, back) = around(name, look.look(name));
     let name = Plain(name);
-    let said = if name.0.is_empty() {
-        format!(in alloc; "the name of a file is empty{behind}")?
-    } else {
-        match looked {
-            Looked::Folder => format!(in alloc; "{name} is a folder{behind}")?,
-            Looked::Absent => format!(in alloc; "there is no file {name}{behind}")?,
-            Looked::Denied => format!(in alloc; "there is no permission to read {name}{behind}")?,
-            _ => format!(in alloc; "{name} could not be read{behind}")?,
-        }
-    };
-    Ok(said)
+    Ok(format!(in alloc; "{front}{name}{back}{behind}")?)
+}
+
+// What is said in front of the name of a file, and behind it.
+fn around(name: &str, looked: Looked) -> (&'static str, &'static str) {
+    match looked {
+        _ if name.is_empty() => ("the name of a file is empty", ""),
+        Looked::Folder => ("", " is a folder"),
+        Looked::Absent => ("there is no file ", ""),
+        Looked::Denied => ("there is no permission to read ", ""),
+        _ => ("", " could not be read"),
+    }
 }

@@ -94,33 +94,49 @@ impl fmt::Display for WordsFault<'_> {
     fn fmt<W: fmt::Write>(&self, f: &mut fmt::Formatter<W>) -> fmt::Result {
         match *self {
             WordsFault::NoOption(word) => write_no_option(f, word),
-            WordsFault::OfLauncher(word) => {
-                write!(
-                    f,
-                    "{word} is an option of the launcher itv, and stands in front of all other words"
-                )
-            }
-            WordsFault::NoJob(word) => write!(
-                f,
-                "there is no job {}: the jobs are {JOBS}",
-                Quoted(word)
-            ),
-            WordsFault::NoValue(option) => write!(f, "{} wants a value behind it", option.word()),
-            WordsFault::NoNumber(word, option) => {
-                let most = option.most();
-                let option = option.word();
-                write!(
-                    f,
-                    "{} is no whole number from 1 to {most} for {option}",
-                    Quoted(word)
-                )
-            }
-            WordsFault::Twice(option) => write!(f, "{} stands twice", option.word()),
+            WordsFault::OfLauncher(word) => write_both(f, word, OF_LAUNCHER),
+            WordsFault::NoJob(word) => write_no_job(f, word),
+            WordsFault::NoValue(option) => write_both(f, option.word(), " wants a value behind it"),
+            WordsFault::NoNumber(word, option) => write_no_number(f, word, option),
+            WordsFault::Twice(option) => write_both(f, option.word(), " stands twice"),
             WordsFault::OneTooMany { first, word } => write_one_too_many(f, first, word),
-            WordsFault::Lacks { job, option } => write!(f, "job {job} wants {}", option.usage()),
+            WordsFault::Lacks { job, option } => write_lacks(f, job, option),
             WordsFault::NoDesign => f.write_str("the DESIGN is missing"),
         }
     }
+}
+
+const OF_LAUNCHER: &str =
+    " is an option of the launcher itv, and stands in front of all other words";
+
+fn write_both<W: fmt::Write>(f: &mut fmt::Formatter<W>, subject: &str, says: &str) -> fmt::Result {
+    f.write_str(subject)?;
+    f.write_str(says)
+}
+
+fn write_no_job<W: fmt::Write>(f: &mut fmt::Formatter<W>, word: &str) -> fmt::Result {
+    let word = Quoted(word);
+    write!(f, "there is no job {word}: the jobs are {JOBS}")
+}
+
+fn write_no_number<W: fmt::Write>(
+    f: &mut fmt::Formatter<W>,
+    word: &str,
+    option: WordsOption,
+) -> fmt::Result {
+    let word = Quoted(word);
+    let most = option.most();
+    let option = option.word();
+    write!(f, "{word} is no whole number from 1 to {most} for {option}")
+}
+
+fn write_lacks<W: fmt::Write>(
+    f: &mut fmt::Formatter<W>,
+    job: &str,
+    option: WordsOption,
+) -> fmt::Result {
+    let usage = option.usage();
+    write!(f, "job {job} wants {usage}")
 }
 
 fn write_no_option<W: fmt::Write>(f: &mut fmt::Formatter<W>, word: &str) -> fmt::Result {

@@ -43,20 +43,33 @@ fn form_fault(alloc: Global, tree: &Value) -> Result<String, NoMemory> {
 
 // What is wrong with the form of a grade, or an empty text.
 fn grade_fault(alloc: Global, name: &str, value: &Value) -> Result<String, NoMemory> {
-    let grade = Quoted(name);
     if !is_name(name) {
-        return Ok(format!(in alloc; "grade {grade} of \"{GRADES}\": {NAME}")?);
+        return about_grade(alloc, name, ": ", NAME);
     }
     let Some(parameters) = value.as_object() else {
-        return Ok(format!(in alloc;
-            "grade {grade} of \"{GRADES}\" is no object from names to lists of two ends"
-        )?);
+        return about_grade(alloc, name, " ", NO_PARAMETERS);
     };
+    let says = parameters_fault(alloc, parameters)?;
+    if says.is_empty() {
+        return Ok(says);
+    }
+    about_grade(alloc, name, ": ", says.as_str())
+}
+
+const NO_PARAMETERS: &str = "is no object from names to lists of two ends";
+
+// What is said of a grade, behind its name and a joint.
+fn about_grade(alloc: Global, name: &str, joint: &str, says: &str) -> Result<String, NoMemory> {
+    let grade = Quoted(name);
+    Ok(format!(in alloc; "grade {grade} of \"{GRADES}\"{joint}{says}")?)
+}
+
+// The first thing of parameters that has not their form, or an empty text.
+fn parameters_fault(alloc: Global, parameters: &Map<String, Value>) -> Result<String, NoMemory> {
     for (name, value) in parameters.iter() {
         let says = parameter_fault(alloc, name.as_str(), value)?;
         if !says.is_empty() {
-            let says = says.as_str();
-            return Ok(format!(in alloc; "grade {grade} of \"{GRADES}\": {says}")?);
+            return Ok(says);
         }
     }
     Ok(String::new(alloc))
@@ -139,7 +152,7 @@ pub fn grade_missing(
     netlist: Option<&Netlist>,
 ) -> Result<String, NoMemory> {
     let grades = tree.get(GRADES);
-    let there = what_there_is(alloc, &names_in(alloc, grades)?, "grade", "grades")?;
+    let there = what_there_is(alloc, names_in(alloc, grades)?, "grade", "grades")?;
     let there = there.as_str();
     let Some(netlist) = netlist else {
         return Ok(String::new(alloc));
@@ -227,7 +240,7 @@ fn lacking(
     let name = part.name.as_text();
     let parameter = Quoted(parameter);
     let Some(grade) = &part.grade else {
-        let there = what_there_is(alloc, &names_in(alloc, grades)?, "grade", "grades")?;
+        let there = what_there_is(alloc, names_in(alloc, grades)?, "grade", "grades")?;
         let there = there.as_str();
         return Ok(format!(in alloc;
             "part {name} has no grade, which would give {parameter} its ends; {there}"
@@ -235,7 +248,7 @@ fn lacking(
     };
     let there = what_there_is(
         alloc,
-        &names_in(alloc, grade_in(part, grades))?,
+        names_in(alloc, grade_in(part, grades))?,
         "name",
         "names",
     )?;

@@ -1,6 +1,6 @@
 //! Names and texts of files, as hints show them.
 
-use itv_base::{NoMemory, Texts};
+use itv_base::{NoMemory, Text, Texts};
 use std::alloc::Global;
 use std::fmt;
 use std::fmt::Write;
@@ -64,9 +64,19 @@ impl fmt::Display for ShownMark {
     }
 }
 
+/// A text as it is.
+pub fn said(alloc: Global, text: &str) -> Result<String, NoMemory> {
+    Ok(String::from_str(alloc, text)?)
+}
+
 /// Names one after another, as `a, b and c`. A long list is cut.
-pub fn listed(alloc: Global, names: &Texts) -> Result<String, NoMemory> {
-    let names = names.as_slice();
+pub fn listed(alloc: Global, names: Texts) -> Result<String, NoMemory> {
+    let list = list_of(alloc, names.as_slice());
+    drop(names);
+    list
+}
+
+fn list_of(alloc: Global, names: &[Text]) -> Result<String, NoMemory> {
     let mut list = String::new(alloc);
     for (k, name) in names.iter().enumerate() {
         if k >= MOST_NAMED {
@@ -93,13 +103,14 @@ fn joint(k: usize, count: usize) -> &'static str {
 /// What there are of a thing, as `the parts are A and B`, or that there are none. `one` is the word for a single thing, and `many` for several.
 pub fn what_there_is(
     alloc: Global,
-    names: &Texts,
+    names: Texts,
     one: &str,
     many: &str,
 ) -> Result<String, NoMemory> {
+    let count = names.len();
     let list = listed(alloc, names)?;
     let list = list.as_str();
-    let said = match names.len() {
+    let said = match count {
         0 => format!(in alloc; "there are no {many}")?,
         1 => format!(in alloc; "the {one} is {list}")?,
         _ => format!(in alloc; "the {many} are {list}")?,

@@ -1,5 +1,6 @@
 //! Why bytes are no strict JSON, and where.
 
+use crate::written::said;
 use itv_base::NoMemory;
 use serde_json::Value;
 use std::alloc::Global;
@@ -17,10 +18,10 @@ const NOT_STRICT: &str = "this is no strict JSON";
 /// Why these bytes are no JSON. The column counts characters from 1.
 pub fn json_fault(alloc: Global, bytes: &[u8]) -> Result<String, NoMemory> {
     if let Some(says) = whole_fault(bytes) {
-        return Ok(format!(in alloc; "{says}")?);
+        return said(alloc, says);
     }
     let error = match Value::from_slice(alloc, bytes) {
-        Ok(_) => return Ok(format!(in alloc; "it is no strict JSON")?),
+        Ok(_) => return said(alloc, "it is no strict JSON"),
         Err(error) => error,
     };
     let line = error.line();

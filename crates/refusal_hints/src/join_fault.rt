@@ -87,7 +87,7 @@ fn no_lane(alloc: Global, plan: &Plan, text: &PinText) -> Result<String, NoMemor
             lanes.push(alloc, pin.name.as_text())?;
         }
     }
-    let there = what_there_is(alloc, &lanes, "lane with a mark", "lanes with marks")?;
+    let there = what_there_is(alloc, lanes, "lane with a mark", "lanes with marks")?;
     let there = there.as_str();
     let part = text.part.as_text();
     let lane = Quoted(text.lane.as_text());
@@ -135,7 +135,7 @@ fn with_marks(alloc: Global, plan: &Plan, text: &PinText) -> Result<String, NoMe
     for mark in &marks {
         push_mark(alloc, &mut names, mark.name)?;
     }
-    let names = listed(alloc, &names)?;
+    let names = listed(alloc, names)?;
     let names = names.as_str();
     let count = marks.len();
     let word = if count == 1 { "mark" } else { "marks" };
@@ -239,7 +239,7 @@ fn mark_fault(alloc: Global, plan: &Plan, part: &str, mark: u8) -> Result<String
         }
         push_mark(alloc, &mut names, found.name)?;
     }
-    let there = what_there_is(alloc, &names, "mark", "marks")?;
+    let there = what_there_is(alloc, names, "mark", "marks")?;
     let there = there.as_str();
     let mark = ShownMark(mark);
     Ok(format!(in alloc; "part {part} has no mark {mark}; {there}")?)
