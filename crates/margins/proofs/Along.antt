@@ -14,8 +14,8 @@ use Rattle.event_graph.proofs.Ends.{HasOwnEnds, all_own}
 use Rattle.drawn.specs.Drawn.{Drawn, OriginsFit, name_of}
 use Rattle.numbers.specs.Numbers.{origins_of, part_of_target}
 use Rattle.numbers.specs.declared.drawn_number.DrawnNumber.{DrawnNumber}
-use Rattle.moves.specs.Moving.{cause_moved, constraint_moved, draw, each_by, opened, widened}
-use Rattle.moves.specs.Step.{IsMoveBy, causes_at}
+use Rattle.moves.specs.Moving.{constraint_moved, draw, each_by, opened, widened}
+use Rattle.moves.specs.Step.{IsMoveBy, cause_moved, causes_at}
 use Rattle.margins.specs.Reaching.{IsReachOf, IsStill, any_reach, reach_along, reach_over, reach_within}
 use Rattle.margins.specs.declared.reach.Reach.{Reach}
 use Rattle.margins.proofs.Ranges.{IsFair, IsWithin}

@@ -15,9 +15,9 @@ use Rattle.drawn.specs.declared.row.Row.{Row}
 use Rattle.numbers.specs.Numbers.{draws}
 use Rattle.numbers.specs.declared.drawn_number.DrawnNumber.{DrawnNumber}
 use Rattle.moves.specs.Networks.{IsNetFound}
-use Rattle.moves.specs.Moving.{cause_moved, constraint_moved, draw, net_moved, opened, opened_at, widened}
-use Rattle.moves.specs.Passing.{IsConsistent, Passes}
-use Rattle.moves.specs.Step.{bare_drawn}
+use Rattle.moves.specs.Moving.{constraint_moved, draw, net_moved, opened, widened}
+use Rattle.moves.specs.Passing.{Passes}
+use Rattle.moves.specs.Step.{IsConsistent, bare_drawn, cause_moved, opened_at}
 use Rattle.moves.specs.declared.net_found.NetFound.{NetFound}
 use Rattle.moves.specs.declared.net_found.NetFound.TheVariants as nets
 use Rattle.moves.proofs.Each.{moved_by_nothing}

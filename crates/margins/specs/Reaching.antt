@@ -11,8 +11,8 @@ use Rattle.event_graph.specs.Network.{Constraint}
 use Rattle.drawn.specs.Drawn.{Drawn, name_of}
 use Rattle.numbers.specs.declared.drawn_number.DrawnNumber.{DrawnNumber}
 use Rattle.moves.specs.Found.{CanBeDrawn}
-use Rattle.moves.specs.Moving.{draw, opened_at, widened_at}
-use Rattle.moves.specs.Step.{IsMoveBy}
+use Rattle.moves.specs.Moving.{draw}
+use Rattle.moves.specs.Step.{IsMoveBy, opened_at, widened_at}
 use Rattle.moves.specs.declared.moving.TheConstants.{MOVE_LIMIT}
 use Rattle.margins.specs.declared.reach.Reach.{Reach}
 

@@ -20,8 +20,9 @@ use Rattle.drawn.specs.declared.row.Row.{Row}
 use Rattle.numbers.specs.declared.drawn_number.DrawnNumber.{DrawnNumber}
 use Rattle.moves.specs.Covers.{IsTighterRow, cause_counted, constraint_counted, times_counted, lag, net_counted, row_counted}
 use Rattle.moves.specs.Laws.{CoverHolds, CoversBetween}
-use Rattle.moves.specs.Moving.{cause_moved, constraint_moved, draw, kind_moved, row_moved, moved_up, shifted_at}
-use Rattle.moves.specs.Passing.{MeetsKind, MeetsRow}
+use Rattle.moves.specs.Moving.{constraint_moved, draw, kind_moved, row_moved, moved_up, shifted_at}
+use Rattle.moves.specs.Passing.{MeetsKind}
+use Rattle.moves.specs.Step.{MeetsRow, cause_moved}
 use Rattle.moves.proofs.Counting.{satisfies_counted, separation_counted}
 use Rattle.moves.proofs.Lists.{each_between, map_between}
 use Rattle.moves.proofs.Products.{above_between, below_between, less_times, one_times, zero_times}

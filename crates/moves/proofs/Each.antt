@@ -17,7 +17,8 @@ use Rattle.drawn.specs.declared.row.Row.{Row}
 use Rattle.numbers.specs.Numbers.{draws, origins_of, part_of_target}
 use Rattle.numbers.specs.declared.drawn_number.DrawnNumber.{DrawnNumber}
 use Rattle.moves.specs.Laws.{EachIsMoved, MovedByNothing}
-use Rattle.moves.specs.Moving.{cause_moved, constraint_moved, draw, each_by, kind_moved, net_moved, row_moved, moved_up, shifted_at, widened}
+use Rattle.moves.specs.Moving.{constraint_moved, draw, each_by, kind_moved, net_moved, row_moved, moved_up, shifted_at, widened}
+use Rattle.moves.specs.Step.{cause_moved}
 use Rattle.moves.proofs.Lists.{each_same}
 
 -- ---- which causes are drawn

@@ -13,9 +13,9 @@ use Rattle.event_graph.specs.Network.{Constraint, IsNet, Net, with_constraint}
 use Rattle.drawn.specs.Drawn.{Drawn, OriginsFit, name_of}
 use Rattle.numbers.specs.Numbers.{origins_of, part_of_target}
 use Rattle.numbers.specs.declared.drawn_number.DrawnNumber.{DrawnNumber}
-use Rattle.moves.specs.Moving.{cause_moved, constraint_moved, draw, each_by, net_moved}
-use Rattle.moves.specs.Passing.{AreDrawable, HasDrawableCauses}
-use Rattle.moves.specs.Step.{HasEventsOf, causes_at, causes_moved}
+use Rattle.moves.specs.Moving.{constraint_moved, draw, each_by, net_moved}
+use Rattle.moves.specs.Passing.{HasDrawableCauses}
+use Rattle.moves.specs.Step.{AreDrawable, HasEventsOf, cause_moved, causes_at, causes_moved}
 use Rattle.moves.proofs.Lists.{each_from_zip, each_length, each_next, map_kept, zip_from_each}
 use Rattle.moves.proofs.Drew.{same_count}
 

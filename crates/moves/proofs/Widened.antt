@@ -11,7 +11,8 @@ use Rattle.event_graph.specs.Network.{Constraint}
 use Rattle.event_graph.specs.Widening.{IsHigherEnd, IsLowerEnd, IsWider, IsWiderCause, IsWiderConstraint}
 use Rattle.drawn.specs.Drawn.{Drawn, name_of}
 use Rattle.numbers.specs.declared.drawn_number.DrawnNumber.{DrawnNumber}
-use Rattle.moves.specs.Moving.{cause_moved, constraint_moved, draw, net_moved, opened, widened}
+use Rattle.moves.specs.Moving.{constraint_moved, draw, net_moved, opened, widened}
+use Rattle.moves.specs.Step.{cause_moved}
 use Rattle.moves.proofs.Lists.{all_own, each_related}
 
 -- ---- ranges

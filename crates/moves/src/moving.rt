@@ -6,8 +6,8 @@ ghost use Rattle.itv_base.specs.Range.{IsEnd, IsRange};
 ghost use Rattle.event_graph.specs.Edges.{cause_choices};
 ghost use Rattle.numbers.specs.Numbers.{draws, origins_of, part_of_target};
 ghost use Rattle.moves.specs.Moving.{draw, net_moved, opened, widened};
-ghost use Rattle.moves.specs.Passing.{AreDrawable, HasDrawableCauses};
-ghost use Rattle.moves.specs.Step.{HasEventsOf, IsMove, IsMoveBy, IsOpening, cause_by, causes_moved, lent, moved_by};
+ghost use Rattle.moves.specs.Passing.{HasDrawableCauses};
+ghost use Rattle.moves.specs.Step.{AreDrawable, HasEventsOf, IsMove, IsMoveBy, IsOpening, cause_by, causes_moved, lent, moved_by};
 
 use crate::pushing::push_with;
 use crate::reading::{cause_of, origins_of, part_of_target, read_drawn};

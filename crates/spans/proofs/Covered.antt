@@ -17,9 +17,9 @@ use Rattle.drawn.specs.declared.row.Row.{Row}
 use Rattle.numbers.specs.Numbers.{origins_of, part_of_target}
 use Rattle.numbers.specs.declared.drawn_number.DrawnNumber.{DrawnNumber}
 use Rattle.moves.specs.Covers.{IsTighterRow, cause_counted, constraint_counted, row_counted}
-use Rattle.moves.specs.Moving.{cause_moved, constraint_moved, draw, each_by, kind_moved, row_moved, moved_up}
+use Rattle.moves.specs.Moving.{constraint_moved, draw, each_by, kind_moved, row_moved, moved_up}
 use Rattle.moves.specs.Passing.{MeetsKind}
-use Rattle.moves.specs.Step.{causes_at}
+use Rattle.moves.specs.Step.{cause_moved, causes_at}
 use Rattle.moves.proofs.Lists.{each_next}
 use Rattle.moves.proofs.Moved.{fit_length, front_causes, front_moved}
 use Rattle.moves.proofs.Drew.{same_count}

@@ -1,8 +1,8 @@
 -- Values that were shown, one after another.
 use Rattle.std.proofs.Common.{◌≡◌, ℤ, ◌+ℤ◌, sym, subst}
 use Rattle.event_graph.specs.Bounds.{IsInconsistent}
-use Rattle.moves.specs.Passing.{IsConsistent, NoneBreaks}
-use Rattle.moves.specs.Step.{IsMoveBy}
+use Rattle.moves.specs.Passing.{NoneBreaks}
+use Rattle.moves.specs.Step.{IsConsistent, IsMoveBy}
 use Rattle.spans.specs.Step.{IsAdvance, IsGapIn, IsOn, IsPast, IsShownTo, IsStretched, at_value, on_of}
 use Rattle.spans.specs.declared.advance.Advance.TheVariants as advances
 use Rattle.spans.specs.declared.advance.Stretch.{Stretch}

@@ -14,8 +14,8 @@ use Rattle.numbers.specs.declared.drawn_number.DrawnNumber.{DrawnNumber}
 use Rattle.moves.specs.Covers.{IsTighterRow, cause_counted, net_counted, row_counted}
 use Rattle.moves.specs.Found.{IsSpanFound}
 use Rattle.moves.specs.Moving.{kind_moved, moved_up, shifted_at}
-use Rattle.moves.specs.Passing.{BreaksRow, HasDrawableCauses, HasDrawableRows, IsConsistent, NoneBreaks}
-use Rattle.moves.specs.Step.{IsMoveBy, causes_moved, lent}
+use Rattle.moves.specs.Passing.{BreaksRow, HasDrawableCauses, NoneBreaks}
+use Rattle.moves.specs.Step.{IsConsistent, IsMoveBy, causes_moved, lent}
 use Rattle.moves.specs.declared.margin.Margin.{Margin}
 use Rattle.moves.specs.declared.margin.Margin.TheVariants as margins
 use Rattle.moves.specs.declared.span.SpanFound.{SpanFound}
@@ -193,14 +193,13 @@ last_of (borders.Limit by) = Some by
 last_of (borders.Spent by) = Some by
 
 -- what stands beyond the last value before a border, where the next value is a picosecond on: times that break a row, or rules that contradict each other, or
--- ranges that can't be drawn
+-- causes whose ranges can't be drawn
 abbrev pub IsBorder : Drawn → List DrawnNumber → ℤ → Border → Type 0
 IsBorder drawn numbers on borders.Endless = Unit {0}
 IsBorder drawn numbers on (borders.Breaks by row) = IsConsistent (shifted_at drawn numbers by) × BreaksRow (shifted_at drawn numbers (by +ℤ on)) row
 IsBorder drawn numbers on (borders.Contradicts by) = IsConsistent (shifted_at drawn numbers by) × IsInconsistent (shifted_at drawn numbers (by +ℤ on)).net
 IsBorder drawn numbers on (borders.Limit by) =
-    IsConsistent (shifted_at drawn numbers by)
-    × (HasDrawableCauses (shifted_at drawn numbers (by +ℤ on)) numbers → HasDrawableRows (shifted_at drawn numbers (by +ℤ on)) numbers → ⊥)
+    IsConsistent (shifted_at drawn numbers by) × (HasDrawableCauses (shifted_at drawn numbers (by +ℤ on)) numbers → ⊥)
 IsBorder drawn numbers on (borders.Spent by) = Unit {0}
 
 -- a border in a direction from a value with which every requirement passes
