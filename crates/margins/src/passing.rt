@@ -178,11 +178,7 @@ fn climbed_by(
 }
 
 // The margin above a move with which every requirement passes, where no bound is known to grow: by the network with the end open.
-fn margin_by_opening(
-    alloc: Global,
-    sought: &EndSought<'_>,
-    passes: i64,
-) -> Result<Margin, NoMemory>
+fn margin_by_opening(alloc: Global, sought: &EndSought<'_>, passes: i64) -> Result<Margin, NoMemory>
     requires sought { IsEndSought sought.now }
     requires least { sought.now.reach.least ≤ℤ passes }
     requires most { passes ≤ℤ sought.now.reach.most }

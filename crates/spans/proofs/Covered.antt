@@ -57,7 +57,7 @@ causes_more counts drawn numbers constraint k target part origins c wide o is_dr
     let here : IsWiderCause (cause_counted counts value target (cause_moved (moved_up value) own_test c o)) wide = one_covers counts target value (own_test o) c wide event holds in
     let next = each_next (cause_moved (moved_up value) own_test) (causes_at drawn.net constraint) (origins_of drawn constraint) k c o (same_count drawn constraint fit) at_c own in
     let whole : map (cause_counted counts value target) (front_causes (moved_up value) drawn numbers constraint (k + 1))
-        ≡ map (cause_counted counts value target) (front_causes (moved_up value) drawn numbers constraint k) ++ cause_counted counts value target (cause_moved (moved_up value) own_test c o) ∷ [] =
+    ≡ map (cause_counted counts value target) (front_causes (moved_up value) drawn numbers constraint k) ++ cause_counted counts value target (cause_moved (moved_up value) own_test c o) ∷ [] =
     ap (λ (cs : List Cause). map (cause_counted counts value target) cs) next
     ∙ map_push (cause_counted counts value target) (front_causes (moved_up value) drawn numbers constraint k) (cause_moved (moved_up value) own_test c o) in
     subst (λ (cs : List Cause). AllZip IsWiderCause cs new) (sym whole)
@@ -73,7 +73,7 @@ causes_whole counts drawn numbers constraint k target items value fit all covers
     let first : take k (causes_at drawn.net constraint) ≡ causes_at drawn.net constraint = take_all k (causes_at drawn.net constraint) (omega (arith, same, all)) in
     let second : take k (origins_of drawn constraint) ≡ origins_of drawn constraint = take_all k (origins_of drawn constraint) all in
     let P : List Cause → List Origin → Type 0 = λ cs os.
-        AllZip IsWiderCause (map (cause_counted counts value target) (each_by (cause_moved (moved_up value) (draw numbers (part_of_target drawn constraint))) cs os)) items in
+    AllZip IsWiderCause (map (cause_counted counts value target) (each_by (cause_moved (moved_up value) (draw numbers (part_of_target drawn constraint))) cs os)) items in
     subst (λ (os : List Origin). P (causes_at drawn.net constraint) os) second (subst (λ (cs : List Cause). P cs (take k (origins_of drawn constraint))) first covers)
 
 -- the events of the first causes
@@ -101,9 +101,9 @@ causes_there : (counts : List ℤ) (drawn : Drawn) (numbers : List DrawnNumber) 
     → AllZip IsWiderCause (constraint_counted counts value (constraint_moved (moved_up value) drawn numbers c o)).causes causes
 causes_there counts drawn numbers value c o causes x y at_x at_y covers =
     let P : Option Constraint → Option (List Origin) → Type 0 = λ p q.
-        AllZip IsWiderCause (map (cause_counted counts value c.target)
-        (each_by (cause_moved (moved_up value) (draw numbers (unwrap_or (option_map (λ (d : Constraint). (name_of drawn d.target).part) p) [])))
-        (unwrap_or (option_map (λ (d : Constraint). d.causes) p) []) (unwrap_or q []))) causes in
+    AllZip IsWiderCause (map (cause_counted counts value c.target)
+    (each_by (cause_moved (moved_up value) (draw numbers (unwrap_or (option_map (λ (d : Constraint). (name_of drawn d.target).part) p) [])))
+    (unwrap_or (option_map (λ (d : Constraint). d.causes) p) []) (unwrap_or q []))) causes in
     subst (λ (q : Option (List Origin)). P (Some c) q) at_y (subst (λ (p : Option Constraint). P p y) at_x covers)
 
 pub net_more : (counts : List ℤ) (drawn : Drawn) (numbers : List DrawnNumber) (k : ℕ) (causes : List Cause) (value : ℤ) (old new : Net) → OriginsFit drawn.net drawn.origins
@@ -126,7 +126,7 @@ net_more counts drawn numbers k causes value old new fit within covers before pu
     let next : (front_moved (moved_up value) drawn numbers (k + 1)).constraints ≡ front ++ moved ∷ [] =
     each_next (constraint_moved (moved_up value) drawn numbers) drawn.net.constraints drawn.origins k c.0 o.0 same c.1 o.1 in
     let whole : map (constraint_counted counts value) (front_moved (moved_up value) drawn numbers (k + 1)).constraints
-        ≡ map (constraint_counted counts value) front ++ constraint_counted counts value moved ∷ [] =
+    ≡ map (constraint_counted counts value) front ++ constraint_counted counts value moved ∷ [] =
     ap (λ (cs : List Constraint). map (constraint_counted counts value) cs) next ∙ map_push (constraint_counted counts value) front moved in
     subst (λ (cs : List Constraint). AllZip IsWiderConstraint cs new.constraints) (sym whole)
     (subst (λ (n : Net). AllZip IsWiderConstraint (map (constraint_counted counts value) front ++ constraint_counted counts value moved ∷ []) n.constraints) (sym added)
@@ -139,7 +139,7 @@ net_whole counts drawn numbers k net value fit all events covers =
     let first : take k drawn.net.constraints ≡ drawn.net.constraints = take_all k drawn.net.constraints all in
     let second : take k drawn.origins ≡ drawn.origins = take_all k drawn.origins (omega (arith, same, all)) in
     let P : List Constraint → List (List Origin) → Type 0 = λ cs os.
-        AllZip IsWiderConstraint (map (constraint_counted counts value) (each_by (constraint_moved (moved_up value) drawn numbers) cs os)) net.constraints in
+    AllZip IsWiderConstraint (map (constraint_counted counts value) (each_by (constraint_moved (moved_up value) drawn numbers) cs os)) net.constraints in
     record {
       events = sym events;
       constraints = subst (λ (os : List (List Origin)). P drawn.net.constraints os) second (subst (λ (cs : List Constraint). P cs (take k drawn.origins)) first covers);

@@ -41,8 +41,7 @@ rising_small t v some few low high =
     let up : (greatest_value *ℤ t) ≤ℤ (greatest_value *ℤ greatest_step) = rising greatest_value t greatest_step (omega (arith, ints)) few in
     let down : (neg_ℤ greatest_value *ℤ greatest_step) ≤ℤ (neg_ℤ greatest_value *ℤ t) = falling (neg_ℤ greatest_value) t greatest_step (omega (arith, ints)) few in
     let above : (t *ℤ v) ≤ℤ (greatest_value *ℤ t) = subst (λ (z : ℤ). (t *ℤ v) ≤ℤ z) (*ℤ_comm t greatest_value) (rising t v greatest_value some high) in
-    let below : (neg_ℤ greatest_value *ℤ t) ≤ℤ (t *ℤ v) = subst (λ (z : ℤ). z ≤ℤ (t *ℤ v)) (*ℤ_comm t (neg_ℤ greatest_value)) (rising t (neg_ℤ greatest_value) v some low) in
-    (
+    let below : (neg_ℤ greatest_value *ℤ t) ≤ℤ (t *ℤ v) = subst (λ (z : ℤ). z ≤ℤ (t *ℤ v)) (*ℤ_comm t (neg_ℤ greatest_value)) (rising t (neg_ℤ greatest_value) v some low) in (
       through (neg_ℤ (pos 2000000000000000000)) (neg_ℤ greatest_value *ℤ t) (t *ℤ v) (through (neg_ℤ (pos 2000000000000000000)) (neg_ℤ greatest_value *ℤ greatest_step) (neg_ℤ greatest_value *ℤ t) (omega (arith, ints)) down) below,
       through (t *ℤ v) (greatest_value *ℤ t) (pos 2000000000000000000) above (through (greatest_value *ℤ t) (greatest_value *ℤ greatest_step) (pos 2000000000000000000) up (omega (arith, ints))),
     )
@@ -53,11 +52,10 @@ falling_small t v none few low high =
     let down : (greatest_value *ℤ neg_ℤ greatest_step) ≤ℤ (greatest_value *ℤ t) = rising greatest_value (neg_ℤ greatest_step) t (omega (arith, ints)) few in
     let up : (neg_ℤ greatest_value *ℤ t) ≤ℤ (neg_ℤ greatest_value *ℤ neg_ℤ greatest_step) = falling (neg_ℤ greatest_value) (neg_ℤ greatest_step) t (omega (arith, ints)) few in
     let below : (greatest_value *ℤ t) ≤ℤ (t *ℤ v) = subst (λ (z : ℤ). z ≤ℤ (t *ℤ v)) (*ℤ_comm t greatest_value) (falling t v greatest_value none high) in
-    let above : (t *ℤ v) ≤ℤ (neg_ℤ greatest_value *ℤ t) = subst (λ (z : ℤ). (t *ℤ v) ≤ℤ z) (*ℤ_comm t (neg_ℤ greatest_value)) (falling t (neg_ℤ greatest_value) v none low) in
-    (
+    let above : (t *ℤ v) ≤ℤ (neg_ℤ greatest_value *ℤ t) = subst (λ (z : ℤ). (t *ℤ v) ≤ℤ z) (*ℤ_comm t (neg_ℤ greatest_value)) (falling t (neg_ℤ greatest_value) v none low) in (
       through (neg_ℤ (pos 2000000000000000000)) (greatest_value *ℤ t) (t *ℤ v) (through (neg_ℤ (pos 2000000000000000000)) (greatest_value *ℤ neg_ℤ greatest_step) (greatest_value *ℤ t) (omega (arith, ints)) down) below,
       through (t *ℤ v) (neg_ℤ greatest_value *ℤ t) (pos 2000000000000000000) above
-      (through (neg_ℤ greatest_value *ℤ t) (neg_ℤ greatest_value *ℤ neg_ℤ greatest_step) (pos 2000000000000000000) up (omega (arith, ints))),
+          (through (neg_ℤ greatest_value *ℤ t) (neg_ℤ greatest_value *ℤ neg_ℤ greatest_step) (pos 2000000000000000000) up (omega (arith, ints))),
     )
 
 -- a multiple of a value is far from wrapping

@@ -52,8 +52,7 @@ module _ (sought : SpanSought) (d : Direction) where
   pub stretched_next : (done goal next : ℤ) → next ≡ (done +ℤ on_of d) → IsPast d done goal → NoneBreaks (at_value sought next)
       → IsOn d done next × IsOn d next goal × ((v : ℤ) → IsPast d done v → IsOn d v next → NoneBreaks (at_value sought v))
   stretched_next done goal next same past none =
-      let P : ℤ → Type 0 = λ v. NoneBreaks (at_value sought v) in
-      (
+      let P : ℤ → Type 0 = λ v. NoneBreaks (at_value sought v) in (
         subst (λ (b : ℤ). IsOn d done b) (sym same) (on_next d done),
         subst (λ (b : ℤ). IsOn d b goal) (sym same) (next_on d done goal past),
         λ v beyond on. way_next P d done next same none v beyond on,

@@ -8,7 +8,9 @@ ghost use Rattle.spans.specs.Step.{IsBorderFrom, IsGapIn, IsOn, IsPast, IsShownT
 
 use crate::advance::{Advance, show_to};
 use crate::border::Border;
-use crate::direction::{Direction, Value, beyond, distance, is_same, last_before, limit_of, next_of, step_of, value_on};
+use crate::direction::{
+    Direction, Value, beyond, distance, is_same, last_before, limit_of, next_of, step_of, value_on,
+};
 use crate::looking::{Ahead, look_ahead};
 use crate::shift_reach::ShiftReach;
 use crate::sought::SpanSought;

@@ -99,7 +99,12 @@ fn covering_causes(
     for k in 0..origins.len() {
         let cause = cause_of(drawn, constraint, k as u32);
         let apart = apart(counts, cause.event, target);
-        match covering_range(cause.range, draw(numbers, part, origins[k]), apart, interval) {
+        match covering_range(
+            cause.range,
+            draw(numbers, part, origins[k]),
+            apart,
+            interval,
+        ) {
             None => return Ok(None),
             Some(range) => causes.push(Cause {
                 event: cause.event,

@@ -144,5 +144,7 @@ pub fn beyond(from: Value, direction: Direction) -> Interval
 
 /// How far two values are apart. No contract says so: it is by how many values a cover is begun with.
 pub fn distance(from: Value, to: Value) -> i64 {
-    from.by.saturating_sub(to.by).max(to.by.saturating_sub(from.by))
+    from.by
+        .saturating_sub(to.by)
+        .max(to.by.saturating_sub(from.by))
 }

@@ -62,11 +62,7 @@ pub fn find_span(
 }
 
 // The span of the numbers, by what was found of the network as drawn.
-fn span_from(
-    alloc: Global,
-    sought: &SpanSought<'_>,
-    base: &Probed,
-) -> Result<SpanFound, NoMemory>
+fn span_from(alloc: Global, sought: &SpanSought<'_>, base: &Probed) -> Result<SpanFound, NoMemory>
     requires sought { IsSought sought.now }
     requires base { IsNetFound sought.now.drawn.now base.now.found }
     requires consistent { base.now.found ≡ NetFound.Inconsistent → ⊥ }

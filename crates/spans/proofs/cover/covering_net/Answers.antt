@@ -17,7 +17,7 @@ loop-constraint-preserved c =
       covers = λ value within.
           net_more c.args.counts.now c.args.drawn.now (lent c.args.numbers.now) k c.deref.result.now value c.loop-constraint.cover c.push_with.new.grown c.read_drawn.ensures.fit below
           (λ target is. subst (λ (cs : List Cause). CoversCauses c.args.counts.now c.args.drawn.now (lent c.args.numbers.now) k target cs value) (sym c.deref.ensures.value)
-              (covers target is value within)) (c.loop-constraint.invariant.covers value within) added;
+          (covers target is value within)) (c.loop-constraint.invariant.covers value within) added;
       events = added_events (slice_get c.args.drawn.now.net.constraints k) c.deref.result.now c.loop-constraint.cover c.push_with.new.grown added ∙ c.loop-constraint.invariant.events;
       count = added_count (slice_get c.args.drawn.now.net.constraints k) c.deref.result.now c.loop-constraint.cover c.push_with.new.grown added
           ∙ ap (λ (n : ℕ). n + 1) c.loop-constraint.invariant.count;
