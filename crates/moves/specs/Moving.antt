@@ -39,8 +39,10 @@ each_by f xs ys = xs
 
 -- a constraint with the range of each cause moved that one of the numbers draws
 abbrev pub constraint_moved : (Ends → Ends) → Drawn → List DrawnNumber → Constraint → List Origin → Constraint
-constraint_moved move drawn numbers c origins = record c { causes = each_by (λ (cause : Cause) (origin : Origin).
-    if draw numbers (name_of drawn c.target).part origin then record cause { range = move cause.range } else cause) c.causes origins }
+constraint_moved move drawn numbers c origins = record c {
+  causes = each_by (λ (cause : Cause) (origin : Origin).
+      if draw numbers (name_of drawn c.target).part origin then record cause { range = move cause.range } else cause) c.causes origins;
+}
 
 -- the network in which each range that one of the numbers draws is moved
 abbrev pub net_moved : (Ends → Ends) → Drawn → List DrawnNumber → Net
