@@ -29,8 +29,8 @@ abbrev pub moved_up : ℤ → Ends → Ends
 moved_up by range = record { low = option_map (λ low. low +ℤ by) range.low; high = option_map (λ high. high +ℤ by) range.high }
 
 -- one of the numbers gives its range to what this draws
-abbrev pub draw : List DrawnNumber → List ℕ → Origin → Bool
-draw numbers part origin = list_any (λ number. draws number part origin) numbers
+abbrev pub any_draws : List DrawnNumber → List ℕ → Origin → Bool
+any_draws numbers part origin = list_any (λ number. draws number part origin) numbers
 
 -- each element changed by what stands at its place in another list, as far as that goes
 abbrev pub each_by : {X Y : Type 0} → (X → Y → X) → List X → List Y → List X
@@ -41,7 +41,7 @@ each_by f xs ys = xs
 abbrev pub constraint_moved : (Ends → Ends) → Drawn → List DrawnNumber → Constraint → List Origin → Constraint
 constraint_moved move drawn numbers c origins = record c {
   causes = each_by (λ (cause : Cause) (origin : Origin).
-      if draw numbers (name_of drawn c.target).part origin then record cause { range = move cause.range } else cause) c.causes origins;
+      if any_draws numbers (name_of drawn c.target).part origin then record cause { range = move cause.range } else cause) c.causes origins;
 }
 
 -- the network in which each range that one of the numbers draws is moved
@@ -54,7 +54,7 @@ kind_moved move (kinds.Req range) = kinds.Req (move range)
 
 -- a row: the range of a requirement that one of the numbers draws is moved; the part of a row is the part of its from-event
 abbrev pub row_moved : (Ends → Ends) → Drawn → List DrawnNumber → Row → Row
-row_moved move drawn numbers row = if draw numbers (name_of drawn row.from).part row.origin then record row { kind = kind_moved move row.kind } else row
+row_moved move drawn numbers row = if any_draws numbers (name_of drawn row.from).part row.origin then record row { kind = kind_moved move row.kind } else row
 
 -- the drawn network with the ranges of a number moved
 abbrev pub moved_at : Drawn → DrawnNumber → (Ends → Ends) → Drawn

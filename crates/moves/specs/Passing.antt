@@ -12,7 +12,7 @@ use Rattle.event_graph.specs.Times.{separation}
 use Rattle.drawn.specs.Drawn.{Drawn, name_of}
 use Rattle.drawn.specs.declared.row.Row.{Row}
 use Rattle.numbers.specs.declared.drawn_number.DrawnNumber.{DrawnNumber}
-use Rattle.moves.specs.Moving.{draw}
+use Rattle.moves.specs.Moving.{any_draws}
 
 -- a separation is as it is wanted; a question wants nothing
 abbrev pub MeetsKind : RowKind → ℤ → Type 0
@@ -35,7 +35,7 @@ BreaksRow drawn number =
 -- each range of a cause that one of the numbers draws can be drawn: its ends are within the limit, and the low one is not above the high one
 abbrev pub HasDrawableCauses : Drawn → List DrawnNumber → Type 0
 HasDrawableCauses drawn numbers = AllZip (λ (c : Constraint). AllZip (λ (cause : Cause) (origin : Origin).
-    IsTrue (draw numbers (name_of drawn c.target).part origin) → IsRange cause.range) c.causes) drawn.net.constraints drawn.origins
+    IsTrue (any_draws numbers (name_of drawn c.target).part origin) → IsRange cause.range) c.causes) drawn.net.constraints drawn.origins
 
 abbrev pub IsKindRange : RowKind → Type 0
 IsKindRange kinds.Ask = Unit {0}
@@ -43,4 +43,4 @@ IsKindRange (kinds.Req range) = IsRange range
 
 -- the same of each range of a requirement that one of the numbers draws
 abbrev pub HasDrawableRows : Drawn → List DrawnNumber → Type 0
-HasDrawableRows drawn numbers = All (λ (row : Row). IsTrue (draw numbers (name_of drawn row.from).part row.origin) → IsKindRange row.kind) drawn.rows
+HasDrawableRows drawn numbers = All (λ (row : Row). IsTrue (any_draws numbers (name_of drawn row.from).part row.origin) → IsKindRange row.kind) drawn.rows

@@ -17,7 +17,7 @@ use Rattle.moves.specs.declared.moving.Move.{Move}
 use Rattle.moves.specs.declared.moving.Move.TheVariants as moves
 use Rattle.moves.specs.declared.moving.TheConstants.{MOVE_LIMIT}
 use Rattle.moves.specs.declared.number_seen.NumberSeen.{NumberSeen}
-use Rattle.moves.specs.Moving.{draw, each_by, moved_at, moved_up, opened, widened}
+use Rattle.moves.specs.Moving.{any_draws, each_by, moved_at, moved_up, opened, widened}
 use Rattle.moves.specs.Passing.{MeetsKind}
 
 -- ---- moves
@@ -90,7 +90,7 @@ causes_at net constraint = unwrap_or (option_map (λ (c : Constraint). c.causes)
 -- the causes of a constraint, with each range moved that one of the numbers draws
 abbrev pub causes_moved : (Ends → Ends) → Drawn → List DrawnNumber → ℕ → List Cause
 causes_moved move drawn numbers constraint =
-    each_by (cause_moved move (draw numbers (part_of_target drawn constraint))) (causes_at drawn.net constraint) (origins_of drawn constraint)
+    each_by (cause_moved move (any_draws numbers (part_of_target drawn constraint))) (causes_at drawn.net constraint) (origins_of drawn constraint)
 
 -- a cause, with its range moved where it is drawn
 abbrev pub cause_by : Bool → Move → Cause → Cause
