@@ -14,8 +14,8 @@ use Rattle.event_graph.proofs.Ends.{HasOwnEnds, all_own}
 use Rattle.drawn.specs.Drawn.{Drawn, OriginsFit, name_of}
 use Rattle.numbers.specs.Numbers.{origins_of, part_of_target}
 use Rattle.numbers.specs.declared.drawn_number.DrawnNumber.{DrawnNumber}
-use Rattle.moves.specs.Moving.{cause_moved, constraint_moved, draw, each_by, opened, widened}
-use Rattle.moves.specs.Step.{IsMoveBy, causes_at}
+use Rattle.moves.specs.Moving.{constraint_moved, any_draws, each_by, opened, widened}
+use Rattle.moves.specs.Step.{IsMoveBy, cause_moved, causes_at}
 use Rattle.margins.specs.Reaching.{IsReachOf, IsStill, any_reach, reach_along, reach_over, reach_within}
 use Rattle.margins.specs.declared.reach.Reach.{Reach}
 use Rattle.margins.proofs.Ranges.{IsFair, IsWithin}
@@ -23,7 +23,7 @@ use Rattle.margins.proofs.Reaching.{AreStillCauses, HasEndsIn, IsDrawable, cause
 
 -- which causes of a constraint a number draws
 abbrev pub test_of : Drawn → DrawnNumber → Constraint → Origin → Bool
-test_of drawn number k = draw (number ∷ []) (name_of drawn k.target).part
+test_of drawn number k = any_draws (number ∷ []) (name_of drawn k.target).part
 
 -- the ranges of the causes that a number draws can be drawn after a move
 abbrev pub AreDrawableAlong : Drawn → DrawnNumber → Side → ℤ → List Constraint → List (List Origin) → Type 0
@@ -148,14 +148,14 @@ over_next side test (d ∷ causes) (p ∷ origins) (suc k) reach c o at_c at_o =
 -- the same, of a reach that was found in a loop
 pub over_more : (drawn : Drawn) (number : DrawnNumber) (side : Side) (constraint k : ℕ) (part : List ℕ) (given : List Origin) (d : Origin) (reach next whole : Reach) (c : Cause) (is_drawn : Bool)
     → part ≡ part_of_target drawn constraint → given ≡ origins_of drawn constraint → k < length given → slice_get (causes_at drawn.net constraint) k ≡ Some c
-    → is_drawn ≡ draw (number ∷ []) part (get_or given k d) → next ≡ reach_within side is_drawn reach c.range
-    → reach_over side (draw (number ∷ []) (part_of_target drawn constraint)) reach (drop k (causes_at drawn.net constraint)) (drop k (origins_of drawn constraint)) ≡ whole
-    → reach_over side (draw (number ∷ []) (part_of_target drawn constraint)) next (drop (k + 1) (causes_at drawn.net constraint)) (drop (k + 1) (origins_of drawn constraint)) ≡ whole
+    → is_drawn ≡ any_draws (number ∷ []) part (get_or given k d) → next ≡ reach_within side is_drawn reach c.range
+    → reach_over side (any_draws (number ∷ []) (part_of_target drawn constraint)) reach (drop k (causes_at drawn.net constraint)) (drop k (origins_of drawn constraint)) ≡ whole
+    → reach_over side (any_draws (number ∷ []) (part_of_target drawn constraint)) next (drop (k + 1) (causes_at drawn.net constraint)) (drop (k + 1) (origins_of drawn constraint)) ≡ whole
 over_more drawn number side constraint k part given d reach next whole c is_drawn same_part same within at_c drawn_is is before =
-    let test : Origin → Bool = draw (number ∷ []) (part_of_target drawn constraint) in
+    let test : Origin → Bool = any_draws (number ∷ []) (part_of_target drawn constraint) in
     let at_o : slice_get (origins_of drawn constraint) k ≡ Some (get_or given k d) =
     subst (λ (os : List Origin). slice_get os k ≡ Some (get_or given k d)) same (slice_get-get_or given k d within) in
-    let right : is_drawn ≡ test (get_or given k d) = drawn_is ∙ ap (λ (p : List ℕ). draw (number ∷ []) p (get_or given k d)) same_part in
+    let right : is_drawn ≡ test (get_or given k d) = drawn_is ∙ ap (λ (p : List ℕ). any_draws (number ∷ []) p (get_or given k d)) same_part in
     let own : next ≡ reach_within side (test (get_or given k d)) reach c.range = is ∙ ap (λ (b : Bool). reach_within side b reach c.range) right in
     rw (add-one, own) (sym (over_next side test (causes_at drawn.net constraint) (origins_of drawn constraint) k reach c (get_or given k d) at_c at_o) ∙ before)
 
@@ -183,13 +183,13 @@ along_next drawn number side (d ∷ ks) (o ∷ drew) (suc k) reach c fit at = le
 
 -- what is read of a constraint that is there
 read_here : (drawn : Drawn) (number : DrawnNumber) (side : Side) (reach : Reach) (k : ℕ) (c : Constraint) (o : Option Constraint) → o ≡ Some c
-    → reach_over side (draw (number ∷ []) (unwrap_or (option_map (λ (d : Constraint). (name_of drawn d.target).part) o) [])) reach
+    → reach_over side (any_draws (number ∷ []) (unwrap_or (option_map (λ (d : Constraint). (name_of drawn d.target).part) o) [])) reach
     (unwrap_or (option_map (λ (d : Constraint). d.causes) o) []) (origins_of drawn k)
     ≡ reach_over side (test_of drawn number c) reach c.causes (origins_of drawn k)
 read_here drawn number side reach k c o at = rw at refl
 
 pub along_more : (drawn : Drawn) (number : DrawnNumber) (side : Side) (k : ℕ) (reach next whole : Reach) → OriginsFit drawn.net drawn.origins → k < length drawn.net.constraints
-    → next ≡ reach_over side (draw (number ∷ []) (part_of_target drawn k)) reach (causes_at drawn.net k) (origins_of drawn k)
+    → next ≡ reach_over side (any_draws (number ∷ []) (part_of_target drawn k)) reach (causes_at drawn.net k) (origins_of drawn k)
     → reach_along drawn number side reach (drop k drawn.net.constraints) (drop k drawn.origins) ≡ whole
     → reach_along drawn number side next (drop (k + 1) drawn.net.constraints) (drop (k + 1) drawn.origins) ≡ whole
 along_more drawn number side k reach next whole fit within is before =

@@ -4,7 +4,8 @@ use Rattle.std.proofs.lemmas.Int.{by_lt_z, ints}
 use Rattle.event_graph.specs.Bounds.{IsInconsistent}
 use Rattle.drawn.specs.Drawn.{Drawn}
 use Rattle.moves.specs.Networks.{IsNetFound, is_net_open}
-use Rattle.moves.specs.Passing.{BreaksRow, IsConsistent, Passes}
+use Rattle.moves.specs.Passing.{BreaksRow, Passes}
+use Rattle.moves.specs.Step.{IsConsistent}
 use Rattle.moves.specs.declared.margin.Margin.TheVariants as margins
 use Rattle.moves.specs.declared.net_found.NetFound.TheVariants as nets
 use Rattle.probing.specs.declared.probed.Probed.{Probed}

@@ -15,9 +15,9 @@ use Rattle.drawn.specs.declared.row.Row.{Row}
 use Rattle.numbers.specs.Numbers.{draws}
 use Rattle.numbers.specs.declared.drawn_number.DrawnNumber.{DrawnNumber}
 use Rattle.moves.specs.Networks.{IsNetFound}
-use Rattle.moves.specs.Moving.{cause_moved, constraint_moved, draw, net_moved, opened, opened_at, widened}
-use Rattle.moves.specs.Passing.{IsConsistent, Passes}
-use Rattle.moves.specs.Step.{bare_drawn}
+use Rattle.moves.specs.Moving.{constraint_moved, any_draws, net_moved, opened, widened}
+use Rattle.moves.specs.Passing.{Passes}
+use Rattle.moves.specs.Step.{IsConsistent, bare_drawn, cause_moved, opened_at}
 use Rattle.moves.specs.declared.net_found.NetFound.{NetFound}
 use Rattle.moves.specs.declared.net_found.NetFound.TheVariants as nets
 use Rattle.moves.proofs.Each.{moved_by_nothing}
@@ -71,14 +71,14 @@ same_cause c = record { event = refl; low = lower_same c.range.low; high = highe
 same_constraint : (k : Constraint) → IsWiderConstraint k k
 same_constraint k = record { kind = refl; target = refl; causes = all_own IsWiderCause same_cause k.causes }
 
-draws_one : (number : DrawnNumber) (part : List ℕ) (o : Origin) → draw (number ∷ []) part o ≡ true → draws number part o ≡ true
+draws_one : (number : DrawnNumber) (part : List ℕ) (o : Origin) → any_draws (number ∷ []) part o ≡ true → draws number part o ≡ true
 draws_one number part o is = first (draws number part o) is
   where
     first : (b : Bool) → (b || false) ≡ true → b ≡ true
     first true h = refl
     first false h = absurd (cc h)
 
-draws_among : (numbers : List DrawnNumber) (number : DrawnNumber) (part : List ℕ) (o : Origin) → Contains numbers number → draws number part o ≡ true → draw numbers part o ≡ true
+draws_among : (numbers : List DrawnNumber) (number : DrawnNumber) (part : List ℕ) (o : Origin) → Contains numbers number → draws number part o ≡ true → any_draws numbers part o ≡ true
 draws_among numbers number part o among is =
     list_any_at (λ (n : DrawnNumber). draws n part o) numbers among.0 number among.1 (subst (λ (n : DrawnNumber). draws n part o ≡ true) (sym among.2) is)
 
@@ -96,8 +96,8 @@ constraint_open side drawn numbers number among k origins =
     record {
       kind = refl;
       target = refl;
-      causes = each_related IsWiderCause (cause_moved (opened side) (draw (number ∷ []) part)) (cause_moved (opened side) (draw numbers part)) same_cause
-          (λ c o. one_open side (draw (number ∷ []) part o) (draw numbers part o) c (λ is. draws_among numbers number part o among (draws_one number part o is))) k.causes origins;
+      causes = each_related IsWiderCause (cause_moved (opened side) (any_draws (number ∷ []) part)) (cause_moved (opened side) (any_draws numbers part)) same_cause
+          (λ c o. one_open side (any_draws (number ∷ []) part o) (any_draws numbers part o) c (λ is. draws_among numbers number part o among (draws_one number part o is))) k.causes origins;
     }
 
 nets_open : (side : Side) (drawn : Drawn) (numbers : List DrawnNumber) (number : DrawnNumber) → Contains numbers number

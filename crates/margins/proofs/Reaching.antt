@@ -8,8 +8,8 @@ use Rattle.itv_base.specs.declared.names.Side.{Side}
 use Rattle.origin.specs.declared.origin.Origin.{Origin}
 use Rattle.event_graph.specs.declared.cause.Cause.{Cause}
 use Rattle.event_graph.specs.Network.{AreEnds}
-use Rattle.moves.specs.Moving.{cause_moved, each_by, opened, widened}
-use Rattle.moves.specs.Step.{IsMoveBy}
+use Rattle.moves.specs.Moving.{each_by, opened, widened}
+use Rattle.moves.specs.Step.{IsMoveBy, cause_moved}
 use Rattle.margins.specs.Reaching.{reach_over, reach_within}
 use Rattle.margins.specs.declared.reach.Reach.{Reach}
 use Rattle.margins.proofs.Ranges.{IsFair, IsStillRange, IsWithin, one_can, one_fair, one_within, range_far}

@@ -7,8 +7,8 @@ use Rattle.event_graph.specs.Widening.{IsWider}
 use Rattle.event_graph.proofs.Widening.{wider_keeps_satisfying}
 use Rattle.drawn.specs.Drawn.{Drawn}
 use Rattle.numbers.specs.declared.drawn_number.DrawnNumber.{DrawnNumber}
-use Rattle.moves.specs.Moving.{opened, opened_at, widened, widened_at}
-use Rattle.moves.specs.Passing.{IsConsistent}
+use Rattle.moves.specs.Moving.{opened, widened}
+use Rattle.moves.specs.Step.{IsConsistent, opened_at, widened_at}
 use Rattle.moves.proofs.Widened.{IsWithinRange, higher_same, lower_same, nets_wider, opened_holds, widened_more}
 
 -- a range is within the range with an end open

@@ -11,8 +11,8 @@ use Rattle.event_graph.specs.Network.{Constraint}
 use Rattle.drawn.specs.Drawn.{Drawn, name_of}
 use Rattle.numbers.specs.declared.drawn_number.DrawnNumber.{DrawnNumber}
 use Rattle.moves.specs.Found.{CanBeDrawn}
-use Rattle.moves.specs.Moving.{draw, opened_at, widened_at}
-use Rattle.moves.specs.Step.{IsMoveBy}
+use Rattle.moves.specs.Moving.{any_draws}
+use Rattle.moves.specs.Step.{IsMoveBy, opened_at, widened_at}
 use Rattle.moves.specs.declared.moving.TheConstants.{MOVE_LIMIT}
 use Rattle.margins.specs.declared.reach.Reach.{Reach}
 
@@ -52,7 +52,7 @@ abbrev pub reach_along : Drawn → DrawnNumber → Side → Reach → List Const
 reach_along drawn number side reach [] drew = reach
 reach_along drawn number side reach (c ∷ others) [] = reach
 reach_along drawn number side reach (c ∷ others) (origins ∷ drew) =
-    reach_along drawn number side (reach_over side (draw (number ∷ []) (name_of drawn c.target).part) reach c.causes origins) others drew
+    reach_along drawn number side (reach_over side (any_draws (number ∷ []) (name_of drawn c.target).part) reach c.causes origins) others drew
 
 -- the reach of all moves that there are
 abbrev pub any_reach : Reach

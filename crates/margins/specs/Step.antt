@@ -9,9 +9,9 @@ use Rattle.event_graph.specs.Network.{Net}
 use Rattle.drawn.specs.Drawn.{Drawn}
 use Rattle.numbers.specs.declared.drawn_number.DrawnNumber.{DrawnNumber}
 use Rattle.moves.specs.Found.{IsEndMargin}
-use Rattle.moves.specs.Moving.{opened_at, widened_at}
 use Rattle.moves.specs.Networks.{IsNetFound, is_net_open}
 use Rattle.moves.specs.Passing.{BreaksRow, Passes}
+use Rattle.moves.specs.Step.{opened_at, widened_at}
 use Rattle.moves.specs.declared.margin.Margin.{Margin}
 use Rattle.moves.specs.declared.net_found.NetFound.TheVariants as nets
 use Rattle.moves.specs.declared.number_seen.NumberSeen.{NumberSeen}

@@ -2,8 +2,8 @@
 
 ghost use Rattle.std.specs.Prelude.{◌≡◌, ◌≤◌, ◌↔◌, pos, ◌+ℤ◌, ◌-ℤ◌, ◌≤ℤ◌, ◌<ℤ◌, IfOk, IfSome, IsSome, IsTrue};
 ghost use Rattle.event_graph.specs.Edges.{cause_choices};
-ghost use Rattle.moves.specs.Moving.{widened_at};
 ghost use Rattle.moves.specs.Passing.{BreaksRow, Passes};
+ghost use Rattle.moves.specs.Step.{widened_at};
 ghost use Rattle.probing.specs.Step.{IsProbed};
 ghost use Rattle.margins.specs.Step.{IsBracket, IsFoundOf, IsProbedAt, IsEndSought};
 

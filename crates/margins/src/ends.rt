@@ -3,9 +3,9 @@
 ghost use Rattle.std.specs.Prelude.{◌≡◌, ◌≤◌, IfOk, IsTrue, false, length};
 ghost use Rattle.std.specs.List.{AllZip};
 ghost use Rattle.event_graph.specs.Edges.{cause_choices};
-ghost use Rattle.moves.specs.Moving.{opened_at};
 ghost use Rattle.moves.specs.Networks.{IsNetFound, is_net_open};
 ghost use Rattle.moves.specs.Passing.{Passes};
+ghost use Rattle.moves.specs.Step.{opened_at};
 ghost use Rattle.probing.specs.Step.{IsProbed};
 ghost use Rattle.margins.specs.Ends.{AreBothFound};
 ghost use Rattle.margins.specs.Step.{AreFree, IsBase, IsEndOf, IsEndSought, IsFoundOf, IsFreeAt, end_on};

@@ -1,8 +1,8 @@
 //! The margin of an end of a design that passes as it is drawn.
 
 ghost use Rattle.std.specs.Prelude.{pos, ◌≤ℤ◌, ◌<ℤ◌, IfOk, IfSome};
-ghost use Rattle.moves.specs.Moving.{opened_at, widened_at};
 ghost use Rattle.moves.specs.Passing.{BreaksRow, Passes};
+ghost use Rattle.moves.specs.Step.{opened_at, widened_at};
 ghost use Rattle.probing.specs.Step.{IsProbed};
 ghost use Rattle.margins.specs.Step.{IsClimbOf, IsClimbFound, IsFoundOf, IsProbedAt, IsProbedOpen, IsEndSought};
 

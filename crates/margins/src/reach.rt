@@ -4,13 +4,13 @@ ghost use Rattle.std.specs.Prelude.{◌≡◌, ◌<◌, ◌∷◌, [], neg_ℤ, 
 ghost use Rattle.itv_base.specs.Range.{IsEnd};
 ghost use Rattle.itv_base.specs.declared.limits.TheConstants.{END_LIMIT};
 ghost use Rattle.numbers.specs.Numbers.{origins_of, part_of_target};
-ghost use Rattle.moves.specs.Moving.{draw};
+ghost use Rattle.moves.specs.Moving.{any_draws};
 ghost use Rattle.moves.specs.Step.{causes_at};
 ghost use Rattle.margins.specs.Reaching.{IsReachOf, reach_over, reach_with, reach_within};
 
 use drawn::DrawnNetwork;
 use itv_base::{END_LIMIT, Range, Side};
-use moves::{MOVE_LIMIT, cause_of, draw, origins_of, part_of_target, read_drawn};
+use moves::{MOVE_LIMIT, any_draws, cause_of, origins_of, part_of_target, read_drawn};
 use numbers::DrawnNumber;
 
 /// How far an end can be moved outward, in picoseconds: at least and at most.
@@ -45,7 +45,7 @@ fn reach_over(
     reach: Reach,
 ) -> Reach
     requires there { constraint < length drawn.now.net.constraints }
-    ensures reach { result ≡ reach_over side (draw (number.now ∷ []) (part_of_target drawn.now constraint)) reach (causes_at drawn.now.net constraint)
+    ensures reach { result ≡ reach_over side (any_draws (number.now ∷ []) (part_of_target drawn.now constraint)) reach (causes_at drawn.now.net constraint)
         (origins_of drawn.now constraint) }
 {
     let part = part_of_target(drawn, constraint);
@@ -53,7 +53,12 @@ fn reach_over(
     let mut reach = reach;
     for k in 0..origins.len() {
         let cause = cause_of(drawn, constraint, k as u32);
-        reach = reach_within(cause.range, draw(&[number], part, origins[k]), side, reach);
+        reach = reach_within(
+            cause.range,
+            any_draws(&[number], part, origins[k]),
+            side,
+            reach,
+        );
     }
     reach
 }

@@ -3,9 +3,9 @@
 ghost use Rattle.std.specs.Prelude.{◌≡◌, ◌≤◌, ◌≤ℤ◌, ◌∷◌, [], ◌↔◌, All, IfOk, IfSome, IsSome, IsSomeAnd, IsTrue, slice_get};
 ghost use Rattle.event_graph.specs.Times.{IsTime};
 ghost use Rattle.moves.specs.Found.{CanBeDrawn};
-ghost use Rattle.moves.specs.Moving.{net_moved, opened, widened, widened_at};
-ghost use Rattle.moves.specs.Passing.{BreaksRow, MeetsRow};
-ghost use Rattle.moves.specs.Step.{IsMoveBy, lent};
+ghost use Rattle.moves.specs.Moving.{net_moved, opened, widened};
+ghost use Rattle.moves.specs.Passing.{BreaksRow};
+ghost use Rattle.moves.specs.Step.{IsMoveBy, MeetsRow, lent, widened_at};
 ghost use Rattle.probing.specs.Step.{AreFitting, IsProbed};
 ghost use Rattle.margins.specs.Step.{IsNetOf, IsProbedAt, IsProbedIn, IsProbedOpen, IsEndSought};
 

@@ -20,8 +20,9 @@ use Rattle.drawn.specs.declared.row.Row.{Row}
 use Rattle.numbers.specs.declared.drawn_number.DrawnNumber.{DrawnNumber}
 use Rattle.moves.specs.Covers.{IsTighterRow, cause_counted, constraint_counted, times_counted, lag, net_counted, row_counted}
 use Rattle.moves.specs.Laws.{CoverHolds, CoversBetween}
-use Rattle.moves.specs.Moving.{cause_moved, constraint_moved, draw, kind_moved, row_moved, moved_up, shifted_at}
-use Rattle.moves.specs.Passing.{MeetsKind, MeetsRow}
+use Rattle.moves.specs.Moving.{constraint_moved, any_draws, kind_moved, row_moved, moved_up, shifted_at}
+use Rattle.moves.specs.Passing.{MeetsKind}
+use Rattle.moves.specs.Step.{MeetsRow, cause_moved}
 use Rattle.moves.proofs.Counting.{satisfies_counted, separation_counted}
 use Rattle.moves.proofs.Lists.{each_between, map_between}
 use Rattle.moves.proofs.Products.{above_between, below_between, less_times, one_times, zero_times}
@@ -194,7 +195,7 @@ module _ (least most value : ℤ) (low : least ≤ℤ value) (high : value ≤�
       constraint_between : (k : Constraint) (origins : List Origin) (wide : Constraint) → IsWiderConstraint (constraint_at_value least k origins) wide
           → IsWiderConstraint (constraint_at_value most k origins) wide → IsWiderConstraint (constraint_at_value value k origins) wide
       constraint_between k origins wide first last =
-          let test : Origin → Bool = draw numbers (name_of drawn k.target).part in
+          let test : Origin → Bool = any_draws numbers (name_of drawn k.target).part in
           record {
             kind = first.kind;
             target = first.target;
@@ -249,7 +250,7 @@ module _ (least most value : ℤ) (low : least ≤ℤ value) (high : value ≤�
       rows_between [] (t ∷ tight) first last = absurd first
       rows_between (r ∷ rows) [] first last = absurd first
       rows_between (r ∷ rows) (t ∷ tight) first last =
-          (row_between (draw numbers (name_of drawn r.from).part r.origin) r t first.0 last.0, rows_between rows tight first.1 last.1)
+          (row_between (any_draws numbers (name_of drawn r.from).part r.origin) r t first.0 last.0, rows_between rows tight first.1 last.1)
 
 pub covers_between : CoversBetween
 covers_between counts drawn numbers cover least most value first last low high = record {

@@ -17,7 +17,8 @@ use Rattle.drawn.specs.declared.row.Row.{Row}
 use Rattle.numbers.specs.Numbers.{draws, origins_of, part_of_target}
 use Rattle.numbers.specs.declared.drawn_number.DrawnNumber.{DrawnNumber}
 use Rattle.moves.specs.Laws.{EachIsMoved, MovedByNothing}
-use Rattle.moves.specs.Moving.{cause_moved, constraint_moved, draw, each_by, kind_moved, net_moved, row_moved, moved_up, shifted_at, widened}
+use Rattle.moves.specs.Moving.{constraint_moved, any_draws, each_by, kind_moved, net_moved, row_moved, moved_up, shifted_at, widened}
+use Rattle.moves.specs.Step.{cause_moved}
 use Rattle.moves.proofs.Lists.{each_same}
 
 -- ---- which causes are drawn
@@ -27,7 +28,7 @@ none_of [] = refl
 none_of (n ∷ numbers) = none_of numbers
 
 any_drawn : (numbers : List DrawnNumber) (part : List ℕ) (o : Option Origin)
-    → list_any (λ (number : DrawnNumber). option_map_or (draws number part) o false) numbers ≡ option_map_or (draw numbers part) o false
+    → list_any (λ (number : DrawnNumber). option_map_or (draws number part) o false) numbers ≡ option_map_or (any_draws numbers part) o false
 any_drawn numbers part None = none_of numbers
 any_drawn numbers part (Some origin) = refl
 
@@ -52,7 +53,7 @@ causes_at move test (c ∷ cs) (o ∷ origins) (suc i) = causes_at move test cs 
 module _ (move : Ends → Ends) (drawn : Drawn) (numbers : List DrawnNumber) where
   abbrev is_drawn_in : List Constraint → List (List Origin) → ℕ → ℕ → Bool
   is_drawn_in ks drew k i =
-      option_map_or (draw numbers (unwrap_or (option_map (λ (c : Constraint). (name_of drawn c.target).part) (slice_get ks k)) []))
+      option_map_or (any_draws numbers (unwrap_or (option_map (λ (c : Constraint). (name_of drawn c.target).part) (slice_get ks k)) []))
       (slice_get (unwrap_or (slice_get drew k) []) i) false
 
   constraints_at : (ks : List Constraint) (drew : List (List Origin)) (k i : ℕ)
@@ -60,7 +61,7 @@ module _ (move : Ends → Ends) (drawn : Drawn) (numbers : List DrawnNumber) whe
       ≡ option_map (λ (c : Cause). moved_if move (is_drawn_in ks drew k i) c) (option_and_then (λ (c : Constraint). slice_get c.causes i) (slice_get ks k))
   constraints_at [] drew k i = refl
   constraints_at (c ∷ ks) [] k i = undrawn move (option_and_then (λ (d : Constraint). slice_get d.causes i) (slice_get (c ∷ ks) k))
-  constraints_at (c ∷ ks) (origins ∷ drew) zero i = causes_at move (draw numbers (name_of drawn c.target).part) c.causes origins i
+  constraints_at (c ∷ ks) (origins ∷ drew) zero i = causes_at move (any_draws numbers (name_of drawn c.target).part) c.causes origins i
   constraints_at (c ∷ ks) (origins ∷ drew) (suc k) i = constraints_at ks drew k i
 
 pub each_is_moved : EachIsMoved
@@ -102,7 +103,7 @@ module _ (move : Ends → Ends) (same : (range : Ends) → move range ≡ range)
 
   constraint_same : (c : Constraint) (origins : List Origin) → constraint_moved move drawn numbers c origins ≡ c
   constraint_same c origins =
-      let test : Origin → Bool = draw numbers (name_of drawn c.target).part in
+      let test : Origin → Bool = any_draws numbers (name_of drawn c.target).part in
       ap (λ (cs : List Cause). record c { causes = cs }) (each_same (cause_moved move test) (λ d o. one_same (test o) d) c.causes origins)
 
   net_same : net_moved move drawn numbers ≡ drawn.net
@@ -119,7 +120,7 @@ module _ (move : Ends → Ends) (same : (range : Ends) → move range ≡ range)
   rows_same : (rows : List Row) → map (row_moved move drawn numbers) rows ≡ rows
   rows_same [] = refl
   rows_same (row ∷ rows) =
-      ap (λ (r : Row). r ∷ map (row_moved move drawn numbers) rows) (row_same (draw numbers (name_of drawn row.from).part row.origin) row)
+      ap (λ (r : Row). r ∷ map (row_moved move drawn numbers) rows) (row_same (any_draws numbers (name_of drawn row.from).part row.origin) row)
       ∙ ap (λ (rs : List Row). row ∷ rs) (rows_same rows)
 
 pub moved_by_nothing : MovedByNothing

@@ -13,9 +13,9 @@ use Rattle.event_graph.specs.Network.{Constraint, IsNet, Net, with_constraint}
 use Rattle.drawn.specs.Drawn.{Drawn, OriginsFit, name_of}
 use Rattle.numbers.specs.Numbers.{origins_of, part_of_target}
 use Rattle.numbers.specs.declared.drawn_number.DrawnNumber.{DrawnNumber}
-use Rattle.moves.specs.Moving.{cause_moved, constraint_moved, draw, each_by, net_moved}
-use Rattle.moves.specs.Passing.{AreDrawable, HasDrawableCauses}
-use Rattle.moves.specs.Step.{HasEventsOf, causes_at, causes_moved}
+use Rattle.moves.specs.Moving.{constraint_moved, any_draws, each_by, net_moved}
+use Rattle.moves.specs.Passing.{HasDrawableCauses}
+use Rattle.moves.specs.Step.{AreDrawable, HasEventsOf, cause_moved, causes_at, causes_moved}
 use Rattle.moves.proofs.Lists.{each_from_zip, each_length, each_next, map_kept, zip_from_each}
 use Rattle.moves.proofs.Drew.{same_count}
 
@@ -41,39 +41,39 @@ range_back move false c h is = absurd (cc is)
 -- the first causes of a constraint, moved
 abbrev pub front_causes : (Ends → Ends) → Drawn → List DrawnNumber → ℕ → ℕ → List Cause
 front_causes move drawn numbers constraint k =
-    each_by (cause_moved move (draw numbers (part_of_target drawn constraint))) (take k (causes_at drawn.net constraint)) (take k (origins_of drawn constraint))
+    each_by (cause_moved move (any_draws numbers (part_of_target drawn constraint))) (take k (causes_at drawn.net constraint)) (take k (origins_of drawn constraint))
 
 -- each range that is drawn among the first causes can be drawn when moved
 abbrev pub CauseCanMove : (Ends → Ends) → Drawn → List DrawnNumber → ℕ → ℕ → Type 0
 CauseCanMove move drawn numbers constraint k =
     (c : Cause) (o : Origin) → slice_get (causes_at drawn.net constraint) k ≡ Some c → slice_get (origins_of drawn constraint) k ≡ Some o
-    → IsTrue (draw numbers (part_of_target drawn constraint) o) → IsRange (move c.range)
+    → IsTrue (any_draws numbers (part_of_target drawn constraint) o) → IsRange (move c.range)
 
 pub causes_more : (move : Ends → Ends) (drawn : Drawn) (numbers : List DrawnNumber) (constraint k : ℕ) (part : List ℕ) (origins : List Origin) (c : Cause) (o : Origin) (is_drawn : Bool)
     (moved : Cause) (old new : List Cause) → OriginsFit drawn.net drawn.origins → part ≡ part_of_target drawn constraint → origins ≡ origins_of drawn constraint
-    → slice_get (causes_at drawn.net constraint) k ≡ Some c → slice_get origins k ≡ Some o → is_drawn ≡ draw numbers part o → moved ≡ moved_if move is_drawn c
+    → slice_get (causes_at drawn.net constraint) k ≡ Some c → slice_get origins k ≡ Some o → is_drawn ≡ any_draws numbers part o → moved ≡ moved_if move is_drawn c
     → old ≡ front_causes move drawn numbers constraint k → new ≡ old ++ moved ∷ [] → new ≡ front_causes move drawn numbers constraint (k + 1)
 causes_more move drawn numbers constraint k part origins c o is_drawn moved old new fit is_part is_origins at_c at_o test is before pushed =
     let own : slice_get (origins_of drawn constraint) k ≡ Some o = subst (λ (os : List Origin). slice_get os k ≡ Some o) is_origins at_o in
-    let right : moved ≡ moved_if move (draw numbers (part_of_target drawn constraint) o) c =
-    is ∙ (ap (λ (b : Bool). moved_if move b c) test ∙ ap (λ (p : List ℕ). moved_if move (draw numbers p o) c) is_part) in
+    let right : moved ≡ moved_if move (any_draws numbers (part_of_target drawn constraint) o) c =
+    is ∙ (ap (λ (b : Bool). moved_if move b c) test ∙ ap (λ (p : List ℕ). moved_if move (any_draws numbers p o) c) is_part) in
     pushed ∙ (ap (λ (cs : List Cause). cs ++ moved ∷ []) before
     ∙ (ap (λ (x : Cause). front_causes move drawn numbers constraint k ++ x ∷ []) right
-    ∙ sym (each_next (cause_moved move (draw numbers (part_of_target drawn constraint))) (causes_at drawn.net constraint) (origins_of drawn constraint) k c o
+    ∙ sym (each_next (cause_moved move (any_draws numbers (part_of_target drawn constraint))) (causes_at drawn.net constraint) (origins_of drawn constraint) k c o
     (same_count drawn constraint fit) at_c own)))
 
 pub can_more : (move : Ends → Ends) (drawn : Drawn) (numbers : List DrawnNumber) (constraint k : ℕ) (part : List ℕ) (origins : List Origin) (c : Cause) (o : Origin) (is_drawn : Bool)
     → part ≡ part_of_target drawn constraint → origins ≡ origins_of drawn constraint
-    → slice_get (causes_at drawn.net constraint) k ≡ Some c → slice_get origins k ≡ Some o → is_drawn ≡ draw numbers part o → (IsTrue is_drawn → IsRange (move c.range))
+    → slice_get (causes_at drawn.net constraint) k ≡ Some c → slice_get origins k ≡ Some o → is_drawn ≡ any_draws numbers part o → (IsTrue is_drawn → IsRange (move c.range))
     → ((j : ℕ) → j < k → CauseCanMove move drawn numbers constraint j) → (j : ℕ) → j < k + 1 → CauseCanMove move drawn numbers constraint j
 can_more move drawn numbers constraint k part origins c o is_drawn is_part is_origins at_c at_o test can before =
     let own : slice_get (origins_of drawn constraint) k ≡ Some o = subst (λ (os : List Origin). slice_get os k ≡ Some o) is_origins at_o in
-    let right : is_drawn ≡ draw numbers (part_of_target drawn constraint) o = test ∙ ap (λ (p : List ℕ). draw numbers p o) is_part in
+    let right : is_drawn ≡ any_draws numbers (part_of_target drawn constraint) o = test ∙ ap (λ (p : List ℕ). any_draws numbers p o) is_part in
     let here : CauseCanMove move drawn numbers constraint k = λ d p at_d at_p is.
     let same_c : d ≡ c = same_Some d c (sym at_d ∙ at_c) in
     let same_o : p ≡ o = same_Some p o (sym at_p ∙ own) in
     subst (λ (x : Cause). IsRange (move x.range)) (sym same_c)
-    (can (right ∙ (ap (λ (x : Origin). draw numbers (part_of_target drawn constraint) x) (sym same_o) ∙ is))) in
+    (can (right ∙ (ap (λ (x : Origin). any_draws numbers (part_of_target drawn constraint) x) (sym same_o) ∙ is))) in
     below_more (CauseCanMove move drawn numbers constraint) k before here
 
 -- all causes
@@ -83,14 +83,14 @@ causes_whole move drawn numbers constraint k items fit all is =
     let same : length (origins_of drawn constraint) ≡ length (causes_at drawn.net constraint) = same_count drawn constraint fit in
     let first : take k (causes_at drawn.net constraint) ≡ causes_at drawn.net constraint = take_all k (causes_at drawn.net constraint) (omega (arith, same, all)) in
     let second : take k (origins_of drawn constraint) ≡ origins_of drawn constraint = take_all k (origins_of drawn constraint) all in
-    let by : List Cause → List Origin → List Cause = each_by (cause_moved move (draw numbers (part_of_target drawn constraint))) in
+    let by : List Cause → List Origin → List Cause = each_by (cause_moved move (any_draws numbers (part_of_target drawn constraint))) in
     is ∙ (ap (λ (cs : List Cause). by cs (take k (origins_of drawn constraint))) first ∙ ap (λ (os : List Origin). by (causes_at drawn.net constraint) os) second)
 
 pub drawable_whole : (move : Ends → Ends) (drawn : Drawn) (numbers : List DrawnNumber) (constraint k : ℕ) → OriginsFit drawn.net drawn.origins
     → length (origins_of drawn constraint) ≤ k → ((j : ℕ) → j < k → CauseCanMove move drawn numbers constraint j)
-    → AreDrawable (draw numbers (part_of_target drawn constraint)) (causes_moved move drawn numbers constraint) (origins_of drawn constraint)
+    → AreDrawable (any_draws numbers (part_of_target drawn constraint)) (causes_moved move drawn numbers constraint) (origins_of drawn constraint)
 drawable_whole move drawn numbers constraint k fit all can =
-    let test : Origin → Bool = draw numbers (part_of_target drawn constraint) in
+    let test : Origin → Bool = any_draws numbers (part_of_target drawn constraint) in
     zip_from_each (λ (c : Cause) (o : Origin). IsTrue (test o) → IsRange c.range) (cause_moved move test) (causes_at drawn.net constraint) (origins_of drawn constraint)
     (same_count drawn constraint fit)
     (λ j c o at_c at_o.
@@ -100,13 +100,13 @@ drawable_whole move drawn numbers constraint k fit all can =
 -- a range that can't be drawn
 pub drawable_at : (move : Ends → Ends) (drawn : Drawn) (numbers : List DrawnNumber) (constraint k : ℕ) (part : List ℕ) (origins : List Origin) (c : Cause) (o : Origin) (is_drawn : Bool)
     → part ≡ part_of_target drawn constraint → origins ≡ origins_of drawn constraint
-    → slice_get (causes_at drawn.net constraint) k ≡ Some c → slice_get origins k ≡ Some o → is_drawn ≡ draw numbers part o
-    → AreDrawable (draw numbers (part_of_target drawn constraint)) (causes_moved move drawn numbers constraint) (origins_of drawn constraint)
+    → slice_get (causes_at drawn.net constraint) k ≡ Some c → slice_get origins k ≡ Some o → is_drawn ≡ any_draws numbers part o
+    → AreDrawable (any_draws numbers (part_of_target drawn constraint)) (causes_moved move drawn numbers constraint) (origins_of drawn constraint)
     → IsTrue is_drawn → IsRange (move c.range)
 drawable_at move drawn numbers constraint k part origins c o is_drawn is_part is_origins at_c at_o test all is =
-    let own_test : Origin → Bool = draw numbers (part_of_target drawn constraint) in
+    let own_test : Origin → Bool = any_draws numbers (part_of_target drawn constraint) in
     let own : slice_get (origins_of drawn constraint) k ≡ Some o = subst (λ (os : List Origin). slice_get os k ≡ Some o) is_origins at_o in
-    let right : is_drawn ≡ own_test o = test ∙ ap (λ (p : List ℕ). draw numbers p o) is_part in
+    let right : is_drawn ≡ own_test o = test ∙ ap (λ (p : List ℕ). any_draws numbers p o) is_part in
     range_back move (own_test o) c
     (each_from_zip (λ (d : Cause) (p : Origin). IsTrue (own_test p) → IsRange d.range) (cause_moved move own_test) (causes_at drawn.net constraint) (origins_of drawn constraint) all k c o at_c own)
     (sym right ∙ is)
@@ -115,7 +115,7 @@ drawable_at move drawn numbers constraint k part origins c o is_drawn is_part is
 pub events_moved : (move : Ends → Ends) (drawn : Drawn) (numbers : List DrawnNumber) (constraint : ℕ) (items : List Cause) → items ≡ causes_moved move drawn numbers constraint
     → HasEventsOf drawn.net constraint items
 events_moved move drawn numbers constraint items is =
-    let test : Origin → Bool = draw numbers (part_of_target drawn constraint) in
+    let test : Origin → Bool = any_draws numbers (part_of_target drawn constraint) in
     ap (λ (cs : List Cause). map (λ (c : Cause). c.event) cs) is
     ∙ map_kept (λ (c : Cause). c.event) (cause_moved move test) (λ c o. event_kept move (test o) c) (causes_at drawn.net constraint) (origins_of drawn constraint)
 
@@ -133,10 +133,10 @@ fit_length drawn fit =
 
 -- the causes of a constraint that is there
 causes_there : (move : Ends → Ends) (drawn : Drawn) (numbers : List DrawnNumber) (c : Constraint) (o : List Origin) (x : Option Constraint) (y : Option (List Origin)) → x ≡ Some c → y ≡ Some o
-    → each_by (cause_moved move (draw numbers (unwrap_or (option_map (λ (d : Constraint). (name_of drawn d.target).part) x) []))) (unwrap_or (option_map (λ (d : Constraint). d.causes) x) [])
+    → each_by (cause_moved move (any_draws numbers (unwrap_or (option_map (λ (d : Constraint). (name_of drawn d.target).part) x) []))) (unwrap_or (option_map (λ (d : Constraint). d.causes) x) [])
     (unwrap_or y []) ≡ (constraint_moved move drawn numbers c o).causes
 causes_there move drawn numbers c o x y at_x at_y =
-    let by : Option Constraint → Option (List Origin) → List Cause = λ p q. each_by (cause_moved move (draw numbers (unwrap_or (option_map (λ (d : Constraint). (name_of drawn d.target).part) p) [])))
+    let by : Option Constraint → Option (List Origin) → List Cause = λ p q. each_by (cause_moved move (any_draws numbers (unwrap_or (option_map (λ (d : Constraint). (name_of drawn d.target).part) p) [])))
     (unwrap_or (option_map (λ (d : Constraint). d.causes) p) []) (unwrap_or q []) in
     ap (λ (p : Option Constraint). by p y) at_x ∙ ap (λ (q : Option (List Origin)). by (Some c) q) at_y
 
@@ -178,17 +178,17 @@ net_whole move drawn numbers k net fit all is =
 
 -- the ranges of the causes of a constraint can be drawn when moved
 abbrev pub CanMove : (Ends → Ends) → Drawn → List DrawnNumber → ℕ → Type 0
-CanMove move drawn numbers k = AreDrawable (draw numbers (part_of_target drawn k)) (causes_moved move drawn numbers k) (origins_of drawn k)
+CanMove move drawn numbers k = AreDrawable (any_draws numbers (part_of_target drawn k)) (causes_moved move drawn numbers k) (origins_of drawn k)
 
 abbrev can_by : (Ends → Ends) → Drawn → List DrawnNumber → Option Constraint → Option (List Origin) → Type 0
 can_by move drawn numbers p q =
-    AreDrawable (draw numbers (unwrap_or (option_map (λ (d : Constraint). (name_of drawn d.target).part) p) []))
-    (each_by (cause_moved move (draw numbers (unwrap_or (option_map (λ (d : Constraint). (name_of drawn d.target).part) p) [])))
+    AreDrawable (any_draws numbers (unwrap_or (option_map (λ (d : Constraint). (name_of drawn d.target).part) p) []))
+    (each_by (cause_moved move (any_draws numbers (unwrap_or (option_map (λ (d : Constraint). (name_of drawn d.target).part) p) [])))
     (unwrap_or (option_map (λ (d : Constraint). d.causes) p) []) (unwrap_or q [])) (unwrap_or q [])
 
 -- what ranges of a moved network wants of a constraint and the origins of its causes
 abbrev CanDraw : Drawn → List DrawnNumber → Constraint → List Origin → Type 0
-CanDraw drawn numbers c o = AreDrawable (draw numbers (name_of drawn c.target).part) c.causes o
+CanDraw drawn numbers c o = AreDrawable (any_draws numbers (name_of drawn c.target).part) c.causes o
 
 pub ranges_whole : (move : Ends → Ends) (drawn : Drawn) (numbers : List DrawnNumber) (k : ℕ) → OriginsFit drawn.net drawn.origins → length drawn.net.constraints ≤ k
     → ((j : ℕ) → j < k → CanMove move drawn numbers j) → HasDrawableCauses (record drawn { net = net_moved move drawn numbers }) numbers
@@ -227,4 +227,4 @@ pub choices_kept : (move : Ends → Ends) (drawn : Drawn) (numbers : List DrawnN
 choices_kept move drawn numbers net is =
     ap (λ (n : Net). cause_choices n.constraints) is
     ∙ choices_by (constraint_moved move drawn numbers)
-    (λ c o. ap (choices_of c.kind) (each_length (cause_moved move (draw numbers (name_of drawn c.target).part)) c.causes o)) drawn.net.constraints drawn.origins
+    (λ c o. ap (choices_of c.kind) (each_length (cause_moved move (any_draws numbers (name_of drawn c.target).part)) c.causes o)) drawn.net.constraints drawn.origins

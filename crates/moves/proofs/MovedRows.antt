@@ -10,7 +10,7 @@ use Rattle.event_graph.specs.Network.{Net}
 use Rattle.drawn.specs.Drawn.{Drawn, IsRowOf, name_of}
 use Rattle.drawn.specs.declared.row.Row.{Row}
 use Rattle.numbers.specs.declared.drawn_number.DrawnNumber.{DrawnNumber}
-use Rattle.moves.specs.Moving.{draw, kind_moved, row_moved}
+use Rattle.moves.specs.Moving.{any_draws, kind_moved, row_moved}
 use Rattle.moves.specs.Passing.{HasDrawableRows, IsKindRange}
 
 -- ---- the rows
@@ -38,23 +38,23 @@ module _ (move : Ends → Ends) (drawn : Drawn) (numbers : List DrawnNumber) whe
   pub rows_kept : (net : Net) (rows : List Row) → All (IsRowOf net) rows → All (IsRowOf net) (map (row_moved move drawn numbers) rows)
   rows_kept net rows all =
       All-map (IsRowOf net) (row_moved move drawn numbers) rows
-      (λ k d within. row_kept net (draw numbers (name_of drawn (get_or rows k d).from).part (get_or rows k d).origin) (get_or rows k d) (all k d within))
+      (λ k d within. row_kept net (any_draws numbers (name_of drawn (get_or rows k d).from).part (get_or rows k d).origin) (get_or rows k d) (all k d within))
 
   -- ---- ranges
 
   -- if the row is drawn, its range can be drawn
   abbrev CanDrawRow : Row → Type 0
-  CanDrawRow row = IsTrue (draw numbers (name_of drawn row.from).part row.origin) → IsKindRange row.kind
+  CanDrawRow row = IsTrue (any_draws numbers (name_of drawn row.from).part row.origin) → IsKindRange row.kind
 
   -- if the row is drawn, its moved range can be drawn
   abbrev pub CanMoveRow : Row → Type 0
-  CanMoveRow row = IsTrue (draw numbers (name_of drawn row.from).part row.origin) → IsKindRange (kind_moved move row.kind)
+  CanMoveRow row = IsTrue (any_draws numbers (name_of drawn row.from).part row.origin) → IsKindRange (kind_moved move row.kind)
 
-  to_drawn : (is_drawn : Bool) (row : Row) → is_drawn ≡ draw numbers (name_of drawn row.from).part row.origin → CanMoveRow row → CanDrawRow (row_if is_drawn row)
+  to_drawn : (is_drawn : Bool) (row : Row) → is_drawn ≡ any_draws numbers (name_of drawn row.from).part row.origin → CanMoveRow row → CanDrawRow (row_if is_drawn row)
   to_drawn true row is can = can
   to_drawn false row is can = λ h. absurd (cc (is, h))
 
-  to_move : (is_drawn : Bool) (row : Row) → is_drawn ≡ draw numbers (name_of drawn row.from).part row.origin → CanDrawRow (row_if is_drawn row) → CanMoveRow row
+  to_move : (is_drawn : Bool) (row : Row) → is_drawn ≡ any_draws numbers (name_of drawn row.from).part row.origin → CanDrawRow (row_if is_drawn row) → CanMoveRow row
   to_move true row is can = can
   to_move false row is can = λ h. absurd (cc (is, h))
 
@@ -71,13 +71,13 @@ module _ (move : Ends → Ends) (drawn : Drawn) (numbers : List DrawnNumber) whe
       All-map CanDrawRow (row_moved move drawn numbers) drawn.rows
       (λ j d within.
       let row : Row = get_or drawn.rows j d in
-      to_drawn (draw numbers (name_of drawn row.from).part row.origin) row refl (can j (omega (arith, within, all)) row (slice_get-get_or drawn.rows j d within)))
+      to_drawn (any_draws numbers (name_of drawn row.from).part row.origin) row refl (can j (omega (arith, within, all)) row (slice_get-get_or drawn.rows j d within)))
 
   pub row_range_at : (given : List Row) (k : ℕ) (row : Row) → given ≡ drawn.rows → slice_get given k ≡ Some row
       → HasDrawableRows (record drawn { rows = map (row_moved move drawn numbers) drawn.rows }) numbers → CanMoveRow row
   row_range_at given k row same at all =
       let own : slice_get drawn.rows k ≡ Some row = subst (λ (xs : List Row). slice_get xs k ≡ Some row) same at in
-      to_move (draw numbers (name_of drawn row.from).part row.origin) row refl
+      to_move (any_draws numbers (name_of drawn row.from).part row.origin) row refl
       (All-found CanDrawRow (map (row_moved move drawn numbers) drawn.rows) k (row_moved move drawn numbers row) (at_map drawn.rows k row own) all)
     where
       at_map : (rows : List Row) (i : ℕ) (r : Row) → slice_get rows i ≡ Some r → slice_get (map (row_moved move drawn numbers) rows) i ≡ Some (row_moved move drawn numbers r)

@@ -9,8 +9,9 @@ use Rattle.drawn.specs.Drawn.{Drawn}
 use Rattle.drawn.specs.declared.row.Row.{Row}
 use Rattle.numbers.specs.declared.drawn_number.DrawnNumber.{DrawnNumber}
 use Rattle.moves.specs.Laws.{FreeIsForAll, MarginIsThreshold, OneMargin}
-use Rattle.moves.specs.Moving.{opened, opened_at, widened, widened_at}
-use Rattle.moves.specs.Passing.{BreaksRow, MeetsRow, NoneBreaks}
+use Rattle.moves.specs.Moving.{opened, widened}
+use Rattle.moves.specs.Passing.{BreaksRow, NoneBreaks}
+use Rattle.moves.specs.Step.{MeetsRow, opened_at, widened_at}
 use Rattle.moves.proofs.Widened.{nets_wider, opened_holds, widened_more}
 
 -- what breaks does not pass

@@ -11,7 +11,8 @@ use Rattle.event_graph.specs.Network.{Constraint}
 use Rattle.event_graph.specs.Widening.{IsHigherEnd, IsLowerEnd, IsWider, IsWiderCause, IsWiderConstraint}
 use Rattle.drawn.specs.Drawn.{Drawn, name_of}
 use Rattle.numbers.specs.declared.drawn_number.DrawnNumber.{DrawnNumber}
-use Rattle.moves.specs.Moving.{cause_moved, constraint_moved, draw, net_moved, opened, widened}
+use Rattle.moves.specs.Moving.{constraint_moved, any_draws, net_moved, opened, widened}
+use Rattle.moves.specs.Step.{cause_moved}
 use Rattle.moves.proofs.Lists.{all_own, each_related}
 
 -- ---- ranges
@@ -61,7 +62,7 @@ module _ (less more : Ends → Ends) (within : (range : Ends) → IsWithinRange 
   constraint_wider : (drawn : Drawn) (numbers : List DrawnNumber) (k : Constraint) (origins : List Origin)
       → IsWiderConstraint (constraint_moved less drawn numbers k origins) (constraint_moved more drawn numbers k origins)
   constraint_wider drawn numbers k origins =
-      let test : Origin → Bool = draw numbers (name_of drawn k.target).part in
+      let test : Origin → Bool = any_draws numbers (name_of drawn k.target).part in
       record {
         kind = refl;
         target = refl;

@@ -3,36 +3,33 @@ use Rattle.std.specs.Prelude.{◌≡◌, ◌≤◌, ℕ, ℤ, pos, neg_ℤ, ◌+
 use Rattle.itv_base.specs.declared.names.Side.{Side}
 use Rattle.event_graph.specs.Bounds.{IsInconsistent}
 use Rattle.event_graph.specs.Edges.{cause_choices}
+use Rattle.event_graph.specs.Satisfying.{Satisfies}
 use Rattle.drawn.specs.Drawn.{Drawn}
 use Rattle.numbers.specs.declared.drawn_number.DrawnNumber.{DrawnNumber}
-use Rattle.moves.specs.Moving.{opened_at, shifted_at, widened_at}
-use Rattle.moves.specs.Passing.{BreaksRow, HasDrawableCauses, HasDrawableRows, IsConsistent, NoneBreaks, Passes}
+use Rattle.moves.specs.Moving.{moved_at, opened, shifted_at, widened}
+use Rattle.moves.specs.Passing.{BreaksRow, HasDrawableCauses, NoneBreaks, Passes}
 use Rattle.moves.specs.declared.margin.Margin.{Margin}
 use Rattle.moves.specs.declared.margin.Margin.TheVariants as margins
 
--- a budget is less than the number of cause choices, which no move of a number changes
-abbrev pub IsShort : Drawn → ℕ → Type 0
-IsShort drawn budget = cause_choices drawn.net.constraints ≤ budget → ⊥
-
 -- the moved end of a number can be drawn
 abbrev pub CanBeDrawn : Drawn → DrawnNumber → Side → ℤ → Type 0
-CanBeDrawn drawn number side by = HasDrawableCauses (widened_at drawn number side by) (number ∷ [])
+CanBeDrawn drawn number side by = HasDrawableCauses (moved_at drawn number (widened side by)) (number ∷ [])
 
--- what a margin says of an end of a number, which is moved outward; it was left open only where the budget is short
+-- what a margin says of an end of a number, which is moved outward; it was left open only where the budget is less than the number of cause choices
 abbrev pub IsEndMargin : Drawn → ℕ → DrawnNumber → Side → Margin → Type 0
-IsEndMargin drawn budget number side margins.Free = Passes (opened_at drawn number side)
-IsEndMargin drawn budget number side (margins.Until by row) =
-    CanBeDrawn drawn number side by × Passes (widened_at drawn number side by) × BreaksRow (widened_at drawn number side (by +ℤ pos 1)) row
+IsEndMargin drawn budget number side margins.Free = Passes (moved_at drawn number (opened side))
+IsEndMargin drawn budget number side (margins.Until by row) = CanBeDrawn drawn number side by × Passes (moved_at drawn number (widened side by))
+    × BreaksRow (moved_at drawn number (widened side (by +ℤ pos 1))) row
 IsEndMargin drawn budget number side (margins.UntilContradiction by) = ⊥
-IsEndMargin drawn budget number side margins.Never = (by : ℤ) → CanBeDrawn drawn number side by → Passes (widened_at drawn number side by) → ⊥
+IsEndMargin drawn budget number side margins.Never = (by : ℤ) → CanBeDrawn drawn number side by → Passes (moved_at drawn number (widened side by)) → ⊥
 IsEndMargin drawn budget number side margins.Limit =
-    ((by : ℤ) × CanBeDrawn drawn number side by × Passes (widened_at drawn number side by) × (CanBeDrawn drawn number side (by +ℤ pos 1) → ⊥))
-    × ((row : ℕ) × BreaksRow (opened_at drawn number side) row)
-IsEndMargin drawn budget number side margins.Spent = IsShort drawn budget
+    ((by : ℤ) × CanBeDrawn drawn number side by × Passes (moved_at drawn number (widened side by)) × (CanBeDrawn drawn number side (by +ℤ pos 1) → ⊥))
+    × ((row : ℕ) × BreaksRow (moved_at drawn number (opened side)) row)
+IsEndMargin drawn budget number side margins.Spent = cause_choices drawn.net.constraints ≤ budget → ⊥
 
 -- from one move to a last one no requirement breaks, and some times satisfy with the last one
 abbrev pub IsWay : (ℤ → Drawn) → ℤ → ℤ → Type 0
-IsWay at from last = (from ≤ℤ last) × IsConsistent (at last) × ((by : ℤ) → from ≤ℤ by → by ≤ℤ last → NoneBreaks (at by))
+IsWay at from last = (from ≤ℤ last) × ((times : List ℤ) × Satisfies times (at last).net) × ((by : ℤ) → from ≤ℤ by → by ≤ℤ last → NoneBreaks (at by))
 
 -- what a margin says of numbers that move as one, from one move on: up to which move no requirement breaks, and what stands beyond
 abbrev pub IsMarginFrom : (ℤ → Drawn) → List DrawnNumber → ℤ → Margin → Type 0
@@ -40,8 +37,7 @@ IsMarginFrom at numbers from margins.Free = (by : ℤ) → from ≤ℤ by → No
 IsMarginFrom at numbers from (margins.Until by row) = IsWay at from by × BreaksRow (at (by +ℤ pos 1)) row
 IsMarginFrom at numbers from (margins.UntilContradiction by) = IsWay at from by × IsInconsistent (at (by +ℤ pos 1)).net
 IsMarginFrom at numbers from margins.Never = ⊥
-IsMarginFrom at numbers from margins.Limit =
-    (by : ℤ) × IsWay at from by × (HasDrawableCauses (at (by +ℤ pos 1)) numbers → HasDrawableRows (at (by +ℤ pos 1)) numbers → ⊥)
+IsMarginFrom at numbers from margins.Limit = (by : ℤ) × IsWay at from by × (HasDrawableCauses (at (by +ℤ pos 1)) numbers → ⊥)
 IsMarginFrom at numbers from margins.Spent = Unit {0}
 
 -- the values of numbers around one with which every requirement passes; that is the drawn one, if every requirement passes as drawn

@@ -11,8 +11,9 @@ use Rattle.numbers.specs.declared.cause_name.CauseName.{CauseName}
 use Rattle.numbers.specs.declared.drawn_number.DrawnNumber.{DrawnNumber}
 use Rattle.moves.specs.Covers.{Covers}
 use Rattle.moves.specs.Found.{IsEndMargin}
-use Rattle.moves.specs.Moving.{net_moved, shifted_at, widened_at}
+use Rattle.moves.specs.Moving.{net_moved, shifted_at}
 use Rattle.moves.specs.Passing.{BreaksRow, NoneBreaks}
+use Rattle.moves.specs.Step.{widened_at}
 use Rattle.moves.specs.declared.margin.Margin.TheVariants as margins
 
 -- each cause that one of the numbers draws has its range moved, and each other cause is as it was

@@ -11,7 +11,7 @@ use Rattle.drawn.specs.Drawn.{Drawn, name_of}
 use Rattle.drawn.specs.declared.row.Row.{Row}
 use Rattle.numbers.specs.declared.drawn_number.DrawnNumber.TheVariants as numbers
 use Rattle.moves.specs.declared.number_seen.NumberSeen.{NumberSeen}
-use Rattle.moves.specs.Moving.{draw}
+use Rattle.moves.specs.Moving.{any_draws}
 
 -- the number behind what draws a cause of a part, with the range of the cause; the order of a lane is no number
 abbrev pub number_by : List ℕ → Origin → Ends → List NumberSeen
@@ -22,7 +22,7 @@ number_by part (origins.Wire wire) range = (record { number = numbers.Wire wire;
 
 -- some numbers, with the number behind a cause where none of them draws it
 abbrev pub with_cause : List ℕ → List NumberSeen → Cause × Origin → List NumberSeen
-with_cause part seen (cause, origin) = if draw (map (λ (s : NumberSeen). s.number) seen) part origin then seen else seen ++ number_by part origin cause.range
+with_cause part seen (cause, origin) = if any_draws (map (λ (s : NumberSeen). s.number) seen) part origin then seen else seen ++ number_by part origin cause.range
 
 -- and with the numbers behind the causes of a constraint
 abbrev pub with_causes : Drawn → List NumberSeen → Constraint × List Origin → List NumberSeen
@@ -35,7 +35,7 @@ numbers_of drawn = fold (with_causes drawn) [] (zip drawn.net.constraints drawn.
 -- some numbers, with the number behind a requirement where none of them draws it
 abbrev pub with_kind : List ℕ → List NumberSeen → Origin → RowKind → List NumberSeen
 with_kind part seen origin kinds.Ask = seen
-with_kind part seen origin (kinds.Req range) = if draw (map (λ (s : NumberSeen). s.number) seen) part origin then seen else seen ++ number_by part origin range
+with_kind part seen origin (kinds.Req range) = if any_draws (map (λ (s : NumberSeen). s.number) seen) part origin then seen else seen ++ number_by part origin range
 
 -- all numbers that draw a cause or a requirement
 abbrev pub all_numbers_of : Drawn → List NumberSeen

@@ -29,23 +29,20 @@ abbrev pub moved_up : ℤ → Ends → Ends
 moved_up by range = record { low = option_map (λ low. low +ℤ by) range.low; high = option_map (λ high. high +ℤ by) range.high }
 
 -- one of the numbers gives its range to what this draws
-abbrev pub draw : List DrawnNumber → List ℕ → Origin → Bool
-draw numbers part origin = list_any (λ number. draws number part origin) numbers
+abbrev pub any_draws : List DrawnNumber → List ℕ → Origin → Bool
+any_draws numbers part origin = list_any (λ number. draws number part origin) numbers
 
 -- each element changed by what stands at its place in another list, as far as that goes
 abbrev pub each_by : {X Y : Type 0} → (X → Y → X) → List X → List Y → List X
-each_by f [] ys = []
-each_by f (x ∷ xs) [] = x ∷ xs
 each_by f (x ∷ xs) (y ∷ ys) = f x y ∷ each_by f xs ys
-
--- a cause with its range moved, if what draws it meets a test
-abbrev pub cause_moved : (Ends → Ends) → (Origin → Bool) → Cause → Origin → Cause
-cause_moved move test cause origin = if test origin then record cause { range = move cause.range } else cause
+each_by f xs ys = xs
 
 -- a constraint with the range of each cause moved that one of the numbers draws
 abbrev pub constraint_moved : (Ends → Ends) → Drawn → List DrawnNumber → Constraint → List Origin → Constraint
-constraint_moved move drawn numbers c origins =
-    record c { causes = each_by (cause_moved move (draw numbers (name_of drawn c.target).part)) c.causes origins }
+constraint_moved move drawn numbers c origins = record c {
+  causes = each_by (λ (cause : Cause) (origin : Origin).
+      if any_draws numbers (name_of drawn c.target).part origin then record cause { range = move cause.range } else cause) c.causes origins;
+}
 
 -- the network in which each range that one of the numbers draws is moved
 abbrev pub net_moved : (Ends → Ends) → Drawn → List DrawnNumber → Net
@@ -57,15 +54,11 @@ kind_moved move (kinds.Req range) = kinds.Req (move range)
 
 -- a row: the range of a requirement that one of the numbers draws is moved; the part of a row is the part of its from-event
 abbrev pub row_moved : (Ends → Ends) → Drawn → List DrawnNumber → Row → Row
-row_moved move drawn numbers row = if draw numbers (name_of drawn row.from).part row.origin then record row { kind = kind_moved move row.kind } else row
+row_moved move drawn numbers row = if any_draws numbers (name_of drawn row.from).part row.origin then record row { kind = kind_moved move row.kind } else row
 
--- one end of a number moved outward by a number of picoseconds, or inward by minus that number
-abbrev pub widened_at : Drawn → DrawnNumber → Side → ℤ → Drawn
-widened_at drawn number side by = record drawn { net = net_moved (widened side by) drawn (number ∷ []) }
-
--- one end of a number opened
-abbrev pub opened_at : Drawn → DrawnNumber → Side → Drawn
-opened_at drawn number side = record drawn { net = net_moved (opened side) drawn (number ∷ []) }
+-- the drawn network with the ranges of a number moved
+abbrev pub moved_at : Drawn → DrawnNumber → (Ends → Ends) → Drawn
+moved_at drawn number move = record drawn { net = net_moved move drawn (number ∷ []) }
 
 -- both ends of some numbers moved up by one number of picoseconds, of requirements too
 abbrev pub shifted_at : Drawn → List DrawnNumber → ℤ → Drawn

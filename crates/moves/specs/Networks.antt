@@ -2,7 +2,8 @@
 use Rattle.std.specs.Prelude.{Bool, true, false}
 use Rattle.event_graph.specs.Bounds.{IsInconsistent}
 use Rattle.drawn.specs.Drawn.{Drawn}
-use Rattle.moves.specs.Passing.{BreaksRow, IsConsistent, Passes}
+use Rattle.moves.specs.Passing.{BreaksRow, Passes}
+use Rattle.moves.specs.Step.{IsConsistent}
 use Rattle.moves.specs.declared.net_found.NetFound.{NetFound}
 use Rattle.moves.specs.declared.net_found.NetFound.TheVariants as nets
 

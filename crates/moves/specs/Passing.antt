@@ -1,5 +1,5 @@
 -- When the requirements of a drawn network pass, and which of them breaks.
-use Rattle.std.specs.Prelude.{ℕ, ℤ, Bool, IsTrue, List, All, IsSomeAnd, slice_get}
+use Rattle.std.specs.Prelude.{ℕ, ℤ, IsTrue, List, All, IsSomeAnd, slice_get}
 use Rattle.std.specs.List.{AllZip}
 use Rattle.itv_base.specs.Range.{Allows, IsRange}
 use Rattle.itv_base.specs.declared.row_kind.RowKind.{RowKind}
@@ -12,40 +12,30 @@ use Rattle.event_graph.specs.Times.{separation}
 use Rattle.drawn.specs.Drawn.{Drawn, name_of}
 use Rattle.drawn.specs.declared.row.Row.{Row}
 use Rattle.numbers.specs.declared.drawn_number.DrawnNumber.{DrawnNumber}
-use Rattle.moves.specs.Moving.{draw}
+use Rattle.moves.specs.Moving.{any_draws}
 
 -- a separation is as it is wanted; a question wants nothing
 abbrev pub MeetsKind : RowKind → ℤ → Type 0
 MeetsKind kinds.Ask value = Unit {0}
 MeetsKind (kinds.Req range) value = Allows range value
 
--- the times meet the requirement of a row
-abbrev pub MeetsRow : List ℤ → Row → Type 0
-MeetsRow times row = MeetsKind row.kind (separation times row.from row.to)
-
--- some times satisfy the network
-abbrev pub IsConsistent : Drawn → Type 0
-IsConsistent drawn = (times : List ℤ) × Satisfies times drawn.net
-
 -- no satisfying times break a requirement
 abbrev pub NoneBreaks : Drawn → Type 0
-NoneBreaks drawn = (times : List ℤ) → Satisfies times drawn.net → All (MeetsRow times) drawn.rows
+NoneBreaks drawn = (times : List ℤ) → Satisfies times drawn.net → All (λ (row : Row). MeetsKind row.kind (separation times row.from row.to)) drawn.rows
 
 -- every requirement passes
 abbrev pub Passes : Drawn → Type 0
-Passes drawn = IsConsistent drawn × NoneBreaks drawn
+Passes drawn = ((times : List ℤ) × Satisfies times drawn.net) × NoneBreaks drawn
 
 -- some satisfying times break the requirement of the row with a number
 abbrev pub BreaksRow : Drawn → ℕ → Type 0
-BreaksRow drawn number = (times : List ℤ) × Satisfies times drawn.net × IsSomeAnd (slice_get drawn.rows number) (λ row. MeetsRow times row → ⊥)
+BreaksRow drawn number =
+    (times : List ℤ) × Satisfies times drawn.net × IsSomeAnd (slice_get drawn.rows number) (λ (row : Row). MeetsKind row.kind (separation times row.from row.to) → ⊥)
 
--- of causes that meet a test, by what draws each of them, each range can be drawn: its ends are within the limit, and the low one is not above the high one
-abbrev pub AreDrawable : (Origin → Bool) → List Cause → List Origin → Type 0
-AreDrawable test = AllZip (λ (cause : Cause) (origin : Origin). IsTrue (test origin) → IsRange cause.range)
-
--- each range of a cause that one of the numbers draws can be drawn
+-- each range of a cause that one of the numbers draws can be drawn: its ends are within the limit, and the low one is not above the high one
 abbrev pub HasDrawableCauses : Drawn → List DrawnNumber → Type 0
-HasDrawableCauses drawn numbers = AllZip (λ (c : Constraint). AreDrawable (draw numbers (name_of drawn c.target).part) c.causes) drawn.net.constraints drawn.origins
+HasDrawableCauses drawn numbers = AllZip (λ (c : Constraint). AllZip (λ (cause : Cause) (origin : Origin).
+    IsTrue (any_draws numbers (name_of drawn c.target).part origin) → IsRange cause.range) c.causes) drawn.net.constraints drawn.origins
 
 abbrev pub IsKindRange : RowKind → Type 0
 IsKindRange kinds.Ask = Unit {0}
@@ -53,4 +43,4 @@ IsKindRange (kinds.Req range) = IsRange range
 
 -- the same of each range of a requirement that one of the numbers draws
 abbrev pub HasDrawableRows : Drawn → List DrawnNumber → Type 0
-HasDrawableRows drawn numbers = All (λ (row : Row). IsTrue (draw numbers (name_of drawn row.from).part row.origin) → IsKindRange row.kind) drawn.rows
+HasDrawableRows drawn numbers = All (λ (row : Row). IsTrue (any_draws numbers (name_of drawn row.from).part row.origin) → IsKindRange row.kind) drawn.rows

@@ -1,9 +1,14 @@
 -- Words of private contracts.
-use Rattle.std.specs.Prelude.{◌≡◌, ◌<◌, ℕ, ℤ, neg_ℤ, ◌≤ℤ◌, Bool, if◌then◌else◌, List, [], All, map, option_map, slice_get, unwrap_or}
+use Rattle.std.specs.Prelude.{◌≡◌, ◌<◌, ℕ, ℤ, neg_ℤ, ◌≤ℤ◌, Bool, IsTrue, if◌then◌else◌, List, [], All, map, option_map, slice_get, unwrap_or}
 use Rattle.std.specs.Borrow.{Bor}
-use Rattle.itv_base.specs.Range.{Ends}
+use Rattle.std.specs.List.{AllZip}
+use Rattle.itv_base.specs.Range.{Ends, IsRange}
+use Rattle.itv_base.specs.declared.names.Side.{Side}
+use Rattle.origin.specs.declared.origin.Origin.{Origin}
 use Rattle.event_graph.specs.declared.cause.Cause.{Cause}
 use Rattle.event_graph.specs.Network.{Constraint, Net}
+use Rattle.event_graph.specs.Satisfying.{Satisfies}
+use Rattle.event_graph.specs.Times.{separation}
 use Rattle.drawn.specs.Drawn.{Drawn}
 use Rattle.drawn.specs.declared.row.Row.{Row}
 use Rattle.numbers.specs.Numbers.{origins_of, part_of_target}
@@ -12,7 +17,8 @@ use Rattle.moves.specs.declared.moving.Move.{Move}
 use Rattle.moves.specs.declared.moving.Move.TheVariants as moves
 use Rattle.moves.specs.declared.moving.TheConstants.{MOVE_LIMIT}
 use Rattle.moves.specs.declared.number_seen.NumberSeen.{NumberSeen}
-use Rattle.moves.specs.Moving.{cause_moved, draw, each_by, opened, moved_up, widened}
+use Rattle.moves.specs.Moving.{any_draws, each_by, moved_at, moved_up, opened, widened}
+use Rattle.moves.specs.Passing.{MeetsKind}
 
 -- ---- moves
 
@@ -49,6 +55,30 @@ numbers_seen seen = map (λ (s : NumberSeen). s.number) seen
 
 -- ---- networks
 
+-- one end of a number moved outward by a number of picoseconds
+abbrev pub widened_at : Drawn → DrawnNumber → Side → ℤ → Drawn
+widened_at drawn number side by = moved_at drawn number (widened side by)
+
+-- one end of a number opened
+abbrev pub opened_at : Drawn → DrawnNumber → Side → Drawn
+opened_at drawn number side = moved_at drawn number (opened side)
+
+-- some times satisfy the network
+abbrev pub IsConsistent : Drawn → Type 0
+IsConsistent drawn = (times : List ℤ) × Satisfies times drawn.net
+
+-- the times meet the requirement of a row
+abbrev pub MeetsRow : List ℤ → Row → Type 0
+MeetsRow times row = MeetsKind row.kind (separation times row.from row.to)
+
+-- a cause with its range moved, if what draws it meets a test
+abbrev pub cause_moved : (Ends → Ends) → (Origin → Bool) → Cause → Origin → Cause
+cause_moved move test cause origin = if test origin then record cause { range = move cause.range } else cause
+
+-- of causes that meet a test, by what draws each of them, each range can be drawn
+abbrev pub AreDrawable : (Origin → Bool) → List Cause → List Origin → Type 0
+AreDrawable test = AllZip (λ (cause : Cause) (origin : Origin). IsTrue (test origin) → IsRange cause.range)
+
 -- a drawn network of which nothing but its network and its rows is looked at
 abbrev pub bare_drawn : Net → List Row → Drawn
 bare_drawn net rows = record { net = net; origins = []; names = []; rows = rows }
@@ -60,7 +90,7 @@ causes_at net constraint = unwrap_or (option_map (λ (c : Constraint). c.causes)
 -- the causes of a constraint, with each range moved that one of the numbers draws
 abbrev pub causes_moved : (Ends → Ends) → Drawn → List DrawnNumber → ℕ → List Cause
 causes_moved move drawn numbers constraint =
-    each_by (cause_moved move (draw numbers (part_of_target drawn constraint))) (causes_at drawn.net constraint) (origins_of drawn constraint)
+    each_by (cause_moved move (any_draws numbers (part_of_target drawn constraint))) (causes_at drawn.net constraint) (origins_of drawn constraint)
 
 -- a cause, with its range moved where it is drawn
 abbrev pub cause_by : Bool → Move → Cause → Cause

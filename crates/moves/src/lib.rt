@@ -16,7 +16,7 @@ mod span;
 
 pub use listing::{all_numbers_of, numbers_of};
 pub use margin::Margin;
-pub use moving::{MOVE_LIMIT, Move, draw, moved_network, moved_range};
+pub use moving::{MOVE_LIMIT, Move, any_draws, moved_network, moved_range};
 pub use net_found::NetFound;
 pub use number_seen::NumberSeen;
 pub use pushing::push_with;

@@ -5,7 +5,7 @@ ghost use Rattle.std.specs.List.{list_any};
 ghost use Rattle.drawn.specs.Drawn.{IsRowOf, name_of};
 ghost use Rattle.numbers.specs.Numbers.{draws, origins_of, part_of_target};
 ghost use Rattle.moves.specs.Listed.{all_numbers_of, number_by, numbers_of, with_cause, with_kind};
-ghost use Rattle.moves.specs.Moving.{draw};
+ghost use Rattle.moves.specs.Moving.{any_draws};
 ghost use Rattle.moves.specs.Step.{causes_at, numbers_seen};
 
 use crate::number_seen::NumberSeen;
@@ -100,7 +100,7 @@ fn add_number(
 
 // Whether one of the numbers gives its range to a cause that this draws.
 fn is_drawn(seen: &[NumberSeen], part: &str, origin: Origin) -> bool
-    ensures { result ≡ draw (numbers_seen seen.now) part.now origin }
+    ensures { result ≡ any_draws (numbers_seen seen.now) part.now origin }
 {
     some_draws(seen, part, origin)
 }

@@ -5,9 +5,9 @@ ghost use Rattle.std.specs.List.{list_any};
 ghost use Rattle.itv_base.specs.Range.{IsEnd, IsRange};
 ghost use Rattle.event_graph.specs.Edges.{cause_choices};
 ghost use Rattle.numbers.specs.Numbers.{draws, origins_of, part_of_target};
-ghost use Rattle.moves.specs.Moving.{draw, net_moved, opened, widened};
-ghost use Rattle.moves.specs.Passing.{AreDrawable, HasDrawableCauses};
-ghost use Rattle.moves.specs.Step.{HasEventsOf, IsMove, IsMoveBy, IsOpening, cause_by, causes_moved, lent, moved_by};
+ghost use Rattle.moves.specs.Moving.{any_draws, net_moved, opened, widened};
+ghost use Rattle.moves.specs.Passing.{HasDrawableCauses};
+ghost use Rattle.moves.specs.Step.{AreDrawable, HasEventsOf, IsMove, IsMoveBy, IsOpening, cause_by, causes_moved, lent, moved_by};
 
 use crate::pushing::push_with;
 use crate::reading::{cause_of, origins_of, part_of_target, read_drawn};
@@ -69,7 +69,7 @@ fn moved_causes(
     requires there { constraint < length drawn.now.net.constraints }
     requires by { IsMove by }
     ensures causes { IfOk result (λ moved. IfSome moved (λ causes. causes.items ≡ causes_moved (moved_by by) drawn.now (lent numbers.now) constraint)) }
-    ensures ranges { IfOk result (λ moved. IsSome moved ↔ AreDrawable (draw (lent numbers.now) (part_of_target drawn.now constraint))
+    ensures ranges { IfOk result (λ moved. IsSome moved ↔ AreDrawable (any_draws (lent numbers.now) (part_of_target drawn.now constraint))
         (causes_moved (moved_by by) drawn.now (lent numbers.now) constraint) (origins_of drawn.now constraint)) }
     ensures opens { IfOk result (λ moved. IsOpening by → IsSome moved) }
     ensures events { IfOk result (λ moved. IfSome moved (λ causes. HasEventsOf drawn.now.net constraint causes.items)) }
@@ -80,7 +80,7 @@ fn moved_causes(
     let mut causes = Vec::new(alloc);
     for k in 0..origins.len() {
         let cause = cause_of(drawn, constraint, k as u32);
-        match moved_cause(cause, draw(numbers, part, origins[k]), by) {
+        match moved_cause(cause, any_draws(numbers, part, origins[k]), by) {
             None => return Ok(None),
             Some(cause) => causes.push(cause)?,
         }
@@ -109,8 +109,8 @@ fn moved_cause(cause: Cause, is_drawn: bool, by: Move) -> Option<Cause>
 
 /// Whether one of the numbers gives its range to a cause or a row that this draws. The part is the part of the target of the cause's constraint, or of the
 /// row's from-event.
-pub fn draw(numbers: &[&DrawnNumber], part: &str, origin: Origin) -> bool
-    ensures draw { result ≡ draw (lent numbers.now) part.now origin }
+pub fn any_draws(numbers: &[&DrawnNumber], part: &str, origin: Origin) -> bool
+    ensures any_draws { result ≡ any_draws (lent numbers.now) part.now origin }
 {
     some_draws(numbers, part, origin)
 }

@@ -3,11 +3,11 @@
 ghost use Rattle.std.specs.Prelude.{◌≡◌, ◌≤◌, ◌↔◌, All, IfOk, IfSome, IsSome, IsTrue, length, map};
 ghost use Rattle.itv_base.specs.declared.limits.TheConstants.{MAX_ROWS};
 ghost use Rattle.drawn.specs.Drawn.{IsRowOf, name_of};
-ghost use Rattle.moves.specs.Moving.{draw, kind_moved, row_moved};
+ghost use Rattle.moves.specs.Moving.{any_draws, kind_moved, row_moved};
 ghost use Rattle.moves.specs.Passing.{HasDrawableRows, IsKindRange};
 ghost use Rattle.moves.specs.Step.{IsMove, lent, moved_by};
 
-use crate::moving::{Move, draw, moved_range};
+use crate::moving::{Move, any_draws, moved_range};
 use drawn::{DrawnNetwork, Row};
 use itv_base::{NoMemory, RowKind};
 use numbers::DrawnNumber;
@@ -47,9 +47,9 @@ fn moved_row(drawn: &DrawnNetwork, numbers: &[&DrawnNumber], row: &Row, by: Move
     requires row { IsRowOf drawn.now.net row.now }
     ensures row { IfSome result (λ moved. moved ≡ row_moved (moved_by by) drawn.now (lent numbers.now) row.now) }
     ensures ranges { IsSome result
-        ↔ (IsTrue (draw (lent numbers.now) (name_of drawn.now row.now.from).part row.now.origin) → IsKindRange (kind_moved (moved_by by) row.now.kind)) }
+        ↔ (IsTrue (any_draws (lent numbers.now) (name_of drawn.now row.now.from).part row.now.origin) → IsKindRange (kind_moved (moved_by by) row.now.kind)) }
 {
-    if !draw(numbers, drawn.name(row.from).part, row.origin) {
+    if !any_draws(numbers, drawn.name(row.from).part, row.origin) {
         return Some(*row);
     }
     match moved_kind(row.kind, by) {

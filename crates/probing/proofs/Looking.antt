@@ -11,8 +11,8 @@ use Rattle.drawn.specs.declared.row.Row.{Row}
 use Rattle.extremes.specs.Ready.{IsReady}
 use Rattle.extremes.specs.declared.extremes.Extremes.{Extremes}
 use Rattle.moves.specs.Networks.{IsNetFound, is_net_open}
-use Rattle.moves.specs.Passing.{BreaksRow, MeetsRow, NoneBreaks}
-use Rattle.moves.specs.Step.{bare_drawn}
+use Rattle.moves.specs.Passing.{BreaksRow, NoneBreaks}
+use Rattle.moves.specs.Step.{MeetsRow, bare_drawn}
 use Rattle.probing.specs.Step.{IsNotedFor, IsRowLookedAt, passes_unless}
 use Rattle.probing.specs.declared.noting.ProbeNotes.{ProbeNotes}
 use Rattle.probing.specs.declared.side.SideFound.{SideFound}

@@ -5,7 +5,7 @@ ghost use Rattle.drawn.specs.Drawn.{IsRowOf};
 
 use drawn::{DrawnNetwork, Row};
 use itv_base::EdgeName;
-use moves::{draw, part_of_target};
+use moves::{any_draws, part_of_target};
 use numbers::DrawnNumber;
 use origin::Origin;
 
@@ -15,7 +15,7 @@ pub fn draw_row(drawn: &DrawnNetwork, numbers: &[&DrawnNumber], number: u32) -> 
         return false;
     }
     let row = row_at(drawn, number);
-    draw(numbers, drawn.name(row.from).part, row.origin)
+    any_draws(numbers, drawn.name(row.from).part, row.origin)
 }
 
 // The row with a number. There has to be such a row.
@@ -34,7 +34,7 @@ pub fn draw_edge(drawn: &DrawnNetwork, numbers: &[&DrawnNumber], name: EdgeName)
     }
     match origin_at(drawn, name) {
         None => false,
-        Some(origin) => draw(numbers, part_of_target(drawn, name.constraint), origin),
+        Some(origin) => any_draws(numbers, part_of_target(drawn, name.constraint), origin),
     }
 }
 

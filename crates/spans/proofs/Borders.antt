@@ -5,8 +5,8 @@ use Rattle.event_graph.specs.Bounds.{IsInconsistent}
 use Rattle.drawn.specs.Drawn.{Drawn}
 use Rattle.numbers.specs.declared.drawn_number.DrawnNumber.{DrawnNumber}
 use Rattle.moves.specs.Found.{IsMarginFrom, IsSpan, IsSpanFound, IsWay}
-use Rattle.moves.specs.Passing.{BreaksRow, HasDrawableCauses, HasDrawableRows, IsConsistent, NoneBreaks, Passes}
-use Rattle.moves.specs.Step.{IsMoveBy, lent}
+use Rattle.moves.specs.Passing.{BreaksRow, HasDrawableCauses, NoneBreaks, Passes}
+use Rattle.moves.specs.Step.{IsConsistent, IsMoveBy, lent}
 use Rattle.moves.specs.Moving.{shifted_at}
 use Rattle.moves.specs.declared.margin.Margin.{Margin}
 use Rattle.moves.specs.declared.margin.Margin.TheVariants as margins
@@ -41,7 +41,7 @@ module _ (sought : SpanSought) (d : Direction) (from : ℤ) where
       subst (IsBorderFrom sought d from) (sym is) (record { ahead = on; by = move; each = shown; stands = (some, breaks) })
 
   pub limit_at : (last : ℤ) (border : Border) → border ≡ borders.Limit last → IsOn d from last → IsMoveBy last → IsShown sought d from (Some last) → IsConsistent (at_value sought last)
-      → (HasDrawableCauses (at_value sought (last +ℤ on_of d)) (lent sought.numbers.now) → HasDrawableRows (at_value sought (last +ℤ on_of d)) (lent sought.numbers.now) → ⊥)
+      → (HasDrawableCauses (at_value sought (last +ℤ on_of d)) (lent sought.numbers.now) → ⊥)
       → IsBorderFrom sought d from border
   limit_at last border is on move shown some beyond =
       subst (IsBorderFrom sought d from) (sym is) (record { ahead = on; by = move; each = shown; stands = (some, beyond) })
@@ -102,7 +102,7 @@ module _ (sought : SpanSought) (from : ℤ) where
   margin_down (borders.Limit last) is = (
     neg_ℤ last,
     way_down last is.ahead is.each is.stands.0,
-    subst (λ (v : ℤ). HasDrawableCauses (at_value sought v) (lent sought.numbers.now) → HasDrawableRows (at_value sought v) (lent sought.numbers.now) → ⊥) (neg_next last) is.stands.1,
+    subst (λ (v : ℤ). HasDrawableCauses (at_value sought v) (lent sought.numbers.now) → ⊥) (neg_next last) is.stands.1,
   )
   margin_down (borders.Spent last) is = tt
 

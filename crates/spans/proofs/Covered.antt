@@ -17,9 +17,9 @@ use Rattle.drawn.specs.declared.row.Row.{Row}
 use Rattle.numbers.specs.Numbers.{origins_of, part_of_target}
 use Rattle.numbers.specs.declared.drawn_number.DrawnNumber.{DrawnNumber}
 use Rattle.moves.specs.Covers.{IsTighterRow, cause_counted, constraint_counted, row_counted}
-use Rattle.moves.specs.Moving.{cause_moved, constraint_moved, draw, each_by, kind_moved, row_moved, moved_up}
+use Rattle.moves.specs.Moving.{constraint_moved, any_draws, each_by, kind_moved, row_moved, moved_up}
 use Rattle.moves.specs.Passing.{MeetsKind}
-use Rattle.moves.specs.Step.{causes_at}
+use Rattle.moves.specs.Step.{cause_moved, causes_at}
 use Rattle.moves.proofs.Lists.{each_next}
 use Rattle.moves.proofs.Moved.{fit_length, front_causes, front_moved}
 use Rattle.moves.proofs.Drew.{same_count}
@@ -44,13 +44,13 @@ FrontCauses counts drawn numbers constraint target k causes value =
 
 pub causes_more : (counts : List ℤ) (drawn : Drawn) (numbers : List DrawnNumber) (constraint k : ℕ) (target : EventId) (part : List ℕ) (origins : List Origin) (c wide : Cause) (o : Origin)
     (is_drawn : Bool) (apart value : ℤ) (old new : List Cause) → OriginsFit drawn.net drawn.origins → part ≡ part_of_target drawn constraint → origins ≡ origins_of drawn constraint
-    → slice_get (causes_at drawn.net constraint) k ≡ Some c → slice_get origins k ≡ Some o → is_drawn ≡ draw numbers part o → apart ≡ separation counts c.event target
+    → slice_get (causes_at drawn.net constraint) k ≡ Some c → slice_get origins k ≡ Some o → is_drawn ≡ any_draws numbers part o → apart ≡ separation counts c.event target
     → c.event ≡ wide.event → IsWithinRange (range_at is_drawn apart value c.range) wide.range → FrontCauses counts drawn numbers constraint target k old value
     → new ≡ old ++ wide ∷ [] → FrontCauses counts drawn numbers constraint target (k + 1) new value
 causes_more counts drawn numbers constraint k target part origins c wide o is_drawn apart value old new fit is_part is_origins at_c at_o test is_apart event within before pushed =
     let own : slice_get (origins_of drawn constraint) k ≡ Some o = subst (λ (os : List Origin). slice_get os k ≡ Some o) is_origins at_o in
-    let own_test : Origin → Bool = draw numbers (part_of_target drawn constraint) in
-    let right : is_drawn ≡ own_test o = test ∙ ap (λ (p : List ℕ). draw numbers p o) is_part in
+    let own_test : Origin → Bool = any_draws numbers (part_of_target drawn constraint) in
+    let right : is_drawn ≡ own_test o = test ∙ ap (λ (p : List ℕ). any_draws numbers p o) is_part in
     let holds : IsWithinRange (range_at (own_test o) (separation counts c.event target) value c.range) wide.range =
     subst (λ (b : Bool). IsWithinRange (range_at b (separation counts c.event target) value c.range) wide.range) right
     (subst (λ (a : ℤ). IsWithinRange (range_at is_drawn a value c.range) wide.range) is_apart within) in
@@ -73,7 +73,7 @@ causes_whole counts drawn numbers constraint k target items value fit all covers
     let first : take k (causes_at drawn.net constraint) ≡ causes_at drawn.net constraint = take_all k (causes_at drawn.net constraint) (omega (arith, same, all)) in
     let second : take k (origins_of drawn constraint) ≡ origins_of drawn constraint = take_all k (origins_of drawn constraint) all in
     let P : List Cause → List Origin → Type 0 = λ cs os.
-    AllZip IsWiderCause (map (cause_counted counts value target) (each_by (cause_moved (moved_up value) (draw numbers (part_of_target drawn constraint))) cs os)) items in
+    AllZip IsWiderCause (map (cause_counted counts value target) (each_by (cause_moved (moved_up value) (any_draws numbers (part_of_target drawn constraint))) cs os)) items in
     subst (λ (os : List Origin). P (causes_at drawn.net constraint) os) second (subst (λ (cs : List Cause). P cs (take k (origins_of drawn constraint))) first covers)
 
 -- the events of the first causes
@@ -96,13 +96,13 @@ FrontNet counts drawn numbers k constraints value =
 causes_there : (counts : List ℤ) (drawn : Drawn) (numbers : List DrawnNumber) (value : ℤ) (c : Constraint) (o : List Origin) (causes : List Cause) (x : Option Constraint) (y : Option (List Origin))
     → x ≡ Some c → y ≡ Some o
     → AllZip IsWiderCause (map (cause_counted counts value c.target)
-    (each_by (cause_moved (moved_up value) (draw numbers (unwrap_or (option_map (λ (d : Constraint). (name_of drawn d.target).part) x) [])))
+    (each_by (cause_moved (moved_up value) (any_draws numbers (unwrap_or (option_map (λ (d : Constraint). (name_of drawn d.target).part) x) [])))
     (unwrap_or (option_map (λ (d : Constraint). d.causes) x) []) (unwrap_or y []))) causes
     → AllZip IsWiderCause (constraint_counted counts value (constraint_moved (moved_up value) drawn numbers c o)).causes causes
 causes_there counts drawn numbers value c o causes x y at_x at_y covers =
     let P : Option Constraint → Option (List Origin) → Type 0 = λ p q.
     AllZip IsWiderCause (map (cause_counted counts value c.target)
-    (each_by (cause_moved (moved_up value) (draw numbers (unwrap_or (option_map (λ (d : Constraint). (name_of drawn d.target).part) p) [])))
+    (each_by (cause_moved (moved_up value) (any_draws numbers (unwrap_or (option_map (λ (d : Constraint). (name_of drawn d.target).part) p) [])))
     (unwrap_or (option_map (λ (d : Constraint). d.causes) p) []) (unwrap_or q []))) causes in
     subst (λ (q : Option (List Origin)). P (Some c) q) at_y (subst (λ (p : Option Constraint). P p y) at_x covers)
 
@@ -159,13 +159,13 @@ FrontRows counts drawn numbers k rows value =
     AllZip IsTighterRow (map (row_counted counts value) (map (row_moved (moved_up value) drawn numbers) (take k drawn.rows))) rows
 
 pub rows_more : (counts : List ℤ) (drawn : Drawn) (numbers : List DrawnNumber) (given : List Row) (k : ℕ) (row tight : Row) (part : List ℕ) (is_drawn : Bool) (apart value : ℤ) (old new : List Row)
-    → given ≡ drawn.rows → slice_get given k ≡ Some row → part ≡ (name_of drawn row.from).part → is_drawn ≡ draw numbers part row.origin → apart ≡ separation counts row.from row.to
+    → given ≡ drawn.rows → slice_get given k ≡ Some row → part ≡ (name_of drawn row.from).part → is_drawn ≡ any_draws numbers part row.origin → apart ≡ separation counts row.from row.to
     → row.from ≡ tight.from → row.to ≡ tight.to → ((x : ℤ) → MeetsKind tight.kind x → MeetsKind (kind_at is_drawn apart value row.kind) x)
     → FrontRows counts drawn numbers k old value → new ≡ old ++ tight ∷ [] → FrontRows counts drawn numbers (k + 1) new value
 rows_more counts drawn numbers given k row tight part is_drawn apart value old new same at is_part test is_apart from to wants before pushed =
     let own : slice_get drawn.rows k ≡ Some row = subst (λ (xs : List Row). slice_get xs k ≡ Some row) same at in
-    let own_test : Bool = draw numbers (name_of drawn row.from).part row.origin in
-    let right : is_drawn ≡ own_test = test ∙ ap (λ (p : List ℕ). draw numbers p row.origin) is_part in
+    let own_test : Bool = any_draws numbers (name_of drawn row.from).part row.origin in
+    let right : is_drawn ≡ own_test = test ∙ ap (λ (p : List ℕ). any_draws numbers p row.origin) is_part in
     let wanted : (x : ℤ) → MeetsKind tight.kind x → MeetsKind (kind_at own_test (separation counts row.from row.to) value row.kind) x =
     subst (λ (b : Bool). (x : ℤ) → MeetsKind tight.kind x → MeetsKind (kind_at b (separation counts row.from row.to) value row.kind) x) right
     (subst (λ (a : ℤ). (x : ℤ) → MeetsKind tight.kind x → MeetsKind (kind_at is_drawn a value row.kind) x) is_apart wants) in

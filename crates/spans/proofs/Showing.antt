@@ -1,11 +1,11 @@
 -- Values that were shown, one after another.
 use Rattle.std.proofs.Common.{◌≡◌, ℤ, ◌+ℤ◌, sym, subst}
 use Rattle.event_graph.specs.Bounds.{IsInconsistent}
-use Rattle.moves.specs.Passing.{IsConsistent, NoneBreaks}
-use Rattle.moves.specs.Step.{IsMoveBy}
+use Rattle.moves.specs.Passing.{NoneBreaks}
+use Rattle.moves.specs.Step.{IsConsistent, IsMoveBy}
 use Rattle.spans.specs.Step.{IsAdvance, IsGapIn, IsOn, IsPast, IsShownTo, IsStretched, at_value, on_of}
 use Rattle.spans.specs.declared.advance.Advance.TheVariants as advances
-use Rattle.spans.specs.declared.advance.Stretch.{Stretch}
+use Rattle.spans.specs.declared.advance.ShownStretch.{ShownStretch}
 use Rattle.spans.specs.declared.advance.Stretched.TheVariants as stretches
 use Rattle.spans.specs.declared.bordering.ValueGap.{ValueGap}
 use Rattle.spans.specs.declared.direction.Direction.{Direction}
@@ -26,7 +26,7 @@ module _ (sought : SpanSought) (d : Direction) where
     by = by;
   }
 
-  pub stretch_next : (from goal done : ℤ) (next : Stretch) → IsMoveBy goal → IsStretchTo from goal done → IsStretched sought d done goal (stretches.On next)
+  pub stretch_next : (from goal done : ℤ) (next : ShownStretch) → IsMoveBy goal → IsStretchTo from goal done → IsStretched sought d done goal (stretches.On next)
       → IsStretchTo from goal next.done.by
   stretch_next from goal done next by is on = record {
     shown = record {

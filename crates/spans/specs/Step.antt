@@ -14,8 +14,8 @@ use Rattle.numbers.specs.declared.drawn_number.DrawnNumber.{DrawnNumber}
 use Rattle.moves.specs.Covers.{IsTighterRow, cause_counted, net_counted, row_counted}
 use Rattle.moves.specs.Found.{IsSpanFound}
 use Rattle.moves.specs.Moving.{kind_moved, moved_up, shifted_at}
-use Rattle.moves.specs.Passing.{BreaksRow, HasDrawableCauses, HasDrawableRows, IsConsistent, NoneBreaks}
-use Rattle.moves.specs.Step.{IsMoveBy, causes_moved, lent}
+use Rattle.moves.specs.Passing.{BreaksRow, HasDrawableCauses, NoneBreaks}
+use Rattle.moves.specs.Step.{IsConsistent, IsMoveBy, causes_moved, lent}
 use Rattle.moves.specs.declared.margin.Margin.{Margin}
 use Rattle.moves.specs.declared.margin.Margin.TheVariants as margins
 use Rattle.moves.specs.declared.span.SpanFound.{SpanFound}
@@ -33,8 +33,8 @@ use Rattle.spans.specs.declared.finding.Tried.TheVariants as tries
 use Rattle.spans.specs.declared.interval.Interval.{Interval}
 use Rattle.spans.specs.declared.looking.Ahead.{Ahead}
 use Rattle.spans.specs.declared.looking.Ahead.TheVariants as heads
-use Rattle.spans.specs.declared.looking.Looked.{Looked}
-use Rattle.spans.specs.declared.looking.Looked.TheVariants as looks
+use Rattle.spans.specs.declared.looking.Glanced.{Glanced}
+use Rattle.spans.specs.declared.looking.Glanced.TheVariants as looks
 use Rattle.spans.specs.declared.sought.SpanSought.{SpanSought}
 use Rattle.spans.specs.declared.sought.ValueFound.{ValueFound}
 use Rattle.spans.specs.declared.sought.ValueFound.TheVariants as values
@@ -170,9 +170,9 @@ IsAhead sought direction from (heads.Limit at) = IsMoveBy at.by × IsOn directio
 IsAhead sought direction from heads.Spent = Unit {0}
 
 -- what a look at a value came to
-abbrev pub IsLooked : SpanSought → Direction → ℤ → ℤ → Looked → Type 0
-IsLooked sought direction from next (looks.On look) = look.at.by ≡ next
-IsLooked sought direction from next (looks.Found ahead) = IsAhead sought direction from ahead
+abbrev pub IsGlanced : SpanSought → Direction → ℤ → ℤ → Glanced → Type 0
+IsGlanced sought direction from next (looks.On look) = look.at.by ≡ next
+IsGlanced sought direction from next (looks.Found ahead) = IsAhead sought direction from ahead
 
 -- two values on the way from one value to another one: some times satisfy with the first of them, and none with the second
 pub record IsGapIn (sought : SpanSought) (direction : Direction) (from to : ℤ) (gap : ValueGap) : Type 0 where
@@ -193,14 +193,13 @@ last_of (borders.Limit by) = Some by
 last_of (borders.Spent by) = Some by
 
 -- what stands beyond the last value before a border, where the next value is a picosecond on: times that break a row, or rules that contradict each other, or
--- ranges that can't be drawn
+-- causes whose ranges can't be drawn
 abbrev pub IsBorder : Drawn → List DrawnNumber → ℤ → Border → Type 0
 IsBorder drawn numbers on borders.Endless = Unit {0}
 IsBorder drawn numbers on (borders.Breaks by row) = IsConsistent (shifted_at drawn numbers by) × BreaksRow (shifted_at drawn numbers (by +ℤ on)) row
 IsBorder drawn numbers on (borders.Contradicts by) = IsConsistent (shifted_at drawn numbers by) × IsInconsistent (shifted_at drawn numbers (by +ℤ on)).net
 IsBorder drawn numbers on (borders.Limit by) =
-    IsConsistent (shifted_at drawn numbers by)
-    × (HasDrawableCauses (shifted_at drawn numbers (by +ℤ on)) numbers → HasDrawableRows (shifted_at drawn numbers (by +ℤ on)) numbers → ⊥)
+    IsConsistent (shifted_at drawn numbers by) × (HasDrawableCauses (shifted_at drawn numbers (by +ℤ on)) numbers → ⊥)
 IsBorder drawn numbers on (borders.Spent by) = Unit {0}
 
 -- a border in a direction from a value with which every requirement passes
@@ -228,10 +227,10 @@ abbrev pub IsSpanOf : SpanSought → SpanFound → Type 0
 IsSpanOf sought span = IsSpanFound sought.drawn.now (lent sought.numbers.now) span.down span.up
 
 -- what is found of a value beside the drawn one
-abbrev pub IsTried : SpanSought → Tried → Type 0
-IsTried sought (tries.Span span) = IsSpanOf sought span
-IsTried sought (tries.On far) = Unit {0}
-IsTried sought tries.Nothing = Unit {0}
+abbrev pub IsTriedValue : SpanSought → Tried → Type 0
+IsTriedValue sought (tries.Span span) = IsSpanOf sought span
+IsTriedValue sought (tries.On far) = Unit {0}
+IsTriedValue sought tries.Nothing = Unit {0}
 
 -- ---- what a look at a value finds
 

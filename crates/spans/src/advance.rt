@@ -26,7 +26,7 @@ pub enum Advance {
 
 /// The last value that was shown, and with how many more a cover is tried next.
 #[derive(Clone, Copy)]
-pub struct Stretch {
+pub struct ShownStretch {
     pub done: Value,
     pub size: i64,
 }
@@ -35,7 +35,7 @@ pub struct Stretch {
 #[derive(Clone, Copy)]
 pub enum Stretched {
     /// No requirement breaks up to the value of this stretch.
-    On(Stretch),
+    On(ShownStretch),
     /// With the next value the row with this number breaks.
     Breaks(u32),
     /// Of the next value nothing is known.
@@ -58,7 +58,7 @@ pub fn show_to(
     requires none { NoneBreaks (at_value sought.now from.by) }
     ensures advance { IfOk result (IsAdvance sought.now direction from.by goal.by) }
 {
-    let mut stretch = Stretch {
+    let mut stretch = ShownStretch {
         done: from,
         size: distance(from, goal),
     };
@@ -84,7 +84,7 @@ pub fn show_to(
 fn stretch_on(
     alloc: Global,
     sought: &SpanSought<'_>,
-    stretch: Stretch,
+    stretch: ShownStretch,
     goal: Value,
     direction: Direction,
 ) -> Result<Stretched, NoMemory>
@@ -97,13 +97,13 @@ fn stretch_on(
     let size = stretch.size.min(distance(stretch.done, goal));
     let end = value_on(stretch.done, size, goal, direction);
     if sought.is_covered(alloc, between(stretch.done, end, direction))? {
-        return Ok(Stretched::On(Stretch {
+        return Ok(Stretched::On(ShownStretch {
             done: end,
             size: size.saturating_mul(2),
         }));
     }
     if size > 1 {
-        return Ok(Stretched::On(Stretch {
+        return Ok(Stretched::On(ShownStretch {
             done: stretch.done,
             size: size / 2,
         }));
@@ -127,7 +127,7 @@ fn one_more(
 {
     let next = next_of(done, direction);
     match sought.value_at(alloc, next)? {
-        ValueFound::Shown => Ok(Stretched::On(Stretch {
+        ValueFound::Shown => Ok(Stretched::On(ShownStretch {
             done: next,
             size: 1,
         })),

@@ -5,7 +5,7 @@ ghost use Rattle.spans.specs.Step.{AreEventCounts, IsCount};
 
 use drawn::DrawnNetwork;
 use itv_base::{EventId, NoMemory, Range};
-use moves::{cause_of, draw, origins_of, part_of_target, target_of};
+use moves::{any_draws, cause_of, origins_of, part_of_target, target_of};
 use numbers::DrawnNumber;
 use std::alloc::Global;
 
@@ -109,7 +109,7 @@ fn join_at(
     let origins = origins_of(drawn, constraint);
     for k in 0..origins.len() {
         let cause = cause_of(drawn, constraint, k as u32);
-        if draw(numbers, part, origins[k]) == is_moved && is_within(cause.range, width) {
+        if any_draws(numbers, part, origins[k]) == is_moved && is_within(cause.range, width) {
             groups.join(cause.event, target, if is_moved { 1 } else { 0 });
         }
     }

@@ -14,7 +14,7 @@ use crate::interval::Interval;
 use drawn::{DrawnNetwork, Row};
 use event_graph::{Cause, Network};
 use itv_base::{NoMemory, RowKind};
-use moves::{cause_of, draw, origins_of, part_of_target, push_with, read_drawn, target_of};
+use moves::{any_draws, cause_of, origins_of, part_of_target, push_with, read_drawn, target_of};
 use numbers::DrawnNumber;
 use std::alloc::Global;
 
@@ -101,7 +101,7 @@ fn covering_causes(
         let apart = apart(counts, cause.event, target);
         match covering_range(
             cause.range,
-            draw(numbers, part, origins[k]),
+            any_draws(numbers, part, origins[k]),
             apart,
             interval,
         ) {
@@ -133,7 +133,7 @@ fn covering_rows(
     let mut rows = Vec::new(alloc);
     for k in 0..drawn_rows.len() {
         let row = drawn_rows.get(k);
-        let is_drawn = draw(numbers, drawn.name(row.from).part, row.origin);
+        let is_drawn = any_draws(numbers, drawn.name(row.from).part, row.origin);
         let apart = apart(counts, row.from, row.to);
         match tight_kind(row.kind, is_drawn, apart, interval) {
             None => return Ok(None),

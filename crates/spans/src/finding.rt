@@ -5,7 +5,7 @@ ghost use Rattle.moves.specs.Found.{IsSpanFound};
 ghost use Rattle.moves.specs.Networks.{IsNetFound, is_net_open};
 ghost use Rattle.moves.specs.Passing.{BreaksRow, Passes};
 ghost use Rattle.moves.specs.Step.{IsMoveBy, lent};
-ghost use Rattle.spans.specs.Step.{IsSought, IsSpanOf, IsTried, at_value};
+ghost use Rattle.spans.specs.Step.{IsSought, IsSpanOf, IsTriedValue, at_value};
 
 use crate::border::margin_of;
 use crate::bordering::border_of;
@@ -169,7 +169,7 @@ fn try_value(
     requires sought { IsSought sought.now }
     requires breaks { BreaksRow sought.now.drawn.now row }
     requires at { IsMoveBy at.by }
-    ensures { IfOk result (IsTried sought.now) }
+    ensures { IfOk result (IsTriedValue sought.now) }
 {
     let Some(probed) = sought.probe_at(alloc, at)? else {
         return Ok(Tried::Nothing);

@@ -2,7 +2,7 @@
 
 ghost use Rattle.std.specs.Prelude.{IfOk};
 ghost use Rattle.moves.specs.Step.{IsMoveBy};
-ghost use Rattle.spans.specs.Step.{IsAhead, IsLooked, IsOn, IsPast, IsSought};
+ghost use Rattle.spans.specs.Step.{IsAhead, IsGlanced, IsOn, IsPast, IsSought};
 
 use crate::direction::{Direction, Value, is_same, step_of, value_on};
 use crate::sought::SpanSought;
@@ -32,7 +32,7 @@ pub enum Ahead {
 
 /// The last value that was looked at: how far its bounds let the numbers be moved on, and how long the next stride is.
 #[derive(Clone, Copy)]
-pub struct Look {
+pub struct Glance {
     pub at: Value,
     pub room: Option<i64>,
     pub stride: i64,
@@ -40,9 +40,9 @@ pub struct Look {
 
 /// What a look at a value came to.
 #[derive(Clone, Copy)]
-pub enum Looked {
+pub enum Glanced {
     /// Every requirement passes, and the look goes on from here.
-    On(Look),
+    On(Glance),
     /// This ends the look.
     Found(Ahead),
 }
@@ -62,7 +62,7 @@ pub fn look_ahead(
     requires ahead { IsOn direction from.by goal.by }
     ensures ahead { IfOk result (IsAhead sought.now direction from.by) }
 {
-    let mut look = Look {
+    let mut look = Glance {
         at: from,
         room: sought.room(step_of(direction), sides),
         stride: 1,
@@ -76,8 +76,8 @@ pub fn look_ahead(
             return Ok(Ahead::Spent);
         }
         match looked_at(alloc, sought, from, next, look.stride, direction)? {
-            Looked::On(further) => look = further,
-            Looked::Found(ahead) => return Ok(ahead),
+            Glanced::On(further) => look = further,
+            Glanced::Found(ahead) => return Ok(ahead),
         }
     }
     Ok(Ahead::Spent)
@@ -91,34 +91,34 @@ fn looked_at(
     next: Value,
     stride: i64,
     direction: Direction,
-) -> Result<Looked, NoMemory>
+) -> Result<Glanced, NoMemory>
     requires sought { IsSought sought.now }
     requires by { IsMoveBy next.by }
     requires past { IsPast direction from.by next.by }
-    ensures { IfOk result (IsLooked sought.now direction from.by next.by) }
+    ensures { IfOk result (IsGlanced sought.now direction from.by next.by) }
 {
     let Some(probed) = sought.probe_at(alloc, next)? else {
-        return Ok(Looked::Found(Ahead::Spent));
+        return Ok(Glanced::Found(Ahead::Spent));
     };
     match probed.found {
         NetFound::Passes => {
             let room = sought.room(step_of(direction), &probed.sides);
             let stride = stride.saturating_mul(4);
-            Ok(Looked::On(Look {
+            Ok(Glanced::On(Glance {
                 at: next,
                 room,
                 stride,
             }))
         }
-        NetFound::Breaks(row) => Ok(Looked::Found(Ahead::Breaks { at: next, row })),
-        NetFound::Inconsistent => Ok(Looked::Found(Ahead::Contradicts(next))),
-        NetFound::Open => Ok(Looked::Found(Ahead::Spent)),
-        NetFound::Spent => Ok(Looked::Found(Ahead::Spent)),
+        NetFound::Breaks(row) => Ok(Glanced::Found(Ahead::Breaks { at: next, row })),
+        NetFound::Inconsistent => Ok(Glanced::Found(Ahead::Contradicts(next))),
+        NetFound::Open => Ok(Glanced::Found(Ahead::Spent)),
+        NetFound::Spent => Ok(Glanced::Found(Ahead::Spent)),
     }
 }
 
 // How far on the next value is looked for.
-fn far_of(look: Look, round: u32) -> i64 {
+fn far_of(look: Glance, round: u32) -> i64 {
     match look.room {
         Some(gap) if round < GUESSED_VALUES => gap.saturating_add(1),
         _ => look.stride,

@@ -4,7 +4,7 @@ ghost use Rattle.std.specs.Prelude.{◌<◌, length};
 
 use drawn::DrawnNetwork;
 use itv_base::{END_LIMIT, Range, RowKind};
-use moves::{MOVE_LIMIT, cause_of, draw, origins_of, part_of_target};
+use moves::{MOVE_LIMIT, any_draws, cause_of, origins_of, part_of_target};
 use numbers::DrawnNumber;
 
 /// How far numbers can be moved up, in picoseconds: at least and at most. With other moves an end would be beyond the limit.
@@ -25,7 +25,7 @@ pub fn shift_reach_of(drawn: &DrawnNetwork, numbers: &[&DrawnNumber]) -> ShiftRe
     }
     for number in 0..drawn.rows().len() {
         let row = drawn.rows().get(number);
-        if draw(numbers, drawn.name(row.from).part, row.origin) {
+        if any_draws(numbers, drawn.name(row.from).part, row.origin) {
             reach = reach_of_kind(row.kind, reach);
         }
     }
@@ -46,7 +46,7 @@ fn reach_at(
     let mut reach = reach;
     for k in 0..origins.len() {
         let cause = cause_of(drawn, constraint, k as u32);
-        if draw(numbers, part, origins[k]) {
+        if any_draws(numbers, part, origins[k]) {
             reach = reach_in(cause.range, reach);
         }
     }

@@ -3,7 +3,7 @@
 ghost use Rattle.std.specs.Prelude.{◌≤◌, ℤ, IfOk, IfSome, IsTrue};
 ghost use Rattle.drawn.specs.Drawn.{Drawn};
 ghost use Rattle.moves.specs.Networks.{IsNetFound};
-ghost use Rattle.moves.specs.Passing.{HasDrawableCauses, HasDrawableRows, NoneBreaks};
+ghost use Rattle.moves.specs.Passing.{HasDrawableCauses, NoneBreaks};
 ghost use Rattle.moves.specs.Step.{IsMoveBy, lent};
 ghost use Rattle.spans.specs.Step.{AreEventCounts, TellsConsistency, IsInside, IsInterval, IsSought, IsValueFound, at_value};
 
@@ -79,19 +79,15 @@ impl SpanSought<'_> {
         }
     }
 
-    /// Whether the numbers can't be moved up by a number of picoseconds: a range would be beyond the limit.
+    /// Whether the numbers can't be moved up by a number of picoseconds: a range of a cause would be beyond the limit.
     pub fn is_beyond(&self, alloc: Global, at: Value) -> Result<bool, NoMemory>
-        ensures beyond { IfOk result (λ beyond. IsTrue beyond → HasDrawableCauses (at_value self.now at.by) (lent self.now.numbers.now)
-            → HasDrawableRows (at_value self.now at.by) (lent self.now.numbers.now) → ⊥) }
+        ensures beyond { IfOk result (λ beyond. IsTrue beyond → HasDrawableCauses (at_value self.now at.by) (lent self.now.numbers.now) → ⊥) }
     {
         if at.by < -MOVE_LIMIT || MOVE_LIMIT < at.by {
             return Ok(false);
         }
         let by = Move::Shift(at.by);
-        if moved_network(alloc, self.drawn, self.numbers, by)?.is_none() {
-            return Ok(true);
-        }
-        Ok(moved_rows(alloc, self.drawn, self.numbers, by)?.is_none())
+        Ok(moved_network(alloc, self.drawn, self.numbers, by)?.is_none())
     }
 
     /// Whether a cover shows that no requirement breaks with any value of an interval: one in which events count from values, or else one in which none

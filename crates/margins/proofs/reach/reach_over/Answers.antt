@@ -7,8 +7,8 @@ use Rattle.margins.proofs.reach.reach_over.Goals as goal
 pub loop-k-preserved : goal.loop-k-preserved
 loop-k-preserved c =
     over_more c.args.drawn.now c.args.number.now c.args.side c.args.constraint c.loop-k.k c.part_of_target-part.result.now c.origins_of-origins.result.now _ c.loop-k.reach
-    c.reach_within-reach.result _ c.cause_of-cause.result c.draw.result c.part_of_target-part.ensures.part c.origins_of-origins.ensures.origins c.loop-k-test.true c.cause_of-cause.ensures.cause
-    c.draw.ensures.draw c.reach_within-reach.ensures c.loop-k.invariant
+    c.reach_within-reach.result _ c.cause_of-cause.result c.any_draws.result c.part_of_target-part.ensures.part c.origins_of-origins.ensures.origins c.loop-k-test.true c.cause_of-cause.ensures.cause
+    c.any_draws.ensures.any_draws c.reach_within-reach.ensures c.loop-k.invariant
 
 pub returns : goal.returns
 returns c =

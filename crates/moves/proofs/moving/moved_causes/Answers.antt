@@ -10,19 +10,19 @@ returns-in-None-clause-ranges c = (
   λ some. absurd (cc some),
   λ all. c.in-None.ensures.ranges.1
       (drawable_at (moved_by c.args.by) c.args.drawn.now (lent c.args.numbers.now) c.args.constraint c.loop-k.k c.part_of_target-part.result.now c.origins_of-origins.result.now
-      c.cause_of-cause.result _ c.draw.result c.part_of_target-part.ensures.part c.origins_of-origins.ensures.origins c.cause_of-cause.ensures.cause
-      (slice_get-get_or c.origins_of-origins.result.now c.loop-k.k _ c.loop-k-test.true) c.draw.ensures.draw all),
+      c.cause_of-cause.result _ c.any_draws.result c.part_of_target-part.ensures.part c.origins_of-origins.ensures.origins c.cause_of-cause.ensures.cause
+      (slice_get-get_or c.origins_of-origins.result.now c.loop-k.k _ c.loop-k-test.true) c.any_draws.ensures.any_draws all),
 )
 
 pub loop-k-preserved : goal.loop-k-preserved
 loop-k-preserved c = record {
   causes = causes_more (moved_by c.args.by) c.args.drawn.now (lent c.args.numbers.now) c.args.constraint c.loop-k.k c.part_of_target-part.result.now c.origins_of-origins.result.now
-      c.cause_of-cause.result _ c.draw.result c.in-Some.cause c.loop-k.causes.items c.push.new.self.items c.read_drawn.ensures.fit c.part_of_target-part.ensures.part
-      c.origins_of-origins.ensures.origins c.cause_of-cause.ensures.cause (slice_get-get_or c.origins_of-origins.result.now c.loop-k.k _ c.loop-k-test.true) c.draw.ensures.draw
+      c.cause_of-cause.result _ c.any_draws.result c.in-Some.cause c.loop-k.causes.items c.push.new.self.items c.read_drawn.ensures.fit c.part_of_target-part.ensures.part
+      c.origins_of-origins.ensures.origins c.cause_of-cause.ensures.cause (slice_get-get_or c.origins_of-origins.result.now c.loop-k.k _ c.loop-k-test.true) c.any_draws.ensures.any_draws
       c.in-Some.ensures.moved c.loop-k.invariant.causes c.in_ok-push-in-Some.ensures.items;
   can = can_more (moved_by c.args.by) c.args.drawn.now (lent c.args.numbers.now) c.args.constraint c.loop-k.k c.part_of_target-part.result.now c.origins_of-origins.result.now
-      c.cause_of-cause.result _ c.draw.result c.part_of_target-part.ensures.part c.origins_of-origins.ensures.origins c.cause_of-cause.ensures.cause
-      (slice_get-get_or c.origins_of-origins.result.now c.loop-k.k _ c.loop-k-test.true) c.draw.ensures.draw (c.in-Some.ensures.ranges.0 refl) c.loop-k.invariant.can;
+      c.cause_of-cause.result _ c.any_draws.result c.part_of_target-part.ensures.part c.origins_of-origins.ensures.origins c.cause_of-cause.ensures.cause
+      (slice_get-get_or c.origins_of-origins.result.now c.loop-k.k _ c.loop-k-test.true) c.any_draws.ensures.any_draws (c.in-Some.ensures.ranges.0 refl) c.loop-k.invariant.can;
 }
 
 pub returns-clause-causes : goal.returns-clause-causes

@@ -1,5 +1,5 @@
 use Rattle.std.proofs.Common.{ℤ, subst}
-use Rattle.moves.specs.Passing.{HasDrawableCauses, HasDrawableRows, NoneBreaks}
+use Rattle.moves.specs.Passing.{HasDrawableCauses, NoneBreaks}
 use Rattle.moves.specs.Step.{lent}
 use Rattle.spans.specs.Step.{at_value}
 use Rattle.spans.proofs.Borders.{endless, is_some_true, limit_at, spent_at}
@@ -28,6 +28,6 @@ returns-in-Some-true c = record {
   border = limit_at c.args.sought.now c.args.direction c.args.from.by c.args.at.by c.limit.result c.limit.ensures c.requires.shown.before c.requires.at c.requires.shown.each
       (is_some_true (at_value c.args.sought.now c.args.at.by) c.in_ok-consistency_at.field-0 c.in-Some-true.field-0 c.in-Some-true.is c.in-Some-true.field-0-test
       c.in_ok-consistency_at.ensures.consistency)
-      (subst (λ (v : ℤ). HasDrawableCauses (at_value c.args.sought.now v) (lent c.args.sought.now.numbers.now) → HasDrawableRows (at_value c.args.sought.now v) (lent c.args.sought.now.numbers.now) → ⊥)
+      (subst (λ (v : ℤ). HasDrawableCauses (at_value c.args.sought.now v) (lent c.args.sought.now.numbers.now) → ⊥)
       c.next_of.ensures.next (c.in_ok-is_beyond.ensures.beyond c.if-not-branch.false));
 }

@@ -17,10 +17,10 @@ loop-k-preserved c =
     record {
       covers = λ value within.
           causes_more c.args.counts.now c.args.drawn.now (lent c.args.numbers.now) c.args.constraint c.loop-k.k c.target_of-target.result c.part_of_target-part.result.now
-          c.origins_of-origins.result.now c.cause_of-cause.result wide _ c.draw.result c.apart-apart.result value c.loop-k.causes.items c.push.new.self.items c.read_drawn.ensures.fit
+          c.origins_of-origins.result.now c.cause_of-cause.result wide _ c.any_draws.result c.apart-apart.result value c.loop-k.causes.items c.push.new.self.items c.read_drawn.ensures.fit
           c.part_of_target-part.ensures.part c.origins_of-origins.ensures.origins c.cause_of-cause.ensures.cause
-          (slice_get-get_or c.origins_of-origins.result.now c.loop-k.k _ c.loop-k-test.true) c.draw.ensures.draw c.apart-apart.ensures.apart refl
-          (as_passed (λ a. IsWithinRange (range_at c.draw.result a value c.cause_of-cause.result.range) c.in-Some.range) c.apart-apart.result (record { sfits = c.apart-apart.type_inv })
+          (slice_get-get_or c.origins_of-origins.result.now c.loop-k.k _ c.loop-k-test.true) c.any_draws.ensures.any_draws c.apart-apart.ensures.apart refl
+          (as_passed (λ a. IsWithinRange (range_at c.any_draws.result a value c.cause_of-cause.result.range) c.in-Some.range) c.apart-apart.result (record { sfits = c.apart-apart.type_inv })
           (c.in-Some.ensures.covers value within)) (c.loop-k.invariant.covers value within) c.in_ok-push-in-Some.ensures.items;
       events = events_more (causes_at c.args.drawn.now.net c.args.constraint) c.loop-k.k c.cause_of-cause.result wide c.loop-k.causes.items c.push.new.self.items c.cause_of-cause.ensures.cause refl
           c.loop-k.invariant.events c.in_ok-push-in-Some.ensures.items;

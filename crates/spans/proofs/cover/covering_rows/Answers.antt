@@ -19,10 +19,10 @@ loop-k-preserved c =
     let own : IsRowOf c.args.drawn.now.net row = All-found (IsRowOf c.args.drawn.now.net) c.rows-drawn_rows.result.now c.loop-k.k row c.get-row.ensures.item c.rows-drawn_rows.ensures.within in
     record {
       covers = λ value within.
-          rows_more c.args.counts.now c.args.drawn.now (lent c.args.numbers.now) c.rows-drawn_rows.result.now c.loop-k.k row tight c.name.result.part.now c.draw-is_drawn.result c.apart-apart.result
-          value c.loop-k.rows.items c.push.new.self.items c.rows-drawn_rows.ensures.rows c.get-row.ensures.item (ap (λ (n : Name). n.part) c.name.ensures.name) c.draw-is_drawn.ensures.draw
+          rows_more c.args.counts.now c.args.drawn.now (lent c.args.numbers.now) c.rows-drawn_rows.result.now c.loop-k.k row tight c.name.result.part.now c.any_draws-is_drawn.result c.apart-apart.result
+          value c.loop-k.rows.items c.push.new.self.items c.rows-drawn_rows.ensures.rows c.get-row.ensures.item (ap (λ (n : Name). n.part) c.name.ensures.name) c.any_draws-is_drawn.ensures.any_draws
           c.apart-apart.ensures.apart refl refl
-          (as_passed (λ a. (x : ℤ) → MeetsKind c.in-Some.kind x → MeetsKind (kind_at c.draw-is_drawn.result a value row.kind) x) c.apart-apart.result (record { sfits = c.apart-apart.type_inv })
+          (as_passed (λ a. (x : ℤ) → MeetsKind c.in-Some.kind x → MeetsKind (kind_at c.any_draws-is_drawn.result a value row.kind) x) c.apart-apart.result (record { sfits = c.apart-apart.type_inv })
           (c.in-Some.ensures.tight value within)) (c.loop-k.invariant.covers value within) c.in_ok-push-in-Some.ensures.items;
       within = subst (All (IsRowOf c.args.drawn.now.net)) (sym c.in_ok-push-in-Some.ensures.items)
           (All-push (IsRowOf c.args.drawn.now.net) c.loop-k.rows.items tight c.loop-k.invariant.within own);

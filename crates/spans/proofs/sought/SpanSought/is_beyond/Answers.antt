@@ -1,4 +1,4 @@
-use Rattle.moves.specs.Passing.{HasDrawableRows}
+use Rattle.moves.specs.Passing.{HasDrawableCauses}
 use Rattle.moves.specs.Step.{lent}
 use Rattle.spans.specs.Step.{at_value}
 use Rattle.spans.proofs.Found.{none_not_some}
@@ -12,7 +12,7 @@ pub returns : goal.returns
 returns c =
     let fits : SFits w64 c.args.at.by = search rules in
     record {
-      beyond = λ none ranges rows.
-          none_not_some _ c.is_none-2.result c.is_none-2.ensures none
-          (c.in_ok-moved_rows.ensures.ranges.1 (to_passed (λ b. HasDrawableRows (at_value c.args.self.now b) (lent c.args.self.now.numbers.now)) c.args.at.by fits rows));
+      beyond = λ none ranges.
+          none_not_some _ c.is_none.result c.is_none.ensures none
+          (c.in_ok-moved_network.ensures.ranges.1 (to_passed (λ b. HasDrawableCauses (at_value c.args.self.now b) (lent c.args.self.now.numbers.now)) c.args.at.by fits ranges));
     }

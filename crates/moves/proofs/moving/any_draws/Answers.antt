@@ -3,10 +3,10 @@ use Rattle.std.specs.Borrow.{Bor}
 use Rattle.numbers.specs.Numbers.{draws}
 use Rattle.numbers.specs.declared.drawn_number.DrawnNumber.{DrawnNumber}
 use Rattle.moves.proofs.Lists.{list_any-map}
-use Rattle.moves.proofs.moving.draw.Goals as goal
+use Rattle.moves.proofs.moving.any_draws.Goals as goal
 
 pub returns : goal.returns
 returns c = record {
-  draw = c.some_draws.ensures
+  any_draws = c.some_draws.ensures
       ∙ sym (list_any-map (λ (number : DrawnNumber). draws number c.args.part.now c.args.origin) (λ (number : Bor DrawnNumber). number.now) c.args.numbers.now);
 }
