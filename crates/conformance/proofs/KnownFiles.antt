@@ -39,7 +39,9 @@ use Rattle.edits.specs.EditsFile.{edits_of}
 use Rattle.edits.specs.declared.edit.RangeEdit.{RangeEdit}
 use Rattle.edits.specs.declared.file.TheConstants.{MAX_EDITS_BYTES}
 use Rattle.itv_base.specs.declared.row_kind.RowKind.{RowKind}
-use Rattle.unroll.specs.declared.limit.TheConstants.{MAX_SESSION_ROWS}
+use Rattle.unroll.specs.declared.fault.UnrollFault.TheVariants.{TooMany}
+use Rattle.unroll.specs.declared.limit.Limit.TheVariants.{Numbers}
+use Rattle.unroll.specs.declared.limit.TheConstants.{MAX_NUMBERS, MAX_SESSION_ROWS}
 use Rattle.whatif.specs.Session.{SessionView}
 use Rattle.whatif_report.specs.Text.{ending_of, last_note}
 use Rattle.right_report.specs.RowTally.{kinds_of}
@@ -54,14 +56,17 @@ use Rattle.words.specs.declared.job.SearchJob.TheVariants.{Bounds, Settle, Redra
 use Rattle.words.specs.declared.job.PlanJob.TheVariants.{Why, Brief, Lint}
 use Rattle.words.specs.declared.job.CheckJob.{CheckJob}
 use Rattle.words.specs.declared.job.CheckJob.TheVariants.{Check, Confirm}
-use Rattle.words.specs.Task.{Task, checked, fall, generated, matrix, planned, searched, taken, task, whatif}
+use Rattle.words.specs.Task.{Task, checked, fall, generated, margin, matrix, planned, searched, taken, task, whatif}
 use Rattle.bounds_report.proofs.WrittenLaws.{written_is_right}
+use Rattle.moves.specs.Listed.{numbers_of}
+use Rattle.plan.specs.Plan.{Planned}
 use Rattle.itv_cli.specs.Bounds.{AnswersBounds}
 use Rattle.lint_report.specs.Lint.{answer_by}
 use Rattle.lint_report.specs.Lines.{is_clean, lines_of}
 use Rattle.warnings.specs.Warnings.{warnings_of}
+use Rattle.margin_report.specs.Text.{are_left_open, end_of}
 use Rattle.why_report.specs.Text.{ending_of as explained_ending}
-use Rattle.itv_cli.specs.Job.{Answers, edits_at, edits_in, fall_at, fall_in, made_for, matrix_at, opening, planned_at, whatif_at}
+use Rattle.itv_cli.specs.Job.{Answers, edits_at, edits_in, fall_at, fall_in, list_at, made_for, matrix_at, opening, planned_at, whatif_at}
 use Rattle.itv_cli.specs.Run.{Call, HasRead, Completes, OutcomeBy, ReadsOver, FilesDecide, HasAnswered, HasRefused, IsRefused, OutcomeMeans, Wrote, call_of}
 use Rattle.itv_cli.specs.declared.outcome.Outcome.{Outcome}
 use Rattle.itv_cli.specs.declared.outcome.Outcome.TheVariants as ends
@@ -285,6 +290,21 @@ refused_redraws files (whatif design edits budget) bytes own h =
     let (list, had, is) = told_then files (at Edits refusals.Edits (edits_of drawn file)) (λ es. given.Whatif drawn es budget) h.given behind in
     let answered : Answers (given.Whatif drawn list budget) answers.DesignRefused bytes = subst (λ g. Answers g answers.DesignRefused bytes) (sym is) h.answers in
     absurd (never_from drawn answered.0 (kinds_of drawn.rows) list bytes answered.2)
+refused_redraws files (margin design list budget) bytes own h =
+    let (both, draws, comes) = told_behind files (planned_at design) (λ p. list_at p.1 list >>= (λ numbers. gives (given.Margin p.0 p.1 numbers budget))) h.given h.reads in
+    let (numbers, had, is) = told_then files (list_at both.1 list) (λ ns. given.Margin both.0 both.1 ns budget) h.given comes in
+    let answered : Answers (given.Margin both.0 both.1 numbers budget) answers.DesignRefused bytes = subst (λ g. Answers g answers.DesignRefused bytes) (sym is) h.answers in
+    absurd (never_refused (end_of answered.word (are_left_open answered.found)) answered.is_answer)
+
+-- where no list is given, a drawn network with few enough numbers is given as it is
+pub few_then : (files : Files) (plan : Planned) (drawn : Drawn) (budget : ℕ) (to : Ready) → end_over files (list_at drawn None >>= (λ numbers. gives (given.Margin plan drawn numbers budget))) ≡ ready to
+    → given.Margin plan drawn None budget ≡ to
+few_then files plan drawn budget to comes = by_count (nat_lt MAX_NUMBERS (length (numbers_of drawn))) comes
+  where
+    by_count : (b : Bool) → end_over files ((if b then refuses Design (refusals.Limits (TooMany Numbers (length (numbers_of drawn)))) else gives None) >>= (λ numbers. gives (given.Margin plan drawn numbers budget))) ≡ ready to
+        → given.Margin plan drawn None budget ≡ to
+    by_count true e = absurd (cc e)
+    by_count false e = same_ready (given.Margin plan drawn None budget) to e
 
 pub refused_others : (files : Files) (asked : Task) (bytes : List ℕ) → made_for asked ≡ None → ((design : List ℕ) (budget : ℕ) → asked ≡ searched design Redraw budget → ⊥)
     → IsRefusalOf files asked bytes ⊎ IsAnswerOf files asked answers.DesignRefused bytes → IsRefusalOf files asked bytes

@@ -1,5 +1,7 @@
 -- What callers of `run` know of files and a sink in memory, from its clauses alone.
-use Rattle.std.specs.Prelude.{◌≡◌, ℕ, Bool, true, List, [], ◌++◌, Some, None, Ok, codes}
+use Rattle.std.specs.Prelude.{◌≡◌, ℕ, ℤ, ◌≤ℤ◌, Bool, true, List, [], ◌++◌, Some, None, Ok, codes}
+use Rattle.std.specs.List.{AllZip}
+use Rattle.itv_base.specs.declared.names.Side.TheVariants.{Upper}
 use Rattle.itv_base.specs.Memory.{MemSink}
 use Rattle.itv_base.specs.Outside.{FailedFor, Files, ShelfState, file_of}
 use Rattle.design_gen.specs.Files.{design_files}
@@ -19,6 +21,14 @@ use Rattle.edits.specs.declared.edit.RangeEdit.{RangeEdit}
 use Rattle.reading.specs.declared.refusal_place.RefusalPlace.{RefusalPlace}
 use Rattle.reading.specs.declared.refusal.Refusal.{Refusal}
 use Rattle.reading.specs.Design.{design_at}
+use Rattle.moves.specs.Listed.{numbers_of}
+use Rattle.moves.specs.Moving.{widened_at}
+use Rattle.moves.specs.Passing.{NoneBreaks}
+use Rattle.moves.specs.declared.margin.Margin.TheVariants.{Until}
+use Rattle.moves.specs.declared.number_seen.NumberSeen.{NumberSeen}
+use Rattle.margin_report.specs.Text.{margin_text}
+use Rattle.margin_report.specs.declared.number_found.NumberFound.{NumberFound}
+use Rattle.notes.specs.NotesKept.{NotesKept}
 use Rattle.plan.specs.Plan.{Planned}
 use Rattle.reading.specs.FileReading.{RunsTo, ready, refused, end_over, unread}
 use Rattle.reading.specs.Refusal.{refusal_text, unread_text}
@@ -27,7 +37,7 @@ use Rattle.words.specs.declared.job.SearchJob.TheVariants.{Bounds, Settle}
 use Rattle.words.specs.declared.job.PlanJob.{PlanJob}
 use Rattle.words.specs.declared.job.PlanJob.TheVariants.{Why, Brief, Lint}
 use Rattle.words.specs.declared.job.CheckJob.TheVariants.{Check, Confirm}
-use Rattle.words.specs.Task.{Task, checked, matrix, planned, searched, taken, task, whatif}
+use Rattle.words.specs.Task.{Task, checked, margin, matrix, planned, searched, taken, task, whatif}
 use Rattle.warnings.specs.Warnings.{warnings_of}
 use Rattle.lint_report.specs.declared.lint_found.LintFound.{LintFound}
 use Rattle.lint_report.specs.Clean.{HasSearchedAll}
@@ -161,6 +171,25 @@ AsksBrief given files budget csv plan drawn = AsksPlanned (Brief csv) given file
 -- the words ask what in a design may say something else than was meant
 abbrev pub AsksLint : List (List ℕ) → Files → ℕ → Planned → Drawn → Type 0
 AsksLint given files budget plan drawn = AsksPlanned Lint given files budget plan drawn
+
+-- the words ask how far each number of a design may be moved, and its files give a plan and the network that the plan draws
+pub record AsksMargin (given : List (List ℕ)) (files : Files) (budget : ℕ) (plan : Planned) (drawn : Drawn) : Type 0 where
+  pub design : List ℕ
+  pub words : taken given ≡ task (margin design None budget)
+  pub plans : end_over files (planned_at design) ≡ ready (plan, drawn)
+
+-- Where the line `high` of a number has so many picoseconds, no satisfying times break a requirement of the same design with the high end of this number greater
+-- by at most that, wherever the number is drawn.
+abbrev pub IsSafeHigh : Drawn → NumberSeen → NumberFound → Type 0
+IsSafeHigh drawn seen found =
+    (most : ℤ) (row : ℕ) → found.ends.high ≡ Some (Until most row) → (by : ℤ) → by ≤ℤ most → NoneBreaks (widened_at drawn seen.number Upper by)
+
+-- the text has the lines of what was found of each number, and their high ends are safe
+pub record HasSafeHighs (noted : NotesKept) (drawn : Drawn) (text : List ℕ) : Type 0 where
+  pub word : EndWord
+  pub found : List NumberFound
+  pub is_text : text ≡ margin_text noted word (numbers_of drawn) found
+  pub safe : AllZip (IsSafeHigh drawn) (numbers_of drawn) found
 
 -- The design that a plan draws has no line to print: all are silenced by notes, and what is found is right. The searches ended: nothing was left open.
 pub record IsLintClean (plan : Planned) (drawn : Drawn) : Type 0 where

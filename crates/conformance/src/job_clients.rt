@@ -1,6 +1,6 @@
 //! Callers of `run` for one job each, over files and a sink in memory, proved from the clauses of `run` alone.
 
-ghost use Rattle.std.specs.Prelude.{◌≡◌, ◌<◌, ◌⊎◌, ◌++◌, ℕ, Bool, List, IfOk, IfSome, true};
+ghost use Rattle.std.specs.Prelude.{◌≡◌, ◌<◌, ◌⊎◌, ◌++◌, ℕ, Bool, List, IfOk, IfSome, None, true};
 ghost use Rattle.event_graph.specs.Bounds.{IsInconsistent};
 ghost use Rattle.event_graph.specs.Edges.{cause_choices};
 ghost use Rattle.event_graph.specs.RootBound.{HasNoRoot};
@@ -19,12 +19,14 @@ ghost use Rattle.plan.specs.Plan.{Planned};
 ghost use Rattle.why_report.specs.Why.{AnswersWhy};
 ghost use Rattle.brief_report.specs.Brief.{AnswersBrief};
 ghost use Rattle.lint_report.specs.Lint.{AnswersLint};
+ghost use Rattle.margin_report.specs.Margin.{AnswersMargin};
+ghost use Rattle.moves.specs.Passing.{BreaksRow, Passes};
 ghost use Rattle.settle_report.specs.Settle.{AnswersSettle};
 ghost use Rattle.edits.specs.declared.edit.RangeEdit.{RangeEdit};
 ghost use Rattle.whatif_report.specs.Laws.{with_edits};
 ghost use Rattle.itv_cli.specs.Job.{turns_for};
 ghost use Rattle.jobs.specs.Ending.{answer_of};
-ghost use Rattle.conformance.specs.Clients.{AsksBounds, AsksBrief, AsksCheck, AsksConfirm, AsksLint, AsksMatrix, AsksSettle, AsksWhatif, AsksWhy, HasNoWrong, IsLintClean, IsReportEnd, IsRightFile, IsSettledFile, IsSummaryOf, IsWritten, IsWrongFile, WroteOne};
+ghost use Rattle.conformance.specs.Clients.{AsksBounds, AsksBrief, AsksCheck, AsksConfirm, AsksLint, AsksMargin, AsksMatrix, AsksSettle, AsksWhatif, AsksWhy, HasNoWrong, HasSafeHighs, IsLintClean, IsReportEnd, IsRightFile, IsSettledFile, IsSummaryOf, IsWritten, IsWrongFile, WroteOne};
 
 use itv_base::{NoMemory, ShelfMem, SinkMem, Texts};
 use itv_cli::{Outcome, run};
@@ -155,6 +157,24 @@ pub fn warned_of(alloc: Global, words: &Texts, shelf: &mut ShelfMem, sink: &mut 
         → (end : IsReportEnd result) → WroteOne sink.old sink.new (AnswersLint plan drawn budget (answer_of end.0)) }
     ensures clean { (budget : ℕ) (plan : Planned) (drawn : Drawn) → AsksLint words.now shelf.old.files budget plan drawn
         → result ≡ Outcome.AllPass → IsLintClean plan drawn }
+{
+    run(alloc, words, shelf, sink)
+}
+
+/// A run of job margin for each number of a design. If it passes, every requirement passes, and each line `high` with a number of picoseconds is safe: no
+/// satisfying times break a requirement of the same design with this end greater by at most that. If it fails, some satisfying times break a requirement. If
+/// it ends inconsistent, no times satisfy.
+pub fn margins_of(alloc: Global, words: &Texts, shelf: &mut ShelfMem, sink: &mut SinkMem) -> Outcome
+    ensures wrote { (budget : ℕ) (plan : Planned) (drawn : Drawn) → AsksMargin words.now shelf.old.files budget plan drawn
+        → (end : IsReportEnd result) → WroteOne sink.old sink.new (AnswersMargin (plan_notes plan) drawn None budget (answer_of end.0)) }
+    ensures passes { (budget : ℕ) (plan : Planned) (drawn : Drawn) → AsksMargin words.now shelf.old.files budget plan drawn
+        → result ≡ Outcome.AllPass → Passes drawn }
+    ensures safe { (budget : ℕ) (plan : Planned) (drawn : Drawn) → AsksMargin words.now shelf.old.files budget plan drawn
+        → result ≡ Outcome.AllPass → WroteOne sink.old sink.new (HasSafeHighs (plan_notes plan) drawn) }
+    ensures breaks { (budget : ℕ) (plan : Planned) (drawn : Drawn) → AsksMargin words.now shelf.old.files budget plan drawn
+        → result ≡ Outcome.SomeFail → (row : ℕ) × BreaksRow drawn row }
+    ensures none { (budget : ℕ) (plan : Planned) (drawn : Drawn) → AsksMargin words.now shelf.old.files budget plan drawn
+        → result ≡ Outcome.Inconsistent → IsInconsistent drawn.net }
 {
     run(alloc, words, shelf, sink)
 }

@@ -11,7 +11,8 @@ pub fn budget_says(task: Task<'_>) -> &'static str {
             ..
         }
         | Task::Generated { .. }
-        | Task::Whatif { .. } => "a larger --budget may settle it",
+        | Task::Whatif { .. }
+        | Task::Margin { .. } => "a larger --budget may settle it",
         _ => "--job settle may settle it, and so may a larger --budget",
     }
 }

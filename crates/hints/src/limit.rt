@@ -25,6 +25,7 @@ fn what_of(limit: Limit) -> &'static str {
         Limit::SearchCells => "events times rules of several causes",
         Limit::MatrixEvents => "events for job matrix",
         Limit::SessionRows => "questions and requirements for job whatif",
+        Limit::Numbers => "numbers with a range for job margin",
     }
 }
 
@@ -37,5 +38,6 @@ fn most_of(limit: Limit) -> &'static str {
         Limit::SearchCells => "2,097,152",
         Limit::MatrixEvents => "1,024",
         Limit::SessionRows => "64",
+        Limit::Numbers => "1,024",
     }
 }

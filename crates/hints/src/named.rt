@@ -16,7 +16,8 @@ pub fn files_of<'a>(task: Task<'a>) -> NamedFiles<'a> {
         Task::Searched { design, .. }
         | Task::Planned { design, .. }
         | Task::Fall { design, .. }
-        | Task::Matrix { design } => only(Some(design)),
+        | Task::Matrix { design }
+        | Task::Margin { design, .. } => only(Some(design)),
         Task::Checked { design, report, .. } => NamedFiles {
             report: Some(report),
             ..only(Some(design))

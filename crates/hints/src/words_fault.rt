@@ -6,7 +6,7 @@ use std::fmt;
 
 // The names of the jobs, as a sentence has them.
 const JOBS: &str =
-    "bounds, matrix, check, self, fall, settle, confirm, redraw, whatif, why, brief and lint";
+    "bounds, matrix, check, self, fall, settle, confirm, redraw, whatif, why, brief, lint and margin";
 
 /// What is wrong with words.
 #[derive(Clone, Copy)]
@@ -37,6 +37,7 @@ pub enum WordsOption {
     Report,
     Edits,
     Size,
+    Together,
     Cert,
     Csv,
 }
@@ -50,6 +51,7 @@ impl WordsOption {
             "--report" => Some(WordsOption::Report),
             "--edits" => Some(WordsOption::Edits),
             "--size" => Some(WordsOption::Size),
+            "--together" => Some(WordsOption::Together),
             "--cert" => Some(WordsOption::Cert),
             "--csv" => Some(WordsOption::Csv),
             _ => None,
@@ -63,6 +65,7 @@ impl WordsOption {
             WordsOption::Report => "--report",
             WordsOption::Edits => "--edits",
             WordsOption::Size => "--size",
+            WordsOption::Together => "--together",
             WordsOption::Cert => "--cert",
             WordsOption::Csv => "--csv",
         }
@@ -162,6 +165,7 @@ fn is_job(name: &str) -> bool {
             | "why"
             | "brief"
             | "lint"
+            | "margin"
     )
 }
 
@@ -185,6 +189,7 @@ struct Given<'a> {
     has_report: bool,
     has_edits: bool,
     has_size: bool,
+    has_together: bool,
     has_cert: bool,
     has_csv: bool,
     // The option whose value is the next word.
@@ -202,6 +207,7 @@ impl<'a> Given<'a> {
             has_report: false,
             has_edits: false,
             has_size: false,
+            has_together: false,
             has_cert: false,
             has_csv: false,
             wanting: None,
@@ -295,6 +301,7 @@ impl<'a> Given<'a> {
             WordsOption::Report => replace(&mut self.has_report),
             WordsOption::Edits => replace(&mut self.has_edits),
             WordsOption::Size => replace(&mut self.has_size),
+            WordsOption::Together => replace(&mut self.has_together),
             WordsOption::Cert => replace(&mut self.has_cert),
             WordsOption::Csv => replace(&mut self.has_csv),
         };

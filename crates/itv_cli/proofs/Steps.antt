@@ -37,6 +37,11 @@ pub planned_up : (name : List ℕ) (f : Planned × Drawn → FileReading Ready) 
     → Opens (λ given. given) old new (planned_at name >>= f) r
 planned_up name f old new s r is h = opens_up both (λ given. given) (planned_at name) f old new s r is h
 
+-- the plan was read, and then the rest is
+pub planned_then : (name : List ℕ) (f : Planned × Drawn → FileReading Ready) (old mid new : ShelfState) (p : code.PlannedNetwork) (r : Result Ready Stop) → Opens both old mid (planned_at name) (Ok p)
+    → Opens (λ given. given) mid new (f (both p)) r → Opens (λ given. given) old new (planned_at name >>= f) r
+planned_then name f old mid new p r h next = opens_then both (λ given. given) (planned_at name) f old mid new p r h next
+
 pub planned_ready : (name : List ℕ) (f : Planned × Drawn → Ready) (old new : ShelfState) (p : code.PlannedNetwork) → Opens both old new (planned_at name) (Ok p)
     → Opens (λ given. given) old new (planned_at name >>= (λ d. gives (f d))) (Ok (f (both p)))
 planned_ready name f old new p h = opens_then both (λ given. given) (planned_at name) (λ d. gives (f d)) old new new p (Ok (f (both p))) h (refl, refl)

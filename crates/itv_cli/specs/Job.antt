@@ -1,13 +1,14 @@
 -- The jobs: what each job reads, what it answers, and what it may have begun to write.
 use Rattle.std.specs.Prelude.{◌*◌, ℕ, nat_lt, if◌then◌else◌, Bool, List, length, Option, Some, None, Result, Ok, Err, codes}
+use Rattle.std.specs.Option.{option_map_or}
 use Rattle.itv_base.specs.declared.limits.TheConstants.{MAX_MATRIX_EVENTS, REPORT_LIMIT}
 use Rattle.itv_base.specs.Outside.{Files}
 use Rattle.design_gen.specs.Files.{design_files}
 use Rattle.jobs.specs.declared.answer.Answer.{Answer}
 use Rattle.drawn.specs.Drawn.{Drawn}
 use Rattle.unroll.specs.declared.fault.UnrollFault.TheVariants.{TooMany}
-use Rattle.unroll.specs.declared.limit.Limit.TheVariants.{MatrixEvents, SessionRows}
-use Rattle.unroll.specs.declared.limit.TheConstants.{MAX_SESSION_ROWS}
+use Rattle.unroll.specs.declared.limit.Limit.TheVariants.{MatrixEvents, Numbers, SessionRows}
+use Rattle.unroll.specs.declared.limit.TheConstants.{MAX_NUMBERS, MAX_SESSION_ROWS}
 use Rattle.reading.specs.declared.refusal_place.RefusalPlace.TheVariants.{Design, Edits, Report}
 use Rattle.reading.specs.declared.refusal.Refusal.TheVariants as refusals
 use Rattle.plan.specs.Notes.{plan_notes}
@@ -17,7 +18,7 @@ use Rattle.reading.specs.FileReading.{FileReading, gives, refuses, ◌>>=◌, at
 use Rattle.words.specs.declared.job.SearchJob.TheVariants.{Bounds, Settle, Redraw}
 use Rattle.words.specs.declared.job.PlanJob.TheVariants.{Why, Brief, Lint}
 use Rattle.words.specs.declared.job.CheckJob.TheVariants.{Check, Confirm}
-use Rattle.words.specs.Task.{Task, searched, planned, checked, fall, matrix, generated, whatif}
+use Rattle.words.specs.Task.{Task, searched, planned, checked, fall, matrix, generated, whatif, margin}
 use Rattle.bounds_report.specs.Reports.{MayHaveBegun}
 use Rattle.brief_report.specs.Brief.{AnswersBrief}
 use Rattle.fall_report.specs.Fall.{AnswersFall, BeginsFall}
@@ -25,7 +26,11 @@ use Rattle.falling.specs.View.{view_of}
 use Rattle.falling.specs.declared.fault.Mixed.{Mixed}
 use Rattle.falling.specs.declared.view.View.{View}
 use Rattle.lint_report.specs.Lint.{AnswersLint}
+use Rattle.margin_report.specs.Margin.{AnswersMargin}
+use Rattle.margin_report.specs.Named.{numbers_in}
 use Rattle.matrix_report.specs.Matrix.{AnswersMatrix}
+use Rattle.moves.specs.Listed.{numbers_of}
+use Rattle.moves.specs.declared.number_seen.NumberSeen.{NumberSeen}
 use Rattle.redraw_report.specs.Redraw.{AnswersRedraw}
 use Rattle.settle_check.specs.Confirm.{AnswersConfirm}
 use Rattle.settle_report.specs.Settle.{AnswersSettle}
@@ -78,6 +83,12 @@ planned_at name = do
   drawn ← drawn_at plan.netlist plan.sheets
   gives (plan, drawn)
 
+-- the numbers of a list that move as one, if there is a list; a drawn network with too many numbers is refused
+abbrev pub list_at : Drawn → Option (List ℕ) → FileReading (Option (List NumberSeen))
+list_at drawn list =
+    if nat_lt MAX_NUMBERS (length (numbers_of drawn)) then refuses Design (refusals.Limits (TooMany Numbers (length (numbers_of drawn))))
+    else option_map_or (λ text. at Design refusals.Number (numbers_in drawn text) >>= λ numbers. gives (Some numbers)) list (gives None)
+
 abbrev pub opening : Task → FileReading Ready
 opening (searched design job budget) = do
   drawn ← design_at design
@@ -101,6 +112,7 @@ opening (generated size budget) = do
 opening (whatif design edits budget) = do
   drawn ← design_at design
   whatif_at edits budget drawn
+opening (margin design list budget) = planned_at design >>= λ both. list_at both.1 list >>= λ numbers. gives (ready.Margin both.0 both.1 numbers budget)
 
 -- the files that are made for a task, if it reads no files of the shelf
 abbrev pub made_for : Task → Option Files
@@ -126,6 +138,7 @@ Answers (ready.Fall drawn view budget cert) answer text = AnswersFall drawn budg
 Answers (ready.Matrix drawn) answer text = AnswersMatrix drawn answer text
 Answers (ready.Generated drawn size budget) answer text = AnswersSummary drawn size budget answer text × DecidesWithin drawn budget answer
 Answers (ready.Whatif drawn edits budget) answer text = AnswersWhatif drawn budget edits answer text
+Answers (ready.Margin plan drawn numbers budget) answer text = AnswersMargin (plan_notes plan) drawn numbers budget answer text
 
 -- what a job may have begun to write: for jobs bounds and fall a text that begins so, and for the others a whole text
 abbrev pub MayHaveWritten : Ready → List ℕ → Type 0

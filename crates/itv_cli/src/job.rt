@@ -17,6 +17,7 @@ use fall_report::write_fall;
 use itv_base::Sink;
 use jobs::{Answer, Unanswered, answer_of};
 use lint_report::write_lint;
+use margin_report::write_margin;
 use matrix_report::write_matrix;
 use plan::Plan;
 use redraw_report::write_redraw;
@@ -64,6 +65,12 @@ pub fn answer<K: Sink>(alloc: Global, given: &Ready, sink: &mut K) -> Result<Ans
             edits,
             budget,
         } => write_whatif(alloc, drawn, edits, *budget, sink),
+        Ready::Margin {
+            plan,
+            drawn,
+            numbers,
+            budget,
+        } => write_margin(alloc, plan, drawn, numbers, *budget, sink),
     }
 }
 

@@ -1,14 +1,15 @@
 //! What each job reads before it writes.
 
-ghost use Rattle.std.specs.Prelude.{◌≡◌, ◌≤◌, IfOk, codes, length};
+ghost use Rattle.std.specs.Prelude.{◌≡◌, ◌≤◌, IfOk, codes, length, option_map};
 ghost use Rattle.design_gen.specs.Files.{IsSize, design_files};
 ghost use Rattle.reading.specs.Step.{Opens, ReadsAs};
 ghost use Rattle.words.specs.Task.{IsBudget, IsWithinLimits};
 ghost use Rattle.words.specs.Task as said;
 ghost use Rattle.words.specs.View.{task_view};
 ghost use Rattle.unroll.specs.declared.limit.TheConstants.{MAX_SESSION_ROWS};
-ghost use Rattle.itv_cli.specs.Job.{edits_at, edits_in, fall_at, matrix_at, opening, whatif_at};
-ghost use Rattle.itv_cli.specs.Step.{IsAllowed, OpensFor, OpensMade};
+ghost use Rattle.itv_cli.specs.Job.{edits_at, edits_in, fall_at, list_at, matrix_at, opening, whatif_at};
+ghost use Rattle.itv_cli.specs.Step.{IsAllowed, OpensFor, OpensMade, list_in, margin_at};
+ghost use Rattle.moves.specs.Listed.{numbers_of};
 
 use crate::planned_network::{PlannedNetwork, open_planned};
 use crate::ready::Ready;
@@ -16,10 +17,13 @@ use design_gen::{GenFault, make};
 use drawn::DrawnNetwork;
 use edits::{MAX_EDITS_BYTES, read_edits};
 use falling::{Mixed, View};
-use itv_base::{MAX_MATRIX_EVENTS, REPORT_LIMIT, Shelf};
+use itv_base::{Listing, MAX_MATRIX_EVENTS, NoMemory, REPORT_LIMIT, Shelf};
+use margin_report::{ListFault, read_numbers};
+use moves::{NumberSeen, numbers_of};
+use plan::Plan;
 use reading::{Refusal, RefusalPlace, Stop, edits_stop, fetch_file, open_design};
 use std::alloc::Global;
-use unroll::{Limit, MAX_SESSION_ROWS, UnrollFault};
+use unroll::{Limit, MAX_NUMBERS, MAX_SESSION_ROWS, UnrollFault};
 use words::{CheckJob, PlanJob, SearchJob, Task};
 
 /// What a task reads. The files are the files of the shelf. For a generated design they are made for it, and the shelf is left alone.
@@ -56,6 +60,11 @@ pub fn open<H: Shelf>(alloc: Global, task: Task<'_>, shelf: &mut H) -> Result<Re
             edits,
             budget,
         } => open_whatif(alloc, design, edits, budget, shelf),
+        Task::Margin {
+            design,
+            list,
+            budget,
+        } => open_margin(alloc, design, list, budget, shelf),
     }
 }
 
@@ -258,6 +267,89 @@ fn for_edits(alloc: Global, drawn: DrawnNetwork, budget: u64, bytes: &[u8]) -> R
             budget,
         }),
         Err(fault) => Err(edits_stop(RefusalPlace::Edits, fault)),
+    }
+}
+
+// What job margin reads.
+fn open_margin<H: Shelf>(
+    alloc: Global,
+    design: &str,
+    list: Option<&str>,
+    budget: u64,
+    shelf: &mut H,
+) -> Result<Ready, Stop>
+    requires budget { IsBudget budget }
+    ensures opens { Opens (λ given. given) (H.state shelf.old) (H.state shelf.new)
+        (opening (said.margin design.now (option_map (λ text. text.now) list.entry) budget)) result }
+    ensures allowed { IfOk result IsAllowed }
+{
+    let PlannedNetwork { plan, drawn } = open_planned(alloc, design, shelf)?;
+    for_margin(alloc, plan, drawn, list, budget)
+}
+
+// The same for a plan and the network that it draws.
+fn for_margin(
+    alloc: Global,
+    plan: Plan,
+    drawn: DrawnNetwork,
+    list: Option<&str>,
+    budget: u64,
+) -> Result<Ready, Stop>
+    requires budget { IsBudget budget }
+    ensures reads { ReadsAs (λ given. given) (margin_at plan drawn (option_map (λ text. text.now) list.entry) budget) result }
+    ensures allowed { IfOk result IsAllowed }
+{
+    match list_at(alloc, &drawn, list) {
+        Ok(numbers) => Ok(Ready::Margin {
+            plan,
+            drawn,
+            numbers,
+            budget,
+        }),
+        Err(stop) => Err(stop),
+    }
+}
+
+// The numbers of a list, if there is one, or the refusal of a network with too many numbers.
+fn list_at(
+    alloc: Global,
+    drawn: &DrawnNetwork,
+    list: Option<&str>,
+) -> Result<Option<Listing<NumberSeen>>, Stop>
+    ensures reads { ReadsAs (λ numbers. numbers) (list_at drawn.now (option_map (λ text. text.now) list.entry)) result }
+{
+    let count = number_count(alloc, drawn)?;
+    if count > u64::from(MAX_NUMBERS) {
+        return Err(too_many(Limit::Numbers, count));
+    }
+    list_in(alloc, drawn, list)
+}
+
+// How many numbers draw a cause.
+fn number_count(alloc: Global, drawn: &DrawnNetwork) -> Result<u64, NoMemory>
+    ensures { IfOk result (λ count. count ≡ length (numbers_of drawn.now)) }
+{
+    Ok(numbers_of(alloc, drawn)?.len() as u64)
+}
+
+// The numbers of a list, if there is one.
+fn list_in(
+    alloc: Global,
+    drawn: &DrawnNetwork,
+    list: Option<&str>,
+) -> Result<Option<Listing<NumberSeen>>, Stop>
+    ensures reads { ReadsAs (λ numbers. numbers) (list_in drawn.now (option_map (λ text. text.now) list.entry)) result }
+{
+    let Some(list) = list else {
+        return Ok(None);
+    };
+    match read_numbers(alloc, drawn, list) {
+        Ok(numbers) => Ok(Some(numbers)),
+        Err(ListFault::NoNumber(place)) => Err(Stop::Refused(
+            RefusalPlace::Design,
+            Refusal::Number(place),
+        )),
+        Err(ListFault::NoMemory) => Err(Stop::NoMemory),
     }
 }
 

@@ -4,6 +4,7 @@ use drawn::DrawnNetwork;
 use edits::Edits;
 use falling::View;
 use itv_base::Listing;
+use moves::NumberSeen;
 use plan::Plan;
 use words::{CheckJob, PlanJob, SearchJob};
 
@@ -52,6 +53,14 @@ pub enum Ready {
     Whatif {
         drawn: DrawnNetwork,
         edits: Edits,
+        budget: u64,
+    },
+    /// To find how far the numbers of a drawn network may be moved, and to speak of the plan that draws it: the numbers that are moved as one, or
+    /// `None` where each is moved by itself, and the cases that each search may close.
+    Margin {
+        plan: Plan,
+        drawn: DrawnNetwork,
+        numbers: Option<Listing<NumberSeen>>,
         budget: u64,
     },
 }

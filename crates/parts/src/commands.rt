@@ -74,6 +74,16 @@ fn put_task(task: Task<'_>, out: &mut String) -> Result<(), AllocError> {
             edits,
             budget,
         } => write!(out, "whatif {design} {edits} {budget}"),
+        Task::Margin {
+            design,
+            list: None,
+            budget,
+        } => write!(out, "margin {design} {budget}"),
+        Task::Margin {
+            design,
+            list: Some(list),
+            budget,
+        } => write!(out, "margin {design} {budget} {list}"),
     }
 }
 

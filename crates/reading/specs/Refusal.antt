@@ -25,7 +25,7 @@ use Rattle.edits.specs.declared.fault.EditsFault.{EditsFault}
 use Rattle.edits.specs.declared.fault.EditsFault.TheVariants as edits
 use Rattle.reading.specs.declared.refusal_place.RefusalPlace.{RefusalPlace}
 use Rattle.reading.specs.declared.refusal.Refusal.{Refusal}
-use Rattle.reading.specs.declared.refusal.Refusal.TheVariants.{TooLong, NotJson, Diagram, Grades, Sheet, Netlist, Joins, Limits, Mixed, Wide, Edits}
+use Rattle.reading.specs.declared.refusal.Refusal.TheVariants.{TooLong, NotJson, Diagram, Grades, Sheet, Netlist, Joins, Limits, Mixed, Wide, Edits, Number}
 use Rattle.reading.specs.RefusalPlace.{place_words}
 
 -- The words of a fault are its name and then what it keeps: a number in decimal, a mark as its character, and an inner fault by its name. Lack of memory
@@ -48,8 +48,9 @@ limit_name limit.Cells = codes "Cells"
 limit_name limit.SearchCells = codes "SearchCells"
 limit_name limit.MatrixEvents = codes "MatrixEvents"
 limit_name limit.SessionRows = codes "SessionRows"
+limit_name limit.Numbers = codes "Numbers"
 
--- The words of the fault of a refusal. A line of a file of edits has its number, counted from 1.
+-- The words of the fault of a refusal. A line of a file of edits has its number, counted from 1, and a number of a list its place, counted from 0.
 abbrev pub fault_words : Refusal → List Word
 fault_words TooLong = codes "TooLong" ∷ []
 fault_words NotJson = codes "NotJson" ∷ []
@@ -104,6 +105,7 @@ fault_words (Edits (edits.Line n)) = codes "Line" ∷ number_text n ∷ []
 fault_words (Edits (edits.Range n fault)) = codes "Range" ∷ number_text n ∷ range_fault_name fault ∷ []
 fault_words (Edits (edits.NoSuch n)) = codes "NoSuch" ∷ number_text n ∷ []
 fault_words (Edits edits.NoMemory) = []
+fault_words (Number place) = codes "Number" ∷ number_text place ∷ []
 
 -- the line of a refusal
 unfoldable pub refusal_text : RefusalPlace → Refusal → List ℕ

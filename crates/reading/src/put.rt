@@ -119,6 +119,7 @@ fn put_fault<K: Sink>(why: Refusal, sink: &mut K) -> Result<(), PutFailed>
         ),
         Refusal::Wide(row) => put_words(&[Text(b"Wide"), Number(u64::from(row))], sink),
         Refusal::Edits(fault) => put_edits_fault(fault, sink),
+        Refusal::Number(place) => put_words(&[Text(b"Number"), Number(place)], sink),
     }
 }
 
@@ -304,5 +305,6 @@ fn limit_name(limit: Limit) -> &'static [u8]
         Limit::SearchCells => b"SearchCells",
         Limit::MatrixEvents => b"MatrixEvents",
         Limit::SessionRows => b"SessionRows",
+        Limit::Numbers => b"Numbers",
     }
 }

@@ -34,4 +34,6 @@ pub enum Refusal {
     Wide(u32),
     /// The file of edits has a fault.
     Edits(EditsFault),
+    /// The text at this place of a list, counted from 0, names no number of the design, or one that the list has before.
+    Number(u64),
 }

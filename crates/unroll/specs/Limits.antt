@@ -4,8 +4,8 @@ use Rattle.itv_base.specs.declared.limits.TheConstants.{MAX_CELLS, MAX_CONSTRAIN
 use Rattle.event_graph.specs.Network.{splittable_count}
 use Rattle.compose.specs.Design.{Composed}
 use Rattle.unroll.specs.declared.limit.Limit.{Limit}
-use Rattle.unroll.specs.declared.limit.Limit.TheVariants.{Events, Constraints, Rows, Cells, SearchCells, MatrixEvents, SessionRows}
-use Rattle.unroll.specs.declared.limit.TheConstants.{MAX_SESSION_ROWS}
+use Rattle.unroll.specs.declared.limit.Limit.TheVariants.{Events, Constraints, Rows, Cells, SearchCells, MatrixEvents, SessionRows, Numbers}
+use Rattle.unroll.specs.declared.limit.TheConstants.{MAX_NUMBERS, MAX_SESSION_ROWS}
 use Rattle.unroll.specs.declared.counted.Counted.{Counted}
 use Rattle.unroll.specs.declared.fault.UnrollFault.{UnrollFault}
 use Rattle.unroll.specs.declared.fault.UnrollFault.TheVariants.{TooMany}
@@ -21,6 +21,7 @@ most_of Cells = MAX_CELLS
 most_of SearchCells = MAX_SEARCH_CELLS
 most_of MatrixEvents = MAX_MATRIX_EVENTS
 most_of SessionRows = MAX_SESSION_ROWS
+most_of Numbers = MAX_NUMBERS
 
 abbrev pub counted : Limit → ℕ → Counted
 counted limit count = record { limit = limit; count = count }

@@ -19,4 +19,4 @@ mod rules;
 
 pub use draw::unroll;
 pub use fault::UnrollFault;
-pub use limit::{Limit, MAX_SESSION_ROWS};
+pub use limit::{Limit, MAX_NUMBERS, MAX_SESSION_ROWS};

@@ -10,8 +10,11 @@ use itv_base::{
 /// How many rows a drawn network may have if its ranges are edited.
 pub const MAX_SESSION_ROWS: u32 = 64;
 
-/// What a drawn network may have only so much of. `unroll` answers neither `MatrixEvents`, which is for the report on all pairs,
-/// nor `SessionRows`.
+/// How many numbers a design may have that are moved one after another.
+pub const MAX_NUMBERS: u32 = 1024;
+
+/// What a drawn network may have only so much of. `unroll` answers none of `MatrixEvents`, which is for the report on all pairs,
+/// `SessionRows` and `Numbers`.
 #[derive(Clone, Copy, Debug)]
 pub enum Limit {
     Events,
@@ -25,6 +28,8 @@ pub enum Limit {
     MatrixEvents,
     /// Rows, if ranges are edited.
     SessionRows,
+    /// Numbers that draw a cause, if they are moved.
+    Numbers,
 }
 
 impl Limit {
@@ -40,6 +45,7 @@ impl Limit {
             Limit::SearchCells => MAX_SEARCH_CELLS,
             Limit::MatrixEvents => u64::from(MAX_MATRIX_EVENTS),
             Limit::SessionRows => u64::from(MAX_SESSION_ROWS),
+            Limit::Numbers => u64::from(MAX_NUMBERS),
         }
     }
 }

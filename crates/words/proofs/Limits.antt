@@ -16,7 +16,7 @@ use Rattle.words.specs.declared.job.PlanJob.{PlanJob}
 use Rattle.words.specs.declared.job.PlanJob.TheVariants.{Why, Brief, Lint}
 use Rattle.words.specs.declared.job.CheckJob.{CheckJob}
 use Rattle.words.specs.declared.job.CheckJob.TheVariants.{Check, Confirm}
-use Rattle.words.specs.Task.{IsBudget, IsSize, IsWithinLimits, KeepsLimits, Task, answer_by, answer_for, budget_of, checked, checked_of, fall, fall_of, generated, generated_of, has_flag, matrix, matrix_of, number_in, planned, planned_of, refusal_for, searched, searched_of, size_of, taken, task_named, task_of, whatif, whatif_of}
+use Rattle.words.specs.Task.{IsBudget, IsSize, IsWithinLimits, KeepsLimits, Task, answer_by, answer_for, budget_of, checked, checked_of, fall, fall_of, generated, generated_of, has_flag, margin, margin_of, matrix, matrix_of, number_in, planned, planned_of, refusal_for, searched, searched_of, size_of, taken, task_named, task_of, whatif, whatif_of}
 use Rattle.words.proofs.Numbers.{number_limits}
 
 budget_limits : (given : Option Text) → IfSome (option_map_or (number_in MAX_BUDGET) given (Some DEFAULT_BUDGET)) IsBudget
@@ -50,6 +50,9 @@ planned_limits job rows within = searching_limits (λ d b. planned d job b) (fir
 
 fall_limits : (rows : List Row) → IfSome (budget_of rows) IsBudget → IfSome (fall_of rows) IsWithinLimits
 fall_limits rows within = searching_limits (λ d b. fall d b (has_flag (codes "cert") rows)) (first_of (codes "design") rows) (budget_of rows) (λ d b one. one) within
+
+margin_limits : (rows : List Row) → IfSome (budget_of rows) IsBudget → IfSome (margin_of rows) IsWithinLimits
+margin_limits rows within = searching_limits (λ d b. margin d (first_of (codes "together") rows) b) (first_of (codes "design") rows) (budget_of rows) (λ d b one. one) within
 
 matrix_limits : (design : Option Text) → IfSome (option_map matrix design) IsWithinLimits
 matrix_limits None = tt
@@ -95,7 +98,8 @@ named_limits rows (Some name) =
     (by_name (bytes_eq name (codes "confirm")) (checked_of Confirm rows) _ (checked_limits Confirm design report)
     (by_name (bytes_eq name (codes "why")) (planned_of Why rows) _ (planned_limits Why rows budgets)
     (by_name (bytes_eq name (codes "brief")) (planned_of (Brief is_csv) rows) _ (planned_limits (Brief is_csv) rows budgets)
-    (by_name (bytes_eq name (codes "lint")) (planned_of Lint rows) None (planned_limits Lint rows budgets) tt)))))))))))
+    (by_name (bytes_eq name (codes "lint")) (planned_of Lint rows) _ (planned_limits Lint rows budgets)
+    (by_name (bytes_eq name (codes "margin")) (margin_of rows) None (margin_limits rows budgets) tt))))))))))))
 
 task_limits : (task : Option Task) → IfSome task IsWithinLimits → KeepsLimits (answer_for task)
 task_limits None within = tt

@@ -1,4 +1,4 @@
--- The command line of the program, as `clap` gets it: `itv [--job JOB] [--budget N] [--cert] [--csv] [--report FILE] [--edits FILE] [--size N] [DESIGN]`.
+-- The command line of the program, as `clap` gets it: `itv [--job JOB] [--budget N] [--cert] [--csv] [--report FILE] [--edits FILE] [--size N] [--together LIST] [DESIGN]`.
 use Rattle.std.specs.Prelude.{ℕ, List, [], ◌∷◌, Some, true, codes}
 use Rattle.itv_base.specs.declared.limits.TheConstants.{MAX_BUDGET, MAX_SELF_SIZE}
 use Rattle.clap.specs.Simple.{App, new_app, new_rule, on_top, with_rule}
@@ -39,6 +39,9 @@ edits_rule = text_rule (codes "edits")
 abbrev pub size_rule : Rule
 size_rule = number_rule (codes "size") MAX_SELF_SIZE
 
+abbrev pub together_rule : Rule
+together_rule = text_rule (codes "together")
+
 abbrev pub design_rule : Rule
 design_rule = record (new_rule (codes "design")) { action = Some Set; value_names = 1 }
 
@@ -48,5 +51,5 @@ bare_command = on_top (λ top. record top { no_binary_name = true }) (new_app (c
 
 abbrev pub command : App
 command =
-    with_rule (with_rule (with_rule (with_rule (with_rule (with_rule (with_rule (with_rule bare_command job_rule) budget_rule) cert_rule) csv_rule) report_rule) edits_rule)
-    size_rule) design_rule
+    with_rule (with_rule (with_rule (with_rule (with_rule (with_rule (with_rule (with_rule (with_rule bare_command job_rule) budget_rule) cert_rule) csv_rule) report_rule)
+    edits_rule) size_rule) together_rule) design_rule

@@ -20,8 +20,8 @@ use Rattle.words.specs.declared.job.CheckJob.{CheckJob}
 use Rattle.words.specs.declared.job.CheckJob.TheVariants.{Check, Confirm}
 
 -- A job with what it needs. The first three share what they read with other jobs: the name of the design, the job, and the budget of each search or the
--- name of the report. The others have, in this order: the name of the design and of the edits, or the size of the generated design; the budget of each
--- search; and whether proofs are wanted.
+-- name of the report. The others have, in this order: the name of the design and of the edits, or the size of the generated design; the list of numbers, if
+-- there is one; the budget of each search; and whether proofs are wanted.
 pub data Task : Type 0 where
   searched : Text → SearchJob → ℕ → Task
   planned : Text → PlanJob → ℕ → Task
@@ -30,6 +30,7 @@ pub data Task : Type 0 where
   matrix : Text → Task
   generated : ℕ → ℕ → Task
   whatif : Text → Text → ℕ → Task
+  margin : Text → Option Text → ℕ → Task
 
 -- a task, a wish for help, or words that are neither
 pub data Invocation : Type 0 where
@@ -80,6 +81,9 @@ abbrev pub whatif_of : List Row → Option Task
 whatif_of rows =
     option_and_then (λ design. option_and_then (λ edits. option_map (whatif design edits) (budget_of rows)) (first_of (codes "edits") rows)) (first_of (codes "design") rows)
 
+abbrev pub margin_of : List Row → Option Task
+margin_of rows = searching (λ design budget. margin design (first_of (codes "together") rows) budget) rows
+
 -- the task of a job with this name, if all that it needs is there; what it does not need is passed over
 abbrev pub task_named : List Row → Text → Option Task
 task_named rows name =
@@ -95,7 +99,8 @@ task_named rows name =
     else (if bytes_eq name (codes "why") then planned_of Why rows
     else (if bytes_eq name (codes "brief") then planned_of (Brief (has_flag (codes "csv") rows)) rows
     else (if bytes_eq name (codes "lint") then planned_of Lint rows
-    else None)))))))))))
+    else (if bytes_eq name (codes "margin") then margin_of rows
+    else None))))))))))))
 
 abbrev pub task_of : List Row → Option Task
 task_of rows = option_and_then (task_named rows) (first_of (codes "job") rows)
@@ -140,6 +145,7 @@ IsWithinLimits (fall design budget proofs) = IsBudget budget
 IsWithinLimits (matrix design) = Unit {0}
 IsWithinLimits (generated size budget) = IsSize size × IsBudget budget
 IsWithinLimits (whatif design edits budget) = IsBudget budget
+IsWithinLimits (margin design list budget) = IsBudget budget
 
 abbrev pub KeepsLimits : Invocation → Type 0
 KeepsLimits (task t) = IsWithinLimits t

@@ -1,4 +1,5 @@
 -- What the code returns, without where its texts lie in memory.
+use Rattle.std.specs.Prelude.{option_map}
 use Rattle.words.specs.Task as said
 use Rattle.words.specs.declared.task.Invocation.{Invocation}
 use Rattle.words.specs.declared.task.Invocation.TheVariants as answer
@@ -13,6 +14,7 @@ task_view (wanted.Fall design budget cert) = said.fall design.now budget cert
 task_view (wanted.Matrix design) = said.matrix design.now
 task_view (wanted.Generated size budget) = said.generated size budget
 task_view (wanted.Whatif design edits budget) = said.whatif design.now edits.now budget
+task_view (wanted.Margin design list budget) = said.margin design.now (option_map (λ text. text.now) list) budget
 
 abbrev pub answer_view : Invocation → said.Invocation
 answer_view (answer.Task task) = said.task (task_view task)

@@ -28,6 +28,7 @@ Jobs:
   why     Prints which edges of DESIGN hold each bound of each row, or which of its rules contradict each other
   brief   Prints each row of DESIGN on one line, the worst first
   lint    Prints what of DESIGN may say something else than was meant
+  margin  Prints how far each number of DESIGN may be moved before a requirement breaks, or the numbers of LIST as one
 
 Exit statuses:
   0  All is well: every requirement passes, the matrix is printed, the report is accepted
@@ -74,7 +75,7 @@ fn job_option<'a>(alloc: Global) -> Arg<'a>
         alloc,
         "job",
         "JOB",
-        "What to do: bounds, matrix, check, self, fall, settle, confirm, redraw, whatif, why, brief or lint",
+        "What to do: bounds, matrix, check, self, fall, settle, confirm, redraw, whatif, why, brief, lint or margin",
     )
     .default_value("bounds")
 }
@@ -139,6 +140,12 @@ pub fn command<'a>(alloc: Global) -> Result<Command<'a>, AllocError>
             "size",
             MAX_SELF_SIZE as u64,
             "The size of the generated design, 1 to 64",
+        ))?
+        .arg(text_option(
+            alloc,
+            "together",
+            "LIST",
+            "The numbers that job margin moves as one, with commas between, as \"wire 0,net 1,CPU edge 3\"",
         ))?
         .arg(design_argument(alloc))
 }

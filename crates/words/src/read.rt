@@ -5,7 +5,7 @@ ghost use Rattle.clap.specs.Matches.{found_of};
 ghost use Rattle.clap.specs.Values.{kind_of};
 ghost use Rattle.clap.specs.Walk.{first_of, rows_of};
 ghost use Rattle.clap.specs.declared.error.kind.ErrorKind.{ErrorKind};
-ghost use Rattle.words.specs.Task.{KeepsLimits, answer_for, budget_of, checked_of, fall_of, generated_of, has_flag, matrix_of, number_in, planned_of, refusal_for, searched_of, size_of, taken, task_named, task_of, whatif_of};
+ghost use Rattle.words.specs.Task.{KeepsLimits, answer_for, budget_of, checked_of, fall_of, generated_of, has_flag, margin_of, matrix_of, number_in, planned_of, refusal_for, searched_of, size_of, taken, task_named, task_of, whatif_of};
 ghost use Rattle.words.specs.View.{answer_view, task_view};
 
 use crate::command::command;
@@ -87,6 +87,8 @@ fn task_named<'a>(matches: &ArgMatches<'a>, name: &str) -> Option<Task<'a>>
         planned_task(matches, PlanJob::Brief { csv })
     } else if name == "lint" {
         planned_task(matches, PlanJob::Lint)
+    } else if name == "margin" {
+        margin_task(matches)
     } else {
         None
     }
@@ -164,6 +166,18 @@ fn whatif_task<'a>(matches: &ArgMatches<'a>) -> Option<Task<'a>>
     Some(Task::Whatif {
         design,
         edits,
+        budget,
+    })
+}
+
+fn margin_task<'a>(matches: &ArgMatches<'a>) -> Option<Task<'a>>
+    ensures { option_map task_view result ≡ margin_of (rows_of (found_of matches.now)) }
+{
+    let design = text_of(matches, "design")?;
+    let budget = budget_of(matches)?;
+    Some(Task::Margin {
+        design,
+        list: text_of(matches, "together"),
         budget,
     })
 }

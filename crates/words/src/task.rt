@@ -48,6 +48,13 @@ pub enum Task<'a> {
         edits: &'a str,
         budget: u64,
     },
+    /// To find how far the numbers of a design may be moved, each by itself or those of a list as one: the name of its file,
+    /// the list if there is one, and the cases that each search may close.
+    Margin {
+        design: &'a str,
+        list: Option<&'a str>,
+        budget: u64,
+    },
 }
 
 /// What words are taken for.

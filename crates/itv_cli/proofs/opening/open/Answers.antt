@@ -1,6 +1,6 @@
-use Rattle.std.proofs.Common.{refl}
+use Rattle.std.proofs.Common.{option_map, refl}
 use Rattle.design_gen.specs.Files.{design_files}
-use Rattle.words.specs.Task.{searched, planned, checked, fall, matrix, generated, whatif}
+use Rattle.words.specs.Task.{searched, planned, checked, fall, matrix, generated, whatif, margin}
 use Rattle.itv_cli.proofs.Fetching.{opens_made, opens_shelf}
 use Rattle.itv_cli.proofs.opening.open.Goals as goal
 
@@ -36,3 +36,8 @@ pub returns-in-Whatif-clause-opens : goal.returns-in-Whatif-clause-opens
 returns-in-Whatif-clause-opens g c =
     rw c.in-Whatif.is
     (opens_shelf (g.H.Shelf.state c.args.shelf.now) (g.H.Shelf.state c.open_whatif.new.shelf) (whatif c.in-Whatif.design.now c.in-Whatif.edits.now c.in-Whatif.budget) c.open_whatif.result refl c.open_whatif.ensures.opens)
+
+pub returns-in-Margin-clause-opens : goal.returns-in-Margin-clause-opens
+returns-in-Margin-clause-opens g c =
+    rw c.in-Margin.is
+    (opens_shelf (g.H.Shelf.state c.args.shelf.now) (g.H.Shelf.state c.open_margin.new.shelf) (margin c.in-Margin.design.now (option_map (λ text. text.now) c.in-Margin.list) c.in-Margin.budget) c.open_margin.result refl c.open_margin.ensures.opens)

@@ -1,4 +1,4 @@
-use Rattle.words.specs.Command.{bare_command, budget_rule, cert_rule, csv_rule, design_rule, edits_rule, job_rule, report_rule, size_rule}
+use Rattle.words.specs.Command.{bare_command, budget_rule, cert_rule, csv_rule, design_rule, edits_rule, job_rule, report_rule, size_rule, together_rule}
 use Rattle.words.proofs.Building.{added, added_last}
 use Rattle.words.proofs.command.command.Goals as goal
 
@@ -11,4 +11,5 @@ returns c =
     let five = added _ _ _ _ report_rule c.in_ok-arg-5.ensures c.text_option.ensures.own four c.text_option.ensures.rule in
     let six = added _ _ _ _ edits_rule c.in_ok-arg-6.ensures c.text_option-2.ensures.own five c.text_option-2.ensures.rule in
     let seven = added _ _ _ _ size_rule c.in_ok-arg-7.ensures c.number_option-2.ensures.own six c.number_option-2.ensures.rule in
-    record { command = added_last _ _ _ _ design_rule c.arg-8.ensures c.design_argument.ensures.own seven c.design_argument.ensures.rule }
+    let eight = added _ _ _ _ together_rule c.in_ok-arg-8.ensures c.text_option-3.ensures.own seven c.text_option-3.ensures.rule in
+    record { command = added_last _ _ _ _ design_rule c.arg-9.ensures c.design_argument.ensures.own eight c.design_argument.ensures.rule }

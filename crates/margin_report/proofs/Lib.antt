@@ -1,0 +1,4 @@
+pub mod Lining
+pub mod Called
+pub mod Endings
+pub mod Whole
