@@ -3,10 +3,11 @@
 import { bodyOf, edgeLink } from "./document.js";
 import { drawingOf } from "./drawing.js";
 import { Sheet } from "./design.js";
-import { Matrix, Report } from "./printed.js";
+import { Matrix, Report, marginsOf } from "./printed.js";
 import { escaped, escapedText, inUnit } from "./texts.js";
 
 const MOST_EVENTS_OF_A_TABLE = 60;
+const MOST_MARGINS = 10;
 
 /** The tabs: the job behind each, its label, and whether it is shown for an analysis. `jobs` are those of the program's help. */
 export function jobTabs(analysis, jobs) {
@@ -37,7 +38,7 @@ export function rawOf(printed, isOpen = false) {
 /** What stands under a tab, of an analysis in which this job has been run. */
 export function paneOf(analysis, job) {
   const printed = analysis.texts.get(job);
-  const shown = { bounds: answerPane, why: whyPane, settle: settlePane, redraw: redrawPane, matrix: matrixPane }[job];
+  const shown = { bounds: answerPane, why: whyPane, settle: settlePane, redraw: redrawPane, matrix: matrixPane, margin: marginPane }[job];
   const isRaw = !shown || (job === "why" && !analysis.report);
   return `${shown ? shown(analysis, printed) : ""}${rawOf(printed, isRaw || job === "settle" || job === "redraw")}`;
 }
@@ -87,6 +88,29 @@ function redrawPane(analysis, printed) {
   const begin = '<button type="button" class="open-redraw">open it as a file</button>';
   const about = "The first requirement that fails, at times that break it, with the events in the order of their times.";
   return `<p>${about} ${begin}</p><div class="table-box">${drawingOf(sheet, "", () => "")}</div>`;
+}
+
+/** The numbers that may be moved least, with what they may be. */
+function marginPane(analysis, printed) {
+  if (!printed || !printed.text.startsWith("itv margin ")) return "";
+  const margins = marginsOf(printed.text).slice(0, MOST_MARGINS);
+  if (!margins.length) return "<p>No single number of the design decides whether a requirement breaks.</p>";
+  const about = "The tightest numbers: how far each may be moved alone before a requirement breaks. A negative number says how much better it has to be.";
+  const heads = ["number", "drawn", "may be", "room", "then breaks"].map((head) => `<th scope="col">${head}</th>`).join("");
+  const rows = margins.map((margin) => {
+    const link = margin.kind === "net" ? "" : edgeLink(analysis.design, margin.part, margin.number);
+    const name = link || `<code class="name">${escaped(margin.kind)} ${margin.number}</code>`;
+    const breaks = margin.row === null ? "the rules contradict each other" : `row ${margin.row}`;
+    const cells = [rangeText(margin.range), rangeText(margin.mayBe), `${margin.side} ${inUnit(margin.by, analysis.unit)}`].map((cell) => `<td class="number">${cell}</td>`);
+    return `<tr><td>${name}</td>${cells.join("")}<td>${breaks}</td></tr>`;
+  });
+  return `<p>${about}</p><div class="table-box"><table><thead><tr>${heads}</tr></thead><tbody>${rows.join("")}</tbody></table></div>`;
+}
+
+/** A range as it is drawn, in picoseconds. */
+function rangeText([low, high]) {
+  const [first, last] = [low, high].map((end) => (end === null ? "*" : String(end)));
+  return first === last ? first : `[${first}, ${last}]`;
 }
 
 /** The greatest separations between all events as a table. */

@@ -1,4 +1,4 @@
-// What the program printed: a report or a text of job settle, a matrix, the chains of job why and the warnings of job lint.
+// What the program printed: a report or a text of job settle, a matrix, the chains of job why, the margins of job margin and the warnings of job lint.
 
 /** The number; null for an open end. */
 function numberOf(word) {
@@ -131,6 +131,38 @@ export class Matrix {
     const high = this.rows[origin][event];
     return low === null || high === null || -low >= high ? null : [-low, high];
   }
+}
+
+/** A line of job margin: how far an end of a number, or its value, may be moved. `side` is `low`, `high`, `down` or `up`; `by` is null where the line has no
+ * number. `part` is null for a net or an edge of the netlist. */
+export class Margin {
+  constructor(line) {
+    const match = /^(low|high|down|up) (\S+) (?:(net|wire) (\d+)|(\w+) edge (\d+)) \[(\S+?),(\S+?)\](?: row (\d+))?(?: |$)/.exec(line);
+    this.isRead = match !== null;
+    if (!match) return;
+    this.side = match[1];
+    this.by = /^-?\d+$/.test(match[2]) ? Number(match[2]) : null;
+    this.kind = match[3] || "edge";
+    this.part = match[5] || null;
+    this.number = Number(match[4] || match[6]);
+    this.range = [numberOf(match[7]), numberOf(match[8])];
+    this.row = match[9] === undefined ? null : Number(match[9]);
+  }
+
+  /** The range that may be drawn in place of the one that is; of `down` and `up` the last value. */
+  get mayBe() {
+    const [low, high] = this.range;
+    if (this.side === "low") return [low - this.by, high];
+    if (this.side === "high") return [low, high + this.by];
+    const value = this.side === "down" ? low - this.by : low + this.by;
+    return [value, value];
+  }
+}
+
+/** The lines of job margin that have a number, the tightest first. */
+export function marginsOf(text) {
+  const margins = text.split("\n").map((line) => new Margin(line));
+  return margins.filter((margin) => margin.isRead && margin.by !== null).sort((a, b) => a.by - b.by);
 }
 
 /** Where a rule is drawn: `kind` is `edge`, `lane`, `net` or `wire`, with its number; `text` are these words, and `note` is what stands after them. */

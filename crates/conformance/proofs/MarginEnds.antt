@@ -42,7 +42,7 @@ use Rattle.conformance.proofs.KnownFiles.{answer_over, few_then, never_refused, 
 safe_end : (drawn : Drawn) (budget : ℕ) (seen : NumberSeen) (found : Option Margin) → IfSome found (IsEndMargin drawn budget seen.number Upper)
     → (most : ℤ) (row : ℕ) → found ≡ Some (Until most row) → IsEndMargin drawn budget seen.number Upper (Until most row)
 safe_end drawn budget seen None is most row e = absurd (cc e)
-safe_end drawn budget seen (Some margin) is most row e = let same : margin ≡ Until most row = cc e in subst (IsEndMargin drawn budget seen.number Upper) same is
+safe_end drawn budget seen (Some spared) is most row e = let same : spared ≡ Until most row = cc e in subst (IsEndMargin drawn budget seen.number Upper) same is
 
 safe_high : (drawn : Drawn) (budget : ℕ) (seen : NumberSeen) (found : NumberFound) → IsNumberFound drawn budget seen found → IsSafeHigh drawn seen found
 safe_high drawn budget seen found is = λ most row e by within.

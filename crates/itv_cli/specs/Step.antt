@@ -1,5 +1,6 @@
 -- What the steps of a run answer: words of contracts within this crate.
-use Rattle.std.specs.Prelude.{◌≡◌, ◌≤◌, ◌⊎◌, ℕ, ⊤, List, length, All, IsOk, Result, Ok, Err}
+use Rattle.std.specs.Prelude.{◌≡◌, ◌≤◌, ◌⊎◌, ℕ, ⊤, List, length, All, IsOk, Option, Some, None, Result, Ok, Err}
+use Rattle.std.specs.Option.{option_map_or}
 use Rattle.itv_base.specs.declared.limits.TheConstants.{MAX_MATRIX_EVENTS}
 use Rattle.itv_base.specs.Outside.{Files, ShelfState, SinkState, grown, CutShort}
 use Rattle.compose.specs.Compose.{composed_on}
@@ -14,21 +15,33 @@ use Rattle.jobs.specs.declared.unanswered.Unanswered.{Unanswered}
 use Rattle.jobs.specs.declared.unanswered.Unanswered.TheVariants as unanswered
 use Rattle.reading.specs.declared.stop.Stop.{Stop}
 use Rattle.reading.specs.declared.stop.Stop.TheVariants.{Refused, ReadFault, NoMemory}
-use Rattle.reading.specs.FileReading.{ready, refused, end_over, unread}
+use Rattle.reading.specs.FileReading.{FileReading, at, gives, ready, refused, end_over, unread, ◌>>=◌}
 use Rattle.reading.specs.Refusal.{refusal_text, unread_text}
-use Rattle.plan.specs.Plan.{sheets_on}
+use Rattle.plan.specs.Plan.{Planned, sheets_on}
+use Rattle.moves.specs.declared.number_seen.NumberSeen.{NumberSeen}
+use Rattle.margin_report.specs.Named.{numbers_in}
+use Rattle.reading.specs.declared.refusal.Refusal.TheVariants as refusals
+use Rattle.reading.specs.declared.refusal_place.RefusalPlace.TheVariants.{Design}
 use Rattle.words.specs.Task.{IsBudget, Task}
 use Rattle.itv_cli.specs.declared.outcome.Outcome.{Outcome}
 use Rattle.itv_cli.specs.declared.outcome.Outcome.TheVariants as ends
 use Rattle.itv_cli.specs.declared.ready.Ready.{Ready}
 use Rattle.itv_cli.specs.declared.ready.Ready.TheVariants as given
-use Rattle.itv_cli.specs.Job.{made_for, opening}
+use Rattle.itv_cli.specs.Job.{list_at, made_for, opening}
 use Rattle.itv_cli.specs.Run.{ReadsOver, outcome_of}
 
 -- the names of the events and the ranges of the rows have their form
 pub record HasForm (drawn : Drawn) : Type 0 where
   pub names : All IsName drawn.names
   pub ranges : HasRowRanges drawn
+
+-- the numbers of a list, if there is one
+abbrev pub list_in : Drawn → Option (List ℕ) → FileReading (Option (List NumberSeen))
+list_in drawn list = option_map_or (λ text. at Design refusals.Number (numbers_in drawn text) >>= λ numbers. gives (Some numbers)) list (gives None)
+
+-- what is read for job margin, by a plan and the network that it draws
+abbrev pub margin_at : Planned → Drawn → Option (List ℕ) → ℕ → FileReading Ready
+margin_at plan drawn list budget = list_at drawn list >>= λ numbers. gives (given.Margin plan drawn numbers budget)
 
 -- what a job may be given
 abbrev pub IsAllowed : Ready → Type 0

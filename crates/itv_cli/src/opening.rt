@@ -1,20 +1,14 @@
 //! What each job reads before it writes.
 
-ghost use Rattle.std.specs.Prelude.{◌≡◌, ◌≤◌, IfOk, None, Some, codes, length, option_map};
-ghost use Rattle.std.specs.Option.{option_map_or};
-ghost use Rattle.margin_report.specs.Named.{numbers_in};
+ghost use Rattle.std.specs.Prelude.{◌≡◌, ◌≤◌, IfOk, codes, length, option_map};
 ghost use Rattle.design_gen.specs.Files.{IsSize, design_files};
-ghost use Rattle.reading.specs.FileReading.{at, gives, ◌>>=◌};
-ghost use Rattle.reading.specs.declared.refusal.Refusal.TheVariants as refusals;
-ghost use Rattle.reading.specs.declared.refusal_place.RefusalPlace.TheVariants.{Design};
 ghost use Rattle.reading.specs.Step.{Opens, ReadsAs};
 ghost use Rattle.words.specs.Task.{IsBudget, IsWithinLimits};
 ghost use Rattle.words.specs.Task as said;
 ghost use Rattle.words.specs.View.{task_view};
 ghost use Rattle.unroll.specs.declared.limit.TheConstants.{MAX_SESSION_ROWS};
 ghost use Rattle.itv_cli.specs.Job.{edits_at, edits_in, fall_at, list_at, matrix_at, opening, whatif_at};
-ghost use Rattle.itv_cli.specs.Step.{IsAllowed, OpensFor, OpensMade};
-ghost use Rattle.itv_cli.specs.declared.ready.Ready.TheVariants as ready;
+ghost use Rattle.itv_cli.specs.Step.{IsAllowed, OpensFor, OpensMade, list_in, margin_at};
 ghost use Rattle.moves.specs.Listed.{numbers_of};
 
 use crate::planned_network::{PlannedNetwork, open_planned};
@@ -302,8 +296,7 @@ fn for_margin(
     budget: u64,
 ) -> Result<Ready, Stop>
     requires budget { IsBudget budget }
-    ensures reads { ReadsAs (λ given. given) (list_at drawn (option_map (λ text. text.now) list.entry)
-        >>= (λ numbers. gives (ready.Margin plan drawn numbers budget))) result }
+    ensures reads { ReadsAs (λ given. given) (margin_at plan drawn (option_map (λ text. text.now) list.entry) budget) result }
     ensures allowed { IfOk result IsAllowed }
 {
     match list_at(alloc, &drawn, list) {
@@ -345,8 +338,7 @@ fn list_in(
     drawn: &DrawnNetwork,
     list: Option<&str>,
 ) -> Result<Option<Listing<NumberSeen>>, Stop>
-    ensures reads { ReadsAs (λ numbers. numbers) (option_map_or (λ text. at Design refusals.Number (numbers_in drawn.now text) >>= (λ numbers. gives (Some numbers)))
-        (option_map (λ text. text.now) list.entry) (gives None)) result }
+    ensures reads { ReadsAs (λ numbers. numbers) (list_in drawn.now (option_map (λ text. text.now) list.entry)) result }
 {
     let Some(list) = list else {
         return Ok(None);

@@ -4,7 +4,6 @@ use Rattle.std.proofs.lemmas.List.{length-replicate, take_more}
 use Rattle.std.specs.List.{AllZip}
 use Rattle.event_graph.specs.Edges.{cause_choices}
 use Rattle.drawn.specs.Drawn.{Drawn}
-use Rattle.moves.specs.Found.{IsShort}
 use Rattle.moves.specs.Networks.{IsNetFound, is_net_open}
 use Rattle.moves.specs.declared.net_found.NetFound.{NetFound}
 use Rattle.moves.specs.declared.net_found.NetFound.TheVariants as nets
