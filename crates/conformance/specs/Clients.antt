@@ -22,7 +22,7 @@ use Rattle.reading.specs.declared.refusal_place.RefusalPlace.{RefusalPlace}
 use Rattle.reading.specs.declared.refusal.Refusal.{Refusal}
 use Rattle.reading.specs.Design.{design_at}
 use Rattle.moves.specs.Listed.{numbers_of}
-use Rattle.moves.specs.Moving.{widened_at}
+use Rattle.moves.specs.Moving.{moved_at, widened}
 use Rattle.moves.specs.Passing.{NoneBreaks}
 use Rattle.moves.specs.declared.margin.Margin.TheVariants.{Until}
 use Rattle.moves.specs.declared.number_seen.NumberSeen.{NumberSeen}
@@ -182,7 +182,7 @@ pub record AsksMargin (given : List (List ℕ)) (files : Files) (budget : ℕ) (
 -- by at most that, wherever the number is drawn.
 abbrev pub IsSafeHigh : Drawn → NumberSeen → NumberFound → Type 0
 IsSafeHigh drawn seen found =
-    (most : ℤ) (row : ℕ) → found.ends.high ≡ Some (Until most row) → (by : ℤ) → by ≤ℤ most → NoneBreaks (widened_at drawn seen.number Upper by)
+    (most : ℤ) (row : ℕ) → found.ends.high ≡ Some (Until most row) → (by : ℤ) → by ≤ℤ most → NoneBreaks (moved_at drawn seen.number (widened Upper by))
 
 -- the text has the lines of what was found of each number, and their high ends are safe
 pub record HasSafeHighs (noted : NotesKept) (drawn : Drawn) (text : List ℕ) : Type 0 where
