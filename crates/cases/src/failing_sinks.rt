@@ -18,11 +18,22 @@ pub fn fill_each_room(
 ) -> Result<(), NoMemory> {
     let mut whole = SinkMem::new(alloc, ROOM)?;
     let end = run(alloc, &case.words, &mut case.shelf, &mut whole);
+    let shown = fill_rooms(alloc, case, &whole, end, out);
+    drop(whole);
+    shown
+}
+
+// The same after the run with all its room.
+fn fill_rooms(
+    alloc: Global,
+    case: &mut TestCase,
+    whole: &SinkMem,
+    end: Outcome,
+    out: &mut String,
+) -> Result<(), NoMemory> {
     put_end(end, case, out)?;
     for room in 0..ROOM {
-        let mut sink = SinkMem::new(alloc, room)?;
-        let outcome = run(alloc, &case.words, &mut case.shelf, &mut sink);
-        if sink.bytes().len() != room as usize || !is_front(&sink, outcome, &whole, end) {
+        if !is_filled(alloc, room, case, whole, end)? {
             writeln!(out, "wrong in a room of {room}")?;
             return Ok(());
         }
@@ -34,22 +45,48 @@ pub fn fill_each_room(
     Ok(())
 }
 
+// Whether a run into a room writes all that fits, and ends as it should.
+fn is_filled(
+    alloc: Global,
+    room: u32,
+    case: &mut TestCase,
+    whole: &SinkMem,
+    end: Outcome,
+) -> Result<bool, NoMemory> {
+    let mut sink = SinkMem::new(alloc, room)?;
+    let outcome = run(alloc, &case.words, &mut case.shelf, &mut sink);
+    let is_full = sink.bytes().len() == room as usize;
+    Ok(is_full && is_front(&sink, outcome, whole, end))
+}
+
 /// Runs a case with each put that fails in turn, until none does, and shows how it ends then. Before this it shows the first failing put at which
 /// the run does not write a front of the text, or does not end with a write fault.
 pub fn fail_each_put(alloc: Global, case: &mut TestCase, out: &mut String) -> Result<(), NoMemory> {
     let mut whole = SinkMem::new(alloc, ROOM)?;
     let end = run(alloc, &case.words, &mut case.shelf, &mut whole);
+    let shown = fail_puts(alloc, case, &whole, end, out);
+    drop(whole);
+    shown
+}
+
+// The same after the run in which no put fails.
+fn fail_puts(
+    alloc: Global,
+    case: &mut TestCase,
+    whole: &SinkMem,
+    end: Outcome,
+    out: &mut String,
+) -> Result<(), NoMemory> {
     put_end(end, case, out)?;
     let mut before = 0usize;
     for call in 0..ROOM {
-        let mut sink = SinkMem::new(alloc, ROOM)?;
-        sink.fail_call(call);
-        let outcome = run(alloc, &case.words, &mut case.shelf, &mut sink);
-        let length = sink.bytes().len();
-        if length < before || (call == 0 && length > 0) || !is_front(&sink, outcome, &whole, end) {
-            writeln!(out, "wrong where put {call} fails")?;
-            return Ok(());
-        }
+        let length = match length_after(alloc, call, case, whole, end)? {
+            Some(length) if before <= length && (0 < call || length == 0) => length,
+            _ => {
+                writeln!(out, "wrong where put {call} fails")?;
+                return Ok(());
+            }
+        };
         if length == whole.bytes().len() {
             out.push_str("right where each put fails\n")?;
             return Ok(());
@@ -57,6 +94,21 @@ pub fn fail_each_put(alloc: Global, case: &mut TestCase, out: &mut String) -> Re
         before = length;
     }
     Ok(())
+}
+
+// How many bytes a run writes whose put of a number fails, if they are a front of a text and the run ends as it should.
+fn length_after(
+    alloc: Global,
+    call: u32,
+    case: &mut TestCase,
+    whole: &SinkMem,
+    end: Outcome,
+) -> Result<Option<usize>, NoMemory> {
+    let mut sink = SinkMem::new(alloc, ROOM)?;
+    sink.fail_call(call);
+    let outcome = run(alloc, &case.words, &mut case.shelf, &mut sink);
+    let is_front = is_front(&sink, outcome, whole, end);
+    Ok(is_front.then_some(sink.bytes().len()))
 }
 
 // Whether a run wrote a front of a text, and ended as it should: with its own end after the whole text, and else with a write fault.

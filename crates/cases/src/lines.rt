@@ -5,6 +5,7 @@ use crate::test_case::TestCase;
 use design_gen::make;
 use itv_base::{NoMemory, Texts};
 use std::alloc::Global;
+use std::mem::replace;
 
 /// Takes a line of the input. What comes of it is put at the end of `out`.
 pub fn take_line(
@@ -59,14 +60,14 @@ fn take_verb(
 
 // Begins the next case.
 fn begin(alloc: Global, name: &str, case: &mut TestCase, out: &mut String) -> Result<(), NoMemory> {
-    *case = TestCase::new(alloc)?;
+    drop(replace(case, TestCase::new(alloc)?));
     writeln!(out, "= {name}")?;
     Ok(())
 }
 
 // The words are those of a text, parted by blanks.
 fn set_words(alloc: Global, text: &str, case: &mut TestCase) -> Result<(), NoMemory> {
-    case.words = Texts::new(alloc)?;
+    drop(replace(&mut case.words, Texts::new(alloc)?));
     for word in text.split_whitespace() {
         case.words.push(alloc, word)?;
     }
@@ -105,7 +106,7 @@ fn length_of(bytes: &[u8], lines: u32) -> usize {
 // The files are those of the generated design of a size.
 fn generate(alloc: Global, text: &str, case: &mut TestCase) -> Result<(), NoMemory> {
     if let Ok(shelf) = make(alloc, number_of(text)) {
-        case.shelf = shelf;
+        drop(replace(&mut case.shelf, shelf));
     }
     Ok(())
 }

@@ -7,29 +7,39 @@ mod failing_sinks;
 mod hinted;
 mod lines;
 mod open_file;
+mod real_files;
 mod runs;
 mod shown;
 mod test_case;
 
 use crate::lines::take_line;
+use crate::real_files::take_real;
 use crate::test_case::TestCase;
 use itv_base::NoMemory;
 use std::io::{self, ErrorKind};
+use std::rt::Files;
 
 fn main(rt: HostRuntime) -> io::Result<()> {
     match TestCase::new(rt.alloc()) {
-        Ok(mut case) => take_lines(&rt, &mut case),
+        Ok(mut case) => {
+            let taken = take_lines(&rt, &mut case);
+            drop(case);
+            taken
+        }
         Err(NoMemory) => Err(io::Error::from(ErrorKind::OutOfMemory)),
     }
 }
 
 // Takes the lines of standard input, and prints what comes of each.
-fn take_lines(rt: &(impl Input + Print + AllocGlobal), case: &mut TestCase) -> io::Result<()> {
+fn take_lines(
+    rt: &(impl Files + Input + Print + AllocGlobal),
+    case: &mut TestCase,
+) -> io::Result<()> {
     let alloc = rt.alloc();
     let mut out = String::new(alloc);
     for line in rt.lines(alloc) {
         let line = line?;
-        if let Err(NoMemory) = take_line(alloc, line.as_str(), case, &mut out) {
+        if let Err(NoMemory) = take(rt, line.as_str(), case, &mut out) {
             return Err(io::Error::from(ErrorKind::OutOfMemory));
         }
         if !out.is_empty() {
@@ -38,4 +48,17 @@ fn take_lines(rt: &(impl Input + Print + AllocGlobal), case: &mut TestCase) -> i
         }
     }
     Ok(())
+}
+
+// Takes a line. A verb that begins with `real` reaches the system.
+fn take(
+    rt: &(impl Files + Print + AllocGlobal),
+    line: &str,
+    case: &mut TestCase,
+    out: &mut String,
+) -> Result<(), NoMemory> {
+    match line.strip_prefix("real ") {
+        Some(text) => take_real(rt, text, case, out),
+        None => take_line(rt.alloc(), line, case, out),
+    }
 }

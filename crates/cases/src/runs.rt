@@ -7,6 +7,7 @@ use crate::test_case::TestCase;
 use itv_base::{NoMemory, SinkMem, Texts};
 use itv_cli::{Outcome, run};
 use std::alloc::Global;
+use std::mem::replace;
 use std::str;
 
 // Room in bytes for the longest text.
@@ -46,11 +47,25 @@ fn show_run(
     let words = words_after(alloc, words, &case.words)?;
     let mut sink = SinkMem::new(alloc, ROOM)?;
     let outcome = run(alloc, &words, &mut case.shelf, &mut sink);
+    drop(words);
+    let shown = show_end(alloc, outcome, &sink, case, out);
+    drop(sink);
+    shown
+}
+
+/// Shows how a run ended and what it wrote.
+pub fn show_end(
+    alloc: Global,
+    outcome: Outcome,
+    sink: &SinkMem,
+    case: &mut TestCase,
+    out: &mut String,
+) -> Result<(), NoMemory> {
     put_end(outcome, case, out)?;
     let text = str::from_utf8(sink.bytes()).unwrap_or("no text");
     case.shown.put_lines(text, "|", out)?;
     case.shown.put_counts(text, out)?;
-    case.shown = Shown::new(alloc);
+    drop(replace(&mut case.shown, Shown::new(alloc)));
     Ok(())
 }
 
@@ -64,10 +79,23 @@ fn write_file(
     let words = words_after(alloc, words, &case.words)?;
     let mut sink = SinkMem::new(alloc, ROOM)?;
     run(alloc, &words, &mut case.shelf, &mut sink);
+    drop(words);
+    let kept = keep_shown(alloc, name, &sink, case);
+    drop(sink);
+    kept
+}
+
+// What a run shows of what it wrote becomes a file.
+fn keep_shown(
+    alloc: Global,
+    name: &str,
+    sink: &SinkMem,
+    case: &mut TestCase,
+) -> Result<(), NoMemory> {
     let mut file = String::new(alloc);
     let text = str::from_utf8(sink.bytes()).unwrap_or("no text");
     case.shown.put_lines(text, "", &mut file)?;
-    case.shown = Shown::new(alloc);
+    drop(replace(&mut case.shown, Shown::new(alloc)));
     case.shelf.add(alloc, name, file.as_bytes())
 }
 
