@@ -85,8 +85,7 @@ planned_at name = do
 
 -- the numbers of a list that move as one, if there is a list; a drawn network with too many numbers is refused
 abbrev pub list_at : Drawn → Option (List ℕ) → FileReading (Option (List NumberSeen))
-list_at drawn list =
-    if nat_lt MAX_NUMBERS (length (numbers_of drawn)) then refuses Design (refusals.Limits (TooMany Numbers (length (numbers_of drawn))))
+list_at drawn list = if nat_lt MAX_NUMBERS (length (numbers_of drawn)) then refuses Design (refusals.Limits (TooMany Numbers (length (numbers_of drawn))))
     else option_map_or (λ text. at Design refusals.Number (numbers_in drawn text) >>= λ numbers. gives (Some numbers)) list (gives None)
 
 abbrev pub opening : Task → FileReading Ready

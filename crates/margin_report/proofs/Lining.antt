@@ -8,7 +8,8 @@ use Rattle.line_words.specs.Lines.{ended, line_of, spaced}
 use Rattle.line_words.proofs.Printing.{join_spaced}
 use Rattle.notes.specs.NotesKept.{NotesKept}
 use Rattle.moves.specs.declared.number_seen.NumberSeen.{NumberSeen}
-use Rattle.margin_report.specs.Text.{margin_line, margins_of, numbers_text}
+use Rattle.margin_report.specs.Step.{numbers_text}
+use Rattle.margin_report.specs.Text.{margin_line, margins_of}
 use Rattle.margin_report.specs.declared.number_found.NumberFound.{NumberFound}
 
 -- ---- a line

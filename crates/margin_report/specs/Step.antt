@@ -1,9 +1,10 @@
 -- Words of private contracts.
-use Rattle.std.specs.Prelude.{◌≡◌, ◌≤◌, ◌||◌, ℕ, Bool, true, false, List, [], Option, None, Some, Result, Ok, Err, length, map, replicate}
-use Rattle.std.specs.List.{AllZip}
+use Rattle.std.specs.Prelude.{◌≡◌, ◌≤◌, ◌||◌, ℕ, Bool, true, false, List, [], Option, None, Some, Result, Ok, Err, length, map, replicate, zip}
+use Rattle.std.specs.List.{AllZip, flat_map}
 use Rattle.std.specs.Option.{option_map_or}
 use Rattle.event_graph.specs.Edges.{cause_choices}
 use Rattle.drawn.specs.Drawn.{Drawn}
+use Rattle.notes.specs.NotesKept.{NotesKept}
 use Rattle.numbers.specs.declared.drawn_number.DrawnNumber.{DrawnNumber}
 use Rattle.slack_report.specs.declared.words.EndWord.{EndWord}
 use Rattle.slack_report.specs.declared.words.EndWord.TheVariants.{Pass, Fail, Inconsistent, Undecided}
@@ -18,7 +19,7 @@ use Rattle.moves.specs.declared.span.SpanFound.{SpanFound}
 use Rattle.probing.specs.Step.{IsProbed}
 use Rattle.probing.specs.declared.probed.Probed.{Probed}
 use Rattle.margin_report.specs.Margin.{EndsBy, IsNumberFound}
-use Rattle.margin_report.specs.Text.{is_left_open}
+use Rattle.margin_report.specs.Text.{is_left_open, margin_line, margins_of}
 use Rattle.margin_report.specs.declared.list_fault.ListFault.{ListFault}
 use Rattle.margin_report.specs.declared.list_fault.ListFault.TheVariants.{NoMemory, NoNumber}
 use Rattle.margin_report.specs.declared.number_found.NumberFound.{NumberFound}
@@ -85,3 +86,7 @@ abbrev pub IsListRead : {A B : Type 0} → (B → A) → Result B ListFault → 
 IsListRead view (Ok named) reading = reading ≡ Ok (view named)
 IsListRead view (Err (NoNumber place)) reading = reading ≡ Err place
 IsListRead view (Err NoMemory) reading = Unit {0}
+
+-- the lines of numbers, in order
+abbrev pub numbers_text : NotesKept → List NumberSeen → List NumberFound → List ℕ
+numbers_text noted seen found = flat_map (λ (both : NumberSeen × NumberFound). flat_map (margin_line noted both.0) (margins_of both.1)) (zip seen found)

@@ -47,10 +47,6 @@ margins_of found =
     option_map_or (λ margin. (codes "low", margin) ∷ []) found.ends.low [] ++ (option_map_or (λ margin. (codes "high", margin) ∷ []) found.ends.high []
     ++ option_map_or (λ (span : SpanFound). (codes "down", span.down) ∷ (codes "up", span.up) ∷ []) found.span [])
 
--- the lines of numbers, in order
-abbrev pub numbers_text : NotesKept → List NumberSeen → List NumberFound → List ℕ
-numbers_text noted seen found = flat_map (λ (both : NumberSeen × NumberFound). flat_map (margin_line noted both.0) (margins_of both.1)) (zip seen found)
-
 -- a search for a margin was left open
 abbrev pub is_left_open : Margin → Bool
 is_left_open margins.Spent = true
@@ -72,4 +68,5 @@ end_of word is_left = word
 
 abbrev pub margin_text : NotesKept → EndWord → List NumberSeen → List NumberFound → List ℕ
 margin_text noted word seen found =
-    ended (codes "itv margin 1") ++ (ended (line_of (codes "finding" ∷ finding_word word ∷ [])) ++ (numbers_text noted seen found ++ entry_text (ending (end_of word (are_left_open found)))))
+    ended (codes "itv margin 1") ++ (ended (line_of (codes "finding" ∷ finding_word word ∷ []))
+    ++ (flat_map (λ (both : NumberSeen × NumberFound). flat_map (margin_line noted both.0) (margins_of both.1)) (zip seen found) ++ entry_text (ending (end_of word (are_left_open found)))))

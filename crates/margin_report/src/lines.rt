@@ -6,7 +6,8 @@ ghost use Rattle.std.specs.Option.{option_map_or};
 ghost use Rattle.line_words.specs.Lines.{spaced};
 ghost use Rattle.numbers.specs.Numbers.{drawn_number_text};
 ghost use Rattle.slack_report.specs.Text.{range_word};
-ghost use Rattle.margin_report.specs.Text.{margin_line, margins_of, number_note, numbers_text, how_far};
+ghost use Rattle.margin_report.specs.Step.{numbers_text};
+ghost use Rattle.margin_report.specs.Text.{margin_line, margins_of, number_note, how_far};
 ghost use Rattle.moves.specs.declared.span.SpanFound.{SpanFound as Span};
 
 use crate::number_found::NumberFound;

@@ -1,5 +1,5 @@
 use Rattle.std.proofs.Common.{◌≡◌, ◌++◌, drop}
-use Rattle.margin_report.specs.Text.{numbers_text}
+use Rattle.margin_report.specs.Step.{numbers_text}
 use Rattle.margin_report.proofs.lines.add_numbers.Given as goal
 
 -- the lines so far, with the lines of the numbers that are left, are all lines
