@@ -1,7 +1,7 @@
 #!/usr/bin/env python3
 """Measures `itv` beside an unproved Rust program of the same rule, and beside z3, cbc and glpsol where they are installed.
 
-    bench/measure.py PATH_OF_THE_BUILT_PROGRAM [searches|falls|settles|bounds|readings|edits|all]
+    bench/measure.py PATH_OF_THE_BUILT_PROGRAM [searches|falls|settles|bounds|readings|edits|margins|all]
 
 Builds bench/peer with the machine's cargo. Each time is the least of three runs of the whole program, in seconds; a run of more
 than 5 seconds is made once. The line of a network is a row of a table of docs/speed.md: its name, the seconds of `itv`, those of the
@@ -10,7 +10,12 @@ job bounds, of job fall and of z3, and what both jobs say; for settles those of 
 and of z3, and what job settle says. That of a design that is read alone has the seconds of job matrix, which
 reads and draws it and then refuses it for its number of events, and those of a report without a row. For edits it has the seconds of job
 whatif from scratch on the network that 100 edits lead to, and with these edits, of one edit beyond reading and the first state, the ratio of that
-to the run from scratch, and how many bounds the edits kept and searched anew."""
+to the run from scratch, and how many bounds the edits kept and searched anew. For margins it has the ends of the numbers of a design,
+the seconds of job margin, how many ends were bisected, the runs of job brief (or of job settle, where job brief leaves the design open) that this
+took, their seconds, these scaled to all ends, and the seconds of z3 for all ends."""
+import importlib.machinery
+import importlib.util
+import json
 import os
 import re
 import shutil
@@ -22,6 +27,7 @@ import time
 import networks
 
 HERE = os.path.dirname(os.path.abspath(__file__))
+TOP = os.path.dirname(HERE)
 # The seconds for each side of a row, and those for both.
 LIMIT = 20
 BOTH = 2 * LIMIT
@@ -88,11 +94,9 @@ def lp(net, sign):
     return "\n".join(out) + "\n"
 
 
-def smt(net, sign):
-    a, b = net.rows[0]
-    if sign < 0:
-        a, b = b, a
-    out = [f"(declare-const t{e} Int)" for e in range(net.events)] + [f"(assert (= t{a} 0))"]
+def smt_rules(net, zero):
+    """The rules of a network, with an event at 0."""
+    out = [f"(declare-const t{e} Int)" for e in range(net.events)] + [f"(assert (= t{zero} 0))"]
     part = lambda event, target, low, high: [f"(>= (- t{target} t{event}) {low if low >= 0 else f'(- {-low})'})" if low is not None else "true",
                                              f"(<= (- t{target} t{event}) {high if high >= 0 else f'(- {-high})'})" if high is not None else "true"]
     for kind, target, causes in net.constraints:
@@ -103,6 +107,14 @@ def smt(net, sign):
             every, some = (0, 1) if kind == "late" else (1, 0)
             out += [f"(assert {side[every]})" for side in sides]
             out.append(f"(assert (or {' '.join(side[some] for side in sides)}))")
+    return out
+
+
+def smt(net, sign):
+    a, b = net.rows[0]
+    if sign < 0:
+        a, b = b, a
+    out = smt_rules(net, a)
     out += [f"(maximize (- t{b} t{a}))", "(check-sat)", "(get-objectives)"]
     return "\n".join(out) + "\n"
 
@@ -257,6 +269,113 @@ def measure_edits(program, name, size, asked, cause, edits):
         row([name, show(scratch), show(edited), f"{1000 * each:.2f} ms", f"1 / {scratch / each:.0f}", f"{kept:.1f}", f"{searched:.1f}"])
 
 
+# How many ends of a design are bisected: about so many of a large one, or all.
+FEW, EVERY = 8, 1024
+# The seconds for one run of z3 with all questions of a design.
+MARGIN_LIMIT = 120
+# The first step of a bisection. The answers are some thousands.
+STEP = 1024
+
+
+def changed_drawings(program):
+    """The code of tools/dev/margins, which writes the changed drawing of a design."""
+    os.environ["ITV"] = program
+    sys.dont_write_bytecode = True
+    loader = importlib.machinery.SourceFileLoader("margins", os.path.join(TOP, "tools", "dev", "margins"))
+    module = importlib.util.module_from_spec(importlib.util.spec_from_loader("margins", loader))
+    loader.exec_module(module)
+    return module
+
+
+class Bisection:
+    """How far the ends of a design may move, by whole runs of a job on changed drawings."""
+
+    def __init__(self, program, job, design):
+        self.program, self.job, self.design, self.runs, self.took = program, job, design, 0, 0.0
+
+    def passes(self, number, low, high):
+        path = self.design.with_range(number, low, high)
+        took, out = seconds([self.program, "--job", self.job, path], TOP, runs=1)
+        self.runs, self.took = self.runs + 1, self.took + took
+        return out.endswith(b"end pass\n")
+
+    def margin(self, side, number, low, high):
+        """The greatest move with which all passes, as job margin prints it. The design has to pass as drawn."""
+        if self.passes(number, *((None, high) if side == "low" else (low, None))):
+            return "*"
+        moved = lambda by: (low - by, high) if side == "low" else (low, high + by)
+        good, bad = 0, STEP
+        while self.passes(number, *moved(bad)):
+            good, bad = bad, 2 * bad
+        while bad - good > 1:
+            middle = (good + bad) // 2
+            good, bad = (middle, bad) if self.passes(number, *moved(middle)) else (good, middle)
+        return str(good)
+
+
+def margin_question(drawing, number, low, high):
+    """Whether some times break a requirement with another range of a number."""
+    net, demands = drawing.network(number, (low, high))
+    literal = lambda n: str(n) if n >= 0 else f"(- {-n})"
+    broken = [f"(< (- t{b} t{a}) {literal(least)})" for a, b, least, _ in demands if least is not None]
+    broken += [f"(> (- t{b} t{a}) {literal(most)})" for a, b, _, most in demands if most is not None]
+    return ["(reset)", "(set-logic QF_IDL)"] + smt_rules(net, 0) + [f"(assert (or {' '.join(broken)} false))", "(check-sat)"]
+
+
+def z3_margins(drawing, ends, folder):
+    """The seconds of one run of z3 that is asked whether the margins are right: nothing breaks with a margin, something with 1 more."""
+    lines, wanted = [], []
+    for side, how, number, low, high in ends:
+        if how == "*":
+            tried = [((None, high) if side == "low" else (low, None), "unsat")]
+        else:
+            tried = [((low - by, high) if side == "low" else (low, high + by), says) for by, says in ((int(how), "unsat"), (int(how) + 1, "sat"))]
+        for (least, most), says in tried:
+            lines += margin_question(drawing, number, least, most)
+            wanted.append(says)
+    path = os.path.join(folder, "margins.smt2")
+    with open(path, "w") as file:
+        file.write("\n".join(lines) + "\n")
+    took, out = seconds(["z3", path], folder, runs=1, limit=MARGIN_LIMIT)
+    return took, took is not None and out.decode().split() != wanted
+
+
+def measure_margins(program, changed, name, path, most):
+    """Job margin beside bisection and z3. Bisection is asked about so many ends at most, spread over all, and its time is scaled."""
+    with tempfile.TemporaryDirectory() as folder:
+        took, out = seconds([program, "--job", "margin", path], TOP)
+        found = [changed.LINE.match(line) for line in out.decode().splitlines() if line.startswith(("low ", "high "))]
+        ends = [(*line.groups()[:3], *map(changed.end_of, line.groups()[3:5])) for line in found]
+        # An odd step, as low and high take turns.
+        asked = ends[:: (len(ends) // most | 1) if len(ends) > most else 1]
+        _, drawn = seconds([program, "--job", "brief", path], TOP, runs=1)
+        job = "settle" if drawn.endswith(b"end undecided\n") else "brief"
+        bisection = Bisection(program, job, changed.Design(path, folder))
+        differs = [end for end in asked if bisection.margin(end[0], *end[2:]) != end[1]]
+        scaled = "" if len(asked) == len(ends) else f"{bisection.took * len(ends) / len(asked):.0f}"
+        cells = [show(bisection.took) + (" DIFFERENT" if differs else ""), scaled]
+        if there(SOLVERS[:1]):
+            with open(path, encoding="utf-8") as file:
+                drawing = networks.Drawing(json.load(file), TOP)
+            took_z3, is_other = z3_margins(drawing, ends, folder)
+            cells.append(show(took_z3, MARGIN_LIMIT) + (" DIFFERENT" if is_other else ""))
+        row([name, str(len(ends)), show(took), str(len(asked)), f"{bisection.runs} of job {job}"] + cells)
+
+
+def margin_designs(folder):
+    """Names and paths of the designs, and how many ends to bisect. Paths of sheets are from the top or absolute."""
+    example = lambda name: os.path.join(TOP, "examples", name)
+    files = networks.bus(64)
+    main = json.loads(files["main.json"])
+    for part in main["parts"]:
+        part["sheet"] = os.path.join(folder, part["sheet"])
+    with open(example("cpu-sram.json"), encoding="utf-8") as file:
+        cycles = json.load(file) | {"cycles": 128}
+    lay_out(files | {"main.json": json.dumps(main), "cycles.json": json.dumps(cycles)}, folder)
+    return [("`cpu-sram.json`, 2 cycles", example("cpu-sram.json"), EVERY), ("`stages.json`", example("stages.json"), EVERY),
+            ("bus, size 64", os.path.join(folder, "main.json"), FEW), ("`cpu-sram.json`, 128 cycles", os.path.join(folder, "cycles.json"), FEW)]
+
+
 def main():
     program = os.path.abspath(sys.argv[1])
     which = sys.argv[2] if len(sys.argv) > 2 else "all"
@@ -291,6 +410,12 @@ def main():
                 for edits, what in ((edits_of_one, "one slave's range"), (edits_of_all, "a range of each slave")):
                     name = f"bus, size {size}, {asked} slaves asked, {what} {kind}"
                     measure_edits(program, name, size, asked, cause, edits(cause, asked))
+    if which in ("margins", "all"):
+        row(["design", "ends", "job margin", "ends bisected", "runs", "bisection", "scaled to all ends"] + [name for name, *_ in there(SOLVERS[:1])])
+        changed = changed_drawings(program)
+        with tempfile.TemporaryDirectory() as folder:
+            for name, path, most in margin_designs(folder):
+                measure_margins(program, changed, name, path, most)
 
 
 if __name__ == "__main__":

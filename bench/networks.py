@@ -1,6 +1,8 @@
 """Networks to measure with: each as files that `itv` reads and as lines that the other program reads."""
 import json
+import os
 import random
+import re
 import string
 
 # As many marks as make the greatest number of events in 256 parts or cycles.
@@ -204,6 +206,84 @@ def bus_network(size):
         if cycle:
             net.rows.append((zd - per, zc))
     return net
+
+
+LABEL = re.compile(r"(.*) @(\w+)(:\w+)?(?:\+(\d+))? *(?:\[(\S+?),(\S+?)\])?(?: |$)")
+
+
+def lanes_of(lanes):
+    """The lanes of a sheet, those of its groups too."""
+    for lane in lanes:
+        if isinstance(lane, list):
+            yield from lanes_of(lane[1:])
+        elif isinstance(lane, dict):
+            yield lane
+
+
+class Drawing:
+    """A design as it is drawn: enough of the notation for the designs of job margin that are measured."""
+
+    def __init__(self, tree, top):
+        """`top` is the folder in which the program runs."""
+        self.tree = tree if "itv" in tree else {"cycles": 1, "parts": [{"name": "U", "tree": tree}], "nets": [], "edges": []}
+        self.sheets = []
+        for part in self.tree["parts"]:
+            if "tree" in part:
+                self.sheets.append(part["tree"])
+            else:
+                with open(os.path.join(top, part["sheet"]), encoding="utf-8") as file:
+                    self.sheets.append(json.load(file))
+        self.marks, self.pins, self.orders = {}, {}, []
+        for part, sheet in zip(self.tree["parts"], self.sheets):
+            for lane in lanes_of(sheet["signal"]):
+                found = [f"{part['name']}.{mark}" for mark in lane.get("node", "") if mark != "."]
+                for mark in found:
+                    self.marks[mark] = len(self.marks)
+                if "name" in lane:
+                    self.pins[f"{part['name']}.{lane['name']}"] = found
+                    if "wave" in lane and found:
+                        self.orders.append(found)
+
+    def labels(self):
+        """Each edge with its number and the name of where it stands: two marks, kind, tag, cycles to the to-event, and range."""
+        places = [(f"{part['name']} edge", part["name"], sheet.get("edge", [])) for part, sheet in zip(self.tree["parts"], self.sheets)]
+        for what, part, texts in places + [("wire", "", self.tree["edges"])]:
+            for k, text in enumerate(texts):
+                ends, kind, tag, cycles, low, high = LABEL.match(text).groups()
+                a, b = (f"{part}.{ends[0]}", f"{part}.{ends[-1]}") if part else ends.split(" ")
+                yield f"{what} {k}", what, a, b, kind, tag, int(cycles or 0), *(None if end in (None, "*") else int(end) for end in (low, high))
+
+    def network(self, number="", ends=()):
+        """The network, in which a number may have another range, and its requirements: two events and a range each."""
+        cycles, per = self.tree["cycles"], len(self.marks)
+        net, demands = Network("", cycles * per), []
+        edges = list(self.labels())
+        for cycle in range(cycles):
+            at = lambda mark, back=0: (cycle - back) * per + self.marks[mark]
+            for marks in self.orders:
+                if cycle:
+                    net.lin(at(marks[-1], 1), at(marks[0]), 0, None)
+                for a, b in zip(marks, marks[1:]):
+                    net.lin(at(a), at(b), 0, None)
+            for k, wires in enumerate(self.tree["nets"]):
+                low, high = ends if number == f"net {k}" else wires["delay"]
+                for pin in wires["pins"][1:]:
+                    for a, b in zip(self.pins[wires["pins"][0]], self.pins[pin]):
+                        net.lin(at(a), at(b), low, high)
+            choices = {}
+            for name, what, a, b, kind, tag, back, low, high in edges:
+                if back > cycle:
+                    continue
+                low, high = ends if number == name else (low, high)
+                if kind == "lin":
+                    net.lin(at(a, back), at(b), low, high)
+                elif kind == "req":
+                    demands.append((at(a, back), at(b), low, high))
+                elif kind != "ask":
+                    choices.setdefault((what, kind, tag, b, back), []).append((at(a, back), low, high))
+            for (_, kind, _, b, _), causes in choices.items():
+                getattr(net, kind)(at(b), causes)
+        return net, demands
 
 
 def searches():
