@@ -1,0 +1,4 @@
+pub mod Edges
+pub mod Meeting
+pub mod Covering
+pub mod Proving
