@@ -13,6 +13,7 @@ use Rattle.clauses.specs.declared.claim.Claim.{Claim}
 use Rattle.edge_clauses.specs.declared.basis.Basis.{Basis}
 use Rattle.edge_clauses.specs.declared.basis.Basis.TheVariants.{ByEdge, Either, ByChoice, ByKept}
 use Rattle.edge_clauses.specs.declared.basis.WalkStep.{WalkStep}
+use Rattle.edge_clauses.specs.declared.line.EventBound.{EventBound}
 use Rattle.edge_clauses.specs.Lines.{Assume, ClauseLine, Close, Fall, Know, Loop, Rise}
 
 -- ---- words
@@ -81,17 +82,24 @@ many_and_many read key also words = parted key words >>= λ p. many read p.0 >>=
 
 -- ---- lines
 
-abbrev pub fall_of : ℕ × (ℤ × Basis) → ClauseLine
-fall_of p = Fall (record { 0 = p.0 }) p.1.0 p.1.1
+-- a bound of an event, and where its clause comes from
+abbrev pub bound_of : ℕ × (ℤ × Basis) → EventBound
+bound_of p = record { event = record { 0 = p.0 }; value = p.1.0; basis = p.1.1 }
+
+abbrev pub bound_in : List Word → Option EventBound
+bound_in words = option_map bound_of (number_then (two long_in basis_in) words)
+
+abbrev pub fall_of : EventBound → ClauseLine
+fall_of bound = Fall bound.event bound.value bound.basis
 
 abbrev pub fall_in : List Word → Option ClauseLine
-fall_in words = option_map fall_of (keyed (codes "fall") (number_then (two long_in basis_in)) words)
+fall_in words = option_map fall_of (keyed (codes "fall") bound_in words)
 
-abbrev pub rise_of : ℕ × (ℤ × Basis) → ClauseLine
-rise_of p = Rise (record { 0 = p.0 }) p.1.0 p.1.1
+abbrev pub rise_of : EventBound → ClauseLine
+rise_of bound = Rise bound.event bound.value bound.basis
 
 abbrev pub rise_in : List Word → Option ClauseLine
-rise_in words = option_map rise_of (keyed (codes "rise") (number_then (two long_in basis_in)) words)
+rise_in words = option_map rise_of (keyed (codes "rise") bound_in words)
 
 abbrev pub know_of : Edge × Basis → ClauseLine
 know_of p = Know p.0 p.1
