@@ -1,14 +1,11 @@
--- The proofs of a text of fewer than 2^32 bytes have fewer than 2^32 lines each.
+-- The lines of the proofs of a text of fewer than 2^32 bytes have a text of fewer than 2^32 bytes each.
 use Rattle.std.proofs.Common.{◌≡◌, ◌+◌, ◌<◌, ◌≤◌, ℕ, true, List, [], ◌∷◌, ◌++◌, length, sym, subst, arith, length-append}
 use Rattle.std.specs.Prelude.{◌^◌, All}
 use Rattle.std.specs.List.{flat_map}
-use Rattle.std.proofs.lemmas.List.{length-map}
 use Rattle.std.proofs.lemmas.List.Elements.{All-cons, All-nil}
-use Rattle.line_words.specs.Lines.{line_of}
 use Rattle.event_graph.specs.Network.{Net}
-use Rattle.clauses.specs.Lines.{ClauseLine}
-use Rattle.settle.specs.Proofs.{line_of as stored_line, lines_of}
-use Rattle.settle_lines.specs.Text.{claim_text, clause_line_text, clause_words, view_text}
+use Rattle.edge_clauses.specs.Proofs.{lines_of}
+use Rattle.settle_lines.specs.Text.{claim_text, clause_line_text, view_text}
 use Rattle.slack_report.specs.declared.words.FindingWord.TheVariants as findings
 use Rattle.slack_report.specs.declared.words.Which.{Which}
 use Rattle.slack_report.specs.declared.words.Which.TheVariants.{Max, Min}
@@ -27,17 +24,10 @@ use Rattle.settle_report.specs.Answers.{AreFound, AreRowsFound}
 use Rattle.settle_report.specs.Text.{behind_text, bound_text, ending_of, finding_text, front_text, judged_text, row_text, rows_text, settle_text, shown_text}
 use Rattle.settle_check.specs.Step.{HasFewLines, HasFewLinesIn, HasFewRows}
 
-few_lines : (lines : List ClauseLine) → length lines ≤ length (flat_map clause_line_text lines)
-few_lines [] = omega arith
-few_lines (l ∷ lines) =
-    omega (arith, few_lines lines, length-append (clause_line_text l) (flat_map clause_line_text lines), length-append (line_of (clause_words l)) (10 ∷ []))
-
-few_proof : (proof : Proof) → length proof.lines.items ≤ length (shown_text true proof)
+few_proof : (proof : Proof) → length (flat_map clause_line_text (lines_of proof.lines.items)) ≤ length (shown_text true proof)
 few_proof proof =
     omega (
       arith,
-      few_lines (lines_of proof.lines.items),
-      length-map proof.lines.items stored_line,
       length-append (view_text proof.view) (claim_text proof.claim ++ flat_map clause_line_text (lines_of proof.lines.items)),
       length-append (claim_text proof.claim) (flat_map clause_line_text (lines_of proof.lines.items)),
     )

@@ -16,5 +16,4 @@ mod Settled
 mod Taken
 mod Turns
 mod Values
-mod Ways
 mod Whole

@@ -16,7 +16,7 @@ use Rattle.slack_report.specs.Entry as line
 use Rattle.slack_report.specs.Text.{entry_text, which_word, words_of}
 use Rattle.requirements.specs.declared.bound.Bound.TheVariants as bounds
 use Rattle.drawn.specs.declared.row.Row.{Row}
-use Rattle.settle.specs.Proofs.{lines_of}
+use Rattle.edge_clauses.specs.Proofs.{lines_of}
 use Rattle.settle_lines.specs.Text.{claim_text, clause_line_text, view_text, view_word}
 use Rattle.settle_report.specs.declared.finding.Finding.{Finding}
 use Rattle.settle_report.specs.declared.finding.Finding.TheVariants.{Consistent, Inconsistent, Spent}

@@ -10,9 +10,9 @@ use Rattle.falling.specs.declared.view.View.{View}
 use Rattle.falling.specs.declared.view.View.TheVariants.{Plain, Negated}
 use Rattle.falling.specs.Cap.{far_line}
 use Rattle.line_words.specs.Numbers.{IsLong}
-use Rattle.clauses.proofs.Proving.{clause_proof_bounds, clause_proof_of_nothing, negated_proof_bounds, negated_proof_of_nothing}
-use Rattle.settle.specs.declared.line.StoredLine.{StoredLine}
-use Rattle.settle.specs.Proofs.{IsProofAs, lines_of}
+use Rattle.edge_clauses.proofs.Proving.{clause_proof_bounds, clause_proof_of_nothing, negated_proof_bounds, negated_proof_of_nothing}
+use Rattle.edge_clauses.specs.declared.line.StoredLine.{StoredLine}
+use Rattle.edge_clauses.specs.Proofs.{IsProofAs, lines_of}
 use Rattle.slack_report.specs.declared.words.Which.{Which}
 use Rattle.slack_report.specs.declared.words.Which.TheVariants.{Max, Min}
 use Rattle.drawn.specs.Drawn.{IsRowOf}

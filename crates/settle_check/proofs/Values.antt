@@ -10,7 +10,7 @@ use Rattle.event_graph.specs.Times.{time_of}
 use Rattle.event_graph.proofs.Reversing.{least_is_reversed_greatest}
 use Rattle.falling.specs.Cap.{far_line}
 use Rattle.line_words.specs.Numbers.{IsLong}
-use Rattle.settle.specs.Proofs.{IsProofAs}
+use Rattle.edge_clauses.specs.Proofs.{IsProofAs}
 use Rattle.slack_report.specs.declared.words.Which.{Which}
 use Rattle.slack_report.specs.declared.words.Which.TheVariants.{Max, Min}
 use Rattle.drawn.specs.Drawn.{IsRowOf}

@@ -1,6 +1,6 @@
 -- What the steps of a check promise one another.
 use Rattle.std.specs.Prelude.{◌≡◌, ◌≤◌, ◌<◌, ◌++◌, ◌∷◌, ◌^◌, ℕ, ℤ, neg_ℤ, true, false, List, [], All, Option, Some, None, Result, Ok, Err, length, take}
-use Rattle.std.specs.List.{AllByRecursion}
+use Rattle.std.specs.List.{AllByRecursion, flat_map}
 use Rattle.std.specs.Str.{IsUtf8}
 use denote.Ref.{Bor}
 use Rattle.itv_base.specs.Outside.{SinkState}
@@ -12,9 +12,10 @@ use Rattle.event_graph.specs.Network.{Net}
 use Rattle.event_graph.specs.Satisfying.{Satisfies}
 use Rattle.falling.specs.DerivationEnds.{AreLimits}
 use Rattle.falling.specs.Kinds.{negated}
-use Rattle.clauses.specs.Lines.{ClauseLine}
-use Rattle.settle.specs.Proofs.{IsProofAs, lines_of}
-use Rattle.settle_lines.specs.Text.{SpellsClause}
+use Rattle.edge_clauses.specs.Lines.{ClauseLine}
+use Rattle.edge_clauses.specs.declared.line.StoredLine.{StoredLine}
+use Rattle.edge_clauses.specs.Proofs.{IsProofAs, lines_of}
+use Rattle.settle_lines.specs.Text.{SpellsClause, clause_line_text}
 use Rattle.slack_report.specs.declared.words.Which.{Which}
 use Rattle.slack_report.specs.declared.words.Which.TheVariants.{Max, Min}
 use Rattle.drawn.specs.declared.row.Row.{Row}
@@ -159,29 +160,33 @@ AreSameRows (row ∷ rows) (other ∷ others) = IsSameRow row other × AreSameRo
 
 -- ---- proofs that stand next
 
--- a proof for a pair, whose claim has 64 bits and whose lines can be numbered by 32 bits
+-- the text of the lines has fewer than 2^32 bytes
+abbrev pub AreFew : List StoredLine → Type 0
+AreFew lines = length (flat_map clause_line_text (lines_of lines)) < 2 ^ 32
+
+-- a proof for a pair, whose claim has 64 bits and whose lines have a text of fewer than 2^32 bytes
 pub record IsShownProof (net : Net) (pair : Pair) (proof : Proof) : Type 0 where
   pub proves : IsProofAs proof.view net pair.from pair.to proof.claim proof.lines.items
   pub fits : IsLong proof.claim
-  pub few : length proof.lines.items < 2 ^ 32
+  pub few : AreFew proof.lines.items
 
--- the proof of a finding, if it has one, can be numbered by 32 bits
+-- the lines of the proof of a finding are few, if it has one
 abbrev pub HasFewLines : Finding → Type 0
 HasFewLines (Consistent times) = Unit {0}
-HasFewLines (Inconsistent proof) = length proof.lines.items < 2 ^ 32
+HasFewLines (Inconsistent proof) = AreFew proof.lines.items
 HasFewLines Spent = Unit {0}
 
--- the proof of a bound, if it has one, can be numbered by 32 bits
+-- the lines of the proof of a bound are few, if it has one
 abbrev pub HasFewLinesIn : SettledBound → Type 0
-HasFewLinesIn (settled.Closed value times proof) = length proof.lines.items < 2 ^ 32
+HasFewLinesIn (settled.Closed value times proof) = AreFew proof.lines.items
 HasFewLinesIn (settled.Unbounded times ray) = Unit {0}
 HasFewLinesIn settled.Spent = Unit {0}
 
--- the proofs of both bounds of a row can be numbered by 32 bits
+-- the lines of the proofs of both bounds of a row are few
 abbrev pub HasFewRows : RowFound → Type 0
 HasFewRows found = HasFewLinesIn found.greatest × HasFewLinesIn found.least
 
--- what was found of a row, with proofs that can be numbered by 32 bits
+-- what was found of a row, with proofs of few lines
 pub record IsShownRow (net : Net) (row : Row) (found : RowFound) : Type 0 where
   pub is_found : IsRowFound true net row found
   pub few : HasFewRows found

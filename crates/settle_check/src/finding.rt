@@ -1,6 +1,6 @@
 //! Checking the finding.
 
-ghost use Rattle.std.specs.Prelude.{◌≡◌, ◌<◌, ◌<ℤ◌, ◌^◌, ◌++◌, ◌↔◌, ℕ, ℤ, neg_ℤ, pos, true, IfOk, IsTrue, List, length};
+ghost use Rattle.std.specs.Prelude.{◌≡◌, ◌<◌, ◌<ℤ◌, ◌++◌, ◌↔◌, ℕ, ℤ, neg_ℤ, pos, true, IfOk, IsTrue, List};
 ghost use Rattle.std.specs.Global.{Vec};
 ghost use Rattle.line_words.specs.Numbers.{IsLong};
 ghost use Rattle.slack_report.specs.declared.words.FindingWord.TheVariants.{Inconsistent as IsInconsistentWord};
@@ -8,13 +8,13 @@ ghost use Rattle.slack_report.specs.Entry.{finding as entry_finding, times as en
 ghost use Rattle.slack_report.specs.Text.{entry_text};
 ghost use Rattle.event_graph.specs.Network.{Net};
 ghost use Rattle.falling.specs.Cap.{far_line};
-ghost use Rattle.settle.specs.Proofs.{IsProofAs};
+ghost use Rattle.edge_clauses.specs.Proofs.{IsProofAs};
 ghost use Rattle.settle_report.specs.declared.finding.Finding.{Finding};
 ghost use Rattle.settle_report.specs.declared.finding.Finding.TheVariants.{Consistent, Inconsistent};
 ghost use Rattle.settle_report.specs.declared.proof.Proof.{Proof};
 ghost use Rattle.settle_report.specs.Answers.{ArePrintedTimes, IsFinding, IsRefuted, first_event};
 ghost use Rattle.settle_report.specs.Text.{finding_text, shown_text};
-ghost use Rattle.settle_check.specs.Step.{AreViewsOf, Gives, HasFewLines, IsSameFinding};
+ghost use Rattle.settle_check.specs.Step.{AreFew, AreViewsOf, Gives, HasFewLines, IsSameFinding};
 
 use crate::check_stop::CheckStop;
 use crate::pair::Pair;
@@ -86,7 +86,7 @@ fn refuted_next(
 ) -> Result<Finding, CheckStop>
     requires views { AreViewsOf net.now views.now }
     ensures finding { IfOk result (IsFinding true net.now) }
-    ensures read { (shown : Proof) → (more : List ℕ) → IsRefuted true net.now shown → length shown.lines.items < 2 ^ 32
+    ensures read { (shown : Proof) → (more : List ℕ) → IsRefuted true net.now shown → AreFew shown.lines.items
         → reader.old.rest.now ≡ shown_text true shown ++ (entry_text (entry_finding IsInconsistentWord) ++ more) → Gives (IsSameFinding (Inconsistent shown)) result }
 {
     if net.events() == 0 {

@@ -11,7 +11,7 @@ use Rattle.event_graph.specs.Satisfying.{Satisfies}
 use Rattle.event_graph.specs.Times.{separation, time_of}
 use Rattle.line_words.specs.Numbers.{IsLong}
 use Rattle.falling.specs.Cap.{far_line}
-use Rattle.settle.specs.Proofs.{IsProofAs}
+use Rattle.edge_clauses.specs.Proofs.{IsProofAs}
 use Rattle.requirements.specs.Verdicts.{verdict_of}
 use Rattle.requirements.specs.declared.bound.BothBounds.{BothBounds}
 use Rattle.requirements.specs.declared.bound.Bound.{Bound}

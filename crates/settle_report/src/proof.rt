@@ -5,14 +5,14 @@ ghost use Rattle.itv_base.specs.Outside.{Puts};
 ghost use Rattle.itv_base.specs.declared.names.EventId.{EventId};
 ghost use Rattle.event_graph.specs.Network.{Net};
 ghost use Rattle.line_words.specs.Numbers.{IsLong};
-ghost use Rattle.settle.specs.Proofs.{IsProofAs};
+ghost use Rattle.edge_clauses.specs.Proofs.{IsProofAs};
 ghost use Rattle.settle_report.specs.Answers.{ProvesClaim};
 ghost use Rattle.settle_report.specs.Text.{shown_text};
 
 use clauses::Claim;
 use falling::View;
 use itv_base::{PutFailed, Sink};
-use settle::StoredLine;
+use edge_clauses::StoredLine;
 use settle_lines::write_proof;
 use std::alloc::Global;
 
