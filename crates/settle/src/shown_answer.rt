@@ -1,6 +1,5 @@
 //! What is found of a pair.
 
-
 use clauses::Claim;
 use edge_clauses::StoredLine;
 use falling::View;

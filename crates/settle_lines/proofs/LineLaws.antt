@@ -117,7 +117,7 @@ bound_inverts = record {
   takes = λ words bound e.
       let m = map_some bound_of (number_then (two long_in basis_in) words) bound e in
       let t = number_long_basis.takes words m.0 m.1 in
-      subst (λ (b : EventBound). (words ≡ bound_words b) × IsNamedBound b) m.2 (t.0, (t.1.0, (t.1.1.0, t.1.1.1)));
+      subst (λ (b : EventBound). (words ≡ bound_words b) × IsNamedBound b) m.2 (t.0, (t.1.0, t.1.1.0, t.1.1.1));
   again = λ bound form. rw (number_long_basis.again (bound.event.0, (bound.value, bound.basis)) (form.0, (form.1, form.2))) refl;
 }
 
@@ -183,7 +183,7 @@ assume_takes words line e =
 loop_takes : (words : List Word) (line : ClauseLine) → or_else (loop_in words) (or_else (assume_in words) (close_in words)) ≡ Some line → Taken words line
 loop_takes words line e =
     one_of loop_of (keyed (codes "loop") (number_then (many_and_many step_in (codes "keep") difference_in)) words) (or_else (assume_in words) (close_in words)) line (Taken words) e
-    (λ p h. let t = loop_inverts.takes words p h in (t.0, (t.1.0, (t.1.1.0, t.1.1.1)))) (assume_takes words line)
+    (λ p h. let t = loop_inverts.takes words p h in (t.0, (t.1.0, t.1.1.0, t.1.1.1))) (assume_takes words line)
 
 know_takes : (words : List Word) (line : ClauseLine) → or_else (know_in words) (or_else (loop_in words) (or_else (assume_in words) (close_in words))) ≡ Some line → Taken words line
 know_takes words line e =
@@ -219,9 +219,11 @@ append_plain [] behind all more = more
 append_plain (word ∷ front) behind all more = (all.0, append_plain front behind all.1 more)
 
 loop_plain : (event : ℕ) (steps : List WalkStep) (clause : List Edge) → ArePlain (number_text event ∷ (map step_word steps ++ codes "keep" ∷ map difference_word clause))
-loop_plain event steps clause =
-    (number_plain event, append_plain (map step_word steps) (codes "keep" ∷ map difference_word clause) (map_plain step_word step_plain steps)
-    (refl, map_plain difference_word difference_plain clause))
+loop_plain event steps clause = (
+  number_plain event,
+  append_plain (map step_word steps) (codes "keep" ∷ map difference_word clause) (map_plain step_word step_plain steps)
+      (refl, map_plain difference_word difference_plain clause),
+)
 
 -- the words of a line of a proof: a first word and others, all of them plain
 pub record LineWords (line : ClauseLine) : Type 0 where

@@ -66,11 +66,11 @@ numbered_takes mark read word x e =
     let behind = after_while is_ascii_digit word in
     let a = bind_some (short_in digits) (λ number. stripped mark behind >>= λ rest. read number rest) x e in
     let b = bind_some (stripped mark behind) (λ rest. read a.0 rest) x a.2 in
-    let number = short_inverts.takes digits a.0 a.1 in record {
+    let first = short_inverts.takes digits a.0 a.1 in record {
       number = a.0;
       rest = b.0;
-      whole = run_whole is_ascii_digit word ∙ ap (λ text. text ++ behind) number.0 ∙ ap (λ text. number_text a.0 ++ text) (stripped_some mark behind b.0 b.1);
-      small = number.1;
+      whole = run_whole is_ascii_digit word ∙ ap (λ text. text ++ behind) first.0 ∙ ap (λ text. number_text a.0 ++ text) (stripped_some mark behind b.0 b.1);
+      small = first.1;
       reads = b.2;
     }
 
@@ -89,15 +89,15 @@ TakenDifference word e = (word ≡ difference_word e) × IsDifference e
 difference_takes : (word : Word) (e : Edge) → difference_in word ≡ Some e → TakenDifference word e
 unfolding difference_in
 difference_takes word e h =
-    let from = numbered_takes (codes ">") target_in word e h in
-    let to = numbered_takes (codes ":") (weight_in from.number) from.rest e from.reads in
+    let first = numbered_takes (codes ">") target_in word e h in
+    let second = numbered_takes (codes ":") (weight_in first.number) first.rest e first.reads in
     let w =
-    bind_some (long_in to.rest) (λ weight. Some (record { from = record { 0 = from.number }; to = record { 0 = to.number }; weight = weight })) e to.reads in
-    let weight = long_inverts.takes to.rest w.0 w.1 in
-    let text : word ≡ number_text from.number ++ (62 ∷ (number_text to.number ++ (58 ∷ signed_text w.0))) =
-    from.whole ∙ ap (λ rest. number_text from.number ++ (62 ∷ rest)) (to.whole ∙ ap (λ rest. number_text to.number ++ (58 ∷ rest)) weight.0) in
-    subst (TakenDifference word) (same_Some (record { from = record { 0 = from.number }; to = record { 0 = to.number }; weight = w.0 }) e w.2)
-    (text, (from.small, (to.small, weight.1)))
+    bind_some (long_in second.rest) (λ weight. Some (record { from = record { 0 = first.number }; to = record { 0 = second.number }; weight = weight })) e second.reads in
+    let third = long_inverts.takes second.rest w.0 w.1 in
+    let text : word ≡ number_text first.number ++ (62 ∷ (number_text second.number ++ (58 ∷ signed_text w.0))) =
+    first.whole ∙ ap (λ rest. number_text first.number ++ (62 ∷ rest)) (second.whole ∙ ap (λ rest. number_text second.number ++ (58 ∷ rest)) third.0) in
+    subst (TakenDifference word) (same_Some (record { from = record { 0 = first.number }; to = record { 0 = second.number }; weight = w.0 }) e w.2)
+    (text, (first.small, second.small, third.1))
 
 difference_again : (e : Edge) → IsDifference e → difference_in (difference_word e) ≡ Some e
 unfolding difference_in

@@ -124,10 +124,7 @@ fn loop_in(alloc: Global, words: &[&str]) -> Result<Option<StoredLine>, NoMemory
 }
 
 // The steps of a loop, and the clause that is kept.
-fn kept_in(
-    alloc: Global,
-    words: &[&str],
-) -> Result<Option<(Vec<WalkStep>, Vec<Edge>)>, NoMemory>
+fn kept_in(alloc: Global, words: &[&str]) -> Result<Option<(Vec<WalkStep>, Vec<Edge>)>, NoMemory>
     ensures { IfOk result (λ o. option_map (λ p. (p.0.items, p.1.items)) o
         ≡ many_and_many step_in (codes "keep") difference_in (texts words.now)) }
 {

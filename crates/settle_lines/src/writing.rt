@@ -8,9 +8,7 @@ ghost use Rattle.edge_clauses.specs.Lines.{Assume, Fall, Know, Loop, Rise};
 ghost use Rattle.edge_clauses.specs.Proofs.{line_of, lines_of};
 ghost use Rattle.settle_lines.specs.Text.{claim_text, clause_line_text, difference_word, proof_text, step_word, view_text};
 
-use crate::put::{
-    put_basis_end, put_difference, put_differences, put_named, put_steps, put_value,
-};
+use crate::put::{put_basis_end, put_difference, put_differences, put_named, put_steps, put_value};
 use edge_clauses::{Basis, EventBound, StoredLine, WalkStep};
 use event_graph::Edge;
 use falling::View;

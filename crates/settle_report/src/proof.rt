@@ -10,9 +10,9 @@ ghost use Rattle.settle_report.specs.Answers.{ProvesClaim};
 ghost use Rattle.settle_report.specs.Text.{shown_text};
 
 use clauses::Claim;
+use edge_clauses::StoredLine;
 use falling::View;
 use itv_base::{PutFailed, Sink};
-use edge_clauses::StoredLine;
 use settle_lines::write_proof;
 use std::alloc::Global;
 
