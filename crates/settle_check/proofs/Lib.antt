@@ -1,6 +1,4 @@
 mod Determined
-mod Few
-mod Forms
 mod Found
 mod Judged
 mod Lines

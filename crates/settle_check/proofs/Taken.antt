@@ -1,9 +1,10 @@
 -- The lines of a right proof are read and taken, one after another.
 use Rattle.std.proofs.Common.{◌≡◌, ◌+◌, ◌<◌, ◌≤◌, ℕ, ℤ, List, [], ◌∷◌, ◌++◌, length, codes, Option, Some, None, refl, sym, ap, subst, ◌∙◌, append_assoc, append-nil, length-append, arith}
-use Rattle.std.specs.Prelude.{Result, Ok, Err, IfOk, IfSome, IsSomeAnd, OnOk}
+use Rattle.std.specs.Prelude.{All, Result, Ok, Err, IfOk, IfSome, IsSomeAnd, OnOk}
 use Rattle.std.specs.Global.{Vec}
 use Rattle.std.specs.List.{AllByRecursion, flat_map}
 use Rattle.std.proofs.lemmas.List.{map-append}
+use Rattle.std.proofs.lemmas.List.Elements.{recursion_from_All}
 use Rattle.std.proofs.lemmas.Option.{none-some}
 use Rattle.itv_base.specs.Numerals.{signed_text}
 use Rattle.line_words.specs.Lines.{ended, line_of}
@@ -16,11 +17,9 @@ use Rattle.slack_report.specs.declared.words.Which.TheVariants.{Max, Min}
 use Rattle.slack_report.specs.Entry as line
 use Rattle.slack_report.specs.Text.{entry_text, which_word, words_of}
 use Rattle.requirements.specs.declared.bound.Bound.TheVariants as bounds
-use Rattle.event_graph.specs.Network.{IsNet, Net}
-use Rattle.falling.specs.declared.limits.Limits.{Limits}
+use Rattle.event_graph.specs.Network.{Net}
 use Rattle.falling.specs.declared.view.View.{View}
 use Rattle.falling.specs.declared.view.View.TheVariants.{Plain, Negated}
-use Rattle.falling.specs.DerivationEnds.{AreLimits}
 use Rattle.clauses.specs.Lines.{Goal}
 use Rattle.edge_clauses.specs.Checking.{Checking}
 use Rattle.edge_clauses.specs.Lines.{ClauseLine, IsClauseProof, IsLine, IsOver, ProofLeads, State, starting}
@@ -30,9 +29,8 @@ use Rattle.settle_lines.specs.Step.Reading.{clause_in}
 use Rattle.settle_lines.specs.Text.{IsClauseLine, SpellsClause, claim_text, clause_line_text, clause_words, view_text, view_word}
 use Rattle.settle_lines.proofs.LineLaws.{clause_plain, line_is_read}
 use Rattle.settle_check.specs.declared.check_stop.CheckStop.{CheckStop}
-use Rattle.settle_check.specs.Step.{AreFew, Begins, BeginsOther, Gives}
+use Rattle.settle_check.specs.Step.{Begins, BeginsOther, Gives}
 use Rattle.settle_check.proofs.Determined.{rest_leads}
-use Rattle.settle_check.proofs.Forms.{proof_named}
 use Rattle.settle_check.proofs.Lines.{number_stands, words_stand}
 
 -- ---- lines that stand next
@@ -103,16 +101,15 @@ pub record AreLeft (shown : List ClauseLine) (more : List ℕ) (read : List Clau
 
 -- however a right proof goes on, its lines so far were read, at least one byte for each
 abbrev pub IsReading : Net → Goal → List ℕ → ℕ → List StoredLine → List ℕ → Type 0
-IsReading net goal text number read rest = (shown : List StoredLine) (more : List ℕ) → IsClauseProof net goal (lines_of shown) → AreFew shown → BeginsOther more
+IsReading net goal text number read rest = (shown : List StoredLine) (more : List ℕ) → IsClauseProof net goal (lines_of shown) → All IsClauseLine (lines_of shown) → BeginsOther more
     → text ≡ flat_map clause_line_text (lines_of shown) ++ more → AreLeft (lines_of shown) more (lines_of read) rest × (number + length rest ≤ length text)
 
-pub starts_reading : (net : Net) (goal : Goal) (limits : Limits) (text rest : List ℕ) (read : List StoredLine) → IsNet net → AreLimits net limits
-    → read ≡ [] → rest ≡ text → IsReading net goal text 0 read rest
-starts_reading net goal limits text rest read is_net are_limits none same shown more proof few other stands = (
+pub starts_reading : (net : Net) (goal : Goal) (text rest : List ℕ) (read : List StoredLine) → read ≡ [] → rest ≡ text → IsReading net goal text 0 read rest
+starts_reading net goal text rest read none same shown more proof forms other stands = (
   record {
     left = lines_of shown;
     all = ap (λ (ls : List StoredLine). lines_of ls ++ lines_of shown) none;
-    forms = proof_named net goal limits (lines_of shown) is_net are_limits few proof;
+    forms = recursion_from_All IsClauseLine (lines_of shown) forms;
     stands = same ∙ stands;
   },
   omega (arith, ap length same),
@@ -194,10 +191,10 @@ pub reads_taken : (net : Net) (goal : Goal) (check : Checking) (text rest : List
     → ((line after : List ℕ) → Begins rest line after → SpellsClause line (stored_line r))
     → ((line after : List ℕ) (l : ClauseLine) → Begins rest line after → SpellsClause line l → stored_line r ≡ l)
     → ((next : State) → IsLine net check.goal check.state (stored_line r) next → ⊥)
-    → (shown : List StoredLine) (more : List ℕ) → IsClauseProof net goal (lines_of shown) → AreFew shown → BeginsOther more
+    → (shown : List StoredLine) (more : List ℕ) → IsClauseProof net goal (lines_of shown) → All IsClauseLine (lines_of shown) → BeginsOther more
     → text ≡ flat_map clause_line_text (lines_of shown) ++ more → ⊥
-reads_taken net goal check text rest number read r reading proving same some is refused shown more proof few other stands =
-    let (left, many) = reading shown more proof few other stands in
+reads_taken net goal check text rest number read r reading proving same some is refused shown more proof forms other stands =
+    let (left, many) = reading shown more proof forms other stands in
     let (others, all, forms, begins) = first_left (lines_of shown) more (lines_of read) rest left other (Some r) some is in
     is_taken net goal check read (stored_line r) others proving same (subst (λ (ls : List ClauseLine). IsClauseProof net goal ls) (sym all) proof) refused
 
@@ -206,8 +203,8 @@ pub reads_more : (net : Net) (goal : Goal) (text rest next : List ℕ) (number :
     → ((line after : List ℕ) → Begins rest line after → SpellsClause line (stored_line r))
     → ((line after : List ℕ) (l : ClauseLine) → Begins rest line after → SpellsClause line l → stored_line r ≡ l)
     → grown ≡ read ++ r ∷ [] → ((line after : List ℕ) → Begins rest line after → next ≡ after) → IsReading net goal text (number + 1) grown next
-reads_more net goal text rest next number read grown r reading some is grows passed shown more proof few other stands =
-    let (left, many) = reading shown more proof few other stands in
+reads_more net goal text rest next number read grown r reading some is grows passed shown more proof forms other stands =
+    let (left, many) = reading shown more proof forms other stands in
     let (others, all, forms, begins) = first_left (lines_of shown) more (lines_of read) rest left other (Some r) some is in
     let behind : next ≡ flat_map clause_line_text others ++ more = passed (line_of (clause_words (stored_line r))) _ begins in
     let is_grown : lines_of grown ≡ lines_of read ++ stored_line r ∷ [] = ap lines_of grows ∙ map-append stored_line read (r ∷ []) in (

@@ -1,6 +1,6 @@
 -- What the steps of a check promise one another.
-use Rattle.std.specs.Prelude.{◌≡◌, ◌≤◌, ◌<◌, ◌++◌, ◌∷◌, ◌^◌, ℕ, ℤ, neg_ℤ, true, false, List, [], All, Option, Some, None, Result, Ok, Err, length, take}
-use Rattle.std.specs.List.{AllByRecursion, flat_map}
+use Rattle.std.specs.Prelude.{◌≡◌, ◌≤◌, ◌<◌, ◌++◌, ◌∷◌, ℕ, ℤ, neg_ℤ, true, false, List, [], All, Option, Some, None, Result, Ok, Err, length, take}
+use Rattle.std.specs.List.{AllByRecursion}
 use Rattle.std.specs.Str.{IsUtf8}
 use denote.Ref.{Bor}
 use Rattle.itv_base.specs.Outside.{SinkState}
@@ -13,9 +13,8 @@ use Rattle.event_graph.specs.Satisfying.{Satisfies}
 use Rattle.falling.specs.DerivationEnds.{AreLimits}
 use Rattle.falling.specs.Kinds.{negated}
 use Rattle.edge_clauses.specs.Lines.{ClauseLine}
-use Rattle.edge_clauses.specs.declared.line.StoredLine.{StoredLine}
 use Rattle.edge_clauses.specs.Proofs.{IsProofAs, lines_of}
-use Rattle.settle_lines.specs.Text.{SpellsClause, clause_line_text}
+use Rattle.settle_lines.specs.Text.{IsClauseLine, SpellsClause}
 use Rattle.slack_report.specs.declared.words.Which.{Which}
 use Rattle.slack_report.specs.declared.words.Which.TheVariants.{Max, Min}
 use Rattle.drawn.specs.declared.row.Row.{Row}
@@ -25,7 +24,6 @@ use Rattle.settle_report.specs.declared.proof.Proof.{Proof}
 use Rattle.settle_report.specs.declared.bound.SettledBound.{SettledBound}
 use Rattle.settle_report.specs.declared.bound.SettledBound.TheVariants as settled
 use Rattle.settle_report.specs.declared.row.RowFound.{RowFound}
-use Rattle.settle_report.specs.Answers.{AreRowsFound, IsRowFound}
 use Rattle.settle_check.specs.declared.check_stop.CheckStop.{CheckStop}
 use Rattle.settle_check.specs.declared.check_stop.CheckStop.TheVariants.{Refused, NoMemory}
 use Rattle.settle_check.specs.declared.draft.Draft.{Draft}
@@ -160,38 +158,8 @@ AreSameRows (row ∷ rows) (other ∷ others) = IsSameRow row other × AreSameRo
 
 -- ---- proofs that stand next
 
--- the text of the lines has fewer than 2^32 bytes
-abbrev pub AreFew : List StoredLine → Type 0
-AreFew lines = length (flat_map clause_line_text (lines_of lines)) < 2 ^ 32
-
--- a proof for a pair, whose claim has 64 bits and whose lines have a text of fewer than 2^32 bytes
+-- a proof for a pair, whose claim has 64 bits and whose lines have texts
 pub record IsShownProof (net : Net) (pair : Pair) (proof : Proof) : Type 0 where
   pub proves : IsProofAs proof.view net pair.from pair.to proof.claim proof.lines.items
   pub fits : IsLong proof.claim
-  pub few : AreFew proof.lines.items
-
--- the lines of the proof of a finding are few, if it has one
-abbrev pub HasFewLines : Finding → Type 0
-HasFewLines (Consistent times) = Unit {0}
-HasFewLines (Inconsistent proof) = AreFew proof.lines.items
-HasFewLines Spent = Unit {0}
-
--- the lines of the proof of a bound are few, if it has one
-abbrev pub HasFewLinesIn : SettledBound → Type 0
-HasFewLinesIn (settled.Closed value times proof) = AreFew proof.lines.items
-HasFewLinesIn (settled.Unbounded times ray) = Unit {0}
-HasFewLinesIn settled.Spent = Unit {0}
-
--- the lines of the proofs of both bounds of a row are few
-abbrev pub HasFewRows : RowFound → Type 0
-HasFewRows found = HasFewLinesIn found.greatest × HasFewLinesIn found.least
-
--- what was found of a row, with proofs of few lines
-pub record IsShownRow (net : Net) (row : Row) (found : RowFound) : Type 0 where
-  pub is_found : IsRowFound true net row found
-  pub few : HasFewRows found
-
--- what was found of each row, with such proofs
-pub record AreShownRows (net : Net) (rows : List Row) (found : List RowFound) : Type 0 where
-  pub are_found : AreRowsFound true net rows found
-  pub few : All HasFewRows found
+  pub forms : All IsClauseLine (lines_of proof.lines.items)

@@ -14,7 +14,7 @@ ghost use Rattle.settle_report.specs.declared.finding.Finding.TheVariants.{Consi
 ghost use Rattle.settle_report.specs.declared.proof.Proof.{Proof};
 ghost use Rattle.settle_report.specs.Answers.{ArePrintedTimes, IsFinding, IsRefuted, first_event};
 ghost use Rattle.settle_report.specs.Text.{finding_text, shown_text};
-ghost use Rattle.settle_check.specs.Step.{AreFew, AreViewsOf, Gives, HasFewLines, IsSameFinding};
+ghost use Rattle.settle_check.specs.Step.{AreViewsOf, Gives, IsSameFinding};
 
 use crate::check_stop::CheckStop;
 use crate::pair::Pair;
@@ -24,6 +24,7 @@ use crate::times::are_printed;
 use crate::views::Views;
 use event_graph::{Network, time_of};
 use itv_base::EventId;
+use settle_lines::have_texts;
 use settle_report::{Finding, Proof};
 use std::alloc::Global;
 
@@ -40,7 +41,7 @@ pub fn finding_next(
 ) -> Result<Finding, CheckStop>
     requires views { AreViewsOf net.now views.now }
     ensures finding { IfOk result (IsFinding true net.now) }
-    ensures read { (shown : Finding) → (more : List ℕ) → IsFinding true net.now shown → HasFewLines shown → reader.old.rest.now ≡ finding_text true shown ++ more
+    ensures read { (shown : Finding) → (more : List ℕ) → IsFinding true net.now shown → reader.old.rest.now ≡ finding_text true shown ++ more
         → Gives (IsSameFinding shown) result }
 {
     if reader.passes(b"finding spent") {
@@ -86,7 +87,7 @@ fn refuted_next(
 ) -> Result<Finding, CheckStop>
     requires views { AreViewsOf net.now views.now }
     ensures finding { IfOk result (IsFinding true net.now) }
-    ensures read { (shown : Proof) → (more : List ℕ) → IsRefuted true net.now shown → AreFew shown.lines.items
+    ensures read { (shown : Proof) → (more : List ℕ) → IsRefuted true net.now shown
         → reader.old.rest.now ≡ shown_text true shown ++ (entry_text (entry_finding IsInconsistentWord) ++ more) → Gives (IsSameFinding (Inconsistent shown)) result }
 {
     if net.events() == 0 {
@@ -124,5 +125,6 @@ fn refuted_by(net: &Network, proof: Proof) -> Finding
 {
     // The network is within its limits.
     let _events = net.events();
+    have_texts(&proof.lines);
     Finding::Inconsistent(proof)
 }

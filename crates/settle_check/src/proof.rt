@@ -1,14 +1,14 @@
 //! Checking the proof of a pair, line by line.
 
-ghost use Rattle.std.specs.Prelude.{◌≡◌, ◌++◌, ℕ, IfOk, List, OnOk};
+ghost use Rattle.std.specs.Prelude.{◌≡◌, ◌++◌, ℕ, All, IfOk, List, OnOk};
 ghost use Rattle.std.specs.List.{flat_map};
 ghost use Rattle.edge_clauses.specs.Lines.{IsClauseProof, IsOver};
 ghost use Rattle.line_words.specs.Numbers.{IsLong};
 ghost use Rattle.edge_clauses.specs.declared.line.StoredLine.{StoredLine};
 ghost use Rattle.edge_clauses.specs.Proofs.{IsProofAs, lines_of};
-ghost use Rattle.settle_lines.specs.Text.{clause_line_text, proof_text};
+ghost use Rattle.settle_lines.specs.Text.{IsClauseLine, clause_line_text, proof_text};
 ghost use Rattle.settle_report.specs.declared.proof.Proof.{Proof};
-ghost use Rattle.settle_check.specs.Step.{AreFew, AreViewsOf, BeginsOther, Gives, IsPairOf, IsSameProof, IsShownProof};
+ghost use Rattle.settle_check.specs.Step.{AreViewsOf, BeginsOther, Gives, IsPairOf, IsSameProof, IsShownProof};
 
 use crate::check_stop::CheckStop;
 use crate::pair::Pair;
@@ -63,7 +63,7 @@ fn lines_as(
     requires views { AreViewsOf net.now views.now }
     requires pair { IsPairOf net.now pair }
     ensures proof { IfOk result (λ lines. IsProofAs view net.now pair.from pair.to claim.value lines.items) }
-    ensures read { (shown : List StoredLine) → (more : List ℕ) → IsProofAs view net.now pair.from pair.to claim.value shown → AreFew shown → BeginsOther more
+    ensures read { (shown : List StoredLine) → (more : List ℕ) → IsProofAs view net.now pair.from pair.to claim.value shown → All IsClauseLine (lines_of shown) → BeginsOther more
         → reader.old.rest.now ≡ flat_map clause_line_text (lines_of shown) ++ more
         → Gives (λ lines. (lines_of shown ≡ lines_of lines.items) × (reader.new.rest.now ≡ more)) result }
 {
@@ -85,11 +85,9 @@ fn lines_next(
     ensures proof { IfOk result (λ lines. IsClauseProof net.now (record { from = pair.from; to = pair.to; claim = claim.value })
         (lines_of lines.items)) }
     ensures read { (shown : List StoredLine) → (more : List ℕ) → IsClauseProof net.now (record { from = pair.from; to = pair.to; claim = claim.value }) (lines_of shown)
-        → AreFew shown → BeginsOther more → reader.old.rest.now ≡ flat_map clause_line_text (lines_of shown) ++ more
+        → All IsClauseLine (lines_of shown) → BeginsOther more → reader.old.rest.now ≡ flat_map clause_line_text (lines_of shown) ++ more
         → Gives (λ lines. (lines_of shown ≡ lines_of lines.items) × (reader.new.rest.now ≡ more)) result }
 {
-    // The network is within its limits.
-    let _events = net.events();
     let mut checker = ClauseChecker::start(alloc, net, pair.from, pair.to, claim)?;
     let mut lines = Vec::new(alloc);
     for _number in 0..reader.left() {

@@ -4,11 +4,13 @@ use Rattle.std.specs.List.{flat_map}
 use Rattle.std.specs.Bool.{⊤}
 use Rattle.itv_base.specs.Numerals.{number_text, signed_text}
 use Rattle.itv_base.specs.Outside.{CutShort, Puts, SinkState, grown}
+use Rattle.itv_base.specs.declared.names.EdgeName.{EdgeName}
 use Rattle.itv_base.specs.declared.names.EventId.{EventId}
 use Rattle.itv_base.proofs.Written.{cut_more, cut_then, puts_same, puts_then}
 use Rattle.line_words.specs.Words.{Word}
 use Rattle.line_words.specs.Lines.{ended, line_of, spaced}
 use Rattle.line_words.proofs.Printing.{join_spaced}
+use Rattle.certificate.specs.Text.{edge_word, side_letter}
 use Rattle.event_graph.specs.declared.edge.Edge.{Edge}
 use Rattle.falling.specs.declared.view.View.{View}
 use Rattle.edge_clauses.specs.declared.basis.Basis.{Basis}
@@ -82,6 +84,25 @@ loop_parts event steps clause = record { join = many_words (codes "loop") (numbe
 pub proof_parts : (view : View) (claim passed : ℤ) (lines : List ClauseLine) → passed ≡ claim
     → Parts (view_text view) (claim_text passed) (flat_map clause_line_text lines) (proof_text view claim lines)
 proof_parts view claim passed lines e = record { join = ap (λ z. view_text view ++ (claim_text z ++ flat_map clause_line_text lines)) e }
+
+-- ---- names of edges
+
+module _ (front : List ℕ) (edge : EdgeName) where
+  -- what stands after the constraint of the name
+  abbrev pub behind : List ℕ
+  behind = 46 ∷ (number_text edge.cause ++ side_letter edge.side)
+
+  -- a front of the constraint is put
+  pub name_cut : (old new : SinkState) → CutShort old new (front ++ number_text edge.constraint) → CutShort old new (front ++ edge_word edge)
+  name_cut old new cut =
+      subst (CutShort old new) (append_assoc front (number_text edge.constraint) behind) (cut_more old new (front ++ number_text edge.constraint) behind cut)
+
+  -- the constraint is put, and then the cause and the side, or a front of them
+  pub name_puts : {E : Type 0} (old first_put new : SinkState) (r : Result ⊤ E) → first_put ≡ grown old (front ++ number_text edge.constraint)
+      → Puts first_put new behind r → Puts old new (front ++ edge_word edge) r
+  name_puts old first_put new r p last =
+      puts_same old new ((front ++ number_text edge.constraint) ++ behind) (front ++ edge_word edge) r (append_assoc front (number_text edge.constraint) behind)
+      (puts_then old first_put new (front ++ number_text edge.constraint) behind r p last)
 
 -- ---- lists by their first element and the others
 

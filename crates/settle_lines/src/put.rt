@@ -1,18 +1,18 @@
 //! Putting the words of a line of a proof by clauses.
 
-ghost use Rattle.std.specs.Prelude.{◌++◌, map};
+ghost use Rattle.std.specs.Prelude.{◌∷◌, ◌++◌, map};
 ghost use Rattle.std.specs.List.{flat_map};
 ghost use Rattle.itv_base.specs.Numerals.{number_text, signed_text};
 ghost use Rattle.itv_base.specs.Outside.{Puts};
 ghost use Rattle.line_words.specs.Lines.{ended, spaced};
-ghost use Rattle.certificate.specs.Text.{edge_word};
+ghost use Rattle.certificate.specs.Text.{edge_word, side_letter};
 ghost use Rattle.settle_lines.specs.Text.{basis_word, difference_word, step_word};
 
 use certificate::side_letter;
 use edge_clauses::{Basis, EventBound, WalkStep};
 use event_graph::Edge;
 use itoa::Buffer;
-use itv_base::{EdgeName, EventId, PutFailed, Sink, number_text, put_all, signed_text};
+use itv_base::{EdgeName, EventId, PutFailed, Side, Sink, number_text, put_all, signed_text};
 use line_words::put_spaced;
 
 /// Puts the first word of a line, a space and the number of an event.
@@ -80,16 +80,21 @@ fn put_basis<K: Sink>(front: &[u8], basis: Basis, sink: &mut K) -> Result<(), Pu
 fn put_edge<K: Sink>(front: &[u8], edge: EdgeName, sink: &mut K) -> Result<(), PutFailed>
     ensures { Puts (K.state sink.old) (K.state sink.new) (front.now ++ edge_word edge) result }
 {
-    let mut constraint = Buffer::new();
-    let mut cause = Buffer::new();
+    put_number(front, b"", edge.constraint, sink)?;
+    put_cause(edge.cause, edge.side, sink)
+}
+
+// Puts a full stop, the number of a cause and the letter of a side.
+fn put_cause<K: Sink>(cause: u32, side: Side, sink: &mut K) -> Result<(), PutFailed>
+    ensures { Puts (K.state sink.old) (K.state sink.new) (46 ∷ (number_text cause ++ side_letter side)) result }
+{
+    let mut digits = Buffer::new();
     put_all(
         sink,
         &[
-            front,
-            number_text(u64::from(edge.constraint), &mut constraint).as_bytes(),
             b".",
-            number_text(u64::from(edge.cause), &mut cause).as_bytes(),
-            side_letter(edge.side),
+            number_text(u64::from(cause), &mut digits).as_bytes(),
+            side_letter(side),
         ],
     )
 }

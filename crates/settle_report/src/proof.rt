@@ -13,7 +13,7 @@ use clauses::Claim;
 use edge_clauses::StoredLine;
 use falling::View;
 use itv_base::{PutFailed, Sink};
-use settle_lines::write_proof;
+use settle_lines::{have_texts, write_proof};
 use std::alloc::Global;
 
 /// What the lines prove: no satisfying separation of a pair exceeds the claim, in picoseconds.
@@ -39,6 +39,7 @@ pub fn proof_of(
     ensures fits { IsLong result.claim }
 {
     if is_wanted {
+        have_texts(&lines);
         Proof {
             view,
             claim: claim.value,

@@ -14,8 +14,7 @@ loop-number-init c =
       proving = start_proving c.args.net.now c.in_ok-checker.checker c.new-lines.result.items c.args.pair.from c.args.pair.to c.args.claim.value c.in_ok-checker.ensures.limits
           c.in_ok-checker.ensures.goal c.in_ok-checker.ensures.start c.requires.pair.from_in c.requires.pair.to_in c.new-lines.ensures.items;
       same_goal = c.in_ok-checker.ensures.goal;
-      reading = starts_reading c.args.net.now sought c.in_ok-checker.checker.limits c.args.reader.now.rest.now _ c.new-lines.result.items c.events-events.ensures.net
-          c.in_ok-checker.ensures.limits c.new-lines.ensures.items refl;
+      reading = starts_reading c.args.net.now sought c.args.reader.now.rest.now _ c.new-lines.result.items c.new-lines.ensures.items refl;
     }
 
 pub loop-number-preserved : goal.loop-number-preserved
@@ -39,20 +38,20 @@ returns-in_default-clause-proof c =
     c.ended.ensures.same
 
 pub returns-in_default-clause-read : goal.returns-in_default-clause-read
-returns-in_default-clause-read c shown more proof few other stands =
-    let (left, many) = c.loop-number.invariant.reading shown more proof few other stands in
+returns-in_default-clause-read c shown more proof forms other stands =
+    let (left, many) = c.loop-number.invariant.reading shown more proof forms other stands in
     let (all, behind) = none_left (lines_of shown) more (lines_of c.loop-number.lines.items) c.loop-number.reader.rest.now left
     (λ text after l b spells. subst (λ (o : Option StoredLine). IsSomeAnd o (λ r. line_of r ≡ l)) c.in_default.is (c.in_ok-line.ensures.read text after l b spells)) in
     ended_reads shown c.loop-number.lines.items c.loop-number.reader.rest.now more c.ended.result all behind
     (c.ended.ensures.given (is_over c.args.net.now _ c.loop-number.checker c.loop-number.lines.items shown c.loop-number.invariant.proving c.loop-number.invariant.same_goal all proof))
 
 pub returns-then-not-branch-clause-read : goal.returns-then-not-branch-clause-read
-returns-then-not-branch-clause-read c shown more proof few other stands =
+returns-then-not-branch-clause-read c shown more proof forms other stands =
     absurd (reads_taken c.args.net.now _ c.loop-number.checker c.args.reader.now.rest.now c.loop-number.reader.rest.now c.loop-number._number c.loop-number.lines.items c.in-Some.line
     c.loop-number.invariant.reading c.loop-number.invariant.proving c.loop-number.invariant.same_goal
     (λ text after b. subst (λ (o : Option StoredLine). IfSome o (λ l. SpellsClause text (line_of l))) c.in-Some.is (c.in_ok-line.ensures.some text after b))
     (λ text after l b spells. subst (λ (o : Option StoredLine). IsSomeAnd o (λ r. line_of r ≡ l)) c.in-Some.is (c.in_ok-line.ensures.read text after l b spells))
-    (c.in_ok-take.ensures.refused c.if-not-branch.true) shown more proof few other stands)
+    (c.in_ok-take.ensures.refused c.if-not-branch.true) shown more proof forms other stands)
 
 pub returns-clause-proof : goal.returns-clause-proof
 returns-clause-proof c =
@@ -60,8 +59,8 @@ returns-clause-proof c =
     c.ended-2.ensures.same
 
 pub returns-clause-read : goal.returns-clause-read
-returns-clause-read c shown more proof few other stands =
-    let (left, many) = c.loop-number.invariant.reading shown more proof few other stands in
+returns-clause-read c shown more proof forms other stands =
+    let (left, many) = c.loop-number.invariant.reading shown more proof forms other stands in
     let none : length c.loop-number.reader.rest.now ≡ 0 = omega (arith, many, c.loop-number-test.false, c.left-number-end.ensures.left) in
     let (all, behind) = spent_left (lines_of shown) more (lines_of c.loop-number.lines.items) c.loop-number.reader.rest.now left none in
     ended_reads shown c.loop-number.lines.items c.loop-number.reader.rest.now more c.ended-2.result all behind
