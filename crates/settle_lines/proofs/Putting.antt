@@ -1,5 +1,5 @@
 -- A line of a proof as a writer puts it, piece by piece.
-use Rattle.std.proofs.Common.{◌≡◌, ℕ, ◌+◌, ◌<◌, ℤ, List, [], ◌∷◌, ◌++◌, map, length, get_or, drop, codes, Result, refl, subst, ap, append_assoc, add-one, drop-cons}
+use Rattle.std.proofs.Common.{◌≡◌, ℕ, ◌+◌, ◌<◌, ℤ, List, [], ◌∷◌, ◌++◌, map, length, get_or, drop, codes, Result, refl, sym, subst, ap, ◌∙◌, append_assoc, add-one, drop-cons}
 use Rattle.std.specs.List.{flat_map}
 use Rattle.std.specs.Bool.{⊤}
 use Rattle.itv_base.specs.Numerals.{number_text, signed_text}
@@ -74,11 +74,18 @@ loop_parts event steps clause = record { join = many_words (codes "loop") (numbe
   where
     spaced_append : (words others : List Word) → flat_map spaced (words ++ others) ≡ flat_map spaced words ++ flat_map spaced others
     spaced_append [] others = refl
-    spaced_append (word ∷ words) others = rw (spaced_append words others) (simp append_assoc)
+    spaced_append (word ∷ words) others =
+        ap (λ rest. spaced word ++ rest) (spaced_append words others) ∙ sym (append_assoc (spaced word) (flat_map spaced words) (flat_map spaced others))
+
+    pieces : (a b f k o : List ℕ) → (a ++ b) ++ ((f ++ (k ++ o)) ++ 10 ∷ []) ≡ (a ++ (b ++ (f ++ (k ++ o)))) ++ 10 ∷ []
+    pieces a b f k o = simp append_assoc
 
     many_words : (a b : Word) (words : List Word) (key : Word) (others : List Word)
         → (a ++ spaced b) ++ ((flat_map spaced words ++ (spaced key ++ flat_map spaced others)) ++ 10 ∷ []) ≡ ended (line_of (a ∷ b ∷ (words ++ key ∷ others)))
-    many_words a b words key others = rw (join_spaced a (b ∷ (words ++ key ∷ others)), spaced_append words (key ∷ others)) (simp append_assoc)
+    many_words a b words key others =
+        let whole : line_of (a ∷ b ∷ (words ++ key ∷ others)) ≡ a ++ (spaced b ++ (flat_map spaced words ++ (spaced key ++ flat_map spaced others))) =
+        join_spaced a (b ∷ (words ++ key ∷ others)) ∙ ap (λ rest. a ++ (spaced b ++ rest)) (spaced_append words (key ∷ others)) in
+        pieces a (spaced b) (flat_map spaced words) (spaced key) (flat_map spaced others) ∙ sym (ap ended whole)
 
 -- the pieces of a proof; the claim that is passed on is the given one
 pub proof_parts : (view : View) (claim passed : ℤ) (lines : List ClauseLine) → passed ≡ claim
@@ -87,22 +94,22 @@ proof_parts view claim passed lines e = record { join = ap (λ z. view_text view
 
 -- ---- names of edges
 
-module _ (front : List ℕ) (edge : EdgeName) where
-  -- what stands after the constraint of the name
-  abbrev pub behind : List ℕ
-  behind = 46 ∷ (number_text edge.cause ++ side_letter edge.side)
+-- what stands after the constraint of a name
+abbrev pub behind : EdgeName → List ℕ
+behind edge = 46 ∷ (number_text edge.cause ++ side_letter edge.side)
 
+module _ (front : List ℕ) (edge : EdgeName) where
   -- a front of the constraint is put
   pub name_cut : (old new : SinkState) → CutShort old new (front ++ number_text edge.constraint) → CutShort old new (front ++ edge_word edge)
   name_cut old new cut =
-      subst (CutShort old new) (append_assoc front (number_text edge.constraint) behind) (cut_more old new (front ++ number_text edge.constraint) behind cut)
+      subst (CutShort old new) (append_assoc front (number_text edge.constraint) (behind edge)) (cut_more old new (front ++ number_text edge.constraint) (behind edge) cut)
 
   -- the constraint is put, and then the cause and the side, or a front of them
   pub name_puts : {E : Type 0} (old first_put new : SinkState) (r : Result ⊤ E) → first_put ≡ grown old (front ++ number_text edge.constraint)
-      → Puts first_put new behind r → Puts old new (front ++ edge_word edge) r
+      → Puts first_put new (behind edge) r → Puts old new (front ++ edge_word edge) r
   name_puts old first_put new r p last =
-      puts_same old new ((front ++ number_text edge.constraint) ++ behind) (front ++ edge_word edge) r (append_assoc front (number_text edge.constraint) behind)
-      (puts_then old first_put new (front ++ number_text edge.constraint) behind r p last)
+      puts_same old new ((front ++ number_text edge.constraint) ++ behind edge) (front ++ edge_word edge) r (append_assoc front (number_text edge.constraint) (behind edge))
+      (puts_then old first_put new (front ++ number_text edge.constraint) (behind edge) r p last)
 
 -- ---- lists by their first element and the others
 
