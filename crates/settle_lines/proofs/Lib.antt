@@ -2,5 +2,5 @@ pub mod Putting
 pub mod WordLaws
 pub mod LineLaws
 pub mod Parting
-pub mod Fitting
+pub mod OneMore
 pub mod HeadingLaws

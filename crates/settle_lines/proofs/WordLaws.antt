@@ -1,5 +1,5 @@
 -- A word of a line of a proof is read from its text, and from no other.
-use Rattle.std.proofs.Common.{◌≡◌, ◌^◌, ◌-◌, ◌<◌, ◌≤◌, ℕ, true, ◌∷◌, ◌++◌, codes, Option, Some, None, option_map, refl, ap, subst, ◌∙◌, arith}
+use Rattle.std.proofs.Common.{◌≡◌, ◌^◌, ◌-◌, ◌<◌, ◌≤◌, ℕ, true, ◌∷◌, ◌++◌, codes, Option, Some, option_map, refl, ap, subst, ◌∙◌, arith}
 use Rattle.std.specs.List.{take_while}
 use Rattle.std.specs.Char.{is_ascii_digit}
 use Rattle.std.proofs.lemmas.Option.{same_Some}

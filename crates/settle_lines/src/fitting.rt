@@ -50,8 +50,7 @@ fn bound_fits(bound: EventBound)
 
 fn event_fits(event: EventId)
     ensures { event.0 < 2 ^ 32 }
-{
-}
+{}
 
 fn steps_fit(steps: &[WalkStep])
     ensures { All IsStepName steps.now }
@@ -80,13 +79,11 @@ fn basis_fits(basis: Basis)
 
 fn name_fits(edge: EdgeName)
     ensures { IsEdgeName edge }
-{
-}
+{}
 
 fn number_fits(number: u32)
     ensures { number < 2 ^ 32 }
-{
-}
+{}
 
 fn differences_fit(edges: &[Edge])
     ensures { All IsDifference edges.now }
@@ -98,5 +95,4 @@ fn differences_fit(edges: &[Edge])
 
 fn difference_fits(edge: Edge)
     ensures { IsDifference edge }
-{
-}
+{}

@@ -1,5 +1,5 @@
 -- Reading the words of a line of a proof by clauses, and the two lines before a proof.
-use Rattle.std.specs.Prelude.{◌^◌, ◌-◌, ℕ, ℤ, Bool, if◌then◌else◌, List, [], ◌∷◌, codes, Option, Some, None, option_map}
+use Rattle.std.specs.Prelude.{◌^◌, ◌-◌, ℕ, ℤ, if◌then◌else◌, List, [], ◌∷◌, codes, Option, Some, None, option_map}
 use Rattle.std.specs.List.{take_while}
 use Rattle.std.specs.Char.{is_ascii_digit}
 use Rattle.itv_base.specs.Cuts.{after_while, stripped}

@@ -2,7 +2,7 @@ use Rattle.std.proofs.Common.{arith}
 use Rattle.std.proofs.lemmas.List.Elements.{All-map}
 use Rattle.edge_clauses.specs.Proofs.{line_of}
 use Rattle.settle_lines.specs.Text.{IsClauseLine}
-use Rattle.settle_lines.proofs.Fitting.{one_more}
+use Rattle.settle_lines.proofs.OneMore.{one_more}
 use Rattle.settle_lines.proofs.fitting.have_texts.Goals as goal
 
 pub loop-line-preserved : goal.loop-line-preserved
