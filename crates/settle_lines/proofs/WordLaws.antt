@@ -23,7 +23,7 @@ use Rattle.event_graph.specs.declared.edge.Edge.{Edge}
 use Rattle.edge_clauses.specs.declared.basis.Basis.{Basis}
 use Rattle.edge_clauses.specs.declared.basis.Basis.TheVariants.{ByEdge, Either, ByChoice, ByKept}
 use Rattle.edge_clauses.specs.declared.basis.WalkStep.{WalkStep}
-use Rattle.settle_lines.specs.Step.Reading.{basis_in, difference_in, either_in, lettered_in, numbered, short_in, step_in, target_in, through_in, weight_in}
+use Rattle.settle_lines.specs.Step.Reading.{basis_in, difference_in, either_in, lettered_in, number_before, short_in, step_in, target_in, through_in, weight_in}
 use Rattle.settle_lines.specs.Text.{IsBasisName, IsDifference, IsStepName, basis_word, difference_word, step_word}
 
 -- ---- numbers
@@ -60,7 +60,7 @@ record Numbered {A : Type 0} (mark : Word) (read : ℕ → Word → Option A) (w
   small : number < 2 ^ 32
   reads : read number rest ≡ Some x
 
-numbered_takes : {A : Type 0} (mark : Word) (read : ℕ → Word → Option A) (word : Word) (x : A) → numbered mark read word ≡ Some x → Numbered mark read word x
+numbered_takes : {A : Type 0} (mark : Word) (read : ℕ → Word → Option A) (word : Word) (x : A) → number_before mark read word ≡ Some x → Numbered mark read word x
 numbered_takes mark read word x e =
     let digits = take_while is_ascii_digit word in
     let behind = after_while is_ascii_digit word in
@@ -75,7 +75,7 @@ numbered_takes mark read word x e =
     }
 
 numbered_again : {A : Type 0} (mark : Word) (read : ℕ → Word → Option A) (number : ℕ) (rest : Word) → number < 2 ^ 32 → stops is_ascii_digit (mark ++ rest) ≡ true
-    → numbered mark read (number_text number ++ (mark ++ rest)) ≡ read number rest
+    → number_before mark read (number_text number ++ (mark ++ rest)) ≡ read number rest
 numbered_again mark read number rest small ends =
     let front = front_of_run is_ascii_digit (number_text number) (mark ++ rest) (digits-text number) ends in
     let behind = rest_of_run is_ascii_digit (number_text number) (mark ++ rest) (digits-text number) ends in

@@ -23,8 +23,8 @@ abbrev pub short_in : Word → Option ℕ
 short_in word = number_in (2 ^ 32 - 1) word
 
 -- a number of 32 bits and the text after it and after a mark
-abbrev pub numbered : {A : Type 0} → Word → (ℕ → Word → Option A) → Word → Option A
-numbered mark read word =
+abbrev pub number_before : {A : Type 0} → Word → (ℕ → Word → Option A) → Word → Option A
+number_before mark read word =
     short_in (take_while is_ascii_digit word) >>= λ number. stripped mark (after_while is_ascii_digit word) >>= λ rest. read number rest
 
 -- the weight of an edge between two events
@@ -33,11 +33,11 @@ weight_in from to word = long_in word >>= λ weight. Some (record { from = recor
 
 -- an edge from an event, by the event that it leads to and its weight
 abbrev pub target_in : ℕ → Word → Option Edge
-target_in from word = numbered (codes ":") (weight_in from) word
+target_in from word = number_before (codes ":") (weight_in from) word
 
 -- an edge between two events
 unfoldable pub difference_in : Word → Option Edge
-difference_in word = numbered (codes ">") target_in word
+difference_in word = number_before (codes ">") target_in word
 
 -- an edge of which either it or its opposite is met
 abbrev pub either_in : Word → Option Edge
@@ -58,7 +58,7 @@ abbrev pub through_in : ℕ → Word → Option WalkStep
 through_in through word = basis_in word >>= λ basis. Some (record { basis = basis; through = through })
 
 unfoldable pub step_in : Word → Option WalkStep
-step_in word = numbered (codes "/") through_in word
+step_in word = number_before (codes "/") through_in word
 
 -- ---- words of a line
 
