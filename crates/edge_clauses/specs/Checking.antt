@@ -11,8 +11,17 @@ use Rattle.falling.specs.DerivationEnds.{AreLimits}
 use Rattle.clauses.specs.Lines.{Goal}
 use Rattle.clauses.specs.declared.decided.ProofVerdict.{ProofVerdict}
 use Rattle.clauses.specs.declared.decided.ProofVerdict.TheVariants.{Closed, Inconsistent, Open}
-use Rattle.edge_clauses.specs.Clauses.{Clause, IsNearClause}
+use Rattle.edge_clauses.specs.declared.basis.Basis.{Basis}
+use Rattle.edge_clauses.specs.Clauses.{Clause, IsClause, IsNearClause}
 use Rattle.edge_clauses.specs.Lines.{Block, ClauseLine, Frame, IsBound, IsLine, IsOver, ProofLeads, State, refuting, starting}
+
+-- the basis has no clause
+abbrev pub HasNoClause : Net → List Clause → Basis → Type 0
+HasNoClause net kept basis = (c : Clause) → IsClause net kept basis c → ⊥
+
+-- the basis has a clause, and something holds of it
+abbrev pub SomeClause : Net → List Clause → Basis → (Clause → Type 0) → Type 0
+SomeClause net kept basis P = (c : Clause) × IsClause net kept basis c × P c
 
 -- both bounds of each event, none beyond one more than the cap, and known edges whose weights can be added
 pub record IsNearFrame (net : Net) (frame : Frame) : Type 0 where
