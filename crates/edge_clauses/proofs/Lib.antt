@@ -10,4 +10,5 @@ pub mod Knowing
 pub mod Standing
 pub mod Filling
 pub mod Walking
+pub mod Judging
 pub mod Taking
