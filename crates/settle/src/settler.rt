@@ -1,10 +1,18 @@
 //! Greatest separations of a network.
 
-ghost use Rattle.std.specs.Prelude.{◌<◌, IfOk};
+ghost use Rattle.std.specs.Prelude.{◌≡◌, ◌<◌, ◌≤◌, ◌+◌, ℕ, ℤ, Some, IfOk};
+ghost use Rattle.std.specs.Global.{Vec};
 ghost use Rattle.itv_base.specs.declared.names.EventId.{EventId};
 ghost use Rattle.event_graph.specs.Network.{Net};
+ghost use Rattle.falling.specs.declared.view.View.TheVariants.{Negated, Plain};
+ghost use Rattle.settle.specs.declared.shown_answer.Settled.TheVariants.{Closed};
 ghost use Rattle.settle.specs.ShownAnswer.{IsFound, IsMadeFor};
+ghost use Rattle.settle.specs.Step.Racing.{IsEnding, IsRacing, line_count};
 
+use crate::best::Best;
+use crate::line::StoredLine;
+use crate::prover::Prover;
+use crate::race::{Race, RaceEnd};
 use crate::shown_answer::{Settled, ShownAnswer};
 use clauses::Claim;
 use event_graph::Network;
@@ -13,6 +21,9 @@ use itv_base::{EventId, NoMemory};
 use std::alloc::Global;
 
 /// Finds greatest separations over one network, whatever its choices.
+///
+/// A settler is made for a network, and every later call needs the same network. Each call allocates memory, and gives
+/// it back with its answer.
 #[derive(Drop)]
 pub struct Settler {
     negation: Network,
@@ -31,7 +42,8 @@ impl Settler {
     }
 
     /// The greatest separation of a pair of events in picoseconds and what shows it, found in at most this many turns;
-    /// or `NoMemory`.
+    /// or `NoMemory`. A step of the search makes at most one line. It is a turn, and more of them if it looks at more than
+    /// 32 things. What the search keeps is bounded too: without an answer it ends where either is spent.
     pub fn greatest(
         &self,
         alloc: Global,
@@ -45,7 +57,120 @@ impl Settler {
         requires to { to.0 < net.now.events }
         ensures found { IfOk result (IsFound net.now from to turns) }
     {
+        let room = room_of(net, turns);
+        let mut race = Race::new(alloc, net, &self.negation, from, to, self.limits, room)?;
+        let mut taken = 0;
+        'turns: while taken < turns && !race.has_stopped() {
+            let ending = race.step(alloc, net, &self.negation)?;
+            taken = more_turns(taken, race.turns(), turns);
+            if let Some(ending) = ending {
+                return Ok(found_by(alloc, net, from, to, race, ending, taken));
+            }
+        }
         Ok(spent(alloc, turns))
+    }
+}
+
+// How many items each search may keep: 32 for each event and constraint, and one for each 50 turns.
+fn room_of(net: &Network, turns: u64) -> u64 {
+    let size = (net.events() as u64).saturating_add(net.len() as u64);
+    size.saturating_mul(32).saturating_add(turns / 50)
+}
+
+// The turns taken after one more step, where both searches have taken `now` in all, but at most `most`.
+fn more_turns(taken: u64, now: u64, most: u64) -> u64
+    requires less { taken < most }
+    ensures more { taken + 1 ≤ result }
+    ensures most { result ≤ most }
+{
+    now.max(taken + 1).min(most)
+}
+
+// The answer of a race that has ended.
+fn found_by(
+    alloc: Global,
+    net: &Network,
+    from: EventId,
+    to: EventId,
+    race: Race,
+    ending: RaceEnd,
+    turns: u64,
+) -> ShownAnswer
+    requires racing { IsRacing net.now race }
+    requires from { race.from ≡ from }
+    requires to { race.to ≡ to }
+    requires ending { IsEnding net.now race ending }
+    requires lines { line_count race ≤ turns }
+    ensures found { (most : ℕ) → turns ≤ most → IsFound net.now from to most result }
+{
+    let _events = net.events();
+    let Race {
+        from: _,
+        to: _,
+        limits: _,
+        plain,
+        turned,
+        best,
+        view: _,
+        blocks: _,
+    } = race;
+    let claim = best.claim;
+    match ending {
+        RaceEnd::Closed(view) => ShownAnswer {
+            answer: closed_at(claim),
+            times: times_in(alloc, best),
+            ray: Vec::new(alloc),
+            claim,
+            view,
+            lines: lines_of(view, plain, turned),
+            turns,
+        },
+        RaceEnd::Unbounded(ray) => ShownAnswer {
+            answer: Settled::Unbounded,
+            times: times_in(alloc, best),
+            ray,
+            claim,
+            view: View::Plain,
+            lines: Vec::new(alloc),
+            turns,
+        },
+        RaceEnd::Inconsistent(view) => ShownAnswer {
+            answer: Settled::Inconsistent,
+            times: Vec::new(alloc),
+            ray: Vec::new(alloc),
+            claim,
+            view,
+            lines: lines_of(view, plain, turned),
+            turns,
+        },
+    }
+}
+
+// The answer that the claim is the greatest separation.
+fn closed_at(claim: Claim) -> Settled
+    ensures { result ≡ Closed claim.value }
+{
+    Settled::Closed(claim.value)
+}
+
+// The best times, if there are any.
+fn times_in(alloc: Global, best: Best) -> Vec<i64>
+    ensures { (times : Vec ℤ) → best.times ≡ Some times → result ≡ times }
+{
+    match best.times {
+        Some(times) => times,
+        None => Vec::new(alloc),
+    }
+}
+
+// The lines of the search of a view.
+fn lines_of(view: View, plain: Prover, turned: Prover) -> Vec<StoredLine>
+    ensures plain { view ≡ Plain → result.items ≡ plain.lines }
+    ensures negated { view ≡ Negated → result.items ≡ turned.lines }
+{
+    match view {
+        View::Plain => plain.into_lines(),
+        View::Negated => turned.into_lines(),
     }
 }
 

@@ -1,0 +1,21 @@
+use Rattle.std.proofs.Common.{subst}
+use Rattle.event_graph.specs.Network.{Net}
+use Rattle.falling.specs.Cap.{far_line}
+use Rattle.settle.specs.Proofs.{IsProving}
+use Rattle.settle.proofs.Concluding.{start_low}
+use Rattle.settle.proofs.race.Race.new.Goals as goal
+
+pub returns-clause-racing : goal.returns-clause-racing
+returns-clause-racing c = record {
+  from = c.requires.from;
+  to = c.requires.to;
+  limits = c.requires.limits;
+  plain = c.in_ok-new.ensures.proving;
+  plain_goal = c.in_ok-new.ensures.goal;
+  turned = subst (λ (n : Net). IsProving n c.in_ok-new-2.field-0) c.requires.negation c.in_ok-new-2.ensures.proving;
+  turned_goal = c.in_ok-new-2.ensures.goal;
+  best = record {
+    found = tt;
+    none = start_low c.start_claim-claim.result.value c.args.limits.lowest (far_line c.args.net.now) c.start_claim-claim.ensures c.requires.limits.lowest_is;
+  };
+}
