@@ -1,5 +1,5 @@
 -- Lines can follow lines.
-use Rattle.std.proofs.Common.{◌≡◌, ◌<◌, ℤ, Bool, true, false, IsTrue, IsFalse, List, [], ◌∷◌, ◌++◌, Result, Ok, Err, IfOk, OnErr, sym, refl, subst}
+use Rattle.std.proofs.Common.{◌≡◌, ◌<◌, Bool, true, false, IsTrue, IsFalse, List, [], ◌∷◌, ◌++◌, Result, Ok, Err, IfOk, OnErr, sym, refl, subst}
 use Rattle.itv_base.specs.declared.text.NoMemory.{NoMemory}
 use Rattle.event_graph.specs.Network.{Net}
 use Rattle.falling.specs.DerivationEnds.{AreLimits}
