@@ -1,17 +1,15 @@
 -- The clause of a basis, as the code reads it from a network.
-use Rattle.std.proofs.Common.{◌≡◌, Bool, IfOk, IsFalse, IsTrue, Result, ◌+◌, ◌<◌, ◌≤◌, ℕ, zero, suc, List, [], ◌∷◌, ◌++◌, map, length, take, Option, Some, None, IsSome, IsSomeAnd, option_map, option_and_then, slice_get, sym, ap, ◌∙◌, refl, subst, arith}
+use Rattle.std.proofs.Common.{◌≡◌, Bool, IfOk, IsFalse, IsTrue, Result, ◌+◌, ◌≤◌, ℕ, zero, suc, List, [], ◌∷◌, ◌++◌, map, length, take, Option, Some, None, IsSome, IsSomeAnd, option_map, option_and_then, slice_get, sym, ap, ◌∙◌, refl, subst, arith}
 use Rattle.std.proofs.lemmas.List.{map-append, take_all, take_more}
-use Rattle.std.proofs.lemmas.Option.{get_or_from_slice_get, none-some, same_Some, slice_get-map, slice_get_within}
+use Rattle.std.proofs.lemmas.Option.{get_or_from_slice_get, same_Some, slice_get-map, slice_get_within}
 use Rattle.std.proofs.lemmas.Result.{IfOk-weaker}
-use Rattle.itv_base.specs.declared.names.EdgeName.{EdgeName}
-use Rattle.itv_base.specs.declared.names.EventId.{EventId}
 use Rattle.itv_base.specs.declared.names.RuleKind.{RuleKind}
 use Rattle.itv_base.specs.declared.names.RuleKind.TheVariants.{Lin, Late, Early}
 use Rattle.itv_base.specs.declared.names.Side.{Side}
 use Rattle.itv_base.specs.declared.text.NoMemory.{NoMemory}
 use Rattle.event_graph.specs.declared.cause.Cause.{Cause}
 use Rattle.event_graph.specs.declared.edge.Edge.{Edge}
-use Rattle.event_graph.specs.Edges.{IsAlways, choice_side, edge, side_edge}
+use Rattle.event_graph.specs.Edges.{choice_side, edge, side_edge}
 use Rattle.event_graph.specs.Network.{Constraint, Net, cause_at, cause_count_of}
 use Rattle.event_graph.specs.Proof.{HasChoice}
 use Rattle.falling.proofs.Between.{mapped_some}
@@ -19,7 +17,7 @@ use Rattle.falling.proofs.Bounding.{some_and}
 use Rattle.edge_clauses.specs.declared.basis.Basis.{Basis}
 use Rattle.edge_clauses.specs.declared.basis.Basis.TheVariants.{ByEdge, Either, ByChoice, ByKept}
 use Rattle.edge_clauses.specs.Checking.{HasNoClause}
-use Rattle.edge_clauses.specs.Clauses.{Clause, IsChoiceClause, IsClause, IsNearClause, unmet}
+use Rattle.edge_clauses.specs.Clauses.{Clause, IsChoiceClause, IsClause}
 
 -- a fact of an optional value, where the value is there
 is_and : {X : Type 0} (P : X → Type 0) (o : Option X) (x : X) → o ≡ Some x → P x → IsSomeAnd o P
@@ -51,16 +49,6 @@ one_clause net kept (ByChoice number) a b p q =
 one_clause net kept (ByKept number) a b p q = same_Some a b (sym p ∙ q)
 
 -- ---- clauses that the code finds
-
-pub edge_clause : (net : Net) (kept : List Clause) (name : EdgeName) (e : Edge) (c : Clause) → IsAlways net name → edge net name ≡ Some e → c ≡ e ∷ [] → IsClause net kept (ByEdge name) c
-edge_clause net kept name e c always is_edge is = (always, is_and (λ (x : Edge). c ≡ x ∷ []) (edge net name) e is_edge is)
-
-pub edge_no_clause : (net : Net) (kept : List Clause) (name : EdgeName) → edge net name ≡ None → HasNoClause net kept (ByEdge name)
-edge_no_clause net kept name none c (always, of_edge) =
-    let (e, is_edge, is_c) = some_and (edge net name) _ of_edge in none-some e (sym none ∙ is_edge)
-
-pub either_no_clause : (net : Net) (kept : List Clause) (e : Edge) → (IsNearClause (e ∷ unmet e ∷ []) → ⊥) → HasNoClause net kept (Either e)
-either_no_clause net kept e not c (near, is) = not (subst IsNearClause is near)
 
 pub choice_clause : (net : Net) (kept : List Clause) (number : ℕ) (k : Constraint) (c : Clause) → slice_get net.constraints number ≡ Some k → HasChoice k.kind
     → map (side_edge (choice_side k.kind) k.target) k.causes ≡ map Some c → IsClause net kept (ByChoice number) c

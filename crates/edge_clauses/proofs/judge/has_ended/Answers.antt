@@ -1,6 +1,6 @@
-use Rattle.std.proofs.Common.{◌⊎◌, inl, inr, false, true, ◌≡◌}
+use Rattle.std.proofs.Common.{inl, inr, false, true, ◌≡◌}
 use Rattle.edge_clauses.specs.Step.Standing.{frame_now, goal_of}
-use Rattle.edge_clauses.proofs.Judging.{ended_at_claim, ended_cases, ended_crossed}
+use Rattle.edge_clauses.proofs.Judging.{ended_at_claim, ended_cases}
 use Rattle.edge_clauses.proofs.judge.has_ended.Goals as goal
 
 pub returns-else-has_crossed : goal.returns-else-has_crossed

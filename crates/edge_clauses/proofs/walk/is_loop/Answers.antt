@@ -1,7 +1,6 @@
-use Rattle.std.proofs.Common.{◌≡◌, ◌<ℤ◌, ◌≤◌, false, true, length, pos, sym, subst, take, List, arith}
+use Rattle.std.proofs.Common.{◌≡◌, ◌≤◌, false, true, length, pos, sym, subst, List, arith}
 use Rattle.std.proofs.lemmas.List.{take_all}
 use Rattle.edge_clauses.specs.declared.basis.WalkStep.{WalkStep}
-use Rattle.edge_clauses.specs.Checking.{HasNoClause}
 use Rattle.edge_clauses.specs.Clauses.{IsClause}
 use Rattle.edge_clauses.specs.Lines.{Walks}
 use Rattle.edge_clauses.proofs.Walking.{no_clause_no_loop, no_step_no_loop, not_back_no_loop, walks_at}
