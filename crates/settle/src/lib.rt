@@ -5,16 +5,19 @@
 //! that it is unbounded, or a proof that no times satisfy, or it says that the turns were spent.
 #![tactic(auto)]
 
-mod assignment;
+mod arcs;
 mod best;
+mod bound_rules;
+mod building;
 mod choosing;
-mod clause_table;
+mod clause_store;
 mod engine;
-mod examining;
 mod fall_counts;
-mod line;
+mod literal;
 mod meter;
-mod numbered_literal;
+mod needs;
+mod node;
+mod pace;
 mod places;
 mod prover;
 mod race;
@@ -22,10 +25,11 @@ mod refuting;
 mod rounds;
 mod settler;
 mod shown_answer;
+mod side_table;
+mod spreading;
 mod sweep;
-mod taking;
+mod trail;
 
-pub use line::StoredLine;
+pub use edge_clauses::StoredLine;
 pub use settler::Settler;
 pub use shown_answer::{Settled, ShownAnswer};
-pub use taking::take_line;

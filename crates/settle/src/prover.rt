@@ -8,9 +8,8 @@ ghost use Rattle.settle.specs.declared.prover.SearchState.TheVariants.{Over};
 ghost use Rattle.settle.specs.Proofs.{IsProving};
 
 use crate::engine::{Engine, Proposal};
-use crate::line::StoredLine;
-use crate::taking::take_line;
-use clauses::{Claim, ClauseChecker};
+use clauses::Claim;
+use edge_clauses::{ClauseChecker, StoredLine};
 use event_graph::Network;
 use falling::Limits;
 use itv_base::{EventId, NoMemory};
@@ -62,7 +61,7 @@ impl Prover {
         ensures goal { IfOk result (λ prover. prover.check.goal ≡ record { from = from; to = to; claim = claim.value }) }
         ensures empty { IfOk result (λ prover. prover.lines ≡ []) }
     {
-        let checker = ClauseChecker::new(alloc, net, from, to, claim)?;
+        let checker = ClauseChecker::start(alloc, net, from, to, claim)?;
         let cap = checker.limits().cap;
         Ok(Prover {
             checker,
@@ -81,7 +80,7 @@ impl Prover {
     {
         let claim = self.checker.claim();
         let _events = net.events();
-        match self.engine.step(net, self.checker.kept(), claim.value)? {
+        match self.engine.step(claim.value)? {
             Proposal::Nothing => Ok(SearchState::GoesOn),
             Proposal::Line(line) => self.heed(alloc, net, line),
             Proposal::Times => Ok(SearchState::Times),
@@ -103,7 +102,7 @@ impl Prover {
         ensures more { OnOk result (length self.new.lines ≤ length self.old.lines + 1) }
         ensures goes_on { IfOk result (λ next. next ≡ Over → ⊥) }
     {
-        if take_line(alloc, net, &mut self.checker, &line)? {
+        if self.checker.take(alloc, net, &line)? {
             self.lines.push(line)?;
         } else {
             self.engine.stop();
@@ -169,9 +168,9 @@ impl Prover {
         self.checker.limits()
     }
 
-    /// The values of the search. The search has said that they are times.
-    pub fn values(&self) -> &Vec<i64> {
-        self.engine.assignment.values()
+    /// The times that the search has found, in picoseconds and one per event. The search has said that they are there.
+    pub fn times(&self) -> Result<Vec<i64>, NoMemory> {
+        self.engine.times()
     }
 
     /// The lines that the checker has taken.

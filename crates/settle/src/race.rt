@@ -204,8 +204,8 @@ impl Race {
     // The times that the values of the current search stand for.
     fn times_found(&self, alloc: Global) -> Result<Vec<i64>, NoMemory> {
         match self.view {
-            View::Plain => times_of(alloc, View::Plain, self.plain.values()),
-            View::Negated => times_of(alloc, View::Negated, self.turned.values()),
+            View::Plain => times_of(alloc, View::Plain, &self.plain.times()?),
+            View::Negated => times_of(alloc, View::Negated, &self.turned.times()?),
         }
     }
 
@@ -237,9 +237,9 @@ fn is_far(claim: Claim, limits: Limits) -> bool
     limits.far <= claim.value
 }
 
-// One and a half times as many blocks, but at least 4.
+// One and a half times as many blocks, but at least 8.
 fn more_blocks(blocks: u64) -> u64 {
-    blocks.saturating_add(blocks / 2).max(4)
+    blocks.saturating_add(blocks / 2).max(8)
 }
 
 // The ending, if a separation is at least the far line and the events beyond a gap among the times are a ray.

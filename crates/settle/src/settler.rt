@@ -10,11 +10,11 @@ ghost use Rattle.settle.specs.ShownAnswer.{IsFound, IsMadeFor};
 ghost use Rattle.settle.specs.Step.Racing.{IsEnding, IsRacing, line_count};
 
 use crate::best::Best;
-use crate::line::StoredLine;
 use crate::prover::Prover;
 use crate::race::{Race, RaceEnd};
 use crate::shown_answer::{Settled, ShownAnswer};
 use clauses::Claim;
+use edge_clauses::StoredLine;
 use event_graph::Network;
 use falling::{Limits, View, limits_of, negation_of};
 use itv_base::{EventId, NoMemory};
