@@ -3,9 +3,9 @@
 ghost use Rattle.std.specs.Prelude.{◌≡◌, ◌<◌, ◌≤◌, ◌+◌, ◌≤ℤ◌, [], IfOk, OnOk, length};
 ghost use Rattle.falling.specs.DerivationEnds.{AreLimits};
 ghost use Rattle.clauses.specs.Laws.{claiming};
-ghost use Rattle.clauses.specs.Lines.{IsOver};
+ghost use Rattle.edge_clauses.specs.Lines.{IsOver};
 ghost use Rattle.settle.specs.declared.prover.SearchState.TheVariants.{Over};
-ghost use Rattle.settle.specs.Proofs.{IsProving};
+ghost use Rattle.edge_clauses.specs.Proofs.{IsProving};
 
 use crate::engine::{Engine, Proposal};
 use clauses::Claim;
@@ -38,7 +38,7 @@ pub struct Prover {
 }
 
 impl Model for Prover {
-    ghost use Rattle.settle.specs.Proofs.{Proving};
+    ghost use Rattle.edge_clauses.specs.Proofs.{Proving};
 
     ghost Value = { Proving };
 
@@ -76,7 +76,7 @@ impl Prover {
         ensures proving { OnOk result (IsProving net.now self.new) }
         ensures goal { OnOk result (self.new.check.goal ≡ self.old.check.goal) }
         ensures more { OnOk result (length self.new.lines ≤ length self.old.lines + 1) }
-        ensures over { IfOk result (λ next. next ≡ Over → IsOver net.now self.new.check.goal self.new.check.state) }
+        ensures over { IfOk result (λ next. next ≡ Over → IsOver self.new.check.goal self.new.check.state) }
     {
         let claim = self.checker.claim();
         let _events = net.events();
@@ -84,7 +84,7 @@ impl Prover {
             Proposal::Nothing => Ok(SearchState::GoesOn),
             Proposal::Line(line) => self.heed(alloc, net, line),
             Proposal::Times => Ok(SearchState::Times),
-            Proposal::Over => Ok(self.over_or_stopped(net)),
+            Proposal::Over => Ok(self.over_or_stopped()),
             Proposal::Rests => Ok(SearchState::Rests),
         }
     }
@@ -111,12 +111,11 @@ impl Prover {
     }
 
     // `Over` if the lines are a proof, as the search says. Otherwise the search gives up.
-    fn over_or_stopped(&mut self, net: &Network) -> SearchState
-        requires proving { IsProving net.now self.old }
+    fn over_or_stopped(&mut self) -> SearchState
         ensures same { self.new ≡ self.old }
-        ensures over { result ≡ Over → IsOver net.now self.new.check.goal self.new.check.state }
+        ensures over { result ≡ Over → IsOver self.new.check.goal self.new.check.state }
     {
-        if self.checker.is_over(net) {
+        if self.checker.is_over() {
             return SearchState::Over;
         }
         self.engine.stop();
@@ -156,7 +155,6 @@ impl Prover {
         ensures lines { self.new.lines ≡ self.old.lines }
     {
         self.checker.raise(claim);
-        let _events = net.events();
     }
 
     /// The limits of the network.

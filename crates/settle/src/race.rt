@@ -122,7 +122,7 @@ impl Race {
         requires racing { IsRacing net.now self.old }
         requires negation { negation.now ≡ negated net.now }
         ensures racing { OnOk result (IsRacing net.now self.new) }
-        ensures over { IfOk result (λ next. next ≡ Over → IsOverAs self.new.view net.now self.new) }
+        ensures over { IfOk result (λ next. next ≡ Over → IsOverAs self.new.view self.new) }
         ensures lines { OnOk result (line_count self.new ≤ line_count self.old + 1) }
         ensures from { self.new.from ≡ self.old.from }
         ensures to { self.new.to ≡ self.old.to }
@@ -137,7 +137,7 @@ impl Race {
     // if the claim is not below the far line.
     fn decide(&self) -> Option<RaceEnd>
         ensures ending { IfSome result (λ ending. (net : Net) → IsRacing net self.now
-            → IsOverAs self.now.view net self.now → IsEnding net self.now ending) }
+            → IsOverAs self.now.view self.now → IsEnding net self.now ending) }
     {
         if self.best.times.is_none() {
             return Some(RaceEnd::Inconsistent(self.view));

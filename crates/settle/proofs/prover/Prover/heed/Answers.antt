@@ -1,7 +1,7 @@
 use Rattle.std.proofs.Common.{List, sym, subst}
-use Rattle.settle.specs.declared.line.StoredLine.{StoredLine}
-use Rattle.settle.specs.Proofs.{IsProving, Proving}
-use Rattle.settle.proofs.Leading.{taken_proving}
+use Rattle.edge_clauses.specs.declared.line.StoredLine.{StoredLine}
+use Rattle.edge_clauses.specs.Proofs.{IsProving, Proving}
+use Rattle.edge_clauses.proofs.Leading.{taken_proving}
 use Rattle.settle.proofs.prover.Prover.heed.Goals as goal
 
 pub returns-in_ok-push-clause-proving : goal.returns-in_ok-push-clause-proving
