@@ -15,8 +15,9 @@ use Rattle.clauses.specs.Lines.{Goal}
 use Rattle.clauses.proofs.Anys.{all_none, any_element}
 use Rattle.clauses.proofs.Between.{IsBetween}
 use Rattle.edge_clauses.specs.declared.basis.WalkStep.{WalkStep}
+use Rattle.edge_clauses.specs.declared.walk.Walk.{Walk}
 use Rattle.edge_clauses.specs.Clauses.{Clause}
-use Rattle.edge_clauses.specs.Lines.{Assume, Block, ClauseLine, Close, Excludes, Fall, Forces, Frame, GivesLeast, GivesMost, IsClauseLoop, IsCovered, IsEnded, IsLine, IsLow, IsRefuted, Know, LetsFall, LetsRise, Loop, ProofLeads, Rise, State, StepsTo, Walk, Walks, frame_in, refuting, with_frame_in}
+use Rattle.edge_clauses.specs.Lines.{Assume, Block, ClauseLine, Close, Excludes, Fall, Forces, Frame, GivesLeast, GivesMost, IsClauseLoop, IsCovered, IsEnded, IsLine, IsLow, IsRefuted, Know, LetsFall, LetsRise, Loop, ProofLeads, Rise, State, StepsTo, Walks, frame_in, refuting, with_frame_in}
 use Rattle.edge_clauses.proofs.Edges.{refuting_met}
 use Rattle.edge_clauses.proofs.Meeting.{MeetsClause, clause_met}
 

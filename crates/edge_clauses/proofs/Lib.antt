@@ -2,3 +2,11 @@ pub mod Edges
 pub mod Meeting
 pub mod Covering
 pub mod Proving
+pub mod Checked
+pub mod Leading
+pub mod Deciding
+pub mod Bounding
+pub mod Standing
+pub mod Filling
+pub mod Walking
+pub mod Taking

@@ -1,37 +1,26 @@
 -- The state of a checker of proofs by clauses, and the verdict of a proof and times.
-use Rattle.std.specs.Prelude.{◌≡◌, ◌<◌, ◌+◌, ℤ, pos, neg_ℤ, ◌≤ℤ◌, ◌<ℤ◌, List, length, All, IfSome}
+use Rattle.std.specs.Prelude.{◌≡◌, ◌<◌, ℤ, ◌<ℤ◌, List}
 use Rattle.itv_base.specs.declared.names.EventId.{EventId}
 use Rattle.event_graph.specs.Bounds.{IsGreatest, IsInconsistent}
 use Rattle.event_graph.specs.Network.{Net}
 use Rattle.event_graph.specs.Satisfying.{Satisfies}
 use Rattle.event_graph.specs.Times.{separation}
 use Rattle.falling.specs.declared.limits.Limits.{Limits}
-use Rattle.falling.specs.Cap.{cap}
 use Rattle.falling.specs.DerivationEnds.{AreLimits}
 use Rattle.clauses.specs.Lines.{Goal}
 use Rattle.clauses.specs.declared.decided.ProofVerdict.{ProofVerdict}
 use Rattle.clauses.specs.declared.decided.ProofVerdict.TheVariants.{Closed, Inconsistent, Open}
-use Rattle.edge_clauses.specs.Clauses.{Clause, IsNearClause}
-use Rattle.edge_clauses.specs.Lines.{Block, ClauseLine, Frame, IsBound, IsLine, IsOver, ProofLeads, State, refuting, starting}
+use Rattle.edge_clauses.specs.declared.basis.Basis.{Basis}
+use Rattle.edge_clauses.specs.Clauses.{Clause, IsClause}
+use Rattle.edge_clauses.specs.Lines.{ClauseLine, IsLine, IsOver, ProofLeads, State, starting}
 
--- both bounds of each event, none beyond one more than the cap, and known edges whose weights can be added
-pub record IsNearFrame (net : Net) (frame : Frame) : Type 0 where
-  pub ups : length frame.up ≡ net.events
-  pub lows : length frame.low ≡ net.events
-  pub up : All (IsBound net) frame.up
-  pub low : All (IsBound net) frame.low
-  pub known : IsNearClause frame.known
+-- the basis has no clause
+abbrev pub HasNoClause : Net → List Clause → Basis → Type 0
+HasNoClause net kept basis = (c : Clause) → IsClause net kept basis c → ⊥
 
--- the opposites of what a block assumes can be kept
-pub record IsNearBlock (net : Net) (block : Block) : Type 0 where
-  pub frame : IsNearFrame net block.frame
-  pub kept : IsNearClause (refuting block.assumed)
-
--- a state whose numbers can be added
-pub record IsNearState (net : Net) (state : State) : Type 0 where
-  pub frame : IsNearFrame net state.frame
-  pub kept : All IsNearClause state.kept
-  pub block : IfSome state.block (IsNearBlock net)
+-- the basis has a clause, and something holds of it
+abbrev pub SomeClause : Net → List Clause → Basis → (Clause → Type 0) → Type 0
+SomeClause net kept basis P = (c : Clause) × IsClause net kept basis c × P c
 
 -- a checker: its limits, its goal, and the state that the lines have reached
 pub record Checking : Type 0 where
@@ -45,7 +34,6 @@ pub record IsChecking (net : Net) (check : Checking) : Type 0 where
   pub from : check.goal.from.0 < net.events
   pub to : check.goal.to.0 < net.events
   pub lines : (lines : List ClauseLine) × ProofLeads net check.goal (starting net check.goal.from) lines check.state
-  pub near : IsNearState net check.state
 
 -- the line leads from the state of the old checker to the state of the new one, and nothing else changes
 pub record TakesLine (net : Net) (old : Checking) (taken : ClauseLine) (new : Checking) : Type 0 where

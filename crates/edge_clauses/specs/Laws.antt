@@ -6,10 +6,12 @@ use Rattle.event_graph.specs.Network.{IsNet, Net}
 use Rattle.event_graph.specs.Satisfying.{Satisfies}
 use Rattle.event_graph.specs.Times.{separation}
 use Rattle.falling.specs.Cap.{far_line}
+use Rattle.falling.specs.DerivationEnds.{AreLimits}
 use Rattle.falling.specs.Kinds.{negated}
 use Rattle.clauses.specs.Laws.{claiming}
 use Rattle.clauses.specs.Lines.{Goal}
-use Rattle.edge_clauses.specs.Lines.{ClauseLine, IsClauseProof, ProofLeads, State}
+use Rattle.edge_clauses.specs.Checking.{Checking, IsChecking, TakesLine}
+use Rattle.edge_clauses.specs.Lines.{ClauseLine, IsClauseProof, ProofLeads, State, starting}
 
 -- if the claim of a proof is below the far line, no satisfying times have a greater separation of the pair
 abbrev pub ClauseProofBounds : Type 0
@@ -42,3 +44,17 @@ abbrev pub ProofAndTimesClose : Type 0
 ProofAndTimesClose = (net : Net) (goal : Goal) (lines : List ClauseLine) (times : List ℤ) → IsNet net → goal.from.0 < net.events → goal.to.0 < net.events
     → goal.claim <ℤ pos (far_line net) → IsClauseProof net goal lines → Satisfies times net → separation times goal.from goal.to ≡ goal.claim
     → IsGreatest net goal.from goal.to goal.claim
+
+-- `IsChecking` holds of a checker at the start of a goal
+abbrev pub StartIsChecking : Type 0
+StartIsChecking = (net : Net) (check : Checking) → AreLimits net check.limits → check.goal.from.0 < net.events → check.goal.to.0 < net.events
+    → check.state ≡ starting net check.goal.from → IsChecking net check
+
+-- `IsChecking` still holds after a checker takes a line
+abbrev pub TakenLineKeepsChecking : Type 0
+TakenLineKeepsChecking = (net : Net) (old new : Checking) (line : ClauseLine) → IsChecking net old → TakesLine net old line new → IsChecking net new
+
+-- `IsChecking` still holds after a checker raises its claim
+abbrev pub RaisedKeepsChecking : Type 0
+RaisedKeepsChecking = (net : Net) (old new : Checking) (claim : ℤ) → IsChecking net old → old.goal.claim ≤ℤ claim → new.limits ≡ old.limits → new.goal ≡ claiming old.goal claim
+    → new.state ≡ old.state → IsChecking net new

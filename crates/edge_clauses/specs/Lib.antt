@@ -4,3 +4,4 @@ pub mod Lines
 pub mod Laws
 pub mod Checking
 pub mod Proofs
+pub mod Step

@@ -9,6 +9,7 @@ use Rattle.falling.specs.Derivation.{starting_values}
 use Rattle.clauses.specs.Lines.{Goal}
 use Rattle.edge_clauses.specs.declared.basis.Basis.{Basis}
 use Rattle.edge_clauses.specs.declared.basis.WalkStep.{WalkStep}
+use Rattle.edge_clauses.specs.declared.walk.Walk.{Walk}
 use Rattle.edge_clauses.specs.Clauses.{Clause, IsAddable, IsClause, IsNearClause, unmet}
 
 -- a line: the upper bound of an event falls, or its lower bound rises; an edge becomes known; a loop back from an event is kept as this clause; a block
@@ -113,11 +114,6 @@ abbrev pub IsEnded : Goal → Frame → Type 0
 IsEnded goal frame = (event : EventId) × IsLow goal frame event (time_of frame.up event +ℤ pos 1)
 
 -- ---- loops
-
--- a walk back from an event: the event comes at most `sum` after `at`, unless an edge of the clause that is to be kept is met
-pub record Walk : Type 0 where
-  pub at : EventId
-  pub sum : ℤ
 
 -- if times meet this edge, they meet an edge of the clause that is to be kept: the edge itself, or one from its from-event to the event of the walk
 abbrev pub IsCovered : EventId → Walk → Clause → Edge → Type 0

@@ -1,6 +1,6 @@
 //! Laws of proofs by clauses. Each is the contract of a function that does nothing.
 
-ghost use Rattle.edge_clauses.specs.Laws.{ClaimCanRise, ClauseProofBounds, ClauseProofOfNothing, NegatedProofBounds, NegatedProofOfNothing, ProofAndTimesClose};
+ghost use Rattle.edge_clauses.specs.Laws.{ClaimCanRise, ClauseProofBounds, ClauseProofOfNothing, NegatedProofBounds, NegatedProofOfNothing, ProofAndTimesClose, RaisedKeepsChecking, StartIsChecking, TakenLineKeepsChecking};
 
 /// If the claim of a proof is below the far line, no satisfying times have a greater separation of the pair.
 pub fn clause_proof_bounds()
@@ -30,4 +30,19 @@ pub fn claim_can_rise()
 /// A proof and satisfying times that attain its claim give the greatest separation.
 pub fn proof_and_times_close()
     ensures law { ProofAndTimesClose }
+{}
+
+/// `IsChecking` holds of a checker at the start.
+pub fn start_is_checking()
+    ensures law { StartIsChecking }
+{}
+
+/// `IsChecking` still holds after a checker takes a line.
+pub fn taken_line_keeps_checking()
+    ensures law { TakenLineKeepsChecking }
+{}
+
+/// `IsChecking` still holds after a checker raises its claim.
+pub fn raised_keeps_checking()
+    ensures law { RaisedKeepsChecking }
 {}

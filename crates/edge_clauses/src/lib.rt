@@ -1,10 +1,25 @@
 //! Proofs of bounds by clauses, for networks with choices of both kinds. A clause is a list of edges, of which times meet one. Bounds of times fall and
-//! rise by clauses. Loops and refuted assumptions are kept as clauses. The contract of the crate: what such a proof shows of its network.
+//! rise by clauses. Loops and refuted assumptions are kept as clauses. The contract of the crate: [`ClauseChecker`] takes a line if and only if a proof
+//! allows it. [`decide`] says what an ended proof and times show of the checker's goal.
 #![tactic(auto)]
 
 mod basis;
+mod bounds;
+mod checker;
+mod decided;
+mod edge_list;
+mod edges;
+mod filling;
+mod frames;
+mod judge;
+mod known;
 pub mod laws;
 mod line;
+mod taking;
+mod terms;
+mod walk;
 
 pub use basis::{Basis, WalkStep};
+pub use checker::ClauseChecker;
+pub use decided::decide;
 pub use line::{EventBound, StoredLine};

@@ -1,0 +1,139 @@
+//! Walks back from an event.
+
+ghost use Rattle.std.specs.Prelude.{◌≡◌, ◌↔◌, pos, ◌+ℤ◌, ◌<ℤ◌, IsTrue, IsFalse, Any, IfSome, IfNone, IfOk};
+ghost use Rattle.edge_clauses.specs.declared.walk.Walk.{Walk};
+ghost use Rattle.edge_clauses.specs.Clauses.{IsAddable};
+ghost use Rattle.edge_clauses.specs.Lines.{IsClauseLoop, IsCovered};
+ghost use Rattle.edge_clauses.specs.Step.Walking.{AreOthersCovered, IsWide, StepsIn};
+
+use crate::basis::WalkStep;
+use crate::edge_list::EdgeList;
+use crate::edges::are_addable;
+use crate::filling::fill;
+use crate::judge::contains;
+use event_graph::{Edge, Network};
+use itv_base::{EventId, NoMemory};
+
+/// A walk back from an event: the event comes at most `sum` picoseconds after `at`, unless an edge of the clause that is to be kept is met.
+#[derive(Clone, Copy)]
+pub struct Walk {
+    pub at: EventId,
+    pub sum: i64,
+}
+
+/// Whether steps back from an event lead back to it with a sum below 0, so that times meet an edge of the clause that is to be kept.
+pub fn is_loop(
+    net: &Network,
+    kept: &[EdgeList],
+    event: EventId,
+    steps: &[WalkStep],
+    shown: &[Edge],
+    room: &mut Vec<Edge>,
+) -> Result<bool, NoMemory>
+    ensures shows { IfOk result (λ is. IsTrue is → IsClauseLoop net.now kept.now event steps.now shown.now) }
+    ensures not { IfOk result (λ is. IsFalse is → IsClauseLoop net.now kept.now event steps.now shown.now → ⊥) }
+{
+    if !are_addable(shown) {
+        return Ok(false);
+    }
+    let mut walk = Walk { at: event, sum: 0 };
+    for step in steps {
+        if !fill(net, kept, step.basis, room)? {
+            return Ok(false);
+        }
+        match stepped(event, shown, walk, step.through, room) {
+            Some(next) => walk = next,
+            None => return Ok(false),
+        }
+    }
+    Ok(has_come_back(event, walk))
+}
+
+// Whether a walk is at its event again, with a sum below 0.
+fn has_come_back(event: EventId, walk: Walk) -> bool
+    ensures { IsTrue result ↔ ((walk.at ≡ event) × (walk.sum <ℤ pos 0)) }
+{
+    walk.at == event && walk.sum < 0
+}
+
+// The walk after a step through an edge of a clause, or none if the clause allows no such step.
+fn stepped(
+    event: EventId,
+    shown: &[Edge],
+    walk: Walk,
+    through: u32,
+    clause: &[Edge],
+) -> Option<Walk>
+    ensures next { IfSome result (λ next. StepsIn event shown.now walk through clause.now next) }
+    ensures none { IfNone result ((next : Walk) → StepsIn event shown.now walk through clause.now next → ⊥) }
+{
+    let Some(edge) = clause.get(through as usize) else {
+        return None;
+    };
+    if edge.to != walk.at || !are_others_covered(event, shown, walk, through, clause) {
+        return None;
+    }
+    led_on(walk, *edge)
+}
+
+// The walk behind an edge, or none if its sum is too great to be added to.
+fn led_on(walk: Walk, edge: Edge) -> Option<Walk>
+    ensures next { IfSome result (λ next. (next ≡ record { at = edge.from; sum = walk.sum +ℤ edge.weight }) × IsAddable next.sum) }
+    ensures none { IfNone result (IsAddable (walk.sum +ℤ edge.weight) → ⊥) }
+{
+    match walk.sum.checked_add(edge.weight) {
+        Some(sum) if is_near(sum) => Some(Walk {
+            at: edge.from,
+            sum,
+        }),
+        _ => None,
+    }
+}
+
+// Whether a sum can be added to.
+fn is_near(sum: i64) -> bool
+    ensures { IsTrue result ↔ IsAddable sum }
+{
+    -1_152_921_504_606_846_976 <= sum && sum <= 1_152_921_504_606_846_976
+}
+
+// Whether the edges of a clause other than the one that the step goes through are covered.
+fn are_others_covered(
+    event: EventId,
+    shown: &[Edge],
+    walk: Walk,
+    through: u32,
+    clause: &[Edge],
+) -> bool
+    ensures covered { IsTrue result ↔ AreOthersCovered event shown.now walk through clause.now }
+{
+    for place in 0..clause.len() {
+        if place != through as usize && !is_covered(event, shown, walk, clause[place]) {
+            return false;
+        }
+    }
+    true
+}
+
+// Whether times that meet an edge meet an edge of the clause that is shown: that edge itself, or a wider one from its from-event to the event of the walk.
+fn is_covered(event: EventId, shown: &[Edge], walk: Walk, edge: Edge) -> bool
+    ensures covered { IsTrue result ↔ IsCovered event walk shown.now edge }
+{
+    contains(shown, edge) || (edge.to == walk.at && has_wide(event, shown, walk, edge))
+}
+
+// Whether the clause that is shown has an edge that is as wide as this edge behind the walk.
+fn has_wide(event: EventId, shown: &[Edge], walk: Walk, edge: Edge) -> bool
+    ensures wide { IsTrue result ↔ Any (IsWide event walk edge) shown.now }
+{
+    shown.iter().any(|wide| is_wide(event, walk, edge, *wide))
+}
+
+// Whether an edge is as wide as another behind the walk.
+fn is_wide(event: EventId, walk: Walk, edge: Edge, wide: Edge) -> bool
+    ensures { IsTrue result ↔ IsWide event walk edge wide }
+{
+    wide.from == edge.from
+        && wide.to == event
+        && i128::from(walk.sum) + i128::from(edge.weight) <= i128::from(wide.weight)
+}
