@@ -1,5 +1,5 @@
 #!/usr/bin/env python3
-"""Makes plain Rust of the crate `settle` and of the lines of `edge_clauses`, without their contracts, to measure the proved program beside it.
+"""Makes plain Rust of the crates `settle` and `edge_clauses`, without their contracts, to measure the proved program beside it.
 
     bench/settle/port.py [FOLDER]
 
@@ -46,7 +46,8 @@ def as_rust(crate, text):
 def main():
     to = os.path.join(sys.argv[1] if len(sys.argv) > 1 else HERE, "src")
     files = [("settle", name) for name in os.listdir(f"{CRATES}/settle/src")]
-    files += [("edge_clauses", "basis.rt"), ("edge_clauses", "line.rt"), ("falling", "gap.rt"), ("event_graph", "times.rt")]
+    files += [("edge_clauses", name) for name in os.listdir(f"{CRATES}/edge_clauses/src") if name not in ("lib.rt", "laws.rt", "decided.rt")]
+    files += [("falling", "gap.rt"), ("event_graph", "times.rt")]
     for crate, name in files:
         os.makedirs(f"{to}/{crate}", exist_ok=True)
         with open(f"{CRATES}/{crate}/src/{name}", encoding="utf-8") as file:

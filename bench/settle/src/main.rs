@@ -7,7 +7,6 @@
 
 #[macro_use]
 mod shim;
-mod checker;
 mod clauses;
 mod edge_clauses;
 mod event_graph;

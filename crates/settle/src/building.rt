@@ -69,13 +69,15 @@ impl Tables {
         let mut literals = Vec::new(alloc);
         for edge in &edges {
             let side = self.sides.literal(*edge)?;
-            ways.push(way_of(*edge, is_late, short(ways.len()), side))?;
+            let place = short(ways.len());
+            ways.push(way_of(*edge, is_late, place, side))?;
             if !has(&literals, side) {
                 literals.push(Literal::Side(side))?;
             }
         }
         if !is_late {
-            self.earliest.push(self.rules.len())?;
+            let rule = self.rules.len();
+            self.earliest.push(rule)?;
         }
         let basis = Basis::ByChoice(number);
         self.rules.push(basis, target, &ways, &[])?;

@@ -169,7 +169,8 @@ impl ClauseStore {
     // Exchanges two literals.
     fn swap(&mut self, one: usize, other: usize) {
         let literal = at(&self.literals, one, NO_LITERAL);
-        put(&mut self.literals, one, at(&self.literals, other, NO_LITERAL));
+        let exchanged = at(&self.literals, other, NO_LITERAL);
+        put(&mut self.literals, one, exchanged);
         put(&mut self.literals, other, literal);
     }
 
@@ -230,7 +231,8 @@ impl ClauseStore {
         let mut counts = vec![in alloc; 0usize; MOST_LEVELS + 1]?;
         for clause in &self.clauses {
             let place = clause.levels.min(MOST_LEVELS);
-            put(&mut counts, place, at(&counts, place, 0).saturating_add(1));
+            let count = at(&counts, place, 0);
+            put(&mut counts, place, count.saturating_add(1));
         }
         let half = self.learnt / 2;
         let mut sum = 0usize;

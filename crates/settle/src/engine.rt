@@ -186,7 +186,8 @@ impl Engine {
             self.is_over = true;
             return Ok(Proposal::Over);
         }
-        self.aim(claim)?;
+        self.goal.value = beyond(claim);
+        self.take_goal()?;
         if let Some(conflict) = self.conflict {
             self.conflict = None;
             self.end_with(conflict)?;
@@ -202,9 +203,8 @@ impl Engine {
         self.put_line(entry.literal, entry.literal, entry.reason)
     }
 
-    // Takes the claim as it is now: the to-event comes later than that after the from-event.
-    fn aim(&mut self, claim: i64) -> Result<(), NoMemory> {
-        self.goal.value = beyond(claim);
+    /// Lowers a bound of the to-event as the goal says: that event comes later after the from-event than the claim.
+    pub fn take_goal(&mut self) -> Result<(), NoMemory> {
         if self.goal.value < self.trail.value(self.goal.node) {
             return self.lower(self.goal, Reason::Goal);
         }

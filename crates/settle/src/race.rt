@@ -201,11 +201,14 @@ impl Race {
         Ok(ending)
     }
 
-    // The times that the values of the current search stand for.
+    // The times that the current search has found. Those of the search in the negation are times of the network negated.
     fn times_found(&self, alloc: Global) -> Result<Vec<i64>, NoMemory> {
         match self.view {
-            View::Plain => times_of(alloc, View::Plain, &self.plain.times()?),
-            View::Negated => times_of(alloc, View::Negated, &self.turned.times()?),
+            View::Plain => self.plain.times(),
+            View::Negated => {
+                let values = self.turned.times()?;
+                times_of(alloc, &values)
+            }
         }
     }
 

@@ -62,6 +62,7 @@ impl Engine {
             Conflict::Bound(node) => self.clause_of(node),
         };
         self.go_back(0);
+        self.take_goal()?;
         self.sweep.add_all();
         match clause {
             Some(clause) => self.look_at_whole(clause),

@@ -104,8 +104,10 @@ impl Engine {
     pub fn hear(&mut self, literal: Literal) -> Result<(), NoMemory> {
         self.look_at_clauses(literal)?;
         if let Literal::Side(side) = literal {
-            self.follow(self.tables.edges.of_literal(side, true))?;
-            self.follow(self.tables.edges.of_literal(side, false))?;
+            let forth = self.tables.edges.of_literal(side, true);
+            self.follow(forth)?;
+            let back = self.tables.edges.of_literal(side, false);
+            self.follow(back)?;
             self.look_at_rules(literal)?;
         }
         Ok(())

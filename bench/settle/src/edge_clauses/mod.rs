@@ -1,8 +1,19 @@
-//! Lines of proofs by clauses over edges, and a checker of them.
+//! Lines of proofs by clauses over edges, and their checker.
 
 mod basis;
+mod bounds;
+mod checker;
+mod edge_list;
+mod edges;
+mod filling;
+mod frames;
+mod judge;
+mod known;
 mod line;
+mod taking;
+mod terms;
+mod walk;
 
-pub use crate::checker::ClauseChecker;
 pub use basis::{Basis, WalkStep};
+pub use checker::ClauseChecker;
 pub use line::{EventBound, StoredLine};
