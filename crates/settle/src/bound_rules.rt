@@ -8,16 +8,16 @@ use itv_base::NoMemory;
 use std::alloc::Global;
 
 /// A way of a rule: the bound `from` and the weight, in picoseconds. It comes from the edge at this place of the rule's clause. In a rule of
-/// the network the edge has a literal.
+/// the network the edge has a literal: the way counts where its opposite does not hold.
 #[derive(Clone, Copy)]
 pub struct BoundWay {
     pub from: Node,
     pub weight: i64,
     pub place: u32,
-    pub side: SideLiteral,
+    pub side: Option<SideLiteral>,
 }
 
-/// A rule: where none of its literals holds, its target is at most the greatest of its ways.
+/// A rule: where none of its literals holds, its target is at most the greatest of the ways that count.
 #[derive(Clone, Copy)]
 pub struct BoundRule {
     pub basis: Basis,
@@ -47,7 +47,7 @@ const NO_WAY: BoundWay = BoundWay {
     from: Node(0),
     weight: 0,
     place: 0,
-    side: SideLiteral(0),
+    side: None,
 };
 
 const NO_LINK: RuleLink = RuleLink {
@@ -120,12 +120,20 @@ impl BoundRules {
         let next = at(&self.by_bound, head, None);
         put(&mut self.by_bound, head, Some(self.links.len()));
         self.links.push(RuleLink { rule, next })?;
-        Ok(())
+        match way.side {
+            Some(side) => self.push_link(rule, side),
+            None => Ok(()),
+        }
     }
 
     // Adds a literal of a rule.
     fn push_literal(&mut self, rule: usize, literal: SideLiteral) -> Result<(), NoMemory> {
         self.literals.push(literal)?;
+        self.push_link(rule, literal)
+    }
+
+    // Puts a rule into the chain of the opposite of a literal.
+    fn push_link(&mut self, rule: usize, literal: SideLiteral) -> Result<(), NoMemory> {
         let head = literal.opposite().0;
         let next = at(&self.by_literal, head, None);
         put(&mut self.by_literal, head, Some(self.links.len()));

@@ -96,7 +96,7 @@ fn way_of(edge: Edge, is_late: bool, place: u32, side: SideLiteral) -> BoundWay 
         from,
         weight: edge.weight,
         place,
-        side,
+        side: Some(side),
     }
 }
 

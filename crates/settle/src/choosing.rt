@@ -67,9 +67,9 @@ impl Engine {
             if value <= 0 {
                 return None;
             }
-            need = at(&self.activity, way.side.side(), 0).max(need);
-            if !self.trail.has(way.side.opposite()) {
-                let side = way.side;
+            let side = way.side?;
+            need = at(&self.activity, side.side(), 0).max(need);
+            if !self.trail.has(side.opposite()) {
                 least = earlier(least, Candidate { side, need: 0, value });
             }
         }

@@ -75,10 +75,15 @@ impl Needs {
 
     /// Needs a side's literal.
     pub fn want_side(&mut self, trail: &Trail, side: SideLiteral) {
-        self.looks = self.looks.saturating_add(1);
         if let Some(place) = trail.place_of(side) {
-            self.lower(trail, place, 0);
+            self.want_place(trail, place);
         }
+    }
+
+    /// Needs the literal of a side that holds by an entry.
+    pub fn want_place(&mut self, trail: &Trail, place: usize) {
+        self.looks = self.looks.saturating_add(1);
+        self.lower(trail, place, 0);
     }
 
     // Needs an entry at a value. An entry that is needed already is needed at the lower of both values. Entries of level 0 are never needed.

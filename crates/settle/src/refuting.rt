@@ -3,7 +3,7 @@
 use crate::arcs::Ground;
 use crate::building::Tables;
 use crate::engine::{Conflict, Engine};
-use crate::literal::{Literal, NodeBound, beyond};
+use crate::literal::{Literal, NodeBound, SideLiteral, beyond};
 use crate::node::Node;
 use crate::places::{at, put};
 use crate::trail::{Reason, TrailEntry};
@@ -221,11 +221,32 @@ impl Engine {
                 node: way.from,
                 value: bound.value.saturating_sub(way.weight),
             };
-            self.needs.want_bound(&self.trail, self.goal, from);
+            self.want_way(from, way.side);
         }
         for number in 0..rule.literals.count {
             let side = self.tables.rules.literal(rule, number);
             self.needs.want_side(&self.trail, side.opposite());
+        }
+    }
+
+    // Needs a bound, or that a literal does not hold: what came first.
+    fn want_way(&mut self, bound: NodeBound, side: Option<SideLiteral>) {
+        if let Some(place) = side.and_then(|side| self.trail.place_of(side.opposite())) {
+            if !self.is_before(bound, place) {
+                return self.needs.want_place(&self.trail, place);
+            }
+        }
+        self.needs.want_bound(&self.trail, self.goal, bound);
+    }
+
+    // Whether a bound is at a value by the goal, or by an entry before this place.
+    fn is_before(&self, bound: NodeBound, place: usize) -> bool {
+        if bound.node == self.goal.node && self.goal.value <= bound.value {
+            return true;
+        }
+        match self.trail.first_at(bound) {
+            Some(other) => other < place,
+            None => self.trail.value(bound.node) <= bound.value,
         }
     }
 

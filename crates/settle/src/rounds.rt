@@ -52,7 +52,7 @@ const NO_WAY: BoundWay = BoundWay {
     from: Node(0),
     weight: 0,
     place: 0,
-    side: SideLiteral(0),
+    side: None,
 };
 
 // The most ways and literals of a loop that is proposed, and the farthest weight of a way from 0.
@@ -172,7 +172,7 @@ impl Engine {
         let mut best = None;
         for number in 0..rule.ways.count {
             let given = self.given(rule, number);
-            if most < given {
+            if most < given && self.counts(rule, number) {
                 most = given;
                 best = Some(number);
             }
@@ -248,13 +248,7 @@ impl Engine {
             .look(rule.ways.count.saturating_add(rule.literals.count));
         for number in 0..rule.ways.count {
             if number != through {
-                let mut way = self.tables.rules.way(rule, number);
-                if round.node.is_most() {
-                    way.weight = way.weight.saturating_add(round.sum);
-                    self.join_way(round, way)?;
-                } else {
-                    self.join_literal(round, way.side)?;
-                }
+                self.join_other(round, rule, number)?;
             }
         }
         for number in 0..rule.literals.count {
@@ -262,6 +256,24 @@ impl Engine {
             self.join_literal(round, literal)?;
         }
         Ok(())
+    }
+
+    // Joins another way of a rule: its literal if it can't hold, or if the loop is one of negated times.
+    fn join_other(
+        &mut self,
+        round: &mut Round,
+        rule: BoundRule,
+        number: usize,
+    ) -> Result<(), NoMemory> {
+        let mut way = self.tables.rules.way(rule, number);
+        if let Some(side) = way.side {
+            if !round.node.is_most() || self.trail.has(side.opposite()) {
+                return self.join_literal(round, side);
+            }
+        }
+        way.side = None;
+        way.weight = way.weight.saturating_add(round.sum);
+        self.join_way(round, way)
     }
 
     // Joins a way to those of the present walk. Of two ways from the same bound, the wider one stays.

@@ -132,7 +132,7 @@ impl Engine {
         let rule = self.tables.rules.rule(place);
         self.meter.look(1);
         let value = self.trail.value(rule.target);
-        if rule.hint < rule.ways.count && value <= self.given(rule, rule.hint) {
+        if value <= self.given(rule, rule.hint) && self.counts(rule, rule.hint) {
             return Ok(());
         }
         self.meter.look(rule.ways.count.saturating_add(rule.literals.count));
@@ -156,6 +156,14 @@ impl Engine {
         self.trail.value(way.from).saturating_add(way.weight)
     }
 
+    /// Whether a way of a rule counts.
+    pub fn counts(&self, rule: BoundRule, number: usize) -> bool {
+        match self.tables.rules.way(rule, number).side {
+            Some(side) => !self.trail.has(side.opposite()),
+            None => number < rule.ways.count,
+        }
+    }
+
     // The most that the ways of a rule give.
     fn most_of(&self, rule: BoundRule) -> MostWay {
         let mut most = MostWay {
@@ -164,7 +172,7 @@ impl Engine {
         };
         for number in 0..rule.ways.count {
             let value = self.given(rule, number);
-            if most.value < value {
+            if most.value < value && self.counts(rule, number) {
                 most = MostWay { value, number };
             }
         }
