@@ -300,11 +300,18 @@ impl Engine {
         Ok(())
     }
 
-    // Proposes a loop, if its sum is below 0, it is not too large, and something follows from it.
+    // Proposes a loop, if its sum is below 0, it is not too large, and something follows from it. Otherwise a bound of a negated time rests: it would fall on
+    // and on in small steps. The times that the search finds do not depend on it.
     fn propose(&mut self, round: Round) -> Result<(), NoMemory> {
         let size = round.ways.len().saturating_add(round.literals.len());
         self.meter.look(size);
-        if 0 <= round.sum || MOST < size || !are_near(&round.ways) || !self.says_more(&round) {
+        if 0 <= round.sum {
+            return Ok(());
+        }
+        if MOST < size || !are_near(&round.ways) || !self.says_more(&round) {
+            if !round.node.is_most() {
+                self.falls.let_rest(round.node);
+            }
             return Ok(());
         }
         self.meter

@@ -43,7 +43,7 @@ impl Engine {
     pub fn lower(&mut self, bound: NodeBound, reason: Reason) -> Result<(), NoMemory> {
         let node = bound.node;
         let value = bound.value.max(self.least);
-        if self.trail.value(node) <= value || self.conflict.is_some() {
+        if self.trail.value(node) <= value || self.conflict.is_some() || self.rests(node, reason) {
             return Ok(());
         }
         self.trail.lower(NodeBound { node, value }, reason)?;
@@ -55,6 +55,14 @@ impl Engine {
             self.conflict = Some(Conflict::Bound(node));
         }
         Ok(())
+    }
+
+    // Whether a bound rests. Clauses lower it all the same.
+    fn rests(&self, node: Node, reason: Reason) -> bool {
+        match reason {
+            Reason::Edge(_) | Reason::Rule(_) => self.falls.rests(node),
+            _ => false,
+        }
     }
 
     // Lets a literal hold. After a conflict nothing is held.
