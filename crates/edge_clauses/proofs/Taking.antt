@@ -1,5 +1,5 @@
 -- Lines that a checker takes or refuses.
-use Rattle.std.proofs.Common.{◌≡◌, ◌×◌, ◌∷◌, ◌++◌, ℤ, List, [], Option, Some, None, IsSome, IsSomeAnd, refl, sym, ap, ◌∙◌, subst}
+use Rattle.std.proofs.Common.{◌≡◌, ◌∷◌, ◌++◌, ℤ, List, [], Option, Some, None, IsSome, IsSomeAnd, refl, sym, ap, ◌∙◌, subst}
 use Rattle.itv_base.specs.declared.names.EventId.{EventId}
 use Rattle.event_graph.specs.declared.edge.Edge.{Edge}
 use Rattle.event_graph.specs.Network.{Net}
@@ -11,7 +11,7 @@ use Rattle.edge_clauses.specs.declared.frames.Frames.{Frames}
 use Rattle.edge_clauses.specs.declared.terms.Terms.{Terms}
 use Rattle.edge_clauses.specs.Checking.{Checking, IsNoLine, SomeClause, TakesLine}
 use Rattle.edge_clauses.specs.Clauses.{Clause, IsClause, IsNearClause}
-use Rattle.edge_clauses.specs.Lines.{Assume, Block, Close, Fall, Forces, Frame, IsClauseLoop, IsEnded, Know, LetsFall, LetsRise, Loop, Rise, State, frame_of, refuting, with_frame, with_known, with_low, with_up}
+use Rattle.edge_clauses.specs.Lines.{Assume, Block, Close, Fall, Forces, Frame, IsClauseLoop, IsEnded, IsOver, Know, LetsFall, LetsRise, Loop, Rise, State, frame_of, refuting, with_frame, with_known, with_low, with_up}
 use Rattle.edge_clauses.specs.Step.Standing.{KeepsOutside, base_of, check_of, frame_now, frame_outside, goal_of, state_of, state_with}
 use Rattle.edge_clauses.proofs.Standing.{base_is, changed_is, frame_is, kept_is, kept_more, opened_is}
 
@@ -160,3 +160,15 @@ not_ended_refused net terms old kept not next is_line =
       block_frame : (a : Option (List Edge)) (block : Block) → (state_with a (frame_outside old) (frame_now old) kept).block ≡ Some block → block.frame ≡ frame_now old
       block_frame None block at = absurd (cc)
       block_frame (Some edges) block at = cc
+
+-- ---- the end
+
+pub over_from : (terms : Terms) (f : Frames) (kept : List Clause) → f.assumed ≡ None → IsEnded (goal_of terms) (frame_now f) → IsOver (goal_of terms) (state_of f kept)
+over_from terms f kept none ended =
+    subst (λ (a : Option (List Edge)). IsOver (goal_of terms) (state_with a (frame_outside f) (frame_now f) kept)) (sym none) (record { closed = refl; ended = ended })
+
+pub over_parts : (terms : Terms) (f : Frames) (kept : List Clause) → IsOver (goal_of terms) (state_of f kept) → (f.assumed ≡ None) × IsEnded (goal_of terms) (frame_now f)
+over_parts terms f kept over = parts f.assumed over where
+  parts : (a : Option (List Edge)) → IsOver (goal_of terms) (state_with a (frame_outside f) (frame_now f) kept) → (a ≡ None) × IsEnded (goal_of terms) (frame_now f)
+  parts None over = (refl, over.ended)
+  parts (Some edges) over = let closed : Some (record { assumed = edges; frame = frame_now f }) ≡ None = over.closed in absurd (cc)

@@ -35,7 +35,7 @@ impl Frames {
     {
         Ok(Frames {
             bounds: Bounds::new(alloc, net.events(), terms.from, terms.limits.cap)?,
-            known: KnownEdges::new(alloc),
+            known: KnownEdges::new(alloc, net.events() as usize)?,
             assumed: None,
         })
     }
