@@ -1,14 +1,15 @@
 -- Bounds that change, and go back to what they were.
-use Rattle.std.proofs.Common.{◌≡◌, ◌+◌, ◌-◌, ◌<◌, ◌≤◌, ◌⊎◌, ◌↔◌, inl, inr, ℕ, zero, suc, ℤ, pos, neg_ℤ, ◌≤ℤ◌, ◌<ℤ◌, Bool, true, false, IsTrue, List, [], ◌∷◌, ◌++◌, length, get_or, set, take, replicate, sym, ap, ◌∙◌, refl, subst, arith}
+use Rattle.std.proofs.Common.{◌≡◌, ◌+◌, ◌-◌, ◌<◌, ◌≤◌, ◌⊎◌, ◌↔◌, inl, inr, ℕ, zero, suc, ℤ, pos, neg_ℤ, ◌≤ℤ◌, ◌<ℤ◌, Bool, true, false, IsTrue, List, [], ◌∷◌, ◌++◌, length, get_or, set, take, replicate, Some, slice_get, sym, ap, ◌∙◌, refl, subst, arith}
 use Rattle.std.proofs.lemmas.Int.{ints}
 use Rattle.std.proofs.lemmas.List.{get_or-set_other, get_or-set_same, get_or_past, length-replicate, length-set, set-get_or, set-set, take_more}
+use Rattle.std.proofs.lemmas.Option.{get_or_from_slice_get, slice_get_within}
 use Rattle.itv_base.specs.declared.names.EventId.{EventId}
 use Rattle.event_graph.specs.Times.{time_of}
 use Rattle.falling.proofs.Bounding.{replicated, set_at}
 use Rattle.edge_clauses.specs.declared.bounds.BoundSide.{BoundSide}
 use Rattle.edge_clauses.specs.declared.bounds.BoundSide.TheVariants.{Up, Low}
 use Rattle.edge_clauses.specs.declared.bounds.Change.{Change}
-use Rattle.edge_clauses.specs.Step.Bounding.{HasCrossed, Sides, undone, with_bound}
+use Rattle.edge_clauses.specs.Step.Bounding.{AreCrossedAs, HasCrossed, Sides, pair_of, undone, with_bound}
 
 -- ---- changes that are undone
 
@@ -39,12 +40,22 @@ low_undone changes s event value =
     undone_push changes (record { side = Low; event = event; old = time_of s.low event }) (with_bound Low event value s) ∙ ap (undone changes) (low_restored s event value)
 
 -- one more of the latest changes undone
-pub undone_more : (changes : List Change) (place : ℕ) (change : Change) (s next : Sides) (all : Sides) → place < length changes → get_or changes place change ≡ change
-    → next ≡ with_bound change.side change.event change.old s → undone (take (place + 1) changes) s ≡ all → undone (take place changes) next ≡ all
-undone_more changes place change s next all within at is_next so_far =
+pub undone_at : (changes : List Change) (place : ℕ) (change : Change) (s next : Sides) → slice_get changes place ≡ Some change
+    → next ≡ with_bound change.side change.event change.old s → undone (take place changes) next ≡ undone (take (place + 1) changes) s
+undone_at changes place change s next at is_next =
+    let within : place < length changes = slice_get_within changes place change at in
     ap (undone (take place changes)) is_next
     ∙ (sym (undone_push (take place changes) change s)
-    ∙ (ap (λ (cs : List Change). undone cs s) (sym (take_more changes place change within ∙ ap (λ (c : Change). take place changes ++ c ∷ []) at)) ∙ so_far))
+    ∙ ap (λ (cs : List Change). undone cs s)
+    (sym (take_more changes place change within ∙ ap (λ (c : Change). take place changes ++ c ∷ []) (get_or_from_slice_get changes place change change at))))
+
+pub undone_step : (changes : List Change) (count done : ℕ) (s next all : Sides) → done < count
+    → undone (take (count - 1 - done) changes) next ≡ undone (take (count - 1 - done + 1) changes) s → undone (take (count - done) changes) s ≡ all
+    → undone (take (count - (done + 1)) changes) next ≡ all
+undone_step changes count done s next all less step so_far =
+    let here : count - 1 - done ≡ count - (done + 1) = omega arith in
+    let more : count - 1 - done + 1 ≡ count - done = omega arith in
+    ap (λ (n : ℕ). undone (take n changes) next) (sym here) ∙ (step ∙ (ap (λ (n : ℕ). undone (take n changes) s) more ∙ so_far))
 
 -- ---- bounds that cross
 
@@ -62,9 +73,12 @@ below a b c p q = omega (arith, ints)
 -- upper bounds that were crossed still are after one falls
 up_stays_crossed : (s : Sides) (event : EventId) (value : ℤ) → event.0 < length s.up → value <ℤ time_of s.up event → HasCrossed s → HasCrossed (with_bound Up event value s)
 up_stays_crossed s event value within lower (other, crossed) = elim (event_or_other other event) [
-  | inl same ↦ (other, subst (λ (x : EventId). get_or (set s.up event.0 value) x.0 (pos 0) <ℤ get_or s.low x.0 (pos 0)) (sym same)
-      (rw (get_or-set_same s.up event.0 value (pos 0) within) (below value (time_of s.up event) (time_of s.low event) lower
-      (subst (λ (x : EventId). time_of s.up x <ℤ time_of s.low x) same crossed))))
+  | inl same ↦ (
+    other,
+    subst (λ (x : EventId). get_or (set s.up event.0 value) x.0 (pos 0) <ℤ get_or s.low x.0 (pos 0)) (sym same)
+        (rw (get_or-set_same s.up event.0 value (pos 0) within) (below value (time_of s.up event) (time_of s.low event) lower
+        (subst (λ (x : EventId). time_of s.up x <ℤ time_of s.low x) same crossed))),
+  )
   | inr apart ↦ (other, rw (get_or-set_other s.up event.0 other.0 value (pos 0) apart) crossed)
 ]
 
@@ -78,14 +92,17 @@ up_crossed s event value within lower = (
   (λ either. elim either [
     | inl crossed ↦ up_stays_crossed s event value within lower crossed
     | inr here ↦ (event, rw (get_or-set_same s.up event.0 value (pos 0) within) here)
-  ])
+  ]),
 )
 
 low_stays_crossed : (s : Sides) (event : EventId) (value : ℤ) → event.0 < length s.low → time_of s.low event <ℤ value → HasCrossed s → HasCrossed (with_bound Low event value s)
 low_stays_crossed s event value within higher (other, crossed) = elim (event_or_other other event) [
-  | inl same ↦ (other, subst (λ (x : EventId). get_or s.up x.0 (pos 0) <ℤ get_or (set s.low event.0 value) x.0 (pos 0)) (sym same)
-      (rw (get_or-set_same s.low event.0 value (pos 0) within) (below (time_of s.up event) (time_of s.low event) value
-      (subst (λ (x : EventId). time_of s.up x <ℤ time_of s.low x) same crossed) higher)))
+  | inl same ↦ (
+    other,
+    subst (λ (x : EventId). get_or s.up x.0 (pos 0) <ℤ get_or (set s.low event.0 value) x.0 (pos 0)) (sym same)
+        (rw (get_or-set_same s.low event.0 value (pos 0) within) (below (time_of s.up event) (time_of s.low event) value
+        (subst (λ (x : EventId). time_of s.up x <ℤ time_of s.low x) same crossed) higher)),
+  )
   | inr apart ↦ (other, rw (get_or-set_other s.low event.0 other.0 value (pos 0) apart) crossed)
 ]
 
@@ -99,7 +116,7 @@ low_crossed s event value within higher = (
   (λ either. elim either [
     | inl crossed ↦ low_stays_crossed s event value within higher crossed
     | inr here ↦ (event, rw (get_or-set_same s.low event.0 value (pos 0) within) here)
-  ])
+  ]),
 )
 
 -- no bounds are crossed at the start
@@ -110,8 +127,12 @@ start_not_crossed n cap from least (event, crossed) = elim (within_or_past event
     | inl same ↦ at_from (subst (λ (x : EventId). get_or (set (replicate n cap) from.0 (pos 0)) x.0 (pos 0) <ℤ get_or (set (replicate n (neg_ℤ cap)) from.0 (pos 0)) x.0 (pos 0)) same crossed)
         (subst (λ (x : EventId). x.0 < n) same within)
     | inr apart ↦ not_less cap least
-        (rw (get_or-set_other (replicate n cap) from.0 event.0 (pos 0) (pos 0) apart, get_or-set_other (replicate n (neg_ℤ cap)) from.0 event.0 (pos 0) (pos 0) apart,
-        replicated n event.0 cap (pos 0) within, replicated n event.0 (neg_ℤ cap) (pos 0) within) at crossed)
+        (rw (
+          get_or-set_other (replicate n cap) from.0 event.0 (pos 0) (pos 0) apart,
+          get_or-set_other (replicate n (neg_ℤ cap)) from.0 event.0 (pos 0) (pos 0) apart,
+          replicated n event.0 cap (pos 0) within,
+          replicated n event.0 (neg_ℤ cap) (pos 0) within,
+        ) at crossed)
   ]
   | inr past ↦ zero_less (rw (get_or_past (set (replicate n cap) from.0 (pos 0)) event.0 (pos 0) (past_set cap past), get_or_past (set (replicate n (neg_ℤ cap)) from.0 (pos 0)) event.0 (pos 0) (past_set (neg_ℤ cap) past)) at crossed)
 ] where
@@ -132,3 +153,57 @@ start_not_crossed n cap from least (event, crossed) = elim (within_or_past event
       let up : from.0 < length (replicate n cap) = omega (arith, length-replicate n cap) in
       let low : from.0 < length (replicate n (neg_ℤ cap)) = omega (arith, length-replicate n (neg_ℤ cap)) in
       zero_less (rw (get_or-set_same (replicate n cap) from.0 (pos 0) (pos 0) up, get_or-set_same (replicate n (neg_ℤ cap)) from.0 (pos 0) (pos 0) low) at here)
+
+-- ---- the flags
+
+pub up_flags : (changes pushed : List Change) (up low after : List ℤ) (event : EventId) (value : ℤ) (crossed had flag above : Bool) → event.0 < length up → value <ℤ time_of up event
+    → pushed ≡ changes ++ (record { side = Up; event = event; old = time_of up event }) ∷ [] → after ≡ set up event.0 value
+    → AreCrossedAs crossed had (pair_of changes up low) → IsTrue above ↔ (value <ℤ time_of low event) → IsTrue flag ↔ (IsTrue crossed ⊎ IsTrue above)
+    → AreCrossedAs flag had (pair_of pushed after low)
+up_flags changes pushed up low after event value crossed had flag above within lower is_pushed is_after flags is_above either =
+    rw (is_pushed, is_after) (record {
+      now = (
+        (λ t. (up_crossed (record { up = up; low = low }) event value within lower).1 (elim (either.0 t) [
+          | inl before ↦ inl (flags.now.0 before)
+          | inr here ↦ inr (is_above.0 here)
+        ])),
+        (λ h. either.1 (elim ((up_crossed (record { up = up; low = low }) event value within lower).0 h) [
+          | inl before ↦ inl (flags.now.1 before)
+          | inr here ↦ inr (is_above.1 here)
+        ])),
+      );
+      outside = rw (up_undone changes (record { up = up; low = low }) event value) flags.outside;
+    })
+
+pub low_flags : (changes pushed : List Change) (up low after : List ℤ) (event : EventId) (value : ℤ) (crossed had flag beneath : Bool) → event.0 < length low → time_of low event <ℤ value
+    → pushed ≡ changes ++ (record { side = Low; event = event; old = time_of low event }) ∷ [] → after ≡ set low event.0 value
+    → AreCrossedAs crossed had (pair_of changes up low) → IsTrue beneath ↔ (time_of up event <ℤ value) → IsTrue flag ↔ (IsTrue crossed ⊎ IsTrue beneath)
+    → AreCrossedAs flag had (pair_of pushed up after)
+low_flags changes pushed up low after event value crossed had flag beneath within higher is_pushed is_after flags is_beneath either =
+    rw (is_pushed, is_after) (record {
+      now = (
+        (λ t. (low_crossed (record { up = up; low = low }) event value within higher).1 (elim (either.0 t) [
+          | inl before ↦ inl (flags.now.0 before)
+          | inr here ↦ inr (is_beneath.0 here)
+        ])),
+        (λ h. either.1 (elim ((low_crossed (record { up = up; low = low }) event value within higher).0 h) [
+          | inl before ↦ inl (flags.now.1 before)
+          | inr here ↦ inr (is_beneath.1 here)
+        ])),
+      );
+      outside = rw (low_undone changes (record { up = up; low = low }) event value) flags.outside;
+    })
+
+pub up_outside : (changes pushed : List Change) (up low after : List ℤ) (event : EventId) (value : ℤ) → pushed ≡ changes ++ (record { side = Up; event = event; old = time_of up event }) ∷ []
+    → after ≡ set up event.0 value → undone pushed (record { up = after; low = low }) ≡ undone changes (record { up = up; low = low })
+up_outside changes pushed up low after event value is_pushed is_after = rw (is_pushed, is_after) (up_undone changes (record { up = up; low = low }) event value)
+
+pub low_outside : (changes pushed : List Change) (up low after : List ℤ) (event : EventId) (value : ℤ) → pushed ≡ changes ++ (record { side = Low; event = event; old = time_of low event }) ∷ []
+    → after ≡ set low event.0 value → undone pushed (record { up = up; low = after }) ≡ undone changes (record { up = up; low = low })
+low_outside changes pushed up low after event value is_pushed is_after = rw (is_pushed, is_after) (low_undone changes (record { up = up; low = low }) event value)
+
+pub start_flags : (changes : List Change) (up low : List ℤ) (n : ℕ) (cap : ℤ) (from : EventId) → pos 0 ≤ℤ cap → changes ≡ [] → up ≡ replicate n cap → low ≡ replicate n (neg_ℤ cap)
+    → AreCrossedAs false false (pair_of changes (set up from.0 (pos 0)) (set low from.0 (pos 0)))
+start_flags changes up low n cap from least none is_up is_low = rw (none, is_up, is_low) (record { now = not_crossed; outside = not_crossed }) where
+  not_crossed : IsTrue false ↔ HasCrossed (record { up = set (replicate n cap) from.0 (pos 0); low = set (replicate n (neg_ℤ cap)) from.0 (pos 0) })
+  not_crossed = ((λ t. absurd (cc)), (λ h. absurd (start_not_crossed n cap from least h)))

@@ -93,7 +93,7 @@ refuted_unmet goal times frame e covers above (inr (inl (same, below))) met =
 refuted_unmet goal times frame e covers above (inr (inr some)) met =
     let (k, excludes, met_too) = any_element (Excludes e) (Meets times) frame.known covers.known some in
     both (time_of times e.from) (time_of times e.to) (time_of times k.from) (time_of times k.to) e.weight k.weight (ap (time_of times) excludes.from) (ap (time_of times) excludes.to) excludes.weight met
-        met_too where
+    met_too where
       both : (from to known_from known_to weight known : ℤ) → known_from ≡ to → known_to ≡ from → known ≤ℤ (neg_ℤ weight -ℤ pos 1) → (to -ℤ from) ≤ℤ weight
           → (known_to -ℤ known_from) ≤ℤ known → ⊥
       both from to known_from known_to weight known same_from same_to less met met_too = omega (arith, ints)
@@ -153,12 +153,17 @@ led_on event at from sum weight p q = omega (arith, ints)
 covered_met : (times : List ℤ) (event : EventId) (walk : Walk) (result : Clause) (e : Edge) → time_of times event ≤ℤ (time_of times walk.at +ℤ walk.sum) → Meets times e
     → IsCovered event walk result e → MeetsClause times result
 covered_met times event walk result e within met (inl (k, there, here)) = (k, e, there, here, met)
-covered_met times event walk result e within met (inr (is_at, (k, r, there, here, (from, to, wide)))) =
-    (k, r, there, here, moved (time_of times event) (time_of times walk.at) (time_of times e.from) (time_of times e.to) (time_of times r.from) (time_of times r.to) walk.sum e.weight r.weight
-        (ap (time_of times) is_at) (ap (time_of times) from) (ap (time_of times) to) wide within met) where
-      moved : (event at from to r_from r_to sum weight wide : ℤ) → to ≡ at → r_from ≡ from → r_to ≡ event → (sum +ℤ weight) ≤ℤ wide → event ≤ℤ (at +ℤ sum) → (to -ℤ from) ≤ℤ weight
-          → (r_to -ℤ r_from) ≤ℤ wide
-      moved event at from to r_from r_to sum weight wide same_at same_from same_to less within met = omega (arith, ints)
+covered_met times event walk result e within met (inr (is_at, (k, r, there, here, (from, to, wide)))) = (
+  k,
+  r,
+  there,
+  here,
+  moved (time_of times event) (time_of times walk.at) (time_of times e.from) (time_of times e.to) (time_of times r.from) (time_of times r.to) walk.sum e.weight r.weight
+      (ap (time_of times) is_at) (ap (time_of times) from) (ap (time_of times) to) wide within met,
+) where
+  moved : (event at from to r_from r_to sum weight wide : ℤ) → to ≡ at → r_from ≡ from → r_to ≡ event → (sum +ℤ weight) ≤ℤ wide → event ≤ℤ (at +ℤ sum) → (to -ℤ from) ≤ℤ weight
+      → (r_to -ℤ r_from) ≤ℤ wide
+  moved event at from to r_from r_to sum weight wide same_at same_from same_to less within met = omega (arith, ints)
 
 step_holds : (net : Net) (kept : List Clause) (times : List ℤ) (event : EventId) (result : Clause) (walk : Walk) (step : WalkStep) (next : Walk) → Satisfies times net
     → All (MeetsClause times) kept → StepsTo net kept event result walk step next → WalkHolds times event result walk → WalkHolds times event result next
@@ -205,7 +210,7 @@ changed_keeps : (times : List ℤ) (state : State) (block : Option Block) (after
 changed_keeps times state None after is keeps follows = record { frame = follows keeps.frame; kept = keeps.kept; block = tt }
 changed_keeps times state (Some block) after is keeps follows =
     let at_block : All (Meets times) block.assumed → Covers times block.frame =
-        subst (λ (b : Option Block). IfSome b (λ (block : Block). All (Meets times) block.assumed → Covers times block.frame)) is keeps.block in
+    subst (λ (b : Option Block). IfSome b (λ (block : Block). All (Meets times) block.assumed → Covers times block.frame)) is keeps.block in
     record { frame = keeps.frame; kept = keeps.kept; block = λ all. follows (at_block all) }
 
 line_keeps : (net : Net) (goal : Goal) (times : List ℤ) (state : State) (line : ClauseLine) (next : State) → IsBetween net goal times → Keeps times state
@@ -249,7 +254,7 @@ line_keeps net goal times state (Assume edges) next between keeps (near, opposit
 line_keeps net goal times state Close next between keeps closes =
     let (block, at_block, (ended, is_next)) = some_and state.block _ closes in
     let covers : All (Meets times) block.assumed → Covers times block.frame =
-        subst (λ (b : Option Block). IfSome b (λ (block : Block). All (Meets times) block.assumed → Covers times block.frame)) at_block keeps.block in
+    subst (λ (b : Option Block). IfSome b (λ (block : Block). All (Meets times) block.assumed → Covers times block.frame)) at_block keeps.block in
     subst (Keeps times) (sym is_next) (record {
       frame = keeps.frame;
       kept = All-push (MeetsClause times) state.kept (refuting block.assumed) keeps.kept

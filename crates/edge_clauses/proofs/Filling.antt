@@ -109,7 +109,7 @@ sides_open net number cause side k c at there none same =
       not_there : slice_get k.causes cause ≡ None → ⊥
       not_there is =
           let none_at : cause_at net number cause ≡ None = ap (λ (o : Option Constraint). option_and_then (λ (c : Constraint). slice_get c.causes cause) o) at ∙ is in
-          subst IsSome none_at there
+          let none : IsSome {T = Cause} None = subst IsSome none_at there in absurd (cc)
 
       open_at : (x : Cause) → slice_get k.causes cause ≡ Some x → side_edge side k.target x ≡ None
       open_at x is = ap (option_and_then (side_edge side k.target)) (sym is) ∙ (sym (cause_edge net number cause side k at) ∙ none)

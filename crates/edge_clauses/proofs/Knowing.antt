@@ -95,24 +95,28 @@ linked edges before last e chained =
     record {
       some = omega (arith, same, chained.some);
       count = length_push before (get_or last (chain_of (length last) e) 0) ∙ (ap (λ (m : ℕ). m + 1) chained.count ∙ sym (length_push edges e));
-      before = λ k x at. rw same (elim (slice_push edges e x k at) [
+      earlier = λ k x at. rw same (elim (slice_push edges e x k at) [
         | inl (within, there) ↦
             get_or_append_left before (get_or last (chain_of (length last) e) 0 ∷ []) 0 k (omega (arith, within, chained.count))
-            ∙ (chained.before k x there ∙ ap (last_in (length last) (chain_of (length last) x)) (sym (take-append-le k edges (e ∷ []) (omega arith))))
+            ∙ (chained.earlier k x there ∙ ap (last_in (length last) (chain_of (length last) x)) (sym (take-append-le k edges (e ∷ []) (omega arith))))
         | inr (past, is) ↦
             get_or_push before (get_or last (chain_of (length last) e) 0) 0 k (chained.count ∙ sym past)
-            ∙ (chained.last (chain_of (length last) e) (chain_within (length last) e chained.some)
+            ∙ (chained.latest (chain_of (length last) e) (chain_within (length last) e chained.some)
             ∙ (ap (λ (y : Edge). last_in (length last) (chain_of (length last) y) edges) is
             ∙ ap (last_in (length last) (chain_of (length last) x)) (sym (take_at edges (e ∷ []) k (sym past)))))
       ]);
-      last = λ chain within. rw same (elim (same_or_other (chain_of (length last) e) chain) [
+      latest = λ chain within. rw same (elim (same_or_other (chain_of (length last) e) chain) [
         | inl is ↦ subst (λ c. get_or (set last (chain_of (length last) e) (length edges + 1)) c 0 ≡ last_in (length last) c (edges ++ e ∷ [])) is
             (get_or-set_same last (chain_of (length last) e) (length edges + 1) 0 (chain_within (length last) e chained.some)
             ∙ (add-one (length edges) ∙ sym (push_here (length last) (chain_of (length last) e) edges e refl)))
         | inr other ↦ get_or-set_other last (chain_of (length last) e) chain (length edges + 1) 0 (λ e. other (sym e))
-            ∙ (chained.last chain (omega (arith, within, same)) ∙ sym (push_other (length last) chain edges e other))
+            ∙ (chained.latest chain (omega (arith, within, same)) ∙ sym (push_other (length last) chain edges e other))
       ]);
     }
+
+pushed_at : (xs : List Edge) (x : Edge) → slice_get (xs ++ x ∷ []) (length xs) ≡ Some x
+pushed_at [] x = refl
+pushed_at (y ∷ xs) x = pushed_at xs x
 
 pub unlinked : (edges : List Edge) (before last : List ℕ) (e : Edge) (b : ℕ) → AreChained (edges ++ e ∷ []) (before ++ b ∷ []) last
     → AreChained edges before (set last (chain_of (length last) e) b)
@@ -122,26 +126,22 @@ unlinked edges before last e b chained =
     record {
       some = omega (arith, same, chained.some);
       count = count;
-      before = λ k x at. rw same (
-        let within : k < length edges = slice_get_within edges k x at in
-        sym (get_or_append_left before (b ∷ []) 0 k (omega (arith, within, count)))
-        ∙ (chained.before k x (slice_left edges e x k at) ∙ ap (last_in (length last) (chain_of (length last) x)) (take-append-le k edges (e ∷ []) (omega arith))));
-      last = λ chain within. rw same (elim (same_or_other (chain_of (length last) e) chain) [
+      earlier = λ k x at. rw same (
+          let within : k < length edges = slice_get_within edges k x at in
+          sym (get_or_append_left before (b ∷ []) 0 k (omega (arith, within, count)))
+          ∙ (chained.earlier k x (slice_left edges e x k at) ∙ ap (last_in (length last) (chain_of (length last) x)) (take-append-le k edges (e ∷ []) (omega arith))));
+      latest = λ chain within. rw same (elim (same_or_other (chain_of (length last) e) chain) [
         | inl is ↦ subst (λ c. get_or (set last (chain_of (length last) e) b) c 0 ≡ last_in (length last) c edges) is
             (get_or-set_same last (chain_of (length last) e) b 0 (chain_within (length last) e chained.some) ∙ last_before chained count)
         | inr other ↦ get_or-set_other last (chain_of (length last) e) chain b 0 (λ e. other (sym e))
-            ∙ (chained.last chain (omega (arith, within, same)) ∙ push_other (length last) chain edges e other)
+            ∙ (chained.latest chain (omega (arith, within, same)) ∙ push_other (length last) chain edges e other)
       ]);
     } where
       last_before : AreChained (edges ++ e ∷ []) (before ++ b ∷ []) last → length before ≡ length edges → b ≡ last_in (length last) (chain_of (length last) e) edges
       last_before chained count =
           sym (get_or_push before b 0 (length edges) count)
-          ∙ (chained.before (length edges) e (pushed_at edges e)
+          ∙ (chained.earlier (length edges) e (pushed_at edges e)
           ∙ ap (last_in (length last) (chain_of (length last) e)) (take_at edges (e ∷ []) (length edges) refl))
-
-      pushed_at : (xs : List Edge) (x : Edge) → slice_get (xs ++ x ∷ []) (length xs) ≡ Some x
-      pushed_at [] x = refl
-      pushed_at (y ∷ xs) x = pushed_at xs x
 
 -- ---- a search along a chain
 
@@ -159,7 +159,7 @@ same_chain n e known excludes = ap (λ (m : ℕ). m % n) (sums known.from.0 know
 pub looks_from_last : (e : Edge) (edges : List Edge) (before last : List ℕ) → AreChained edges before last → LooksOn e edges (length last) (get_or last (chain_of (length last) e) 0)
 looks_from_last e edges before last chained =
     let is : get_or last (chain_of (length last) e) 0 ≡ last_in (length last) (chain_of (length last) e) edges =
-    chained.last (chain_of (length last) e) (chain_within (length last) e chained.some) in
+    chained.latest (chain_of (length last) e) (chain_within (length last) e chained.some) in
     rw is (record {
       within = last_le (length last) (chain_of (length last) e) edges;
       rest = any_last (Excludes e) (length last) (chain_of (length last) e) edges (λ known. same_chain (length last) e known);
@@ -184,7 +184,7 @@ looks_before e edges before last k known chained looks at not =
     let within : k < length edges = slice_get_within edges k known at in
     let long : length (take k edges) ≡ k = length-take-le k edges (omega arith) in
     let is : get_or before k 0 ≡ last_in (length last) (chain_of (length last) e) (take k edges) =
-    chained.before k known at ∙ ap (λ (c : ℕ). last_in (length last) c (take k edges)) in_chain in
+    chained.earlier k known at ∙ ap (λ (c : ℕ). last_in (length last) c (take k edges)) in_chain in
     let short : last_in (length last) (chain_of (length last) e) (take k edges) ≤ k = omega (arith, last_le (length last) (chain_of (length last) e) (take k edges), long) in
     rw is (record {
       within = omega arith;
@@ -204,8 +204,8 @@ looks_no_more e edges chains looks some = any_none (Excludes e) (looks.rest some
 -- no edge is in the chains
 pub nothing_chained : (chains : ℕ) → 0 < chains → AreChained [] [] (replicate chains 0)
 nothing_chained chains some = record {
-  some = omega (arith, length-replicate chains 0);
+  some = let long : length (replicate chains 0) ≡ chains = length-replicate chains 0 in omega arith;
   count = refl;
-  before = λ k e at. absurd (cc);
-  last = λ chain within. get_or-replicate chains chain 0 0 (omega (arith, length-replicate chains 0));
+  earlier = λ k e at. absurd (cc);
+  latest = λ chain within. let long : length (replicate chains 0) ≡ chains = length-replicate chains 0 in get_or-replicate chains chain 0 0 (omega arith);
 }

@@ -26,7 +26,7 @@ pub changed_is : (assumed : Option (List Edge)) (outside now after_outside after
 changed_is None outside now after_outside after kept same = refl
 changed_is (Some edges) outside now after_outside after kept same = ap (λ (f : Frame). record { frame = f; kept = kept; block = Some (record { assumed = edges; frame = after }) }) (same is_there) where
   is_there : IsSome (Some edges)
-  is_there = tt
+  is_there = refl
 
 -- one more clause that is kept
 pub kept_more : (assumed : Option (List Edge)) (outside now : Frame) (kept : List Clause) (c : Clause)

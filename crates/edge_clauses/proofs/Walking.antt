@@ -71,7 +71,7 @@ pub no_clause_no_loop : (net : Net) (kept : List Clause) (event : EventId) (show
     → slice_get all place ≡ Some step → Walks net kept event shown (record { at = event; sum = pos 0 }) (take place all) between → HasNoClause net kept step.basis
     → IsClauseLoop net kept event all shown → ⊥
 no_clause_no_loop net kept event shown all place between step at walks none loop =
-    let (next, (c, e, is_clause, rest)) = step_at net kept event shown (record { at = event; sum = pos 0 }) all place between (record { at = event; sum = loop.sum }) step at walks loop.walks in
+    let (next, (c, e, is_clause, at_e, is_at, others, is_next, near)) = step_at net kept event shown (record { at = event; sum = pos 0 }) all place between (record { at = event; sum = loop.sum }) step at walks loop.walks in
     none c is_clause
 
 -- a step that its clause does not allow

@@ -1,6 +1,6 @@
 //! Bounds of events from both sides.
 
-ghost use Rattle.std.specs.Prelude.{◌≡◌, ◌↔◌, ◌<◌, ℤ, pos, neg_ℤ, ◌≤ℤ◌, ◌<ℤ◌, IsTrue, IfOk, OnOk, OnErr, replicate, set};
+ghost use Rattle.std.specs.Prelude.{◌≡◌, ◌↔◌, ◌⊎◌, ◌+◌, ◌<◌, ℤ, pos, neg_ℤ, ◌≤ℤ◌, ◌<ℤ◌, IsTrue, IfOk, OnOk, OnErr, Some, length, replicate, set, slice_get, take};
 ghost use Rattle.event_graph.specs.Times.{time_of};
 ghost use Rattle.edge_clauses.specs.declared.bounds.BoundSide.TheVariants.{Low, Up};
 ghost use Rattle.edge_clauses.specs.Step.Bounding.{HasCrossed, undone, with_bound};
@@ -48,12 +48,7 @@ impl Model for Bounds {
 
 impl Bounds {
     /// The from-event at 0, and all others at most at the cap and at least at minus the cap.
-    pub fn new(
-        alloc: Global,
-        events: u32,
-        from: EventId,
-        cap: i64,
-    ) -> Result<Bounds, NoMemory>
+    pub fn new(alloc: Global, events: u32, from: EventId, cap: i64) -> Result<Bounds, NoMemory>
         requires from { from.0 < events }
         requires least { pos 0 ≤ℤ cap }
         ensures now { IfOk result (λ b. b.now ≡ record { up = set (replicate events cap) from.0 (pos 0); low = set (replicate events (neg_ℤ cap)) from.0 (pos 0) }) }
@@ -105,9 +100,10 @@ impl Bounds {
         if self.up.len() <= place {
             return Ok(());
         }
-        self.changes.push(change_of(&self.up, BoundSide::Up, bound))?;
-        self.up[place] = bound.value;
-        self.has_crossed = self.has_crossed || is_above(&self.low, bound);
+        self.changes
+            .push(change_of(&self.up, BoundSide::Up, bound))?;
+        set_to(&mut self.up, bound);
+        self.has_crossed = is_either(self.has_crossed, is_above(&self.low, bound));
         Ok(())
     }
 
@@ -122,9 +118,10 @@ impl Bounds {
         if self.low.len() <= place {
             return Ok(());
         }
-        self.changes.push(change_of(&self.low, BoundSide::Low, bound))?;
-        self.low[place] = bound.value;
-        self.has_crossed = self.has_crossed || is_below(&self.up, bound);
+        self.changes
+            .push(change_of(&self.low, BoundSide::Low, bound))?;
+        set_to(&mut self.low, bound);
+        self.has_crossed = is_either(self.has_crossed, is_below(&self.up, bound));
         Ok(())
     }
 
@@ -173,14 +170,45 @@ fn is_below(values: &[i64], bound: EventBound) -> bool
     time_of(values, bound.event) < bound.value
 }
 
+// Whether one of two is true.
+fn is_either(is_one: bool, is_other: bool) -> bool
+    ensures { IsTrue result ↔ (IsTrue is_one ⊎ IsTrue is_other) }
+{
+    is_one || is_other
+}
+
+// Sets the value of an event.
+fn set_to(values: &mut Vec<i64>, bound: EventBound)
+    requires { bound.event.0 < length values.old.items }
+    ensures { values.new.items ≡ set values.old.items bound.event.0 bound.value }
+{
+    values[bound.event.0 as usize] = bound.value;
+}
+
 // Puts old bounds back, the latest first.
 fn put_back(changes: &[Change], up: &mut [i64], low: &mut [i64])
     ensures { record { up = up.new; low = low.new } ≡ undone changes.now (record { up = up.old; low = low.old }) }
 {
     let count = changes.len();
     for done in 0..count {
-        put(changes[count - 1 - done], up, low);
+        put_at(changes, count - 1 - done, up, low);
     }
+}
+
+// Puts the old bound at a place back.
+fn put_at(changes: &[Change], place: usize, up: &mut [i64], low: &mut [i64])
+    requires { place < length changes.now }
+    ensures { undone (take place changes.now) (record { up = up.new; low = low.new }) ≡ undone (take (place + 1) changes.now) (record { up = up.old; low = low.old }) }
+{
+    put(change_at(changes, place), up, low);
+}
+
+// The change at a place.
+fn change_at(changes: &[Change], place: usize) -> Change
+    requires { place < length changes.now }
+    ensures { slice_get changes.now place ≡ Some result }
+{
+    changes[place]
 }
 
 // Puts an old bound back.

@@ -9,14 +9,14 @@ ghost use Rattle.edge_clauses.specs.Lines.{Assume, Close, Fall, IsOver, Know, Lo
 ghost use Rattle.edge_clauses.specs.Proofs.{line_of};
 
 use crate::basis::WalkStep;
+use crate::changing::{KnownBy, fall_in, know_in, rise_in};
 use crate::edge_list::EdgeList;
-use crate::edges::{are_addable, are_opposites_addable, list_of, refuting};
 use crate::frames::Frames;
 use crate::judge::has_ended;
 use crate::line::{EventBound, StoredLine};
-use crate::taking::{KnownBy, fall_in, know_in, rise_in};
 use crate::terms::Terms;
 use crate::walk::is_loop;
+use crate::weights::{are_addable, are_opposites_addable, list_of, refuting};
 use clauses::Claim;
 use event_graph::{Edge, Network};
 use falling::{Limits, limits_of};
@@ -188,12 +188,7 @@ impl ClauseChecker {
     }
 
     // Opens a block that assumes edges, in place of an open block, if their weights and those of their opposites can be added to others.
-    fn assume(
-        &mut self,
-        alloc: Global,
-        net: &Network,
-        edges: &[Edge],
-    ) -> Result<bool, NoMemory>
+    fn assume(&mut self, alloc: Global, net: &Network, edges: &[Edge]) -> Result<bool, NoMemory>
         requires checking { IsChecking net.now self.old }
         ensures taken { IfOk result (λ taken. IsTrue taken → TakesLine net.now self.old (Assume edges.now) self.new) }
         ensures refused { IfOk result (λ taken. IsFalse taken → IsNoLine net.now self.old (Assume edges.now)) }

@@ -9,10 +9,10 @@ ghost use Rattle.edge_clauses.specs.Step.Standing.{base_of, frame_now, frame_out
 
 use crate::bounds::Bounds;
 use crate::edge_list::EdgeList;
-use crate::edges::list_of;
 use crate::known::KnownEdges;
 use crate::line::EventBound;
 use crate::terms::Terms;
+use crate::weights::list_of;
 use event_graph::{Edge, Network};
 use itv_base::NoMemory;
 use std::alloc::Global;

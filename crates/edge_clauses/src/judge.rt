@@ -7,18 +7,13 @@ ghost use Rattle.falling.specs.DerivationEnds.{AreLimits};
 ghost use Rattle.edge_clauses.specs.Lines.{Forces, GivesLeast, GivesMost, IsBound, IsEnded, IsLow, IsRefuted, LetsFall, LetsRise};
 ghost use Rattle.edge_clauses.specs.Step.Standing.{frame_now, goal_of};
 
-use crate::edges::is_same;
 use crate::frames::Frames;
 use crate::line::EventBound;
+use crate::reach::Reach;
 use crate::terms::Terms;
+use crate::weights::is_same;
 use event_graph::Edge;
 use itv_base::EventId;
-
-// A sum of a bound and a weight, in picoseconds.
-#[derive(Clone, Copy)]
-struct Reach {
-    time: i128,
-}
 
 /// Whether a clause allows the upper bound of an event to fall to a value.
 pub fn lets_fall(frames: &Frames, terms: Terms, bound: EventBound, clause: &[Edge]) -> bool
@@ -27,9 +22,8 @@ pub fn lets_fall(frames: &Frames, terms: Terms, bound: EventBound, clause: &[Edg
 {
     is_bound(terms, bound)
         && is_lower(frames, bound)
-        && clause
-            .iter()
-            .all(|edge| is_refuted(frames, terms, *edge) || gives_most(frames, bound, *edge))
+        && clause.iter().all(|edge| is_refuted(frames, terms, *edge)
+            || gives_most(frames, bound, *edge))
 }
 
 /// Whether a clause allows the lower bound of an event to rise to a value.
@@ -39,9 +33,8 @@ pub fn lets_rise(frames: &Frames, terms: Terms, bound: EventBound, clause: &[Edg
 {
     is_bound(terms, bound)
         && is_higher(frames, bound)
-        && clause
-            .iter()
-            .all(|edge| is_refuted(frames, terms, *edge) || gives_least(frames, terms, bound, *edge))
+        && clause.iter().all(|edge| is_refuted(frames, terms, *edge)
+            || gives_least(frames, terms, bound, *edge))
 }
 
 /// Whether a clause makes an edge known: all its other edges are refuted.
@@ -49,9 +42,7 @@ pub fn forces(frames: &Frames, terms: Terms, edge: Edge, clause: &[Edge]) -> boo
     ensures forces { IsTrue result ↔ Forces (goal_of terms) (frame_now frames.now) edge clause.now }
 {
     contains(clause, edge)
-        && clause
-            .iter()
-            .all(|other| is_same(*other, edge) || is_refuted(frames, terms, *other))
+        && clause.iter().all(|other| is_same(*other, edge) || is_refuted(frames, terms, *other))
 }
 
 /// Whether an edge is one of a list.
@@ -79,9 +70,30 @@ fn is_at_most_claim(frames: &Frames, terms: Terms) -> bool
 fn is_bound(terms: Terms, bound: EventBound) -> bool
     ensures bound { (net : Net) → AreLimits net terms.limits → IsTrue result ↔ IsBound net bound.value }
 {
-    let most = i128::from(terms.limits.cap) + 1;
-    let value = i128::from(bound.value);
-    -most <= value && value <= most
+    is_at_most(bound, most_of(terms)) && is_at_least(bound, most_of(terms))
+}
+
+// One more than the cap.
+fn most_of(terms: Terms) -> Reach
+    ensures { result.time ≡ (terms.limits.cap +ℤ pos 1) }
+{
+    Reach {
+        time: i128::from(terms.limits.cap) + 1,
+    }
+}
+
+// Whether a value is at most a time.
+fn is_at_most(bound: EventBound, most: Reach) -> bool
+    ensures { IsTrue result ↔ (bound.value ≤ℤ most.time) }
+{
+    i128::from(bound.value) <= most.time
+}
+
+// Whether a value is at least minus a time.
+fn is_at_least(bound: EventBound, most: Reach) -> bool
+    ensures { IsTrue result ↔ (neg_ℤ most.time ≤ℤ bound.value) }
+{
+    -i128::from(bound.value) <= most.time
 }
 
 // Whether a value is below the upper bound of an event.
@@ -118,7 +130,14 @@ fn is_falling_loop(edge: Edge) -> bool
 fn gives_most(frames: &Frames, bound: EventBound, edge: Edge) -> bool
     ensures most { IsTrue result ↔ GivesMost (frame_now frames.now) bound.event bound.value edge }
 {
-    edge.to == bound.event && reach_of(frames, edge).time <= i128::from(bound.value)
+    edge.to == bound.event && is_reached(bound, reach_of(frames, edge))
+}
+
+// Whether a time is at most a value.
+fn is_reached(bound: EventBound, reach: Reach) -> bool
+    ensures { IsTrue result ↔ (reach.time ≤ℤ bound.value) }
+{
+    reach.time <= i128::from(bound.value)
 }
 
 // Whether an edge gives an event a lower bound of at least a value.

@@ -5,19 +5,20 @@
 
 mod basis;
 mod bounds;
+mod changing;
 mod checker;
+mod clause_room;
 mod decided;
 mod edge_list;
-mod edges;
-mod filling;
 mod frames;
 mod judge;
 mod known;
 pub mod laws;
 mod line;
-mod taking;
+mod reach;
 mod terms;
 mod walk;
+mod weights;
 
 pub use basis::{Basis, WalkStep};
 pub use checker::ClauseChecker;

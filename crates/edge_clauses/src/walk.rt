@@ -1,16 +1,17 @@
 //! Walks back from an event.
 
-ghost use Rattle.std.specs.Prelude.{◌≡◌, ◌↔◌, pos, ◌+ℤ◌, ◌<ℤ◌, IsTrue, IsFalse, Any, IfSome, IfNone, IfOk};
+ghost use Rattle.std.specs.Prelude.{◌≡◌, ◌↔◌, ◌⊎◌, ◌<◌, Some, pos, ◌+ℤ◌, ◌≤ℤ◌, ◌<ℤ◌, length, slice_get, IsTrue, IsFalse, Any, IfSome, IfNone, IfOk};
 ghost use Rattle.edge_clauses.specs.declared.walk.Walk.{Walk};
 ghost use Rattle.edge_clauses.specs.Clauses.{IsAddable};
 ghost use Rattle.edge_clauses.specs.Lines.{IsClauseLoop, IsCovered};
 ghost use Rattle.edge_clauses.specs.Step.Walking.{AreOthersCovered, IsWide, StepsIn};
 
 use crate::basis::WalkStep;
+use crate::clause_room::fill;
 use crate::edge_list::EdgeList;
-use crate::edges::are_addable;
-use crate::filling::fill;
 use crate::judge::contains;
+use crate::reach::Reach;
+use crate::weights::are_addable;
 use event_graph::{Edge, Network};
 use itv_base::{EventId, NoMemory};
 
@@ -67,13 +68,14 @@ fn stepped(
     ensures next { IfSome result (λ next. StepsIn event shown.now walk through clause.now next) }
     ensures none { IfNone result ((next : Walk) → StepsIn event shown.now walk through clause.now next → ⊥) }
 {
-    let Some(edge) = clause.get(through as usize) else {
+    if clause.len() <= through as usize {
         return None;
-    };
+    }
+    let edge = edge_in(clause, through as usize);
     if edge.to != walk.at || !are_others_covered(event, shown, walk, through, clause) {
         return None;
     }
-    led_on(walk, *edge)
+    led_on(walk, edge)
 }
 
 // The walk behind an edge, or none if its sum is too great to be added to.
@@ -82,10 +84,7 @@ fn led_on(walk: Walk, edge: Edge) -> Option<Walk>
     ensures none { IfNone result (IsAddable (walk.sum +ℤ edge.weight) → ⊥) }
 {
     match walk.sum.checked_add(edge.weight) {
-        Some(sum) if is_near(sum) => Some(Walk {
-            at: edge.from,
-            sum,
-        }),
+        Some(sum) if is_near(sum) => Some(Walk { at: edge.from, sum }),
         _ => None,
     }
 }
@@ -108,11 +107,40 @@ fn are_others_covered(
     ensures covered { IsTrue result ↔ AreOthersCovered event shown.now walk through clause.now }
 {
     for place in 0..clause.len() {
-        if place != through as usize && !is_covered(event, shown, walk, clause[place]) {
+        let is_through = is_place(through, place);
+        if !is_other_covered(event, shown, walk, is_through, edge_in(clause, place)) {
             return false;
         }
     }
     true
+}
+
+// Whether a step goes through the edge at a place.
+fn is_place(through: u32, place: usize) -> bool
+    ensures { IsTrue result ↔ (place ≡ through) }
+{
+    place == through as usize
+}
+
+// The edge at a place.
+fn edge_in(clause: &[Edge], place: usize) -> Edge
+    requires { place < length clause.now }
+    ensures { slice_get clause.now place ≡ Some result }
+{
+    clause[place]
+}
+
+// Whether the step goes through an edge, or the edge is covered.
+fn is_other_covered(
+    event: EventId,
+    shown: &[Edge],
+    walk: Walk,
+    is_through: bool,
+    edge: Edge,
+) -> bool
+    ensures { IsTrue result ↔ (IsTrue is_through ⊎ IsCovered event walk shown.now edge) }
+{
+    is_through || is_covered(event, shown, walk, edge)
 }
 
 // Whether times that meet an edge meet an edge of the clause that is shown: that edge itself, or a wider one from its from-event to the event of the walk.
@@ -133,7 +161,21 @@ fn has_wide(event: EventId, shown: &[Edge], walk: Walk, edge: Edge) -> bool
 fn is_wide(event: EventId, walk: Walk, edge: Edge, wide: Edge) -> bool
     ensures { IsTrue result ↔ IsWide event walk edge wide }
 {
-    wide.from == edge.from
-        && wide.to == event
-        && i128::from(walk.sum) + i128::from(edge.weight) <= i128::from(wide.weight)
+    wide.from == edge.from && wide.to == event && is_within(behind(walk, edge), wide)
+}
+
+// The sum of a walk and an edge.
+fn behind(walk: Walk, edge: Edge) -> Reach
+    ensures { result.time ≡ (walk.sum +ℤ edge.weight) }
+{
+    Reach {
+        time: i128::from(walk.sum) + i128::from(edge.weight),
+    }
+}
+
+// Whether a sum is at most the weight of an edge.
+fn is_within(reach: Reach, wide: Edge) -> bool
+    ensures { IsTrue result ↔ (reach.time ≤ℤ wide.weight) }
+{
+    reach.time <= i128::from(wide.weight)
 }

@@ -31,8 +31,8 @@ last_in chains chain (e ∷ es) = later (last_in chains chain es) (chain_of chai
 pub record AreChained (edges : List Edge) (before last : List ℕ) : Type 0 where
   pub some : 0 < length last
   pub count : length before ≡ length edges
-  pub before : (k : ℕ) (e : Edge) → slice_get edges k ≡ Some e → slice_index_or before k 0 ≡ last_in (length last) (chain_of (length last) e) (take k edges)
-  pub last : (chain : ℕ) → chain < length last → slice_index_or last chain 0 ≡ last_in (length last) chain edges
+  pub earlier : (k : ℕ) (e : Edge) → slice_get edges k ≡ Some e → slice_index_or before k 0 ≡ last_in (length last) (chain_of (length last) e) (take k edges)
+  pub latest : (chain : ℕ) → chain < length last → slice_index_or last chain 0 ≡ last_in (length last) chain edges
 
 abbrev pub IsChained : Chains → Type 0
 IsChained chains = AreChained chains.edges.items chains.before.items chains.last.items

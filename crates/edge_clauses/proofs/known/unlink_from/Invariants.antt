@@ -3,8 +3,8 @@ use Rattle.edge_clauses.specs.Step.Knowing.{IsChained}
 use Rattle.edge_clauses.proofs.known.unlink_from.Given as goal
 
 -- the edges that are left are the first of all
-abbrev pub invariant-loop-place : goal.invariant-loop-place
-invariant-loop-place l = record {
+abbrev pub invariant-loop-chains : goal.invariant-loop-chains
+invariant-loop-chains l = record {
   chained : IsChained l.chains;
   least : l.place ≤ vec_len l.chains.edges;
   edges : l.chains.edges.items ≡ take (vec_len l.chains.edges) l.initial.chains.edges.items;
@@ -14,5 +14,5 @@ invariant-loop-place l = record {
   capacity_before : vec_capacity l.chains.before ≡ vec_capacity l.initial.chains.before;
 }
 
-abbrev pub decreases-loop-place : goal.decreases-loop-place
-decreases-loop-place l = vec_len l.chains.edges
+abbrev pub decreases-loop-chains : goal.decreases-loop-chains
+decreases-loop-chains l = vec_len l.chains.edges

@@ -1,6 +1,6 @@
 use Rattle.std.proofs.Common.{◌≡◌, map, take}
 use Rattle.edge_clauses.specs.Clauses.{unmet}
-use Rattle.edge_clauses.proofs.edges.refuting.Given as goal
+use Rattle.edge_clauses.proofs.weights.refuting.Given as goal
 
 -- the opposites so far
 abbrev pub invariant-loop-edge : goal.invariant-loop-edge

@@ -10,7 +10,7 @@ ghost use Rattle.edge_clauses.specs.Clauses.{Clause, IsClause};
 
 use crate::basis::Basis;
 use crate::edge_list::EdgeList;
-use crate::edges::{is_addable, unmet};
+use crate::weights::{is_addable, unmet};
 use event_graph::{Edge, Network};
 use itv_base::{EdgeName, NoMemory, RuleKind, Side};
 

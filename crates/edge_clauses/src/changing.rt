@@ -8,8 +8,8 @@ ghost use Rattle.edge_clauses.specs.Lines.{Forces, LetsFall, LetsRise, with_know
 ghost use Rattle.edge_clauses.specs.Step.Standing.{KeepsOutside, frame_now, goal_of};
 
 use crate::basis::Basis;
+use crate::clause_room::fill;
 use crate::edge_list::EdgeList;
-use crate::filling::fill;
 use crate::frames::Frames;
 use crate::judge::{forces, lets_fall, lets_rise};
 use crate::line::EventBound;

@@ -1,6 +1,7 @@
 //! Edges of clauses: their opposites, and the weights that lines allow.
 
-ghost use Rattle.std.specs.Prelude.{◌≡◌, ◌↔◌, IsTrue, IfOk, map};
+ghost use Rattle.std.specs.Prelude.{◌≡◌, ◌↔◌, All, IsTrue, IfOk};
+ghost use Rattle.event_graph.specs.declared.edge.Edge.{Edge};
 ghost use Rattle.edge_clauses.specs.Clauses.{IsAddable, IsNearClause, unmet};
 ghost use Rattle.edge_clauses.specs.Lines.{refuting};
 
@@ -43,9 +44,16 @@ pub fn are_addable(edges: &[Edge]) -> bool
 
 /// Whether the weights of the opposites of all edges can be added to others.
 pub fn are_opposites_addable(edges: &[Edge]) -> bool
-    ensures { IsTrue result ↔ IsNearClause (refuting edges.now) }
+    ensures { IsTrue result ↔ All (λ (e : Edge). IsAddable (unmet e).weight) edges.now }
 {
-    edges.iter().all(|edge| is_addable(unmet(*edge)))
+    edges.iter().all(|edge| is_opposite_addable(*edge))
+}
+
+// Whether the weight of the opposite of an edge can be added to another.
+fn is_opposite_addable(edge: Edge) -> bool
+    ensures { IsTrue result ↔ IsAddable (unmet edge).weight }
+{
+    is_addable(unmet(edge))
 }
 
 /// The clause that says that the edges are not all met.

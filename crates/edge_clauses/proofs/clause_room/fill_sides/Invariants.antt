@@ -1,7 +1,7 @@
 use Rattle.std.proofs.Common.{◌≡◌, Some, map, slice_get, take}
 use Rattle.event_graph.specs.Edges.{side_edge}
 use Rattle.event_graph.specs.Network.{Constraint}
-use Rattle.edge_clauses.proofs.filling.fill_sides.Given as goal
+use Rattle.edge_clauses.proofs.clause_room.fill_sides.Given as goal
 
 -- the edges of the causes so far
 abbrev pub invariant-loop-cause : goal.invariant-loop-cause
