@@ -36,7 +36,8 @@ def without_contracts(text):
 
 def as_rust(crate, text):
     text = re.sub(r"#\[derive\(Drop\)\]\n", "", without_contracts(text)).replace(", Drop)", ")")
-    text = text.replace("crate::", f"crate::{crate}::").replace("pub mod laws;\n", "")
+    text = text.replace("crate::", f"crate::{crate}::").replace("pub mod laws;\n", "").replace("mod decided;\n", "")
+    text = re.sub(r"pub use decided::.*\n", "", text)
     text = re.sub(r"\buse (itv_base|event_graph|falling|clauses|edge_clauses)::", r"use crate::\1::", text)
     text = re.sub(r"impl<T: Drop> From<AllocFailed<T>> for \w+ \{.*?\n\}\n", "", text, flags=re.S)
     text = re.sub(r"use std::(alloc|marker|error|fmt)[^;]*;\n", "", text)
@@ -46,7 +47,7 @@ def as_rust(crate, text):
 def main():
     to = os.path.join(sys.argv[1] if len(sys.argv) > 1 else HERE, "src")
     files = [("settle", name) for name in os.listdir(f"{CRATES}/settle/src")]
-    files += [("edge_clauses", name) for name in os.listdir(f"{CRATES}/edge_clauses/src") if name not in ("lib.rt", "laws.rt", "decided.rt")]
+    files += [("edge_clauses", name) for name in os.listdir(f"{CRATES}/edge_clauses/src") if name not in ("laws.rt", "decided.rt")]
     files += [("falling", "gap.rt"), ("event_graph", "times.rt")]
     for crate, name in files:
         os.makedirs(f"{to}/{crate}", exist_ok=True)

@@ -31,6 +31,12 @@ impl<T> Vec<T> {
     }
 }
 
+impl<T> Vec<T> {
+    pub fn push_reserved(&mut self, item: T) {
+        self.0.push(item);
+    }
+}
+
 impl<T: Clone> Vec<T> {
     pub fn from_elem(_: Global, item: T, count: usize) -> Result<Vec<T>, NoMemory> {
         Ok(Vec(std::vec![item; count]))

@@ -68,6 +68,11 @@ impl FallCounts {
         self.of(node).rests
     }
 
+    /// Whether a bound has fallen twice or more.
+    pub fn has_fallen_again(&self, node: Node) -> bool {
+        2 <= self.of(node).count
+    }
+
     /// Counts a fall of a bound, and says whether it is the third, the sixth, the twelfth, and so on.
     pub fn is_due(&mut self, node: Node) -> bool {
         let mut fall = self.of(node);

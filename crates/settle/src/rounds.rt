@@ -129,13 +129,16 @@ impl Engine {
         }
     }
 
-    // The first bound to which the walk back from a bound comes twice, if there is one.
+    // The first bound to which the walk back from a bound comes twice, if there is one. All bounds of a loop round which they fall on and on have fallen twice.
     fn met_again(&mut self, node: Node) -> Option<Node> {
         self.walks.begin();
         let mut here = node;
         for _ in 0..self.trail.bounds().saturating_add(1) {
             if self.walks.comes_again(here) {
                 return Some(here);
+            }
+            if !self.falls.has_fallen_again(here) {
+                return None;
             }
             here = self.step_back(here)?.from;
         }

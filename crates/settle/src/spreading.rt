@@ -9,6 +9,9 @@ use crate::node::Node;
 use crate::trail::Reason;
 use itv_base::NoMemory;
 
+// How many turns a fall of a bound takes. What follows from it is looked at again.
+const FALL_TURNS: usize = 6;
+
 // The most that the ways of a rule give, in picoseconds, and the number of the way that gives it.
 #[derive(Clone, Copy)]
 struct MostWay {
@@ -47,6 +50,7 @@ impl Engine {
             return Ok(());
         }
         self.trail.lower(NodeBound { node, value }, reason)?;
+        self.meter.take(FALL_TURNS);
         self.sweep.add(node);
         if self.falls.is_due(node) {
             self.walk = Some(node);

@@ -151,11 +151,12 @@ impl Trail {
         let place = self.entries.len();
         let before = self.last_of(bound.node);
         let (far, depth) = self.far_before(before, place);
+        let old = self.value(bound.node);
         self.entries.push(TrailEntry {
             literal: Literal::Bound(bound),
             reason,
             level: self.starts.len(),
-            old: self.value(bound.node),
+            old,
             before,
             far,
             depth,
