@@ -10,7 +10,7 @@ use crate::trail::Reason;
 use itv_base::NoMemory;
 
 // How many turns a fall of a bound takes. What follows from it is looked at again.
-const FALL_TURNS: usize = 6;
+const FALL_TURNS: usize = 8;
 
 // The most that the ways of a rule give, in picoseconds, and the number of the way that gives it.
 #[derive(Clone, Copy)]
