@@ -1,7 +1,7 @@
 -- Edges in chains.
 use Rattle.std.proofs.Common.{◌≡◌, ◌≢◌, ◌==◌, ◌+◌, ◌-◌, ◌%◌, ◌<◌, ◌≤◌, ◌⊎◌, inl, inr, ℕ, zero, suc, Bool, true, false, if◌then◌else◌, List, [], ◌∷◌, ◌++◌, Any, length, get_or, replicate, set, take, Option, Some, None, slice_get, add-one, sym, ap, ◌∙◌, refl, subst, arith}
-use Rattle.std.proofs.lemmas.List.{get_or-append_right, get_or-replicate, get_or-set_other, get_or-set_same, get_or-take, get_or_append_left, get_or_push, length-append, length-replicate, length-set, length-take-le, length_push, take-append-le, take-take, take_all, take_at, take_more}
-use Rattle.std.proofs.lemmas.Option.{get_or_from_slice_get, same_Some, slice_get-get_or, slice_get_within}
+use Rattle.std.proofs.lemmas.List.{get_or-append_right, get_or-replicate, get_or-set_other, get_or-set_same, get_or-take, get_or_append_left, get_or_push, get_or_read, length-append, length-replicate, length-set, length-take-le, length_push, take-append-le, take-take, take_all, take_at, take_more}
+use Rattle.std.proofs.lemmas.Option.{get_or_from_slice_get, same_Some, slice_get_read, slice_get_within}
 use Rattle.itv_base.specs.declared.names.EventId.{EventId}
 use Rattle.event_graph.specs.declared.edge.Edge.{Edge}
 use Rattle.clauses.proofs.Anys.{any_cases, any_head, any_left, any_none, any_tail}
@@ -203,9 +203,47 @@ looks_no_more e edges chains looks some = any_none (Excludes e) (looks.rest some
 
 -- no edge is in the chains
 pub nothing_chained : (chains : ℕ) → 0 < chains → AreChained [] [] (replicate chains 0)
-nothing_chained chains some = record {
-  some = let long : length (replicate chains 0) ≡ chains = length-replicate chains 0 in omega arith;
+nothing_chained chains is_some = record {
+  some = subst (λ (n : ℕ). 0 < n) (sym (length-replicate {A = ℕ} chains 0)) is_some;
   count = refl;
   earlier = λ k e at. absurd (cc);
-  latest = λ chain within. let long : length (replicate chains 0) ≡ chains = length-replicate chains 0 in get_or-replicate chains chain 0 0 (omega arith);
+  latest = λ chain within. get_or-replicate chains chain 0 0 (subst (λ (n : ℕ). chain < n) (length-replicate {A = ℕ} chains 0) within);
 }
+
+-- ---- as the code has them
+
+pub linked_as : (edges next : List Edge) (before next_before last : List ℕ) (e : Edge) (chain place count : ℕ) → AreChained edges before last → chain ≡ chain_of (length last) e
+    → next ≡ edges ++ e ∷ [] → next_before ≡ before ++ place ∷ [] → place ≡ get_or last chain place → count ≡ length edges + 1 → AreChained next next_before (set last chain count)
+linked_as edges next before next_before last e chain place count chained is_chain is_next is_before is_place is_count =
+    let within : chain < length last = subst (λ (c : ℕ). c < length last) (sym is_chain) (chain_within (length last) e chained.some) in
+    let at : place ≡ get_or last (chain_of (length last) e) 0 = get_or_read last chain place within is_place 0 ∙ ap (λ (c : ℕ). get_or last c 0) is_chain in
+    rw (is_next, is_before, is_count, at, is_chain) (linked edges before last e chained)
+
+pub unlinked_as : (edges next : List Edge) (before next_before last : List ℕ) (e : Edge) (chain place : ℕ) → AreChained edges before last → chain ≡ chain_of (length last) e
+    → edges ≡ next ++ e ∷ [] → before ≡ next_before ++ place ∷ [] → AreChained next next_before (set last chain place)
+unlinked_as edges next before next_before last e chain place chained is_chain is_edges is_before =
+    rw is_chain (unlinked next next_before last e place (subst (λ (b : List ℕ). AreChained (next ++ e ∷ []) b last) is_before (subst (λ (es : List Edge). AreChained es before last) is_edges chained)))
+
+pub looks_from : (e : Edge) (edges : List Edge) (before last : List ℕ) (chain at : ℕ) → AreChained edges before last → chain ≡ chain_of (length last) e → at ≡ get_or last chain at
+    → LooksOn e edges (length last) at
+looks_from e edges before last chain at chained is_chain is_at =
+    let within : chain < length last = subst (λ (c : ℕ). c < length last) (sym is_chain) (chain_within (length last) e chained.some) in
+    subst (LooksOn e edges (length last)) (sym (get_or_read last chain at within is_at 0 ∙ ap (λ (c : ℕ). get_or last c 0) is_chain)) (looks_from_last e edges before last chained)
+
+-- one edge further back along the chain
+pub looks_next : (e : Edge) (edges : List Edge) (before last : List ℕ) (at next : ℕ) (known : Edge) → AreChained edges before last → LooksOn e edges (length last) at → 0 < at
+    → known ≡ get_or edges (at - 1) known → (Excludes e known → ⊥) → next ≡ get_or before (at - 1) next → LooksOn e edges (length last) next × (next < at)
+looks_next e edges before last at next known chained looks some is_known not is_next =
+    let here : suc (at - 1) ≡ at = omega arith in
+    let within : at - 1 < length edges = omega (arith, looks.within) in
+    let within_before : at - 1 < length before = omega (arith, chained.count) in
+    let found : slice_get edges (at - 1) ≡ Some known = slice_get_read edges (length edges) (at - 1) known refl within is_known in
+    let is : next ≡ get_or before (at - 1) 0 = get_or_read before (at - 1) next within_before is_next 0 in
+    let long : length (take (at - 1) edges) ≡ at - 1 = length-take-le (at - 1) edges (omega arith) in
+    let less : last_in (length last) (chain_of (length last) known) (take (at - 1) edges) ≤ length (take (at - 1) edges) = last_le (length last) (chain_of (length last) known) (take (at - 1) edges) in
+    let value : get_or before (at - 1) 0 ≡ last_in (length last) (chain_of (length last) known) (take (at - 1) edges) = chained.earlier (at - 1) known found in (
+      subst (LooksOn e edges (length last)) (sym is) (looks_before e edges before last (at - 1) known chained (subst (LooksOn e edges (length last)) (sym here) looks) found not),
+      smaller next (get_or before (at - 1) 0) (last_in (length last) (chain_of (length last) known) (take (at - 1) edges)) (length (take (at - 1) edges)) is value less long,
+    ) where
+      smaller : (next value last long : ℕ) → next ≡ value → value ≡ last → last ≤ long → long ≡ at - 1 → next < at
+      smaller next value last long p q r s = omega arith

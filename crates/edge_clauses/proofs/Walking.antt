@@ -1,5 +1,5 @@
 -- Walks step by step.
-use Rattle.std.proofs.Common.{◌≡◌, ◌+◌, ◌<◌, ℕ, zero, suc, ℤ, pos, ◌+ℤ◌, ◌<ℤ◌, List, [], ◌∷◌, ◌++◌, length, take, Some, slice_get, sym, ap, ◌∙◌, refl, subst, arith}
+use Rattle.std.proofs.Common.{◌≡◌, ◌+◌, ◌<◌, ◌⊎◌, ◌↔◌, inl, inr, ℕ, zero, suc, ℤ, pos, ◌+ℤ◌, ◌<ℤ◌, Bool, IsTrue, List, [], ◌∷◌, ◌++◌, length, take, Some, slice_get, sym, ap, ◌∙◌, refl, subst, arith}
 use Rattle.std.proofs.lemmas.Int.{ints}
 use Rattle.std.proofs.lemmas.List.{take_more}
 use Rattle.std.proofs.lemmas.Option.{get_or_from_slice_get, same_Some, slice_get_within}
@@ -10,8 +10,8 @@ use Rattle.edge_clauses.specs.declared.basis.WalkStep.{WalkStep}
 use Rattle.edge_clauses.specs.declared.walk.Walk.{Walk}
 use Rattle.edge_clauses.specs.Checking.{HasNoClause}
 use Rattle.edge_clauses.specs.Clauses.{Clause, IsClause, IsNearClause}
-use Rattle.edge_clauses.specs.Lines.{IsClauseLoop, StepsTo, Walks}
-use Rattle.edge_clauses.specs.Step.Walking.{StepsIn}
+use Rattle.edge_clauses.specs.Lines.{IsClauseLoop, IsCovered, StepsTo, Walks}
+use Rattle.edge_clauses.specs.Step.Walking.{AreOthersCovered, StepsIn}
 use Rattle.edge_clauses.proofs.Filling.{one_clause}
 
 take_at : {X : Type 0} (xs : List X) (k : ℕ) (x : X) → slice_get xs k ≡ Some x → take k xs ++ x ∷ [] ≡ take (k + 1) xs
@@ -83,6 +83,29 @@ no_step_no_loop net kept event shown all place between step c at walks is_clause
     step_at net kept event shown (record { at = event; sum = pos 0 }) all place between (record { at = event; sum = loop.sum }) step at walks loop.walks in
     let same : d ≡ c = one_clause net kept step.basis d c is_d is_clause in
     not next (subst (λ (x : Clause). StepsIn event shown between step.through x next) same (e, at_e, is_at, others, is_next, near))
+
+-- ---- edges that are covered
+
+pub others_more : (event : EventId) (shown : Clause) (walk : Walk) (through : ℕ) (c : Clause) (place : ℕ) (e : Edge) (is_through : Bool) → slice_get c place ≡ Some e
+    → IsTrue is_through ↔ (place ≡ through) → IsTrue is_through ⊎ IsCovered event walk shown e
+    → ((k : ℕ) (other : Edge) → k < place → slice_get c k ≡ Some other → (k ≡ through) ⊎ IsCovered event walk shown other)
+    → (k : ℕ) (other : Edge) → k < place + 1 → slice_get c k ≡ Some other → (k ≡ through) ⊎ IsCovered event walk shown other
+others_more event shown walk through c place e is_through here is_place either so_far k other less at = elim (less_or_same k place less) [
+  | inl before ↦ so_far k other before at
+  | inr same ↦ elim either [
+    | inl at_through ↦ inl (same ∙ is_place.0 at_through)
+    | inr covered ↦ inr (subst (IsCovered event walk shown) (same_Some e other (sym here ∙ (ap (slice_get c) (sym same) ∙ at))) covered)
+  ]
+] where
+  less_or_same : (m n : ℕ) → m < n + 1 → (m < n) ⊎ (m ≡ n)
+  less_or_same m n h = grind arith
+
+pub others_all : (event : EventId) (shown : Clause) (walk : Walk) (through : ℕ) (c : Clause) (place : ℕ) → (place < length c → ⊥)
+    → ((k : ℕ) (other : Edge) → k < place → slice_get c k ≡ Some other → (k ≡ through) ⊎ IsCovered event walk shown other) → AreOthersCovered event shown walk through c
+others_all event shown walk through c place past so_far k other at =
+    so_far k other (before k place (length c) (slice_get_within c k other at) past) at where
+      before : (k place n : ℕ) → k < n → (place < n → ⊥) → k < place
+      before k place n within past = grind arith
 
 -- ---- loops
 
