@@ -23,7 +23,7 @@ impl Engine {
         let Some(candidate) = self.first_candidate() else {
             return Ok(Proposal::Times);
         };
-        if self.blocks == 0 {
+        if self.blocks == 0 || self.rest_at <= self.meter.turns() {
             return Ok(Proposal::Rests);
         }
         if self.pace.is_due() {

@@ -16,6 +16,9 @@ use event_graph::Network;
 use itv_base::{EventId, NoMemory};
 use std::alloc::Global;
 
+// How many turns are allowed with each block. A search that comes to few conflicts gives the turn to the other one all the same.
+const BLOCK_TURNS: u64 = 200_000;
+
 /// The outcome of a step.
 #[derive(Drop)]
 pub enum Proposal {
@@ -81,8 +84,9 @@ pub struct Engine {
     pub activity: Vec<u64>,
     pub gain: u64,
     pub pace: Pace,
-    /// How many more blocks are allowed.
+    /// How many more blocks are allowed, and at how many turns the search rests before it has them.
     pub blocks: u64,
+    pub rest_at: u64,
     /// Whether the lines end the search once the checker has taken those that wait.
     pub is_ended: bool,
     pub is_over: bool,
@@ -133,6 +137,7 @@ impl Engine {
             gain: 1024,
             pace: Pace::new(),
             blocks: 0,
+            rest_at: 0,
             is_ended: false,
             is_over: false,
             meter: Meter::new(room),
@@ -141,9 +146,11 @@ impl Engine {
         Ok(engine)
     }
 
-    /// Allows this many blocks from now on.
+    /// Allows this many blocks from now on, and the turns for them.
     pub fn allow(&mut self, blocks: u64) {
         self.blocks = blocks;
+        let turns = blocks.saturating_mul(BLOCK_TURNS);
+        self.rest_at = self.meter.turns().saturating_add(turns);
     }
 
     /// Gives up: the search proposes the lines that wait, and then nothing more.

@@ -122,7 +122,7 @@ impl Prover {
         SearchState::Rests
     }
 
-    /// Allows the search this many blocks from now on.
+    /// Allows the search this many blocks from now on, and the turns for them.
     pub fn allow(&mut self, blocks: u64)
         ensures same { self.new ≡ self.old }
     {
