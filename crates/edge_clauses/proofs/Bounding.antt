@@ -1,12 +1,11 @@
 -- Bounds that change, and go back to what they were.
-use Rattle.std.proofs.Common.{◌≡◌, ◌+◌, ◌-◌, ◌<◌, ◌≤◌, ◌⊎◌, ◌↔◌, inl, inr, ℕ, zero, suc, ℤ, pos, neg_ℤ, ◌≤ℤ◌, ◌<ℤ◌, Bool, true, false, IsTrue, List, [], ◌∷◌, ◌++◌, length, get_or, set, take, replicate, Some, slice_get, sym, ap, ◌∙◌, refl, subst, arith}
+use Rattle.std.proofs.Common.{◌≡◌, ◌+◌, ◌<◌, ◌≤◌, ◌⊎◌, ◌↔◌, inl, inr, ℕ, ℤ, pos, neg_ℤ, ◌≤ℤ◌, ◌<ℤ◌, Bool, false, IsTrue, List, [], ◌∷◌, ◌++◌, length, get_or, set, take, replicate, Some, slice_get, sym, ap, ◌∙◌, refl, subst, arith}
 use Rattle.std.proofs.lemmas.Int.{ints}
 use Rattle.std.proofs.lemmas.List.{get_or-set_other, get_or-set_same, get_or_past, length-replicate, length-set, set-get_or, set-set, take_more}
 use Rattle.std.proofs.lemmas.Option.{get_or_from_slice_get, slice_get_within}
 use Rattle.itv_base.specs.declared.names.EventId.{EventId}
 use Rattle.event_graph.specs.Times.{time_of}
-use Rattle.falling.proofs.Bounding.{replicated, set_at}
-use Rattle.edge_clauses.specs.declared.bounds.BoundSide.{BoundSide}
+use Rattle.falling.proofs.Bounding.{replicated}
 use Rattle.edge_clauses.specs.declared.bounds.BoundSide.TheVariants.{Up, Low}
 use Rattle.edge_clauses.specs.declared.bounds.Change.{Change}
 use Rattle.edge_clauses.specs.Step.Bounding.{AreCrossedAs, HasCrossed, Sides, pair_of, undone, with_bound}
@@ -48,14 +47,6 @@ undone_at changes place change s next at is_next =
     ∙ (sym (undone_push (take place changes) change s)
     ∙ ap (λ (cs : List Change). undone cs s)
     (sym (take_more changes place change within ∙ ap (λ (c : Change). take place changes ++ c ∷ []) (get_or_from_slice_get changes place change change at))))
-
-pub undone_step : (changes : List Change) (count done : ℕ) (s next all : Sides) → done < count
-    → undone (take (count - 1 - done) changes) next ≡ undone (take (count - 1 - done + 1) changes) s → undone (take (count - done) changes) s ≡ all
-    → undone (take (count - (done + 1)) changes) next ≡ all
-undone_step changes count done s next all less step so_far =
-    let here : count - 1 - done ≡ count - (done + 1) = omega arith in
-    let more : count - 1 - done + 1 ≡ count - done = omega arith in
-    ap (λ (n : ℕ). undone (take n changes) next) (sym here) ∙ (step ∙ (ap (λ (n : ℕ). undone (take n changes) s) more ∙ so_far))
 
 -- ---- bounds that cross
 

@@ -1,9 +1,11 @@
 -- Lines can follow lines.
-use Rattle.std.proofs.Common.{◌≡◌, ◌<◌, ℤ, List, [], ◌∷◌, ◌++◌, sym, refl, subst}
+use Rattle.std.proofs.Common.{◌≡◌, ◌<◌, Bool, true, false, IsTrue, IsFalse, List, [], ◌∷◌, ◌++◌, Result, Ok, Err, IfOk, OnErr, sym, refl, subst}
+use Rattle.itv_base.specs.declared.text.NoMemory.{NoMemory}
 use Rattle.event_graph.specs.Network.{Net}
 use Rattle.falling.specs.DerivationEnds.{AreLimits}
 use Rattle.clauses.specs.Laws.{claiming}
 use Rattle.clauses.specs.Lines.{Goal}
+use Rattle.edge_clauses.specs.Checking.{Checking, IsChecking, TakesLine}
 use Rattle.edge_clauses.specs.Laws.{RaisedKeepsChecking, StartIsChecking, TakenLineKeepsChecking}
 use Rattle.edge_clauses.specs.Lines.{ClauseLine, IsLine, ProofLeads, State, starting}
 use Rattle.edge_clauses.proofs.Proving.{claim_can_rise}
@@ -53,3 +55,10 @@ raised_keeps_checking net old new claim checking more same_limits is_goal same_s
             (led_in net (claiming old.goal claim) new.goal lines old.state is_goal (claim_can_rise net old.goal claim (starting net old.goal.from) lines old.state more leads)),
       );
     }
+
+-- `IsChecking` holds after a line, whether it was taken, refused, or memory was lacking
+pub still_checking : (net : Net) (old new : Checking) (line : ClauseLine) (r : Result Bool NoMemory) → IsChecking net old → IfOk r (λ taken. IsTrue taken → TakesLine net old line new)
+    → IfOk r (λ taken. IsFalse taken → new ≡ old) → OnErr r (new ≡ old) → IsChecking net new
+still_checking net old new line (Ok true) checking takes refused lacking = taken_line_keeps_checking net old new line checking (takes refl)
+still_checking net old new line (Ok false) checking takes refused lacking = subst (IsChecking net) (sym (refused refl)) checking
+still_checking net old new line (Err e) checking takes refused lacking = subst (IsChecking net) (sym lacking) checking

@@ -1,5 +1,5 @@
 -- Lines keep times covered: no bound passes its time.
-use Rattle.std.proofs.Common.{◌≡◌, ◌+◌, ◌<◌, ◌≤◌, ◌⊎◌, inl, inr, ℕ, ℤ, pos, neg_ℤ, ◌+ℤ◌, ◌-ℤ◌, ◌≤ℤ◌, ◌<ℤ◌, List, [], ◌∷◌, ◌++◌, All, Any, Contains, length, get_or, set, Option, Some, None, IfSome, slice_get, sym, ap, ◌∙◌, refl, subst, arith}
+use Rattle.std.proofs.Common.{◌≡◌, ◌<◌, ◌≤◌, ◌⊎◌, inl, inr, ℕ, ℤ, pos, neg_ℤ, ◌+ℤ◌, ◌-ℤ◌, ◌≤ℤ◌, ◌<ℤ◌, List, [], ◌∷◌, All, length, set, Option, Some, None, IfSome, slice_get, sym, ap, ◌∙◌, refl, subst, arith}
 use Rattle.std.proofs.Math.ListN.{length-set}
 use Rattle.std.proofs.lemmas.Int.{ints}
 use Rattle.std.proofs.lemmas.List.Elements.{All-append, All-push}
@@ -12,7 +12,7 @@ use Rattle.event_graph.specs.Satisfying.{Satisfies}
 use Rattle.event_graph.specs.Times.{time_of}
 use Rattle.falling.proofs.Bounding.{AreAbove, past_end, set_at, some_and}
 use Rattle.clauses.specs.Lines.{Goal}
-use Rattle.clauses.proofs.Anys.{all_none, any_element}
+use Rattle.clauses.proofs.Anys.{any_element}
 use Rattle.clauses.proofs.Between.{IsBetween}
 use Rattle.edge_clauses.specs.declared.basis.WalkStep.{WalkStep}
 use Rattle.edge_clauses.specs.declared.walk.Walk.{Walk}

@@ -1,6 +1,7 @@
 -- Edges that times meet, and the edges that say the opposite.
-use Rattle.std.proofs.Common.{◌⊎◌, inl, inr, ℤ, pos, neg_ℤ, ◌-ℤ◌, ◌≤ℤ◌, List, All, Any, map, arith}
+use Rattle.std.proofs.Common.{◌⊎◌, inl, inr, ℤ, pos, neg_ℤ, ◌-ℤ◌, ◌≤ℤ◌, List, All, Any, length, map, subst, ◌<◌, arith}
 use Rattle.std.proofs.lemmas.Int.{ints}
+use Rattle.std.proofs.lemmas.List.{get_or-map, length-map}
 use Rattle.event_graph.specs.declared.edge.Edge.{Edge}
 use Rattle.event_graph.specs.Edges.{Meets}
 use Rattle.event_graph.specs.Times.{time_of}
@@ -26,3 +27,9 @@ refuting_met times edges none =
       | inl all ↦ absurd (none all)
       | inr some ↦ any_map unmet (λ (e : Edge). Meets times (unmet e)) (Meets times) edges (λ e h. h) some
     ]
+
+-- the opposites of edges, one by one
+pub each_opposite : (P : Edge → Type 0) (edges : List Edge) → All P (map unmet edges) → All (λ (e : Edge). P (unmet e)) edges
+each_opposite P edges all i d within =
+    let there : i < length (map unmet edges) = omega (arith, length-map edges unmet) in
+    subst P (get_or-map unmet edges i d (unmet d) within) (all i (unmet d) there)

@@ -1,22 +1,23 @@
 -- The clause of a basis, as the code reads it from a network.
-use Rattle.std.proofs.Common.{◌≡◌, ◌+◌, ◌<◌, ◌≤◌, ℕ, zero, suc, List, [], ◌∷◌, ◌++◌, map, length, take, Option, Some, None, IsSome, IsSomeAnd, option_map, option_and_then, slice_get, sym, ap, ◌∙◌, refl, subst, arith}
+use Rattle.std.proofs.Common.{◌≡◌, Bool, IfOk, IsFalse, IsTrue, Result, ◌+◌, ◌≤◌, ℕ, zero, suc, List, [], ◌∷◌, ◌++◌, map, length, take, Option, Some, None, IsSome, IsSomeAnd, option_map, option_and_then, slice_get, sym, ap, ◌∙◌, refl, subst, arith}
 use Rattle.std.proofs.lemmas.List.{map-append, take_all, take_more}
-use Rattle.std.proofs.lemmas.Option.{get_or_from_slice_get, none-some, same_Some, slice_get-map, slice_get_within}
-use Rattle.itv_base.specs.declared.names.EdgeName.{EdgeName}
-use Rattle.itv_base.specs.declared.names.EventId.{EventId}
+use Rattle.std.proofs.lemmas.Option.{get_or_from_slice_get, same_Some, slice_get-map, slice_get_within}
+use Rattle.std.proofs.lemmas.Result.{IfOk-weaker}
 use Rattle.itv_base.specs.declared.names.RuleKind.{RuleKind}
 use Rattle.itv_base.specs.declared.names.RuleKind.TheVariants.{Lin, Late, Early}
 use Rattle.itv_base.specs.declared.names.Side.{Side}
+use Rattle.itv_base.specs.declared.text.NoMemory.{NoMemory}
 use Rattle.event_graph.specs.declared.cause.Cause.{Cause}
 use Rattle.event_graph.specs.declared.edge.Edge.{Edge}
-use Rattle.event_graph.specs.Edges.{IsAlways, choice_side, edge, side_edge}
+use Rattle.event_graph.specs.Edges.{choice_side, edge, side_edge}
 use Rattle.event_graph.specs.Network.{Constraint, Net, cause_at, cause_count_of}
 use Rattle.event_graph.specs.Proof.{HasChoice}
+use Rattle.falling.proofs.Between.{mapped_some}
 use Rattle.falling.proofs.Bounding.{some_and}
 use Rattle.edge_clauses.specs.declared.basis.Basis.{Basis}
 use Rattle.edge_clauses.specs.declared.basis.Basis.TheVariants.{ByEdge, Either, ByChoice, ByKept}
 use Rattle.edge_clauses.specs.Checking.{HasNoClause}
-use Rattle.edge_clauses.specs.Clauses.{Clause, IsChoiceClause, IsClause, IsNearClause, unmet}
+use Rattle.edge_clauses.specs.Clauses.{Clause, IsChoiceClause, IsClause}
 
 -- a fact of an optional value, where the value is there
 is_and : {X : Type 0} (P : X → Type 0) (o : Option X) (x : X) → o ≡ Some x → P x → IsSomeAnd o P
@@ -48,16 +49,6 @@ one_clause net kept (ByChoice number) a b p q =
 one_clause net kept (ByKept number) a b p q = same_Some a b (sym p ∙ q)
 
 -- ---- clauses that the code finds
-
-pub edge_clause : (net : Net) (kept : List Clause) (name : EdgeName) (e : Edge) (c : Clause) → IsAlways net name → edge net name ≡ Some e → c ≡ e ∷ [] → IsClause net kept (ByEdge name) c
-edge_clause net kept name e c always is_edge is = (always, is_and (λ (x : Edge). c ≡ x ∷ []) (edge net name) e is_edge is)
-
-pub edge_no_clause : (net : Net) (kept : List Clause) (name : EdgeName) → edge net name ≡ None → HasNoClause net kept (ByEdge name)
-edge_no_clause net kept name none c (always, of_edge) =
-    let (e, is_edge, is_c) = some_and (edge net name) _ of_edge in none-some e (sym none ∙ is_edge)
-
-pub either_no_clause : (net : Net) (kept : List Clause) (e : Edge) → (IsNearClause (e ∷ unmet e ∷ []) → ⊥) → HasNoClause net kept (Either e)
-either_no_clause net kept e not c (near, is) = not (subst IsNearClause is near)
 
 pub choice_clause : (net : Net) (kept : List Clause) (number : ℕ) (k : Constraint) (c : Clause) → slice_get net.constraints number ≡ Some k → HasChoice k.kind
     → map (side_edge (choice_side k.kind) k.target) k.causes ≡ map Some c → IsClause net kept (ByChoice number) c
@@ -115,14 +106,47 @@ sides_open net number cause side k c at there none same =
       open_at x is = ap (option_and_then (side_edge side k.target)) (sym is) ∙ (sym (cause_edge net number cause side k at) ∙ none)
 
 -- all causes of a latest or earliest constraint
-pub sides_all : (net : Net) (number count : ℕ) (side : Side) (k : Constraint) (room : List Edge) → slice_get net.constraints number ≡ Some k
-    → option_map cause_count_of (slice_get net.constraints number) ≡ Some count → HasChoice k.kind
-    → map (side_edge side k.target) (take count k.causes) ≡ map Some room → map (side_edge side k.target) k.causes ≡ map Some room
-sides_all net number count side k room at counted choice so_far =
+pub sides_all : (net : Net) (number count cause : ℕ) (side : Side) (k : Constraint) (room : List Edge) → slice_get net.constraints number ≡ Some k
+    → option_map cause_count_of (slice_get net.constraints number) ≡ Some count → count ≤ cause → HasChoice k.kind
+    → map (side_edge side k.target) (take cause k.causes) ≡ map Some room → map (side_edge side k.target) k.causes ≡ map Some room
+sides_all net number count cause side k room at counted past choice so_far =
     let is : cause_count_of k ≡ count = same_Some (cause_count_of k) count (ap (option_map cause_count_of) (sym at) ∙ counted) in
-    let past : length k.causes ≤ count = counted_all k.kind choice is in
-    ap (map (side_edge side k.target)) (sym (take_all count k.causes past)) ∙ so_far where
+    let long : length k.causes ≤ count = counted_all k.kind choice is in
+    let all : length k.causes ≤ cause = omega arith in
+    ap (map (side_edge side k.target)) (sym (take_all cause k.causes all)) ∙ so_far where
       counted_all : (kind : RuleKind) → HasChoice kind → cause_count_of (record { kind = kind; target = k.target; causes = k.causes }) ≡ count → length k.causes ≤ count
       counted_all Lin choice is = absurd choice
       counted_all Late choice is = omega arith
       counted_all Early choice is = omega arith
+
+-- ---- the clause of a latest or earliest constraint
+
+pub choice_found : (net : Net) (kept : List Clause) (number : ℕ) (kind : RuleKind) (r : Result Bool NoMemory) (room : List Edge)
+    → option_map (λ (c : Constraint). c.kind) (slice_get net.constraints number) ≡ Some kind → HasChoice kind
+    → ((k : Constraint) → slice_get net.constraints number ≡ Some k → HasChoice k.kind
+    → IfOk r (λ found. IsTrue found → map (side_edge (choice_side kind) k.target) k.causes ≡ map Some room))
+    → IfOk r (λ found. IsTrue found → IsClause net kept (ByChoice number) room)
+choice_found net kept number kind r room is_kind choice sides =
+    let (k, at, kind_is) = mapped_some (λ (c : Constraint). c.kind) (slice_get net.constraints number) kind is_kind in
+    let has : HasChoice k.kind = subst HasChoice (sym kind_is) choice in
+    IfOk-weaker r (λ found. IsTrue found → map (side_edge (choice_side kind) k.target) k.causes ≡ map Some room) (λ found. IsTrue found → IsClause net kept (ByChoice number) room)
+    (λ found edges t. choice_clause net kept number k room at has (subst (λ (x : RuleKind). map (side_edge (choice_side x) k.target) k.causes ≡ map Some room) (sym kind_is) (edges t))) (sides k at has)
+
+pub choice_not_found : (net : Net) (kept : List Clause) (number : ℕ) (kind : RuleKind) (r : Result Bool NoMemory)
+    → option_map (λ (c : Constraint). c.kind) (slice_get net.constraints number) ≡ Some kind
+    → ((k : Constraint) → slice_get net.constraints number ≡ Some k
+    → IfOk r (λ found. IsFalse found → (c : Clause) → map (side_edge (choice_side kind) k.target) k.causes ≡ map Some c → ⊥))
+    → IfOk r (λ found. IsFalse found → HasNoClause net kept (ByChoice number))
+choice_not_found net kept number kind r is_kind sides =
+    let (k, at, kind_is) = mapped_some (λ (c : Constraint). c.kind) (slice_get net.constraints number) kind is_kind in
+    IfOk-weaker r (λ found. IsFalse found → (c : Clause) → map (side_edge (choice_side kind) k.target) k.causes ≡ map Some c → ⊥)
+    (λ found. IsFalse found → HasNoClause net kept (ByChoice number))
+    (λ found none f. choice_no_clause net kept number (λ other at_other has c edges.
+    let same : k ≡ other = same_Some k other (sym at ∙ at_other) in
+    none f c (subst (λ (x : RuleKind). map (side_edge (choice_side x) k.target) k.causes ≡ map Some c) kind_is
+    (subst (λ (x : Constraint). map (side_edge (choice_side x.kind) x.target) x.causes ≡ map Some c) (sym same) edges)))) (sides k at)
+
+-- the clause of a basis that is known by its kind
+pub of_basis : (net : Net) (kept : List Clause) (basis other : Basis) (r : Result Bool NoMemory) (room : List Edge) → basis ≡ other
+    → IfOk r (λ found. IsTrue found → IsClause net kept other room) → IfOk r (λ found. IsTrue found → IsClause net kept basis room)
+of_basis net kept basis other r room same h = subst (λ (b : Basis). IfOk r (λ found. IsTrue found → IsClause net kept b room)) (sym same) h

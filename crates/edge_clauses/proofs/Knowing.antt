@@ -1,10 +1,10 @@
 -- Edges in chains.
-use Rattle.std.proofs.Common.{◌≡◌, ◌≢◌, ◌==◌, ◌+◌, ◌-◌, ◌%◌, ◌<◌, ◌≤◌, ◌⊎◌, inl, inr, ℕ, zero, suc, Bool, true, false, if◌then◌else◌, List, [], ◌∷◌, ◌++◌, Any, length, get_or, replicate, set, take, Option, Some, None, slice_get, add-one, sym, ap, ◌∙◌, refl, subst, arith}
-use Rattle.std.proofs.lemmas.List.{get_or-append_right, get_or-replicate, get_or-set_other, get_or-set_same, get_or-take, get_or_append_left, get_or_push, get_or_read, length-append, length-replicate, length-set, length-take-le, length_push, take-append-le, take-take, take_all, take_at, take_more}
+use Rattle.std.proofs.Common.{◌≡◌, ◌==◌, ◌+◌, ◌-◌, ◌%◌, ◌<◌, ◌≤◌, ◌⊎◌, inl, inr, ℕ, zero, suc, Bool, true, false, List, [], ◌∷◌, ◌++◌, Any, length, get_or, set, take, Some, slice_get, add-one, sym, ap, ◌∙◌, refl, subst, arith}
+use Rattle.std.proofs.lemmas.List.{get_or-set_other, get_or-set_same, get_or-take, get_or_append_left, get_or_push, get_or_read, length-set, length-take-le, length_push, take-append-le, take-take, take_at, take_more}
 use Rattle.std.proofs.lemmas.Option.{get_or_from_slice_get, same_Some, slice_get_read, slice_get_within}
 use Rattle.itv_base.specs.declared.names.EventId.{EventId}
 use Rattle.event_graph.specs.declared.edge.Edge.{Edge}
-use Rattle.clauses.proofs.Anys.{any_cases, any_head, any_left, any_none, any_tail}
+use Rattle.clauses.proofs.Anys.{any_cases, any_head, any_none, any_tail}
 use Rattle.edge_clauses.specs.Lines.{Excludes}
 use Rattle.edge_clauses.specs.Step.Knowing.{AreChained, chain_of, last_in, later}
 
@@ -197,18 +197,6 @@ looks_before e edges before last k known chained looks at not =
           let less : j < k = omega (arith, short, is_j) in
           subst (λ (x : Edge). chain_of (length last) x ≡ chain_of (length last) e) (get_or-take k edges j d less) (last_chain (length last) (chain_of (length last) e) j (take k edges) d is_j);
     })
-
-pub looks_no_more : (e : Edge) (edges : List Edge) (chains : ℕ) → LooksOn e edges chains 0 → Any (Excludes e) edges → ⊥
-looks_no_more e edges chains looks some = any_none (Excludes e) (looks.rest some)
-
--- no edge is in the chains
-pub nothing_chained : (chains : ℕ) → 0 < chains → AreChained [] [] (replicate chains 0)
-nothing_chained chains is_some = record {
-  some = subst (λ (n : ℕ). 0 < n) (sym (length-replicate {A = ℕ} chains 0)) is_some;
-  count = refl;
-  earlier = λ k e at. absurd (cc);
-  latest = λ chain within. get_or-replicate chains chain 0 0 (subst (λ (n : ℕ). chain < n) (length-replicate {A = ℕ} chains 0) within);
-}
 
 -- ---- as the code has them
 

@@ -7,7 +7,6 @@ pub mod Leading
 pub mod Deciding
 pub mod Bounding
 pub mod Knowing
-pub mod Standing
 pub mod Filling
 pub mod Walking
 pub mod Judging

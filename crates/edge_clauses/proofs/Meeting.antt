@@ -1,5 +1,5 @@
 -- Satisfying times meet the clause of every basis.
-use Rattle.std.proofs.Common.{◌≡◌, inl, inr, ℤ, neg_ℤ, ◌+ℤ◌, ◌-ℤ◌, ◌≤ℤ◌, List, [], ◌∷◌, map, All, Any, Option, Some, None, IfSome, IsSomeAnd, option_map, slice_get, sym, subst, arith}
+use Rattle.std.proofs.Common.{◌≡◌, inl, inr, ℤ, neg_ℤ, ◌+ℤ◌, ◌-ℤ◌, ◌≤ℤ◌, List, [], ◌∷◌, map, All, Any, Option, Some, None, IfSome, option_map, slice_get, sym, subst, arith}
 use Rattle.std.proofs.lemmas.Int.{ints}
 use Rattle.itv_base.specs.declared.names.EventId.{EventId}
 use Rattle.itv_base.specs.declared.names.RuleKind.{RuleKind}
@@ -8,7 +8,7 @@ use Rattle.itv_base.specs.declared.names.Side.{Side}
 use Rattle.event_graph.specs.declared.cause.Cause.{Cause}
 use Rattle.event_graph.specs.declared.edge.Edge.{Edge}
 use Rattle.event_graph.specs.Edges.{Meets, choice_side, edge, side_edge}
-use Rattle.event_graph.specs.Network.{Constraint, Net}
+use Rattle.event_graph.specs.Network.{Net}
 use Rattle.event_graph.specs.Proof.{HasChoice}
 use Rattle.event_graph.specs.Satisfying.{Holds, HoldsAs, IsAfter, IsBefore, Satisfies}
 use Rattle.event_graph.specs.Times.{time_of}
@@ -18,7 +18,7 @@ use Rattle.falling.proofs.Bounding.{some_and}
 use Rattle.clauses.proofs.Anys.{any_cases, any_head, any_none, any_tail, any_weaker}
 use Rattle.edge_clauses.specs.declared.basis.Basis.{Basis}
 use Rattle.edge_clauses.specs.declared.basis.Basis.TheVariants.{ByEdge, Either, ByChoice, ByKept}
-use Rattle.edge_clauses.specs.Clauses.{Clause, IsChoiceClause, IsClause, unmet}
+use Rattle.edge_clauses.specs.Clauses.{Clause, IsClause, unmet}
 use Rattle.edge_clauses.proofs.Edges.{met_or_unmet}
 
 -- times meet an edge of a clause

@@ -1,15 +1,15 @@
 -- What a proof by clauses shows.
-use Rattle.std.proofs.Common.{◌≡◌, ◌+◌, ◌<◌, ◌≤◌, ◌⊎◌, inl, inr, ℕ, zero, suc, ℤ, pos, neg_ℤ, ◌+ℤ◌, ◌≤ℤ◌, ◌<ℤ◌, List, [], ◌∷◌, All, Any, length, get_or, set, replicate, sym, ◌∙◌, refl, subst, arith}
+use Rattle.std.proofs.Common.{◌≡◌, ◌<◌, ◌≤◌, ◌⊎◌, inl, inr, ℕ, zero, suc, ℤ, pos, neg_ℤ, ◌+ℤ◌, ◌≤ℤ◌, ◌<ℤ◌, List, [], ◌∷◌, length, replicate, sym, ◌∙◌, refl, subst, arith}
 use Rattle.std.proofs.Math.ListN.{length-set}
 use Rattle.std.proofs.lemmas.Int.{ints}
 use Rattle.itv_base.specs.declared.names.EventId.{EventId}
 use Rattle.event_graph.specs.declared.edge.Edge.{Edge}
 use Rattle.event_graph.specs.Edges.{Meets}
 use Rattle.event_graph.specs.Network.{Net}
-use Rattle.event_graph.specs.Times.{separation, time_of}
+use Rattle.event_graph.specs.Times.{separation}
 use Rattle.falling.specs.Cap.{cap, far_line}
 use Rattle.falling.specs.Kinds.{negated, negated_times}
-use Rattle.falling.proofs.Bounding.{AreAbove, length-starting, past_end, replicated, set_at, some_and, start_above}
+use Rattle.falling.proofs.Bounding.{AreAbove, past_end, replicated, set_at, some_and, start_above}
 use Rattle.falling.proofs.Near.{below_or_not}
 use Rattle.falling.proofs.NegatedNets.{inconsistent_from, widest-negated}
 use Rattle.falling.proofs.Negating.{satisfies_turns, separation-negated}
@@ -20,7 +20,7 @@ use Rattle.clauses.proofs.Between.{IsBetween, between, between_near}
 use Rattle.clauses.proofs.NegatedNet.{net_negated}
 use Rattle.edge_clauses.specs.Clauses.{Clause}
 use Rattle.edge_clauses.specs.Laws.{ClaimCanRise, ClauseProofBounds, ClauseProofOfNothing, NegatedProofBounds, NegatedProofOfNothing, ProofAndTimesClose}
-use Rattle.edge_clauses.specs.Lines.{Assume, Block, ClauseLine, Close, Fall, Forces, Frame, GivesLeast, GivesMost, IsClauseProof, IsEnded, IsLine, IsLow, IsRefuted, Know, LetsFall, LetsRise, Loop, Rise, State, frame_of, starting, starting_lows}
+use Rattle.edge_clauses.specs.Lines.{Assume, ClauseLine, Close, Fall, Forces, Frame, IsClauseProof, IsEnded, IsLine, IsLow, IsRefuted, Know, LetsFall, LetsRise, Loop, Rise, State, frame_of, starting, starting_lows}
 use Rattle.edge_clauses.proofs.Covering.{Keeps, lead_keeps, over_fails}
 use Rattle.edge_clauses.proofs.Meeting.{MeetsClause}
 

@@ -1,6 +1,5 @@
 -- Walks step by step.
-use Rattle.std.proofs.Common.{◌≡◌, ◌+◌, ◌<◌, ◌⊎◌, ◌↔◌, inl, inr, ℕ, zero, suc, ℤ, pos, ◌+ℤ◌, ◌<ℤ◌, Bool, IsTrue, List, [], ◌∷◌, ◌++◌, length, take, Some, slice_get, sym, ap, ◌∙◌, refl, subst, arith}
-use Rattle.std.proofs.lemmas.Int.{ints}
+use Rattle.std.proofs.Common.{◌≡◌, ◌+◌, ◌<◌, ◌⊎◌, ◌↔◌, inl, inr, ℕ, zero, suc, pos, ◌+ℤ◌, ◌<ℤ◌, Bool, IsTrue, List, [], ◌∷◌, ◌++◌, length, take, Some, slice_get, sym, ap, ◌∙◌, refl, subst, arith}
 use Rattle.std.proofs.lemmas.List.{take_more}
 use Rattle.std.proofs.lemmas.Option.{get_or_from_slice_get, same_Some, slice_get_within}
 use Rattle.itv_base.specs.declared.names.EventId.{EventId}
@@ -9,7 +8,7 @@ use Rattle.event_graph.specs.Network.{Net}
 use Rattle.edge_clauses.specs.declared.basis.WalkStep.{WalkStep}
 use Rattle.edge_clauses.specs.declared.walk.Walk.{Walk}
 use Rattle.edge_clauses.specs.Checking.{HasNoClause}
-use Rattle.edge_clauses.specs.Clauses.{Clause, IsClause, IsNearClause}
+use Rattle.edge_clauses.specs.Clauses.{Clause, IsClause}
 use Rattle.edge_clauses.specs.Lines.{IsClauseLoop, IsCovered, StepsTo, Walks}
 use Rattle.edge_clauses.specs.Step.Walking.{AreOthersCovered, StepsIn}
 use Rattle.edge_clauses.proofs.Filling.{one_clause}
@@ -108,15 +107,6 @@ others_all event shown walk through c place past so_far k other at =
       before k place n within past = grind arith
 
 -- ---- loops
-
-pub loop_shown : (net : Net) (kept : List Clause) (event : EventId) (shown : Clause) (all : List WalkStep) (walk : Walk) → IsNearClause shown
-    → Walks net kept event shown (record { at = event; sum = pos 0 }) all walk → walk.at ≡ event → walk.sum <ℤ pos 0 → IsClauseLoop net kept event all shown
-loop_shown net kept event shown all walk near walks back below = record {
-  sum = walk.sum;
-  walks = subst (λ (x : EventId). Walks net kept event shown (record { at = event; sum = pos 0 }) all (record { at = x; sum = walk.sum })) back walks;
-  below = below;
-  near = near;
-}
 
 pub not_back_no_loop : (net : Net) (kept : List Clause) (event : EventId) (shown : Clause) (all : List WalkStep) (walk : Walk)
     → Walks net kept event shown (record { at = event; sum = pos 0 }) all walk → ((walk.at ≡ event) × (walk.sum <ℤ pos 0) → ⊥) → IsClauseLoop net kept event all shown → ⊥

@@ -1,6 +1,5 @@
 -- The state of a checker of proofs by clauses, and the verdict of a proof and times.
 use Rattle.std.specs.Prelude.{◌≡◌, ◌<◌, ℤ, ◌<ℤ◌, List}
-use Rattle.itv_base.specs.declared.names.EventId.{EventId}
 use Rattle.event_graph.specs.Bounds.{IsGreatest, IsInconsistent}
 use Rattle.event_graph.specs.Network.{Net}
 use Rattle.event_graph.specs.Satisfying.{Satisfies}

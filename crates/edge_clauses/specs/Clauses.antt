@@ -1,5 +1,5 @@
 -- Clauses: lists of edges, of which times meet one. Satisfying times meet the clause of each basis.
-use Rattle.std.specs.Prelude.{◌≡◌, ◌^◌, ℕ, ℤ, pos, neg_ℤ, ◌-ℤ◌, ◌≤ℤ◌, List, [], ◌∷◌, map, All, Some, IsSomeAnd, slice_get}
+use Rattle.std.specs.Prelude.{◌≡◌, ◌^◌, ℤ, pos, neg_ℤ, ◌-ℤ◌, ◌≤ℤ◌, List, [], ◌∷◌, map, All, Some, IsSomeAnd, slice_get}
 use Rattle.event_graph.specs.declared.edge.Edge.{Edge}
 use Rattle.event_graph.specs.Edges.{IsAlways, choice_side, edge, side_edge}
 use Rattle.event_graph.specs.Network.{Constraint, Net}

@@ -34,7 +34,10 @@ pub fn fall_in(
     ensures unchanged { IfOk result (λ taken. IsFalse taken → frames.new ≡ frames.old) }
     ensures kept { OnErr result (frames.new ≡ frames.old) }
 {
-    if !fill(net, kept, bound.basis, room)? || !lets_fall(frames, terms, bound, room) {
+    if !fill(net, kept, bound.basis, room)? {
+        return Ok(false);
+    }
+    if !lets_fall(frames, terms, bound, room) {
         return Ok(false);
     }
     frames.fall(bound)?;
@@ -58,7 +61,10 @@ pub fn rise_in(
     ensures unchanged { IfOk result (λ taken. IsFalse taken → frames.new ≡ frames.old) }
     ensures kept { OnErr result (frames.new ≡ frames.old) }
 {
-    if !fill(net, kept, bound.basis, room)? || !lets_rise(frames, terms, bound, room) {
+    if !fill(net, kept, bound.basis, room)? {
+        return Ok(false);
+    }
+    if !lets_rise(frames, terms, bound, room) {
         return Ok(false);
     }
     frames.rise(bound)?;
@@ -81,7 +87,10 @@ pub fn know_in(
     ensures unchanged { IfOk result (λ taken. IsFalse taken → frames.new ≡ frames.old) }
     ensures kept { OnErr result (frames.new ≡ frames.old) }
 {
-    if !fill(net, kept, known.basis, room)? || !forces(frames, terms, known.edge, room) {
+    if !fill(net, kept, known.basis, room)? {
+        return Ok(false);
+    }
+    if !forces(frames, terms, known.edge, room) {
         return Ok(false);
     }
     frames.know(known.edge)?;

@@ -195,7 +195,10 @@ impl ClauseChecker {
         ensures unchanged { IfOk result (λ taken. IsFalse taken → self.new ≡ self.old) }
         ensures kept { OnErr result (self.new ≡ self.old) }
     {
-        if !are_addable(edges) || !are_opposites_addable(edges) {
+        if !are_addable(edges) {
+            return Ok(false);
+        }
+        if !are_opposites_addable(edges) {
             return Ok(false);
         }
         self.frames.open(alloc, edges)?;

@@ -74,12 +74,11 @@ fn fill_choice(net: &Network, number: u32, room: &mut Vec<Edge>) -> Result<bool,
     if net.len() <= number {
         return Ok(false);
     }
-    let side = match net.kind(number) {
-        RuleKind::Lin => return Ok(false),
-        RuleKind::Late => Side::Upper,
-        RuleKind::Early => Side::Lower,
-    };
-    fill_sides(net, number, side, room)
+    match net.kind(number) {
+        RuleKind::Lin => Ok(false),
+        RuleKind::Late => fill_sides(net, number, Side::Upper, room),
+        RuleKind::Early => fill_sides(net, number, Side::Lower, room),
+    }
 }
 
 // The edges of the causes of a constraint on a side. Returns whether no end there is open.

@@ -1,10 +1,12 @@
 //! Which edges are refuted in a frame, and what a clause allows there.
 
-ghost use Rattle.std.specs.Prelude.{◌≡◌, ◌↔◌, ℤ, pos, neg_ℤ, ◌+ℤ◌, ◌≤ℤ◌, ◌<ℤ◌, IsTrue, All, Contains};
+ghost use Rattle.std.specs.Prelude.{◌≡◌, ◌↔◌, ◌⊎◌, ℤ, pos, neg_ℤ, ◌+ℤ◌, ◌≤ℤ◌, ◌<ℤ◌, IsTrue, All, Contains};
+ghost use Rattle.event_graph.specs.declared.edge.Edge.{Edge};
 ghost use Rattle.event_graph.specs.Network.{Net};
 ghost use Rattle.event_graph.specs.Times.{time_of};
 ghost use Rattle.falling.specs.DerivationEnds.{AreLimits};
 ghost use Rattle.edge_clauses.specs.Lines.{Forces, GivesLeast, GivesMost, IsBound, IsEnded, IsLow, IsRefuted, LetsFall, LetsRise};
+ghost use Rattle.edge_clauses.specs.Step.Judging.{AllowsFall, AllowsRise};
 ghost use Rattle.edge_clauses.specs.Step.Standing.{frame_now, goal_of};
 
 use crate::frames::Frames;
@@ -20,10 +22,27 @@ pub fn lets_fall(frames: &Frames, terms: Terms, bound: EventBound, clause: &[Edg
     ensures falls { (net : Net) → AreLimits net terms.limits
         → IsTrue result ↔ LetsFall net (goal_of terms) (frame_now frames.now) bound.event bound.value clause.now }
 {
-    is_bound(terms, bound)
-        && is_lower(frames, bound)
-        && clause.iter().all(|edge| is_refuted(frames, terms, *edge)
-            || gives_most(frames, bound, *edge))
+    if !is_bound(terms, bound) || !is_lower(frames, bound) {
+        return false;
+    }
+    all_fall(frames, terms, bound, clause)
+}
+
+// Whether each edge of a clause is refuted or gives an event an upper bound of at most a value.
+fn all_fall(frames: &Frames, terms: Terms, bound: EventBound, clause: &[Edge]) -> bool
+    ensures all { IsTrue result ↔ All (AllowsFall (goal_of terms) (frame_now frames.now) bound.event bound.value) clause.now }
+{
+    clause
+        .iter()
+        .all(|edge| allows_fall(frames, terms, bound, *edge))
+}
+
+// Whether an edge is refuted or gives an event an upper bound of at most a value.
+#[tactic(auto, unfolding(crate::specs::Step::Judging::AllowsFall))]
+fn allows_fall(frames: &Frames, terms: Terms, bound: EventBound, edge: Edge) -> bool
+    ensures { IsTrue result ↔ AllowsFall (goal_of terms) (frame_now frames.now) bound.event bound.value edge }
+{
+    gives_most(frames, bound, edge) || is_refuted(frames, terms, edge)
 }
 
 /// Whether a clause allows the lower bound of an event to rise to a value.
@@ -31,18 +50,41 @@ pub fn lets_rise(frames: &Frames, terms: Terms, bound: EventBound, clause: &[Edg
     ensures rises { (net : Net) → AreLimits net terms.limits
         → IsTrue result ↔ LetsRise net (goal_of terms) (frame_now frames.now) bound.event bound.value clause.now }
 {
-    is_bound(terms, bound)
-        && is_higher(frames, bound)
-        && clause.iter().all(|edge| is_refuted(frames, terms, *edge)
-            || gives_least(frames, terms, bound, *edge))
+    if !is_bound(terms, bound) || !is_higher(frames, bound) {
+        return false;
+    }
+    all_rise(frames, terms, bound, clause)
+}
+
+// Whether each edge of a clause is refuted or gives an event a lower bound of at least a value.
+fn all_rise(frames: &Frames, terms: Terms, bound: EventBound, clause: &[Edge]) -> bool
+    ensures all { IsTrue result ↔ All (AllowsRise (goal_of terms) (frame_now frames.now) bound.event bound.value) clause.now }
+{
+    clause
+        .iter()
+        .all(|edge| allows_rise(frames, terms, bound, *edge))
+}
+
+// Whether an edge is refuted or gives an event a lower bound of at least a value.
+#[tactic(auto, unfolding(crate::specs::Step::Judging::AllowsRise))]
+fn allows_rise(frames: &Frames, terms: Terms, bound: EventBound, edge: Edge) -> bool
+    ensures { IsTrue result ↔ AllowsRise (goal_of terms) (frame_now frames.now) bound.event bound.value edge }
+{
+    gives_least(frames, terms, bound, edge) || is_refuted(frames, terms, edge)
 }
 
 /// Whether a clause makes an edge known: all its other edges are refuted.
 pub fn forces(frames: &Frames, terms: Terms, edge: Edge, clause: &[Edge]) -> bool
     ensures forces { IsTrue result ↔ Forces (goal_of terms) (frame_now frames.now) edge clause.now }
 {
-    contains(clause, edge)
-        && clause.iter().all(|other| is_same(*other, edge) || is_refuted(frames, terms, *other))
+    contains(clause, edge) && are_others_refuted(frames, terms, edge, clause)
+}
+
+// Whether each edge of a clause is this one or is refuted.
+fn are_others_refuted(frames: &Frames, terms: Terms, edge: Edge, clause: &[Edge]) -> bool
+    ensures { IsTrue result ↔ All (λ (other : Edge). (other ≡ edge) ⊎ IsRefuted (goal_of terms) (frame_now frames.now) other) clause.now }
+{
+    clause.iter().all(|other| is_same(*other, edge) || is_refuted(frames, terms, *other))
 }
 
 /// Whether an edge is one of a list.

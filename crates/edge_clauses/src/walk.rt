@@ -38,7 +38,8 @@ pub fn is_loop(
         return Ok(false);
     }
     let mut walk = Walk { at: event, sum: 0 };
-    for step in steps {
+    for number in 0..steps.len() {
+        let step = step_in(steps, number);
         if !fill(net, kept, step.basis, room)? {
             return Ok(false);
         }
@@ -48,6 +49,14 @@ pub fn is_loop(
         }
     }
     Ok(has_come_back(event, walk))
+}
+
+// The step at a place.
+fn step_in(steps: &[WalkStep], place: usize) -> WalkStep
+    requires { place < length steps.now }
+    ensures { slice_get steps.now place ≡ Some result }
+{
+    steps[place]
 }
 
 // Whether a walk is at its event again, with a sum below 0.

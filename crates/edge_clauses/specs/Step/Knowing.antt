@@ -1,5 +1,5 @@
 -- Known edges, those that were known outside of the block, and how the code finds an edge among them.
-use Rattle.std.specs.Prelude.{◌≡◌, ◌==◌, ◌+◌, ◌%◌, ◌<◌, ◌≤◌, ℕ, zero, suc, Bool, true, false, if◌then◌else◌, List, [], ◌∷◌, length, take, Some, slice_get, slice_index_or}
+use Rattle.std.specs.Prelude.{◌≡◌, ◌==◌, ◌+◌, ◌%◌, ◌<◌, ℕ, zero, suc, Bool, true, false, if◌then◌else◌, List, [], ◌∷◌, length, take, Some, slice_get, slice_index_or}
 use Rattle.event_graph.specs.declared.edge.Edge.{Edge}
 use Rattle.edge_clauses.specs.declared.known.Chains.{Chains}
 

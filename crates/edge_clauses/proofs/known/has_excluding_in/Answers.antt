@@ -1,4 +1,4 @@
-use Rattle.std.proofs.Common.{◌≡◌, ◌<◌, false, true, length}
+use Rattle.std.proofs.Common.{◌≡◌, false, true}
 use Rattle.edge_clauses.specs.Lines.{Excludes}
 use Rattle.edge_clauses.proofs.Knowing.{looks_from, looks_next}
 use Rattle.edge_clauses.proofs.known.has_excluding_in.Goals as goal

@@ -1,5 +1,4 @@
 use Rattle.std.proofs.Common.{length}
-use Rattle.edge_clauses.specs.Step.Knowing.{AreChained}
 use Rattle.edge_clauses.proofs.Knowing.{LooksOn}
 use Rattle.edge_clauses.proofs.known.has_excluding_in.Given as goal
 

@@ -1,4 +1,4 @@
-use Rattle.std.proofs.Common.{◌≡◌, ◌+◌, ◌≤◌, ◌++◌, length, take, vec_capacity, vec_len}
+use Rattle.std.proofs.Common.{◌≡◌, ◌+◌, ◌++◌, take, vec_capacity, vec_len}
 use Rattle.edge_clauses.specs.Step.Knowing.{IsChained}
 use Rattle.edge_clauses.proofs.known.link_all.Given as goal
 

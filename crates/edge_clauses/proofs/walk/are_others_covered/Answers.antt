@@ -1,4 +1,4 @@
-use Rattle.std.proofs.Common.{◌<◌, length, refl, arith}
+use Rattle.std.proofs.Common.{refl, arith}
 use Rattle.edge_clauses.proofs.Walking.{others_all, others_more}
 use Rattle.edge_clauses.proofs.walk.are_others_covered.Goals as goal
 

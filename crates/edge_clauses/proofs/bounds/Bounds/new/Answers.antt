@@ -1,4 +1,4 @@
-use Rattle.std.proofs.Common.{◌≡◌, ℤ, neg_ℤ, List, replicate, ap, ◌∙◌, arith}
+use Rattle.std.proofs.Common.{◌≡◌, neg_ℤ, replicate, ap, ◌∙◌, arith}
 use Rattle.std.proofs.lemmas.Int.{ints}
 use Rattle.edge_clauses.proofs.Bounding.{start_flags}
 use Rattle.edge_clauses.proofs.bounds.Bounds.new.Goals as goal
