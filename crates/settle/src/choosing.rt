@@ -70,7 +70,14 @@ impl Engine {
             let side = way.side?;
             need = at(&self.activity, side.side(), 0).max(need);
             if !self.trail.has(side.opposite()) {
-                least = earlier(least, Candidate { side, need: 0, value });
+                least = earlier(
+                    least,
+                    Candidate {
+                        side,
+                        need: 0,
+                        value,
+                    },
+                );
             }
         }
         let side = least?.side;

@@ -162,7 +162,10 @@ impl ClauseStore {
             None => self.set_first(chain, watch.next),
         }
         let literals = self.clause(watch.clause).literals;
-        self.swap(literals.place(number_of(watch.is_second)), literals.place(number));
+        self.swap(
+            literals.place(number_of(watch.is_second)),
+            literals.place(number),
+        );
         self.attach(watch.clause, watch.is_second);
     }
 

@@ -300,7 +300,10 @@ impl Engine {
 // The items of a line: the line itself, and its steps or edges.
 fn items_of(line: &StoredLine) -> usize {
     match line {
-        StoredLine::Loop(_, steps, kept) => steps.len().saturating_add(kept.len()).saturating_add(1),
+        StoredLine::Loop(_, steps, kept) => steps
+            .len()
+            .saturating_add(kept.len())
+            .saturating_add(1),
         StoredLine::Assume(edges) => edges.len().saturating_add(1),
         _ => 1,
     }

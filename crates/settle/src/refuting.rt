@@ -151,7 +151,9 @@ impl Engine {
                 return Ok(());
             }
         }
-        learnt.edges.push(edge_of(&self.tables, self.from, literal))?;
+        learnt
+            .edges
+            .push(edge_of(&self.tables, self.from, literal))?;
         learnt.literals.push(literal.opposite())?;
         if level != learnt.level {
             if learnt.levels == 1 {
@@ -256,8 +258,7 @@ impl Engine {
         for number in 0..clause.literals.count {
             let literal = self.tables.clauses.literal(clause, number);
             if !is_of(literal, held) {
-                self.needs
-                    .want(&self.trail, self.goal, literal.opposite());
+                self.needs.want(&self.trail, self.goal, literal.opposite());
             }
         }
     }

@@ -317,8 +317,7 @@ impl Engine {
             }
             return Ok(());
         }
-        self.meter
-            .keep(size.saturating_mul(2).saturating_add(1));
+        self.meter.keep(size.saturating_mul(2).saturating_add(1));
         let kept = self.kept_clause(&round)?;
         self.adopt(&round)?;
         let mut steps = round.steps;
@@ -416,10 +415,7 @@ impl Engine {
     // The place of the entry that makes a literal of a list false, or the greatest number if it may hold.
     fn rank(&self, literals: &Vec<Literal>, place: usize) -> usize {
         match at(literals, place, Literal::Side(SideLiteral(0))) {
-            Literal::Side(side) => self
-                .trail
-                .place_of(side.opposite())
-                .unwrap_or(usize::MAX),
+            Literal::Side(side) => self.trail.place_of(side.opposite()).unwrap_or(usize::MAX),
             Literal::Bound(_) => usize::MAX,
         }
     }

@@ -147,7 +147,8 @@ impl Engine {
         if value <= self.given(rule, rule.hint) && self.counts(rule, rule.hint) {
             return Ok(());
         }
-        self.meter.look(rule.ways.count.saturating_add(rule.literals.count));
+        self.meter
+            .look(rule.ways.count.saturating_add(rule.literals.count));
         let most = self.most_of(rule);
         if most.number != rule.hint {
             self.tables.rules.hint(place, most.number);
@@ -213,7 +214,8 @@ impl Engine {
             let watch = self.tables.clauses.watch(place);
             self.meter.look(1);
             next = watch.next;
-            if self.may_still_hold(chain, watch) || !self.has_moved(place, watch, chain, previous)?
+            if self.may_still_hold(chain, watch)
+                || !self.has_moved(place, watch, chain, previous)?
             {
                 previous = Some(place);
             }
@@ -246,7 +248,9 @@ impl Engine {
         for number in 2..clause.literals.count {
             let literal = self.tables.clauses.literal(clause, number);
             if !self.trail.is_false(literal) {
-                self.tables.clauses.move_watch(place, number, chain, previous);
+                self.tables
+                    .clauses
+                    .move_watch(place, number, chain, previous);
                 return Ok(true);
             }
         }
