@@ -12,6 +12,9 @@ const NO_EDGE: Edge = Edge {
     weight: 0,
 };
 
+// An odd number. Multiples of one number, as weights may be, times this one differ in their high bits.
+const MIXING: u64 = 0x9E37_79B9_7F4A_7C15;
+
 /// The sides of a network. Equal edges are one side, and so are an edge and the edge that times meet where they do not meet it.
 #[derive(Drop)]
 pub struct SideTable {
@@ -79,8 +82,9 @@ impl SideTable {
         let mixed = weight
             .unsigned_abs()
             .saturating_add(low.saturating_mul(7_919))
-            .saturating_add(high.saturating_mul(104_729));
-        (mixed % (self.heads.len() as u64).max(1)) as usize
+            .saturating_add(high.saturating_mul(104_729))
+            .wrapping_mul(MIXING);
+        ((mixed >> 24) % (self.heads.len() as u64).max(1)) as usize
     }
 
     /// The edge that times meet where a literal holds.
