@@ -1,6 +1,6 @@
 -- A right text is read part by part.
 use Rattle.std.proofs.Common.{◌≡◌, ◌+◌, ◌-◌, ◌<◌, ◌≤◌, ℕ, zero, suc, true, List, [], ◌∷◌, ◌++◌, length, take, drop, Some, slice_get, refl, sym, ap, subst, ◌∙◌, append_assoc, append-nil, drop-drop, drop_at, arith, length-drop, take_all}
-use Rattle.std.specs.Prelude.{All, IsErrAnd, Result, Ok, Err}
+use Rattle.std.specs.Prelude.{IsErrAnd, Result, Ok, Err}
 use Rattle.std.proofs.lemmas.Option.{same_Some}
 use Rattle.std.proofs.lemmas.Result.{err_from_is_err_and}
 use Rattle.slack_report.specs.declared.words.Which.TheVariants.{Max, Min}
