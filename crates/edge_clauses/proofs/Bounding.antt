@@ -7,13 +7,13 @@ use Rattle.itv_base.specs.declared.names.EventId.{EventId}
 use Rattle.event_graph.specs.Times.{time_of}
 use Rattle.falling.proofs.Bounding.{replicated}
 use Rattle.edge_clauses.specs.declared.bounds.BoundSide.TheVariants.{Up, Low}
-use Rattle.edge_clauses.specs.declared.bounds.Change.{Change}
+use Rattle.edge_clauses.specs.declared.bounds.BoundChange.{BoundChange}
 use Rattle.edge_clauses.specs.Step.Bounding.{AreCrossedAs, HasCrossed, Sides, pair_of, undone, with_bound}
 
 -- ---- changes that are undone
 
 -- the latest change is undone first
-pub undone_push : (changes : List Change) (change : Change) (s : Sides) → undone (changes ++ change ∷ []) s ≡ undone changes (with_bound change.side change.event change.old s)
+pub undone_push : (changes : List BoundChange) (change : BoundChange) (s : Sides) → undone (changes ++ change ∷ []) s ≡ undone changes (with_bound change.side change.event change.old s)
 undone_push [] change s = refl
 undone_push (first ∷ changes) change s = ap (with_bound first.side first.event first.old) (undone_push changes change s)
 
@@ -28,25 +28,25 @@ pub low_restored : (s : Sides) (event : EventId) (value : ℤ) → with_bound Lo
 low_restored s event value = ap (λ (values : List ℤ). record { up = s.up; low = values }) (put_again s.low event value)
 
 -- a bound that changed is undone with those before
-pub up_undone : (changes : List Change) (s : Sides) (event : EventId) (value : ℤ)
+pub up_undone : (changes : List BoundChange) (s : Sides) (event : EventId) (value : ℤ)
     → undone (changes ++ (record { side = Up; event = event; old = time_of s.up event }) ∷ []) (with_bound Up event value s) ≡ undone changes s
 up_undone changes s event value =
     undone_push changes (record { side = Up; event = event; old = time_of s.up event }) (with_bound Up event value s) ∙ ap (undone changes) (up_restored s event value)
 
-pub low_undone : (changes : List Change) (s : Sides) (event : EventId) (value : ℤ)
+pub low_undone : (changes : List BoundChange) (s : Sides) (event : EventId) (value : ℤ)
     → undone (changes ++ (record { side = Low; event = event; old = time_of s.low event }) ∷ []) (with_bound Low event value s) ≡ undone changes s
 low_undone changes s event value =
     undone_push changes (record { side = Low; event = event; old = time_of s.low event }) (with_bound Low event value s) ∙ ap (undone changes) (low_restored s event value)
 
 -- one more of the latest changes undone
-pub undone_at : (changes : List Change) (place : ℕ) (change : Change) (s next : Sides) → slice_get changes place ≡ Some change
+pub undone_at : (changes : List BoundChange) (place : ℕ) (change : BoundChange) (s next : Sides) → slice_get changes place ≡ Some change
     → next ≡ with_bound change.side change.event change.old s → undone (take place changes) next ≡ undone (take (place + 1) changes) s
 undone_at changes place change s next at is_next =
     let within : place < length changes = slice_get_within changes place change at in
     ap (undone (take place changes)) is_next
     ∙ (sym (undone_push (take place changes) change s)
-    ∙ ap (λ (cs : List Change). undone cs s)
-    (sym (take_more changes place change within ∙ ap (λ (c : Change). take place changes ++ c ∷ []) (get_or_from_slice_get changes place change change at))))
+    ∙ ap (λ (cs : List BoundChange). undone cs s)
+    (sym (take_more changes place change within ∙ ap (λ (c : BoundChange). take place changes ++ c ∷ []) (get_or_from_slice_get changes place change change at))))
 
 -- ---- bounds that cross
 
@@ -147,7 +147,7 @@ start_not_crossed n cap from least (event, crossed) = elim (within_or_past event
 
 -- ---- the flags
 
-pub up_flags : (changes pushed : List Change) (up low after : List ℤ) (event : EventId) (value : ℤ) (crossed had flag above : Bool) → event.0 < length up → value <ℤ time_of up event
+pub up_flags : (changes pushed : List BoundChange) (up low after : List ℤ) (event : EventId) (value : ℤ) (crossed had flag above : Bool) → event.0 < length up → value <ℤ time_of up event
     → pushed ≡ changes ++ (record { side = Up; event = event; old = time_of up event }) ∷ [] → after ≡ set up event.0 value
     → AreCrossedAs crossed had (pair_of changes up low) → IsTrue above ↔ (value <ℤ time_of low event) → IsTrue flag ↔ (IsTrue crossed ⊎ IsTrue above)
     → AreCrossedAs flag had (pair_of pushed after low)
@@ -166,7 +166,7 @@ up_flags changes pushed up low after event value crossed had flag above within l
       outside = rw (up_undone changes (record { up = up; low = low }) event value) flags.outside;
     })
 
-pub low_flags : (changes pushed : List Change) (up low after : List ℤ) (event : EventId) (value : ℤ) (crossed had flag beneath : Bool) → event.0 < length low → time_of low event <ℤ value
+pub low_flags : (changes pushed : List BoundChange) (up low after : List ℤ) (event : EventId) (value : ℤ) (crossed had flag beneath : Bool) → event.0 < length low → time_of low event <ℤ value
     → pushed ≡ changes ++ (record { side = Low; event = event; old = time_of low event }) ∷ [] → after ≡ set low event.0 value
     → AreCrossedAs crossed had (pair_of changes up low) → IsTrue beneath ↔ (time_of up event <ℤ value) → IsTrue flag ↔ (IsTrue crossed ⊎ IsTrue beneath)
     → AreCrossedAs flag had (pair_of pushed up after)
@@ -185,15 +185,15 @@ low_flags changes pushed up low after event value crossed had flag beneath withi
       outside = rw (low_undone changes (record { up = up; low = low }) event value) flags.outside;
     })
 
-pub up_outside : (changes pushed : List Change) (up low after : List ℤ) (event : EventId) (value : ℤ) → pushed ≡ changes ++ (record { side = Up; event = event; old = time_of up event }) ∷ []
+pub up_outside : (changes pushed : List BoundChange) (up low after : List ℤ) (event : EventId) (value : ℤ) → pushed ≡ changes ++ (record { side = Up; event = event; old = time_of up event }) ∷ []
     → after ≡ set up event.0 value → undone pushed (record { up = after; low = low }) ≡ undone changes (record { up = up; low = low })
 up_outside changes pushed up low after event value is_pushed is_after = rw (is_pushed, is_after) (up_undone changes (record { up = up; low = low }) event value)
 
-pub low_outside : (changes pushed : List Change) (up low after : List ℤ) (event : EventId) (value : ℤ) → pushed ≡ changes ++ (record { side = Low; event = event; old = time_of low event }) ∷ []
+pub low_outside : (changes pushed : List BoundChange) (up low after : List ℤ) (event : EventId) (value : ℤ) → pushed ≡ changes ++ (record { side = Low; event = event; old = time_of low event }) ∷ []
     → after ≡ set low event.0 value → undone pushed (record { up = up; low = after }) ≡ undone changes (record { up = up; low = low })
 low_outside changes pushed up low after event value is_pushed is_after = rw (is_pushed, is_after) (low_undone changes (record { up = up; low = low }) event value)
 
-pub start_flags : (changes : List Change) (up low : List ℤ) (n : ℕ) (cap : ℤ) (from : EventId) → pos 0 ≤ℤ cap → changes ≡ [] → up ≡ replicate n cap → low ≡ replicate n (neg_ℤ cap)
+pub start_flags : (changes : List BoundChange) (up low : List ℤ) (n : ℕ) (cap : ℤ) (from : EventId) → pos 0 ≤ℤ cap → changes ≡ [] → up ≡ replicate n cap → low ≡ replicate n (neg_ℤ cap)
     → AreCrossedAs false false (pair_of changes (set up from.0 (pos 0)) (set low from.0 (pos 0)))
 start_flags changes up low n cap from least none is_up is_low = rw (none, is_up, is_low) (record { now = not_crossed; outside = not_crossed }) where
   not_crossed : IsTrue false ↔ HasCrossed (record { up = set (replicate n cap) from.0 (pos 0); low = set (replicate n (neg_ℤ cap)) from.0 (pos 0) })

@@ -17,7 +17,7 @@ use Rattle.clauses.proofs.Between.{IsBetween}
 use Rattle.edge_clauses.specs.declared.basis.WalkStep.{WalkStep}
 use Rattle.edge_clauses.specs.declared.walk.Walk.{Walk}
 use Rattle.edge_clauses.specs.Clauses.{Clause}
-use Rattle.edge_clauses.specs.Lines.{Assume, Block, ClauseLine, Close, Excludes, Fall, Forces, Frame, GivesLeast, GivesMost, IsClauseLoop, IsCovered, IsEnded, IsLine, IsLow, IsRefuted, Know, LetsFall, LetsRise, Loop, ProofLeads, Rise, State, StepsTo, Walks, frame_in, refuting, with_frame_in}
+use Rattle.edge_clauses.specs.Lines.{Assume, Block, ClauseLine, Close, Excludes, Fall, Forces, Frame, GivesLeast, GivesMost, IsClauseLoop, IsCovered, IsEnded, IsLine, IsLow, IsEdgeRefuted, Know, LetsFall, LetsRise, Loop, ProofLeads, Rise, State, StepsTo, Walks, frame_in, refuting, with_frame_in}
 use Rattle.edge_clauses.proofs.Edges.{refuting_met}
 use Rattle.edge_clauses.proofs.Meeting.{MeetsClause, clause_met}
 
@@ -81,7 +81,7 @@ low_holds goal times frame event time covers above (inr (is, low)) =
 -- ---- clauses in a frame
 
 -- an edge that is refuted is not met
-refuted_unmet : (goal : Goal) (times : List ℤ) (frame : Frame) (e : Edge) → Covers times frame → goal.claim <ℤ time_of times goal.to → IsRefuted goal frame e → Meets times e → ⊥
+refuted_unmet : (goal : Goal) (times : List ℤ) (frame : Frame) (e : Edge) → Covers times frame → goal.claim <ℤ time_of times goal.to → IsEdgeRefuted goal frame e → Meets times e → ⊥
 refuted_unmet goal times frame e covers above (inl low) met =
     beyond (time_of times e.from) (time_of frame.up e.from) (time_of times e.to) e.weight (covers.up.each e.from.0) (low_holds goal times frame e.to _ covers above low) met where
       beyond : (from most to weight : ℤ) → from ≤ℤ most → ((most +ℤ weight) +ℤ pos 1) ≤ℤ to → (to -ℤ from) ≤ℤ weight → ⊥
@@ -101,7 +101,7 @@ refuted_unmet goal times frame e covers above (inr (inr some)) met =
 falls_most : (net : Net) (goal : Goal) (times : List ℤ) (frame : Frame) (event : EventId) (value : ℤ) (c : Clause) → Covers times frame → goal.claim <ℤ time_of times goal.to
     → MeetsClause times c → LetsFall net goal frame event value c → time_of times event ≤ℤ value
 falls_most net goal times frame event value c covers above some falls =
-    let (e, met, either) = any_element (Meets times) (λ (e : Edge). IsRefuted goal frame e ⊎ GivesMost frame event value e) c falls.edges some in
+    let (e, met, either) = any_element (Meets times) (λ (e : Edge). IsEdgeRefuted goal frame e ⊎ GivesMost frame event value e) c falls.edges some in
     elim either [
       | inl refuted ↦ absurd (refuted_unmet goal times frame e covers above refuted met)
       | inr (is, gives) ↦
@@ -114,7 +114,7 @@ falls_most net goal times frame event value c covers above some falls =
 rises_least : (net : Net) (goal : Goal) (times : List ℤ) (frame : Frame) (event : EventId) (value : ℤ) (c : Clause) → Covers times frame → goal.claim <ℤ time_of times goal.to
     → MeetsClause times c → LetsRise net goal frame event value c → value ≤ℤ time_of times event
 rises_least net goal times frame event value c covers above some rises =
-    let (e, met, either) = any_element (Meets times) (λ (e : Edge). IsRefuted goal frame e ⊎ GivesLeast goal frame event value e) c rises.edges some in
+    let (e, met, either) = any_element (Meets times) (λ (e : Edge). IsEdgeRefuted goal frame e ⊎ GivesLeast goal frame event value e) c rises.edges some in
     elim either [
       | inl refuted ↦ absurd (refuted_unmet goal times frame e covers above refuted met)
       | inr (is, gives) ↦
@@ -127,7 +127,7 @@ rises_least net goal times frame event value c covers above some rises =
 forced_met : (goal : Goal) (times : List ℤ) (frame : Frame) (e : Edge) (c : Clause) → Covers times frame → goal.claim <ℤ time_of times goal.to → MeetsClause times c
     → Forces goal frame e c → Meets times e
 forced_met goal times frame e c covers above some forces =
-    let (other, met, either) = any_element (Meets times) (λ (other : Edge). (other ≡ e) ⊎ IsRefuted goal frame other) c forces.others some in
+    let (other, met, either) = any_element (Meets times) (λ (other : Edge). (other ≡ e) ⊎ IsEdgeRefuted goal frame other) c forces.others some in
     elim either [
       | inl is ↦ subst (Meets times) is met
       | inr refuted ↦ absurd (refuted_unmet goal times frame other covers above refuted met)

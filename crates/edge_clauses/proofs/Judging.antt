@@ -8,7 +8,7 @@ use Rattle.clauses.specs.Lines.{Goal}
 use Rattle.edge_clauses.specs.declared.basis.Basis.{Basis}
 use Rattle.edge_clauses.specs.Checking.{SomeClause}
 use Rattle.edge_clauses.specs.Clauses.{Clause, IsClause}
-use Rattle.edge_clauses.specs.Lines.{Frame, IsBound, IsEnded, LetsFall, LetsRise}
+use Rattle.edge_clauses.specs.Lines.{Frame, IsNearBound, IsEnded, LetsFall, LetsRise}
 use Rattle.edge_clauses.specs.Step.Bounding.{HasCrossed}
 use Rattle.edge_clauses.specs.Step.Judging.{AllowsFall, AllowsRise}
 use Rattle.edge_clauses.proofs.Filling.{one_clause}
@@ -39,7 +39,7 @@ ended_cases goal frame (event, inr (is, low)) =
 -- ---- bounds that a clause allows
 
 pub falls_as : (net : Net) (goal : Goal) (frame : Frame) (event : EventId) (value : ℤ) (c : Clause) (all : Bool) → IsTrue all ↔ All (AllowsFall goal frame event value) c
-    → IsBound net value → value <ℤ time_of frame.up event → IsTrue all ↔ LetsFall net goal frame event value c
+    → IsNearBound net value → value <ℤ time_of frame.up event → IsTrue all ↔ LetsFall net goal frame event value c
 unfolding AllowsFall
 falls_as net goal frame event value c all is_all bound lower = (
   (λ t. record { edges = λ i d within. is_all.0 t i d within; bound = bound; lower = lower }),
@@ -47,7 +47,7 @@ falls_as net goal frame event value c all is_all bound lower = (
 )
 
 pub rises_as : (net : Net) (goal : Goal) (frame : Frame) (event : EventId) (value : ℤ) (c : Clause) (all : Bool) → IsTrue all ↔ All (AllowsRise goal frame event value) c
-    → IsBound net value → time_of frame.low event <ℤ value → IsTrue all ↔ LetsRise net goal frame event value c
+    → IsNearBound net value → time_of frame.low event <ℤ value → IsTrue all ↔ LetsRise net goal frame event value c
 unfolding AllowsRise
 rises_as net goal frame event value c all is_all bound higher = (
   (λ t. record { edges = λ i d within. is_all.0 t i d within; bound = bound; higher = higher }),

@@ -20,7 +20,7 @@ use Rattle.clauses.proofs.Between.{IsBetween, between, between_near}
 use Rattle.clauses.proofs.NegatedNet.{net_negated}
 use Rattle.edge_clauses.specs.Clauses.{Clause}
 use Rattle.edge_clauses.specs.Laws.{ClaimCanRise, ClauseProofBounds, ClauseProofOfNothing, NegatedProofBounds, NegatedProofOfNothing, ProofAndTimesClose}
-use Rattle.edge_clauses.specs.Lines.{Assume, ClauseLine, Close, Fall, Forces, Frame, IsClauseProof, IsEnded, IsLine, IsLow, IsRefuted, Know, LetsFall, LetsRise, Loop, Rise, State, frame_of, starting, starting_lows}
+use Rattle.edge_clauses.specs.Lines.{Assume, ClauseLine, Close, Fall, Forces, Frame, IsClauseProof, IsEnded, IsLine, IsLow, IsEdgeRefuted, Know, LetsFall, LetsRise, Loop, Rise, State, frame_of, starting, starting_lows}
 use Rattle.edge_clauses.proofs.Covering.{Keeps, lead_keeps, over_fails}
 use Rattle.edge_clauses.proofs.Meeting.{MeetsClause}
 
@@ -102,7 +102,7 @@ low_rises goal claim frame event time more (inr (is, low)) = inr (is, higher tim
   higher : (time a b : ℤ) → time ≤ℤ (a +ℤ pos 1) → a ≤ℤ b → time ≤ℤ (b +ℤ pos 1)
   higher time a b p q = omega (arith, ints)
 
-refuted_rises : (goal : Goal) (claim : ℤ) (frame : Frame) (e : Edge) → goal.claim ≤ℤ claim → IsRefuted goal frame e → IsRefuted (claiming goal claim) frame e
+refuted_rises : (goal : Goal) (claim : ℤ) (frame : Frame) (e : Edge) → goal.claim ≤ℤ claim → IsEdgeRefuted goal frame e → IsEdgeRefuted (claiming goal claim) frame e
 refuted_rises goal claim frame e more (inl low) = inl (low_rises goal claim frame e.to _ more low)
 refuted_rises goal claim frame e more (inr other) = inr other
 

@@ -76,8 +76,8 @@ pub record Excludes (e known : Edge) : Type 0 where
   pub weight : known.weight ≤ℤ (neg_ℤ e.weight -ℤ pos 1)
 
 -- an edge is not met: by the bounds of its events, since it leads from an event to itself with a weight below 0, or since a known edge excludes it
-abbrev pub IsRefuted : Goal → Frame → Edge → Type 0
-IsRefuted goal frame e =
+abbrev pub IsEdgeRefuted : Goal → Frame → Edge → Type 0
+IsEdgeRefuted goal frame e =
     IsLow goal frame e.to ((time_of frame.up e.from +ℤ e.weight) +ℤ pos 1) ⊎ ((e.from ≡ e.to) × (e.weight <ℤ pos 0)) ⊎ Any (Excludes e) frame.known
 
 -- the edge gives the event an upper bound of at most this
@@ -89,25 +89,25 @@ abbrev pub GivesLeast : Goal → Frame → EventId → ℤ → Edge → Type 0
 GivesLeast goal frame event value e = (e.from ≡ event) × IsLow goal frame e.to (value +ℤ e.weight)
 
 -- no bound of an event is beyond one more than the cap
-abbrev pub IsBound : Net → ℤ → Type 0
-IsBound net value = (neg_ℤ (pos (cap net + 1)) ≤ℤ value) × (value ≤ℤ pos (cap net + 1))
+abbrev pub IsNearBound : Net → ℤ → Type 0
+IsNearBound net value = (neg_ℤ (pos (cap net + 1)) ≤ℤ value) × (value ≤ℤ pos (cap net + 1))
 
 -- a clause allows the upper bound of an event to fall to a value
 pub record LetsFall (net : Net) (goal : Goal) (frame : Frame) (event : EventId) (value : ℤ) (c : Clause) : Type 0 where
-  pub edges : All (λ (e : Edge). IsRefuted goal frame e ⊎ GivesMost frame event value e) c
-  pub bound : IsBound net value
+  pub edges : All (λ (e : Edge). IsEdgeRefuted goal frame e ⊎ GivesMost frame event value e) c
+  pub bound : IsNearBound net value
   pub lower : value <ℤ time_of frame.up event
 
 -- a clause allows the lower bound of an event to rise to a value
 pub record LetsRise (net : Net) (goal : Goal) (frame : Frame) (event : EventId) (value : ℤ) (c : Clause) : Type 0 where
-  pub edges : All (λ (e : Edge). IsRefuted goal frame e ⊎ GivesLeast goal frame event value e) c
-  pub bound : IsBound net value
+  pub edges : All (λ (e : Edge). IsEdgeRefuted goal frame e ⊎ GivesLeast goal frame event value e) c
+  pub bound : IsNearBound net value
   pub higher : time_of frame.low event <ℤ value
 
 -- a clause makes an edge known: all its other edges are refuted
 pub record Forces (goal : Goal) (frame : Frame) (e : Edge) (c : Clause) : Type 0 where
   pub among : Contains c e
-  pub others : All (λ (other : Edge). (other ≡ e) ⊎ IsRefuted goal frame other) c
+  pub others : All (λ (other : Edge). (other ≡ e) ⊎ IsEdgeRefuted goal frame other) c
 
 -- no times that the goal is about are within the bounds
 abbrev pub IsEnded : Goal → Frame → Type 0

@@ -20,7 +20,7 @@ pub enum BoundSide {
 
 /// A bound of an event, in picoseconds, before it changed.
 #[derive(Clone, Copy)]
-pub struct Change {
+pub struct BoundChange {
     pub side: BoundSide,
     pub event: EventId,
     pub old: i64,
@@ -28,15 +28,15 @@ pub struct Change {
 
 /// An upper and a lower bound of each event, in picoseconds after the from-event, and what they were when the block opened.
 #[derive(Drop)]
-pub struct Bounds {
+pub struct EventBounds {
     up: Vec<i64>,
     low: Vec<i64>,
-    changes: Vec<Change>,
+    changes: Vec<BoundChange>,
     has_crossed: bool,
     had_crossed: bool,
 }
 
-impl Model for Bounds {
+impl Model for EventBounds {
     ghost use Rattle.edge_clauses.specs.Step.Bounding.{AreCrossedAs, BoundPair, pair_of};
 
     ghost Value = { BoundPair };
@@ -46,9 +46,9 @@ impl Model for Bounds {
     ghost invariant = { λ b. AreCrossedAs b.has_crossed b.had_crossed (pair_of b.changes.items b.up.items b.low.items) };
 }
 
-impl Bounds {
+impl EventBounds {
     /// The from-event at 0, and all others at most at the cap and at least at minus the cap.
-    pub fn new(alloc: Global, events: u32, from: EventId, cap: i64) -> Result<Bounds, NoMemory>
+    pub fn new(alloc: Global, events: u32, from: EventId, cap: i64) -> Result<EventBounds, NoMemory>
         requires from { from.0 < events }
         requires least { pos 0 ≤ℤ cap }
         ensures now { IfOk result (λ b. b.now ≡ record { up = set (replicate events cap) from.0 (pos 0); low = set (replicate events (neg_ℤ cap)) from.0 (pos 0) }) }
@@ -59,7 +59,7 @@ impl Bounds {
         up[place] = 0;
         let mut low = vec![in alloc; -cap; events as usize]?;
         low[place] = 0;
-        Ok(Bounds {
+        Ok(EventBounds {
             up,
             low,
             changes: Vec::new(alloc),
@@ -146,10 +146,10 @@ impl Bounds {
 }
 
 // The bound of an event, before it changes on a side.
-fn change_of(values: &[i64], side: BoundSide, bound: EventBound) -> Change
+fn change_of(values: &[i64], side: BoundSide, bound: EventBound) -> BoundChange
     ensures { result ≡ record { side = side; event = bound.event; old = time_of values.now bound.event } }
 {
-    Change {
+    BoundChange {
         side,
         event: bound.event,
         old: time_of(values, bound.event),
@@ -186,7 +186,7 @@ fn set_to(values: &mut Vec<i64>, bound: EventBound)
 }
 
 // Puts old bounds back, the latest first.
-fn put_back(changes: &[Change], up: &mut [i64], low: &mut [i64])
+fn put_back(changes: &[BoundChange], up: &mut [i64], low: &mut [i64])
     ensures { record { up = up.new; low = low.new } ≡ undone changes.now (record { up = up.old; low = low.old }) }
 {
     let count = changes.len();
@@ -196,7 +196,7 @@ fn put_back(changes: &[Change], up: &mut [i64], low: &mut [i64])
 }
 
 // Puts the old bound at a place back.
-fn put_at(changes: &[Change], place: usize, up: &mut [i64], low: &mut [i64])
+fn put_at(changes: &[BoundChange], place: usize, up: &mut [i64], low: &mut [i64])
     requires { place < length changes.now }
     ensures { undone (take place changes.now) (record { up = up.new; low = low.new }) ≡ undone (take (place + 1) changes.now) (record { up = up.old; low = low.old }) }
 {
@@ -204,7 +204,7 @@ fn put_at(changes: &[Change], place: usize, up: &mut [i64], low: &mut [i64])
 }
 
 // The change at a place.
-fn change_at(changes: &[Change], place: usize) -> Change
+fn change_at(changes: &[BoundChange], place: usize) -> BoundChange
     requires { place < length changes.now }
     ensures { slice_get changes.now place ≡ Some result }
 {
@@ -212,7 +212,7 @@ fn change_at(changes: &[Change], place: usize) -> Change
 }
 
 // Puts an old bound back.
-fn put(change: Change, up: &mut [i64], low: &mut [i64])
+fn put(change: BoundChange, up: &mut [i64], low: &mut [i64])
     ensures { record { up = up.new; low = low.new } ≡ with_bound change.side change.event change.old (record { up = up.old; low = low.old }) }
 {
     match change.side {
@@ -222,7 +222,7 @@ fn put(change: Change, up: &mut [i64], low: &mut [i64])
 }
 
 // Sets the value of an event. Does nothing if there is no such event.
-fn write(values: &mut [i64], change: Change)
+fn write(values: &mut [i64], change: BoundChange)
     ensures { values.new ≡ set values.old change.event.0 change.old }
 {
     let place = change.event.0 as usize;

@@ -7,7 +7,7 @@ ghost use Rattle.falling.specs.DerivationEnds.{AreLimits};
 ghost use Rattle.edge_clauses.specs.Lines.{starting_lows, with_known, with_low, with_up};
 ghost use Rattle.edge_clauses.specs.Step.Standing.{base_of, frame_now, frame_outside};
 
-use crate::bounds::Bounds;
+use crate::bounds::EventBounds;
 use crate::edge_list::EdgeList;
 use crate::known::KnownEdges;
 use crate::line::EventBound;
@@ -20,7 +20,7 @@ use std::alloc::Global;
 /// Bounds and known edges, those outside of the block, and the edges that the open block assumes, if there is one.
 #[derive(Drop)]
 pub struct Frames {
-    pub bounds: Bounds,
+    pub bounds: EventBounds,
     pub known: KnownEdges,
     pub assumed: Option<EdgeList>,
 }
@@ -34,7 +34,7 @@ impl Frames {
         ensures assumed { IfOk result (λ f. f.assumed ≡ None) }
     {
         Ok(Frames {
-            bounds: Bounds::new(alloc, net.events(), terms.from, terms.limits.cap)?,
+            bounds: EventBounds::new(alloc, net.events(), terms.from, terms.limits.cap)?,
             known: KnownEdges::new(alloc, net.events() as usize)?,
             assumed: None,
         })

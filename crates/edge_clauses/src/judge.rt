@@ -5,7 +5,7 @@ ghost use Rattle.event_graph.specs.declared.edge.Edge.{Edge};
 ghost use Rattle.event_graph.specs.Network.{Net};
 ghost use Rattle.event_graph.specs.Times.{time_of};
 ghost use Rattle.falling.specs.DerivationEnds.{AreLimits};
-ghost use Rattle.edge_clauses.specs.Lines.{Forces, GivesLeast, GivesMost, IsBound, IsEnded, IsLow, IsRefuted, LetsFall, LetsRise};
+ghost use Rattle.edge_clauses.specs.Lines.{Forces, GivesLeast, GivesMost, IsNearBound, IsEnded, IsLow, IsEdgeRefuted, LetsFall, LetsRise};
 ghost use Rattle.edge_clauses.specs.Step.Judging.{AllowsFall, AllowsRise};
 ghost use Rattle.edge_clauses.specs.Step.Standing.{frame_now, goal_of};
 
@@ -82,7 +82,7 @@ pub fn forces(frames: &Frames, terms: Terms, edge: Edge, clause: &[Edge]) -> boo
 
 // Whether each edge of a clause is this one or is refuted.
 fn are_others_refuted(frames: &Frames, terms: Terms, edge: Edge, clause: &[Edge]) -> bool
-    ensures { IsTrue result ↔ All (λ (other : Edge). (other ≡ edge) ⊎ IsRefuted (goal_of terms) (frame_now frames.now) other) clause.now }
+    ensures { IsTrue result ↔ All (λ (other : Edge). (other ≡ edge) ⊎ IsEdgeRefuted (goal_of terms) (frame_now frames.now) other) clause.now }
 {
     clause.iter().all(|other| is_same(*other, edge) || is_refuted(frames, terms, *other))
 }
@@ -110,7 +110,7 @@ fn is_at_most_claim(frames: &Frames, terms: Terms) -> bool
 
 // Whether a value is at most one more than the cap, and at least minus that.
 fn is_bound(terms: Terms, bound: EventBound) -> bool
-    ensures bound { (net : Net) → AreLimits net terms.limits → IsTrue result ↔ IsBound net bound.value }
+    ensures bound { (net : Net) → AreLimits net terms.limits → IsTrue result ↔ IsNearBound net bound.value }
 {
     is_at_most(bound, most_of(terms)) && is_at_least(bound, most_of(terms))
 }
@@ -154,7 +154,7 @@ fn is_higher(frames: &Frames, bound: EventBound) -> bool
 
 // Whether an edge is not met.
 fn is_refuted(frames: &Frames, terms: Terms, edge: Edge) -> bool
-    ensures refuted { IsTrue result ↔ IsRefuted (goal_of terms) (frame_now frames.now) edge }
+    ensures refuted { IsTrue result ↔ IsEdgeRefuted (goal_of terms) (frame_now frames.now) edge }
 {
     is_after(frames, terms, edge.to, reach_of(frames, edge))
         || is_falling_loop(edge)

@@ -12,7 +12,7 @@ use std::marker::Model;
 /// Edges in chains. An edge is in the chain with the number of the sum of its events, modulo the number of chains. So an edge and one that excludes it are
 /// in the same chain.
 #[derive(Drop)]
-pub struct Chains {
+pub struct EdgeChains {
     /// The edges, in the order in which they were added.
     pub edges: Vec<Edge>,
     /// For each edge one more than the place of the edge before it in its chain, or 0 if there is none.
@@ -24,7 +24,7 @@ pub struct Chains {
 /// Edges that are known to be met, in the order in which they became known, and how many of them were known when the block opened.
 #[derive(Drop)]
 pub struct KnownEdges {
-    chains: Chains,
+    chains: EdgeChains,
     outside: usize,
 }
 
@@ -47,7 +47,7 @@ impl KnownEdges {
     {
         let last = vec![in alloc; 0; chains]?;
         Ok(KnownEdges {
-            chains: Chains {
+            chains: EdgeChains {
                 edges: Vec::new(alloc),
                 before: Vec::new(alloc),
                 last,
@@ -107,7 +107,7 @@ impl KnownEdges {
 }
 
 // Whether some edge in the chains is one that times cannot meet together with this one.
-fn has_excluding_in(chains: &Chains, edge: Edge) -> bool
+fn has_excluding_in(chains: &EdgeChains, edge: Edge) -> bool
     requires chained { IsChained chains.now }
     ensures excluding { IsTrue result ↔ Any (Excludes edge) chains.now.edges.items }
 {
@@ -130,7 +130,7 @@ fn excludes(edge: Edge, known: Edge) -> bool
 }
 
 // The chain of an edge.
-fn chain_of(chains: &Chains, edge: Edge) -> usize
+fn chain_of(chains: &EdgeChains, edge: Edge) -> usize
     requires some { 0 < length chains.now.last.items }
     ensures chain { result ≡ chain_of (length chains.now.last.items) edge }
     ensures within { result < length chains.now.last.items }
@@ -139,7 +139,7 @@ fn chain_of(chains: &Chains, edge: Edge) -> usize
 }
 
 // Gets room for more edges.
-fn make_room(chains: &mut Chains, count: usize) -> Result<(), NoMemory>
+fn make_room(chains: &mut EdgeChains, count: usize) -> Result<(), NoMemory>
     ensures edges { chains.new.edges.items ≡ chains.old.edges.items }
     ensures before { chains.new.before.items ≡ chains.old.before.items }
     ensures last { chains.new.last.items ≡ chains.old.last.items }
@@ -152,7 +152,7 @@ fn make_room(chains: &mut Chains, count: usize) -> Result<(), NoMemory>
 }
 
 // Adds an edge. There is room for it.
-fn link(chains: &mut Chains, edge: Edge)
+fn link(chains: &mut EdgeChains, edge: Edge)
     requires chained { IsChained chains.old }
     requires room { vec_len chains.old.edges < vec_capacity chains.old.edges }
     requires room_before { vec_len chains.old.before < vec_capacity chains.old.before }
@@ -171,7 +171,7 @@ fn link(chains: &mut Chains, edge: Edge)
 }
 
 // Adds edges. There is room for them.
-fn link_all(chains: &mut Chains, edges: &[Edge])
+fn link_all(chains: &mut EdgeChains, edges: &[Edge])
     requires chained { IsChained chains.old }
     requires room { vec_len chains.old.edges + length edges.now ≤ vec_capacity chains.old.edges }
     requires room_before { vec_len chains.old.before + length edges.now ≤ vec_capacity chains.old.before }
@@ -184,7 +184,7 @@ fn link_all(chains: &mut Chains, edges: &[Edge])
 }
 
 // Takes the edges from a place on away.
-fn unlink_from(chains: &mut Chains, place: usize)
+fn unlink_from(chains: &mut EdgeChains, place: usize)
     requires chained { IsChained chains.old }
     requires place { place ≤ length chains.old.edges.items }
     ensures chained { IsChained chains.new }
@@ -200,7 +200,7 @@ fn unlink_from(chains: &mut Chains, place: usize)
 }
 
 // Takes the last edge away.
-fn unlink(chains: &mut Chains)
+fn unlink(chains: &mut EdgeChains)
     requires chained { IsChained chains.old }
     requires some { 0 < length chains.old.edges.items }
     ensures chained { IsChained chains.new }

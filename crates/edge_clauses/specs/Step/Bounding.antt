@@ -4,7 +4,7 @@ use Rattle.itv_base.specs.declared.names.EventId.{EventId}
 use Rattle.event_graph.specs.Times.{time_of}
 use Rattle.edge_clauses.specs.declared.bounds.BoundSide.{BoundSide}
 use Rattle.edge_clauses.specs.declared.bounds.BoundSide.TheVariants.{Up, Low}
-use Rattle.edge_clauses.specs.declared.bounds.Change.{Change}
+use Rattle.edge_clauses.specs.declared.bounds.BoundChange.{BoundChange}
 
 -- an upper and a lower bound of each event
 pub record Sides : Type 0 where
@@ -22,12 +22,12 @@ with_bound Up event value s = record { up = set s.up event.0 value; low = s.low 
 with_bound Low event value s = record { up = s.up; low = set s.low event.0 value }
 
 -- the bounds before some changes, the latest of which is the last
-abbrev pub undone : List Change → Sides → Sides
+abbrev pub undone : List BoundChange → Sides → Sides
 undone [] s = s
 undone (c ∷ cs) s = with_bound c.side c.event c.old (undone cs s)
 
 -- bounds and their changes, as a pair
-abbrev pub pair_of : List Change → List ℤ → List ℤ → BoundPair
+abbrev pub pair_of : List BoundChange → List ℤ → List ℤ → BoundPair
 pair_of changes up low = record { outside = undone changes (record { up = up; low = low }); now = record { up = up; low = low } }
 
 -- the upper bound of some event is below its lower bound

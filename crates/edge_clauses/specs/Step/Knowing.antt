@@ -1,7 +1,7 @@
 -- Known edges, those that were known outside of the block, and how the code finds an edge among them.
 use Rattle.std.specs.Prelude.{◌≡◌, ◌==◌, ◌+◌, ◌%◌, ◌<◌, ℕ, zero, suc, Bool, true, false, if◌then◌else◌, List, [], ◌∷◌, length, take, Some, slice_get, slice_index_or}
 use Rattle.event_graph.specs.declared.edge.Edge.{Edge}
-use Rattle.edge_clauses.specs.declared.known.Chains.{Chains}
+use Rattle.edge_clauses.specs.declared.known.EdgeChains.{EdgeChains}
 
 -- known edges, and those of them that were known outside of the block
 pub record KnownPair : Type 0 where
@@ -34,5 +34,5 @@ pub record AreChained (edges : List Edge) (before last : List ℕ) : Type 0 wher
   pub earlier : (k : ℕ) (e : Edge) → slice_get edges k ≡ Some e → slice_index_or before k 0 ≡ last_in (length last) (chain_of (length last) e) (take k edges)
   pub latest : (chain : ℕ) → chain < length last → slice_index_or last chain 0 ≡ last_in (length last) chain edges
 
-abbrev pub IsChained : Chains → Type 0
+abbrev pub IsChained : EdgeChains → Type 0
 IsChained chains = AreChained chains.edges.items chains.before.items chains.last.items

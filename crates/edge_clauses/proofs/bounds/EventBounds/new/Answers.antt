@@ -1,7 +1,7 @@
 use Rattle.std.proofs.Common.{◌≡◌, neg_ℤ, replicate, ap, ◌∙◌, arith}
 use Rattle.std.proofs.lemmas.Int.{ints}
 use Rattle.edge_clauses.proofs.Bounding.{start_flags}
-use Rattle.edge_clauses.proofs.bounds.Bounds.new.Goals as goal
+use Rattle.edge_clauses.proofs.bounds.EventBounds.new.Goals as goal
 
 pub invariant_of-result : goal.invariant_of-result
 invariant_of-result c =

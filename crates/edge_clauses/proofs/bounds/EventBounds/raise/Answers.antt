@@ -3,7 +3,7 @@ use Rattle.event_graph.specs.Times.{time_of}
 use Rattle.edge_clauses.specs.declared.bounds.BoundSide.TheVariants.{Low}
 use Rattle.edge_clauses.specs.Step.Bounding.{BoundPair}
 use Rattle.edge_clauses.proofs.Bounding.{low_flags, low_outside}
-use Rattle.edge_clauses.proofs.bounds.Bounds.raise.Goals as goal
+use Rattle.edge_clauses.proofs.bounds.EventBounds.raise.Goals as goal
 
 pub invariant_of-self-2 : goal.invariant_of-self-2
 invariant_of-self-2 c =
