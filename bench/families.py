@@ -1,7 +1,14 @@
+#!/usr/bin/env python3
 """Families of networks as they come up in designs, and formulas: each is made of a size and a seed.
 
-The first row of a network goes from its first event to its last one. The second goes from the middle to the last one, which is harder."""
+    bench/families.py PROGRAM .. [FAMILY ..]
+
+Runs plain searches of bench/settle side by side on the hardest row of each network, within 5 seconds of the processor and 500 MB: for each
+PROGRAM (a path) the seconds and the megabytes for both bounds, and what the last one says. `DIFFERENT` says that two programs that ended gave
+different bounds. The last row of a network is the hardest: it goes from the middle to the end where there are two."""
+import os
 import random
+import sys
 
 from networks import Network, dense_linear, few_choices, layered
 
@@ -217,3 +224,42 @@ FAMILIES = {
     "formula50": lambda size, seed: formula(size, seed, 5.0),
     "jobs": job_shop,
 }
+
+# The sizes of each family that are measured, and how many seeds of each.
+MEASURED = {
+    "ring": ((100, 300, 1000), 5), "layers": ((100, 300, 1000), 5), "memory": ((300, 1000), 3), "bursts": ((300, 1000), 3),
+    "clock": ((300, 1000), 3), "pipeline": ((300, 1000), 3), "latest": ((300, 1000), 3), "few": ((3000, 10_000, 16_000), 1),
+    "linear": ((1000, 10_000, 16_000), 1), "jobs": ((5, 6, 7, 8), 1), "formula35": ((50, 100, 150, 200), 2),
+    "formula": ((20, 50, 100, 150), 4), "formula50": ((50, 100, 150), 2),
+}
+
+
+def measure(programs, net):
+    from hostile import run
+    from measure import bound_lines, row
+
+    net.rows = net.rows[-1:]
+    cells, ended = [], set()
+    for program in programs:
+        printed, status, took, room = run([program], None, net.lines().encode())
+        says = bound_lines(printed)
+        cells.append(f"{took:.2f} ({room:.0f} MB)" + (" cut" if status else ""))
+        if not status and not any("spent" in line for line in says):
+            ended.add(tuple(says))
+    row([net.name] + cells + [", ".join(f"`{line}`" for line in says)] + ["DIFFERENT"] * (len(ended) > 1))
+
+
+def main():
+    programs = [os.path.abspath(word) for word in sys.argv[1:] if os.sep in word]
+    names = [word for word in sys.argv[1:] if os.sep not in word] or list(MEASURED)
+    if not programs:
+        sys.exit(__doc__)
+    for name in names:
+        sizes, seeds = MEASURED[name]
+        for size in sizes:
+            for seed in range(1, seeds + 1):
+                measure(programs, FAMILIES[name](size, seed))
+
+
+if __name__ == "__main__":
+    main()
