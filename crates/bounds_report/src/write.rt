@@ -44,7 +44,9 @@ pub fn write_bounds<K: Sink>(
     // The rows are between events, and within their limit.
     let _rows = drawn.rows();
     let wanted = Wanted { budget, cert };
-    Ok(print_report(drawn, wanted, &mut desk, sink)?)
+    let written = print_report(drawn, wanted, &mut desk, sink);
+    drop(desk);
+    Ok(written?)
 }
 
 // Writes the whole report.

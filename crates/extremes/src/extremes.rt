@@ -33,12 +33,19 @@ impl Extremes {
         ensures made { IfOk result (IsFor net.now) }
         ensures budget { IfOk result (λ extremes. extremes.budget ≡ budget) }
     {
-        Ok(Extremes {
-            work: Work::new(alloc, net)?,
-            settler: Settler::new(alloc, net)?,
-            budget,
-            turns,
-        })
+        let settler = Settler::new(alloc, net)?;
+        match Work::new(alloc, net) {
+            Ok(work) => Ok(Extremes {
+                work,
+                settler,
+                budget,
+                turns,
+            }),
+            Err(NoMemory) => {
+                drop(settler);
+                Err(NoMemory)
+            }
+        }
     }
 
     /// Looks for times that satisfy the network: by cases, and by clauses where the budget was spent. If it was found consistent, greatest
