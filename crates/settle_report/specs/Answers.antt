@@ -11,7 +11,8 @@ use Rattle.event_graph.specs.Satisfying.{Satisfies}
 use Rattle.event_graph.specs.Times.{separation, time_of}
 use Rattle.line_words.specs.Numbers.{IsLong}
 use Rattle.falling.specs.Cap.{far_line}
-use Rattle.settle.specs.Proofs.{IsProofAs}
+use Rattle.edge_clauses.specs.Proofs.{IsProofAs, lines_of}
+use Rattle.settle_lines.specs.Text.{IsClauseLine}
 use Rattle.requirements.specs.Verdicts.{verdict_of}
 use Rattle.requirements.specs.declared.bound.BothBounds.{BothBounds}
 use Rattle.requirements.specs.declared.bound.Bound.{Bound}
@@ -29,9 +30,10 @@ use Rattle.settle_report.specs.declared.bound.SettledBound.{SettledBound}
 use Rattle.settle_report.specs.declared.bound.SettledBound.TheVariants as settled
 use Rattle.settle_report.specs.declared.row.RowFound.{RowFound}
 
--- where proofs are wanted, the lines prove that no separation of the pair exceeds the claim
+-- where proofs are wanted, the lines prove that no separation of the pair exceeds the claim, and each of them has a text
 abbrev pub ProvesClaim : Bool → Net → EventId → EventId → ℤ → Proof → Type 0
-ProvesClaim cert net from to claim proof = (proof.claim ≡ claim) × (IsTrue cert → IsProofAs proof.view net from to claim proof.lines.items)
+ProvesClaim cert net from to claim proof =
+    (proof.claim ≡ claim) × (IsTrue cert → IsProofAs proof.view net from to claim proof.lines.items × All IsClauseLine (lines_of proof.lines.items))
 
 -- the printed times satisfy the network, with an event at 0
 pub record ArePrintedTimes (net : Net) (origin : EventId) (times : List ℤ) : Type 0 where

@@ -109,6 +109,6 @@ pub fn put_front<K: Sink>(
 ) -> Result<(), PutFailed>
     ensures puts { Puts (K.state sink.old) (K.state sink.new) (front_text drawn.now) result }
 {
-    sink.put(b"itv settle 1\n")?;
+    sink.put(b"itv settle 2\n")?;
     put_events(drawn, buffer, sink)
 }
