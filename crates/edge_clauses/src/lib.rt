@@ -7,6 +7,7 @@ mod basis;
 mod bounds;
 mod changing;
 mod checker;
+mod claim;
 mod clause_room;
 mod decided;
 mod edge_list;
@@ -22,5 +23,6 @@ mod weights;
 
 pub use basis::{Basis, WalkStep};
 pub use checker::ClauseChecker;
-pub use decided::decide;
+pub use claim::Claim;
+pub use decided::{ProofVerdict, decide};
 pub use line::{EventBound, StoredLine};
