@@ -16,7 +16,7 @@ mod judge;
 mod known;
 pub mod laws;
 mod line;
-mod reach;
+mod long_sum;
 mod terms;
 mod walk;
 mod weights;
