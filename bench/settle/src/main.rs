@@ -7,34 +7,16 @@
 
 #[macro_use]
 mod shim;
-mod clauses;
+mod edge_clauses;
 mod event_graph;
 mod falling;
 mod itv_base;
 mod settle;
 
 use crate::event_graph::{Cause, Constraint, Network};
-use crate::itv_base::{EventId, NoMemory, Range, RuleKind};
+use crate::itv_base::{EventId, Range, RuleKind};
 use crate::settle::{Settled, Settler};
 use std::io::{self, Read};
-
-impl From<NoMemory> for clauses::KnowFault {
-    fn from(_: NoMemory) -> Self {
-        clauses::KnowFault::NoMemory
-    }
-}
-
-impl From<NoMemory> for clauses::LoopFault {
-    fn from(_: NoMemory) -> Self {
-        clauses::LoopFault::NoMemory
-    }
-}
-
-impl From<NoMemory> for clauses::StepFault {
-    fn from(_: NoMemory) -> Self {
-        clauses::StepFault::NoMemory
-    }
-}
 
 fn event(word: &str) -> EventId {
     EventId(word.parse().unwrap())

@@ -10,6 +10,12 @@ pub struct NoMemory;
 
 pub type AllocError = NoMemory;
 
+impl From<std::collections::TryReserveError> for NoMemory {
+    fn from(_: std::collections::TryReserveError) -> NoMemory {
+        NoMemory
+    }
+}
+
 /// A vector whose pushes may run out of memory; here they never do.
 #[derive(Debug, Clone, PartialEq, Eq)]
 pub struct Vec<T>(pub std::vec::Vec<T>);
@@ -22,6 +28,12 @@ impl<T> Vec<T> {
     pub fn push(&mut self, item: T) -> Result<(), NoMemory> {
         self.0.push(item);
         Ok(())
+    }
+}
+
+impl<T> Vec<T> {
+    pub fn push_reserved(&mut self, item: T) {
+        self.0.push(item);
     }
 }
 

@@ -164,21 +164,6 @@ file_by files place name limit bytes (Some whole) is e = is ∙ ap (λ all. Some
 file_had : (files : Files) (place : RefusalPlace) (name : List ℕ) (limit : ℕ) (bytes : List ℕ) → end_over files (file_at place name limit) ≡ ready bytes → file_of files name ≡ Some bytes
 file_had files place name limit bytes e = file_by files place name limit bytes (file_of files name) refl e
 
--- bytes that are read within a limit are no more than the limit
-short_by : (place : RefusalPlace) (limit : ℕ) (file bytes : List ℕ) (test : Bool) → nat_lt limit (length (take (limit + 1) file)) ≡ test → (files : Files)
-    → end_over files (if test then refuses place TooLong else gives (take (limit + 1) file)) ≡ ready bytes → length bytes ≤ limit
-short_by place limit file bytes true is files e = absurd (cc e)
-short_by place limit file bytes false is files e =
-    subst (λ (read : List ℕ). length read ≤ limit) (same_ready (take (limit + 1) file) bytes e) (ltb-false limit (length (take (limit + 1) file)) is)
-
-short_file : (files : Files) (place : RefusalPlace) (name : List ℕ) (limit : ℕ) (bytes : List ℕ) (file : Option (List ℕ))
-    → option_map_or (λ whole. end_over files (within_limit place limit (take (limit + 1) whole))) file (unread place name) ≡ ready bytes → length bytes ≤ limit
-short_file files place name limit bytes None e = absurd (cc e)
-short_file files place name limit bytes (Some whole) e = short_by place limit whole bytes (nat_lt limit (length (take (limit + 1) whole))) refl files e
-
-file_short : (files : Files) (place : RefusalPlace) (name : List ℕ) (limit : ℕ) (bytes : List ℕ) → end_over files (file_at place name limit) ≡ ready bytes → length bytes ≤ limit
-file_short files place name limit bytes e = short_file files place name limit bytes (file_of files name) e
-
 record HasChecked (files : Files) (report : List ℕ) (drawn : Drawn) (answer : Answer) (text : List ℕ) : Type 0 where
   bytes : List ℕ
   is_file : file_of files report ≡ Some bytes
@@ -227,7 +212,6 @@ module _ (call : Call) (files : Files) (report : List ℕ) (drawn : Drawn) (know
 record HasConfirmed (files : Files) (report : List ℕ) (drawn : Drawn) (answer : Answer) (text : List ℕ) : Type 0 where
   bytes : List ℕ
   is_file : file_of files report ≡ Some bytes
-  short : length bytes ≤ REPORT_LIMIT
   answers : AnswersConfirm drawn bytes answer text
 
 module _ (call : Call) (files : Files) (report : List ℕ) (drawn : Drawn) (known : call.shelf_before.files ≡ Some files) (asks : AsksConfirm call.words files report drawn) where
@@ -240,7 +224,6 @@ module _ (call : Call) (files : Files) (report : List ℕ) (drawn : Drawn) (know
       record {
         bytes = bytes;
         is_file = file_had files Report report REPORT_LIMIT bytes had;
-        short = file_short files Report report REPORT_LIMIT bytes had;
         answers = subst (λ (d : Drawn). AnswersConfirm d bytes answer m.text) same (subst (λ g. Answers g answer m.text) (sym is) a.answers);
       }
 
@@ -257,7 +240,7 @@ module _ (call : Call) (files : Files) (report : List ℕ) (drawn : Drawn) (know
       let h = confirm_said answers.CheckRefused m in
       let (line, may, is) = h.answers in
       let same : settled.bytes ≡ h.bytes = same_Some settled.bytes h.bytes (sym settled.is_file ∙ h.is_file) in
-      may.not_settled (omega (arith, h.short)) (subst (λ (bytes : List ℕ). IsSettleText drawn true bytes) same settled.is_settled)
+      may.not_settled (subst (λ (bytes : List ℕ). IsSettleText drawn true bytes) same settled.is_settled)
 
 module _ (call : Call) (files : Files) (budget : ℕ) (cert : Bool) (drawn : Drawn) (known : call.shelf_before.files ≡ Some files) (asks : AsksSettle call.words files budget cert drawn) where
   settle_said : (answer : Answer) (m : HasAnswered call answer) → AnswersSettle drawn (turns_for budget) cert answer m.text

@@ -12,7 +12,7 @@ use Rattle.falling.specs.declared.view.View.{View}
 use Rattle.branch.specs.Answers.{Evidence, IsClosedAt, IsEnclosedBy, IsShownUnbounded, PairSearch}
 use Rattle.branch.specs.Work.{IsClose}
 use Rattle.settle.specs.ShownAnswer.{IsSettledAt, IsSettledUnbounded}
-use Rattle.settle.specs.declared.line.StoredLine.{StoredLine}
+use Rattle.edge_clauses.specs.declared.line.StoredLine.{StoredLine}
 use Rattle.extremes.specs.Found.{IsAttainedBy, IsWithoutEnd}
 
 close_time : (time : ℤ) → IsClose time → IsTime time

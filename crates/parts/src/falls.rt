@@ -6,12 +6,11 @@ ghost use Rattle.falling.specs.Solving.{IsMadeFor};
 
 use crate::unfit::Unfit;
 use crate::writing::{PairQuestion, asked_of, put_flags, put_numbers, put_taken};
-use clauses::Basis;
+use edge_clauses::{Basis, StoredLine};
 use event_graph::Network;
 use falling::{FallChecker, Fallen, Falling, QuietFall, View};
 use itv_base::EventId;
 use line_words::short_in;
-use settle::StoredLine;
 use settle_lines::read_clause_line;
 use std::alloc::{AllocError, Global};
 use std::fmt::Write;
@@ -78,7 +77,7 @@ fn put_fallen(fallen: Fallen, out: &mut String) -> Result<(), AllocError> {
     }
 }
 
-/// Checks the lines of a derivation from event 0. A row is a line as in `fall 2 31 1.0u` or `fall 1 31 L0`, or asks for the value of an event, as in
+/// Checks the lines of a derivation from event 0. A row is a line as in `fall 2 31 1.0u` or `fall 1 31 C0`, or asks for the value of an event, as in
 /// `value 2`, or whether the derivation has `ended`.
 pub fn lines(alloc: Global, net: &Network, rows: &str, out: &mut String) -> Result<(), Unfit> {
     if net.events() == 0 {
@@ -132,7 +131,7 @@ fn take_row(
         Basis::ByEdge(edge) => {
             put_taken(checker.take_fall(net, fall.event, fall.value, edge), out)?
         }
-        Basis::ByLatest(latest) => {
+        Basis::ByChoice(latest) => {
             put_taken(checker.take_late(net, fall.event, fall.value, latest), out)?
         }
         _ => return Err(Unfit),

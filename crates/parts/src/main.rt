@@ -5,7 +5,6 @@
 
 mod bounds;
 mod checking;
-mod clause_faults;
 mod clause_lines;
 mod closures;
 mod commands;

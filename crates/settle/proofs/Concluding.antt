@@ -9,20 +9,20 @@ use Rattle.falling.specs.declared.view.View.TheVariants.{Plain, Negated}
 use Rattle.falling.specs.Cap.{far_line}
 use Rattle.falling.specs.Kinds.{negated}
 use Rattle.falling.proofs.Bounding.{some_and}
-use Rattle.clauses.specs.Lines.{Goal, IsOver, IsClauseProof}
-use Rattle.clauses.proofs.Proving.{clause_proof_bounds, clause_proof_of_nothing, negated_proof_bounds, negated_proof_of_nothing}
+use Rattle.edge_clauses.specs.Lines.{Goal, IsClauseProof, IsOver}
+use Rattle.edge_clauses.proofs.Proving.{clause_proof_bounds, clause_proof_of_nothing, negated_proof_bounds, negated_proof_of_nothing}
 use Rattle.settle.specs.declared.shown_answer.ShownAnswer.{ShownAnswer}
 use Rattle.settle.specs.declared.shown_answer.Settled.{Settled}
 use Rattle.settle.specs.declared.shown_answer.Settled.TheVariants.{Closed, Unbounded, Inconsistent}
-use Rattle.settle.specs.declared.line.StoredLine.{StoredLine}
+use Rattle.edge_clauses.specs.declared.line.StoredLine.{StoredLine}
 use Rattle.settle.specs.declared.race.RaceEnd.TheVariants.{Closed as ClosedBy, Unbounded as UnboundedBy, Inconsistent as InconsistentBy}
 use Rattle.settle.specs.declared.race.Race.{Race}
 use Rattle.settle.specs.ShownAnswer.{IsFound, IsSettledAt, IsSettledInconsistent, IsSettledUnbounded}
-use Rattle.settle.specs.Proofs.{IsProofAs, IsProving, Proving, lines_of}
+use Rattle.edge_clauses.specs.Proofs.{IsProofAs, IsProving, Proving, lines_of}
 use Rattle.settle.specs.Step.Racing.{AreRaceTimes, IsEnding, IsOverAs, IsRacing, line_count, lines_as}
 
 -- the lines of an ended search are a proof of its goal
-pub proof_of : (net : Net) (goal : Goal) (proving : Proving) → IsProving net proving → proving.check.goal ≡ goal → IsOver net proving.check.goal proving.check.state
+pub proof_of : (net : Net) (goal : Goal) (proving : Proving) → IsProving net proving → proving.check.goal ≡ goal → IsOver proving.check.goal proving.check.state
     → IsClauseProof net goal (lines_of proving.lines)
 proof_of net goal proving is same over = subst (λ (g : Goal). IsClauseProof net g (lines_of proving.lines)) same (proving.check.state, is.lines, over)
 
@@ -77,7 +77,7 @@ some_of None h = absurd (not_true h) where
 some_of (Some x) h = (x, refl)
 
 -- the lines of the ended search of a view are a proof of the claim
-proof_as : (net : Net) (race : Race) (view : View) (lines : List StoredLine) → IsRacing net race → IsOverAs view net race → lines ≡ lines_as view race
+proof_as : (net : Net) (race : Race) (view : View) (lines : List StoredLine) → IsRacing net race → IsOverAs view race → lines ≡ lines_as view race
     → IsProofAs view net race.from race.to race.best.claim.value lines
 proof_as net race Plain lines racing over is =
     subst (λ (ls : List StoredLine). IsProofAs Plain net race.from race.to race.best.claim.value ls) (sym is)

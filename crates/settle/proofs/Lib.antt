@@ -1,3 +1,1 @@
-pub mod Leading
 pub mod Concluding
-pub mod Refusing

@@ -1,4 +1,3 @@
 -- The modules of definitions of this crate.
-pub mod Proofs
 pub mod ShownAnswer
 pub mod Step

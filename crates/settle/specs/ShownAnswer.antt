@@ -12,9 +12,9 @@ use Rattle.falling.specs.Kinds.{negated}
 use Rattle.settle.specs.declared.shown_answer.ShownAnswer.{ShownAnswer}
 use Rattle.settle.specs.declared.shown_answer.Settled.{Settled}
 use Rattle.settle.specs.declared.shown_answer.Settled.TheVariants.{Closed, Unbounded, Inconsistent, Spent}
-use Rattle.settle.specs.declared.line.StoredLine.{StoredLine}
+use Rattle.edge_clauses.specs.declared.line.StoredLine.{StoredLine}
 use Rattle.settle.specs.declared.settler.Settler.{Settler}
-use Rattle.settle.specs.Proofs.{IsProofAs}
+use Rattle.edge_clauses.specs.Proofs.{IsProofAs}
 
 -- the value is the greatest separation, times within the greatest cap satisfy and attain it, and the lines prove that no separation exceeds it
 pub record IsSettledAt (net : Net) (from to : EventId) (value : ℤ) (view : View) (lines : List StoredLine) (times : List ℤ) : Type 0 where

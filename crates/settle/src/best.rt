@@ -6,9 +6,8 @@ ghost use Rattle.event_graph.specs.Times.{IsTime, separation};
 ghost use Rattle.settle.specs.Step.Racing.{AreRaceTimes};
 ghost use Rattle.falling.specs.Cap.{IsNearValue};
 
-use clauses::Claim;
+use edge_clauses::Claim;
 use event_graph::{Network, separation};
-use falling::View;
 use itv_base::{END_LIMIT, EventId, MAX_EVENTS, NoMemory};
 use std::alloc::Global;
 
@@ -24,15 +23,11 @@ pub struct Best {
 // The greatest cap of a network, in picoseconds.
 const FARTHEST: i64 = 2 * MAX_EVENTS as i64 * (END_LIMIT + 1);
 
-/// The times that a search's values stand for. The values of the search in the negation are times of the network
-/// negated.
-pub fn times_of(alloc: Global, view: View, values: &Vec<i64>) -> Result<Vec<i64>, NoMemory> {
+/// The times of a network, from those of its negation.
+pub fn times_of(alloc: Global, values: &Vec<i64>) -> Result<Vec<i64>, NoMemory> {
     let mut times = Vec::new(alloc);
     for value in values {
-        match view {
-            View::Plain => times.push(*value)?,
-            View::Negated => times.push(value.saturating_mul(-1))?,
-        }
+        times.push(value.saturating_mul(-1))?;
     }
     Ok(times)
 }

@@ -1,93 +1,100 @@
 //! Choices of sides.
 
-use crate::clause_table::{SideEdge, StoredClause};
+use crate::bound_rules::{BoundRule, BoundWay};
 use crate::engine::{Engine, Proposal};
-use crate::numbered_literal::NumberedLiteral;
+use crate::literal::SideLiteral;
 use crate::places::at;
 use itv_base::NoMemory;
 
-// A side that may be chosen, with how much it was needed lately and with a value in picoseconds. The greatest need goes
-// first, then the least value.
+// A side that may be chosen, with how much it was needed lately and with a value in picoseconds. The greatest need goes first, then the least value.
 #[derive(Clone, Copy)]
 struct Candidate {
-    literal: NumberedLiteral,
+    side: SideLiteral,
     need: u64,
     value: i64,
 }
 
 impl Engine {
-    /// Chooses a side of an earliest constraint that the values break. It takes the constraint whose sides were needed
-    /// most lately; of two with equal need, the constraint whose target has the least value. Of that constraint it
-    /// takes the side that is broken least. If the values break no earliest constraint, they are times. If no block is
-    /// allowed, the search rests.
+    /// Chooses a side of an earliest constraint that the bounds of the times break. It takes the constraint whose sides were needed most lately; of two with
+    /// equal need, the constraint whose target has the least value. Of that constraint it takes the side that is broken least. If they break no earliest
+    /// constraint, they are times. If no block is allowed, the search rests. Now and then it takes back all choices. If it has then learnt many clauses, half of
+    /// them go.
     pub fn choose(&mut self) -> Result<Proposal, NoMemory> {
         let Some(candidate) = self.first_candidate() else {
-            self.meter.look(self.table.size());
             return Ok(Proposal::Times);
         };
-        if self.blocks == 0 {
+        if self.blocks == 0 || self.rest_at <= self.meter.turns() {
             return Ok(Proposal::Rests);
         }
+        if self.pace.is_due() {
+            self.pace.begin();
+            if 0 < self.trail.level() {
+                self.go_back(0);
+            }
+            return Ok(Proposal::Nothing);
+        }
+        if self.trail.level() == 0 && MOST_LEARNT <= self.tables.clauses.learnt() {
+            self.meter.look(self.tables.clauses.size());
+            self.tables.clauses.let_go(self.alloc)?;
+        }
         self.falls.reset();
-        self.assignment.choose(candidate.literal)?;
+        self.trail.choose(candidate.side)?;
         Ok(Proposal::Nothing)
     }
 
-    // The side to choose, or none if the values break no earliest constraint.
+    // The side to choose, or none if the bounds break no earliest constraint.
     fn first_candidate(&mut self) -> Option<Candidate> {
         let mut first: Option<Candidate> = None;
-        for number in 0..self.table.earliest().len() {
-            let clause = self.table.clause(at(self.table.earliest(), number, 0));
-            self.meter.look(clause.literals.count);
-            if let Some(candidate) = self.broken_side(clause) {
+        for number in 0..self.tables.earliest.len() {
+            let rule = self.tables.rules.rule(at(&self.tables.earliest, number, 0));
+            self.meter.look(rule.ways.count);
+            if let Some(candidate) = self.broken_side(rule) {
                 first = earlier(first, candidate);
             }
         }
         first
     }
 
-    // The side of an earliest constraint that is broken least and may hold, with the greatest need of its sides and with
-    // the value of its target. None if the values meet some side or no side may hold.
-    fn broken_side(&self, clause: StoredClause) -> Option<Candidate> {
+    // The side of an earliest constraint that is broken least and may hold, with the greatest need of its sides and with the value of its target. None if
+    // some side is met or no side may hold.
+    fn broken_side(&self, rule: BoundRule) -> Option<Candidate> {
         let mut least: Option<Candidate> = None;
         let mut need = 0;
-        for number in 0..clause.literals.count {
-            let literal = self.table.literal(clause, number);
-            let value = self.excess(literal);
+        let target = self.trail.value(rule.target.other());
+        for number in 0..rule.ways.count {
+            let way = self.tables.rules.way(rule, number);
+            let value = self.excess(target, way);
             if value <= 0 {
                 return None;
             }
-            need = at(&self.activity, literal.side, 0).max(need);
-            if !self.assignment.holds(literal.opposite()) {
+            let side = way.side?;
+            need = at(&self.activity, side.side(), 0).max(need);
+            if !self.trail.has(side.opposite()) {
                 least = earlier(
                     least,
                     Candidate {
-                        literal,
+                        side,
                         need: 0,
                         value,
                     },
                 );
             }
         }
-        match least {
-            Some(Candidate { literal, .. }) => Some(Candidate {
-                literal,
-                need,
-                value: self.assignment.value(clause.target),
-            }),
-            None => None,
-        }
+        let side = least?.side;
+        let value = target;
+        Some(Candidate { side, need, value })
     }
 
-    // By how much the values break the edge of a side, in picoseconds. The values meet the edge if this is at most 0.
-    fn excess(&self, literal: NumberedLiteral) -> i64 {
-        let Some(SideEdge { target, way }) = self.table.edge_of(literal.side) else {
-            return 0;
-        };
-        let given = self.assignment.value(way.from).saturating_add(way.weight);
-        self.assignment.value(target).saturating_sub(given)
+    // By how much the bounds of the times break the side of a way, in picoseconds.
+    fn excess(&self, target: i64, way: BoundWay) -> i64 {
+        self.trail
+            .value(way.from.other())
+            .saturating_sub(target.saturating_add(way.weight))
     }
 }
+
+// How many clauses may be learnt before half of them go.
+const MOST_LEARNT: usize = 3_000;
 
 // The candidate of greater need. Of equal needs the lesser value goes first, and of equal values the first candidate.
 fn earlier(first: Option<Candidate>, other: Candidate) -> Option<Candidate> {

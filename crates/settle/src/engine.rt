@@ -1,20 +1,23 @@
 //! The search of one view, step by step.
 
-ghost use Rattle.std.specs.Prelude.{All};
-ghost use Rattle.event_graph.specs.Network.{IsNet};
-ghost use Rattle.clauses.specs.Checking.{IsNearClause};
-
-use crate::assignment::Assignment;
-use crate::clause_table::{ClauseTable, StoredClause};
+use crate::building::Tables;
 use crate::fall_counts::FallCounts;
-use crate::line::StoredLine;
+use crate::literal::{Literal, NodeBound, beyond};
 use crate::meter::Meter;
+use crate::needs::Needs;
+use crate::node::Node;
+use crate::pace::Pace;
+use crate::places::at;
 use crate::rounds::WalksBack;
 use crate::sweep::Sweep;
-use clauses::{Basis, Clause};
+use crate::trail::{Reason, Trail};
+use edge_clauses::{EventBound, StoredLine};
 use event_graph::Network;
 use itv_base::{EventId, NoMemory};
 use std::alloc::Global;
+
+// How many turns are allowed with each block. A search that comes to few conflicts gives the turn to the other one all the same.
+const BLOCK_TURNS: u64 = 200_000;
 
 /// The outcome of a step.
 #[derive(Drop)]
@@ -23,7 +26,7 @@ pub enum Proposal {
     Nothing,
     /// A line for the checker.
     Line(StoredLine),
-    /// The values are times that satisfy.
+    /// The bounds of the times are times that satisfy.
     Times,
     /// The lines that were proposed are a proof.
     Over,
@@ -31,44 +34,61 @@ pub enum Proposal {
     Rests,
 }
 
-/// An event that has fallen to a value, in picoseconds, and so ends a block or the search.
+/// What can't be.
 #[derive(Clone, Copy)]
-pub struct Need {
-    pub event: EventId,
-    pub value: i64,
+pub enum Conflict {
+    /// The bound has fallen below what the other bound of its event allows.
+    Bound(Node),
+    /// No literal of the clause at this place can hold.
+    Clause(usize),
 }
 
-/// A search for a proof in one view of a network. Nothing relies on what it proposes: a checker takes or refuses each
-/// line.
+/// A rule or a clause of a kept loop, by place.
+#[derive(Clone, Copy)]
+pub enum KeptLoop {
+    Rule(usize),
+    Clause(usize),
+}
+
+/// A search for a proof in one view of a network. Nothing relies on what it proposes: a checker takes or refuses each line.
 #[derive(Drop)]
 pub struct Engine {
     pub alloc: Global,
-    pub table: ClauseTable,
-    pub assignment: Assignment,
+    pub tables: Tables,
+    pub trail: Trail,
+    pub needs: Needs,
     pub sweep: Sweep,
     pub from: EventId,
     pub to: EventId,
+    /// One below minus the cap: the least value of a bound, in picoseconds.
     pub least: i64,
-    /// How often each event has fallen since the latest choice or going back, or since the latest walk back from it.
+    /// What the goal says of the to-event.
+    pub goal: NodeBound,
     pub falls: FallCounts,
     pub walks: WalksBack,
     /// The place of the next entry of the trail whose literal has not been looked at.
     pub heard: usize,
-    /// The next link to examine.
-    pub link: Option<usize>,
-    /// An event below minus the cap.
-    pub low: Option<EventId>,
-    /// An event from which a walk back is to be tried.
-    pub walk: Option<EventId>,
-    /// How many of the checker's kept clauses the search has stored.
-    pub adopted: u32,
+    /// The loops that were kept since the search was at level 0, and how many of them were looked at since it went back.
+    pub fresh: Vec<KeptLoop>,
+    pub refreshed: usize,
+    /// A bound from which a walk back is to be tried.
+    pub walk: Option<Node>,
+    pub conflict: Option<Conflict>,
+    /// How many entries of level 0 have been told to the checker.
+    pub told: usize,
+    /// How many clauses the checker has kept, once it has taken the lines that wait.
+    pub kept: u32,
     /// Lines to be proposed, the last one first.
     pub outbox: Vec<StoredLine>,
     /// How much each side was needed lately, and by how much the next need counts.
     pub activity: Vec<u64>,
     pub gain: u64,
-    /// How many more blocks are allowed.
+    pub pace: Pace,
+    /// How many more blocks are allowed, and at how many turns the search rests before it has them.
     pub blocks: u64,
+    pub rest_at: u64,
+    /// Whether the lines end the search once the checker has taken those that wait.
+    pub is_ended: bool,
     pub is_over: bool,
     /// The turns that the search has taken, and what it has kept.
     pub meter: Meter,
@@ -84,41 +104,53 @@ impl Engine {
         cap: i64,
         room: u64,
     ) -> Result<Engine, NoMemory> {
-        let table = ClauseTable::new(alloc, net)?;
-        let events = net.events() as usize;
-        let sides = table.sides();
-        let assignment = Assignment::new(alloc, events, sides, from, cap)?;
-        Ok(Engine {
+        let tables = Tables::new(alloc, net)?;
+        let nodes = net.events().saturating_mul(2);
+        let bounds = nodes as usize;
+        let sides = tables.sides.len();
+        let literals = sides.saturating_mul(2);
+        let trail = Trail::new(alloc, bounds, literals, Node::most(from), cap)?;
+        let mut engine = Engine {
             alloc,
-            table,
-            assignment,
-            sweep: Sweep::new(alloc, net.events())?,
+            tables,
+            trail,
+            needs: Needs::new(alloc, bounds)?,
+            sweep: Sweep::new(alloc, nodes)?,
             from,
             to,
-            least: cap.saturating_mul(-1).saturating_sub(1),
-            falls: FallCounts::new(alloc, events)?,
-            walks: WalksBack::new(alloc, events)?,
+            least: beyond(cap),
+            goal: NodeBound {
+                node: Node::least(to),
+                value: cap,
+            },
+            falls: FallCounts::new(alloc, bounds)?,
+            walks: WalksBack::new(alloc, bounds, literals)?,
             heard: 0,
-            link: None,
-            low: None,
+            fresh: Vec::new(alloc),
+            refreshed: 0,
             walk: None,
-            adopted: 0,
+            conflict: None,
+            told: 0,
+            kept: 0,
             outbox: Vec::new(alloc),
             activity: vec![in alloc; 0; sides]?,
             gain: 1024,
+            pace: Pace::new(),
             blocks: 0,
+            rest_at: 0,
+            is_ended: false,
             is_over: false,
             meter: Meter::new(room),
-        })
+        };
+        engine.begin()?;
+        Ok(engine)
     }
 
-    /// Allows this many blocks from now on. If no lines wait to be proposed, the search also takes back all its
-    /// choices.
+    /// Allows this many blocks from now on, and the turns for them.
     pub fn allow(&mut self, blocks: u64) {
         self.blocks = blocks;
-        if 0 < self.assignment.level() && self.outbox.is_empty() {
-            self.go_back(0);
-        }
+        let turns = blocks.saturating_mul(BLOCK_TURNS);
+        self.rest_at = self.meter.turns().saturating_add(turns);
     }
 
     /// Gives up: the search proposes the lines that wait, and then nothing more.
@@ -131,19 +163,19 @@ impl Engine {
         self.is_over && self.outbox.is_empty()
     }
 
-    /// A step of the search. `kept` are the clauses that the checker keeps; `claim` is the checker's claim in
-    /// picoseconds. If its room is full, the search gives up.
-    pub fn step(
-        &mut self,
-        net: &Network,
-        kept: &Vec<Clause>,
-        claim: i64,
-    ) -> Result<Proposal, NoMemory>
-        requires net { IsNet net.now }
-        requires kept { All IsNearClause kept.now.items }
-    {
+    /// The bounds of the times, in picoseconds.
+    pub fn times(&self) -> Result<Vec<i64>, NoMemory> {
+        let mut times = Vec::new(self.alloc);
+        for event in 0..self.trail.bounds() / 2 {
+            times.push(self.trail.value_at(event.saturating_mul(2)))?;
+        }
+        Ok(times)
+    }
+
+    /// A step of the search. `claim` is the checker's claim in picoseconds. If its room is full, the search gives up.
+    pub fn step(&mut self, claim: i64) -> Result<Proposal, NoMemory> {
         self.meter.take(1);
-        if self.meter.is_full(self.assignment.len()) {
+        if self.meter.is_full(self.trail.len()) {
             self.stop();
         }
         if let Some(line) = self.outbox.pop() {
@@ -153,110 +185,126 @@ impl Engine {
         if self.is_over {
             return Ok(Proposal::Rests);
         }
-        if (self.adopted as usize) < kept.len() {
-            self.adopt(net, kept)?;
+        if self.told < self.trail.end_of(0) {
+            self.tell()?;
             return Ok(Proposal::Nothing);
         }
-        if let Some(need) = self.end(claim) {
-            return self.end_with(need);
+        if self.is_ended {
+            self.is_over = true;
+            return Ok(Proposal::Over);
         }
-        if let Some(event) = self.walk {
-            self.walk = None;
-            self.go_round(event)?;
+        self.goal.value = beyond(claim);
+        self.take_goal()?;
+        if let Some(conflict) = self.conflict {
+            self.conflict = None;
+            self.end_with(conflict)?;
             return Ok(Proposal::Nothing);
         }
         self.look_on()
     }
 
-    // Stores the next clause that the checker keeps, and examines it. Each of its literals and ways is a turn.
-    fn adopt(&mut self, net: &Network, kept: &Vec<Clause>) -> Result<(), NoMemory>
-        requires net { IsNet net.now }
-        requires kept { All IsNearClause kept.now.items }
-    {
-        let clause = self.table.len();
-        self.table
-            .push_clause(net, kept, Basis::ByKept(self.adopted))?;
-        self.adopted = self.adopted.saturating_add(1);
-        let stored = self.table.clause(clause);
-        let items = stored.written.saturating_add(stored.ways.count);
-        self.meter.take(items);
-        self.meter.keep(items.saturating_add(1));
-        self.examine(clause)
+    // Proposes the line of the next entry of level 0.
+    fn tell(&mut self) -> Result<(), NoMemory> {
+        let entry = self.trail.entry(self.told);
+        self.told = self.told.saturating_add(1);
+        self.put_line(entry.literal, entry.literal, entry.reason)
     }
 
-    // The event that has fallen far enough for an end, if there is one.
-    fn end(&self, claim: i64) -> Option<Need> {
-        if self.assignment.value(self.from) < 0 {
-            return Some(Need {
-                event: self.from,
-                value: -1,
-            });
+    /// Lowers a bound of the to-event as the goal says: that event comes later after the from-event than the claim.
+    pub fn take_goal(&mut self) -> Result<(), NoMemory> {
+        if self.goal.value < self.trail.value(self.goal.node) {
+            return self.lower(self.goal, Reason::Goal);
         }
-        if self.assignment.value(self.to) <= claim {
-            return Some(Need {
-                event: self.to,
-                value: claim,
-            });
-        }
-        match self.low {
-            Some(event) => Some(Need {
-                event,
-                value: self.least,
-            }),
-            None => None,
-        }
+        Ok(())
     }
 
     // Ends the block of the choices, or the search if nothing was chosen.
-    fn end_with(&mut self, need: Need) -> Result<Proposal, NoMemory> {
-        if self.assignment.level() == 0 {
-            self.is_over = true;
-            return Ok(Proposal::Over);
+    fn end_with(&mut self, conflict: Conflict) -> Result<(), NoMemory> {
+        if 0 < self.trail.level() {
+            self.blocks = self.blocks.saturating_sub(1);
+            return self.refute(conflict);
         }
-        self.blocks = self.blocks.saturating_sub(1);
-        self.refute(need)?;
-        Ok(Proposal::Nothing)
+        if let Conflict::Clause(clause) = conflict {
+            self.put_end(clause)?;
+        }
+        self.is_ended = true;
+        Ok(())
     }
 
-    // Examines the next clause of a chain, or finds the next chain, or chooses.
+    /// Proposes the line that ends a frame in which no literal of a clause can hold: the from-event falls below 0.
+    pub fn put_end(&mut self, clause: usize) -> Result<(), NoMemory> {
+        let basis = self.tables.clauses.clause(clause).basis;
+        self.outbox.push(StoredLine::Fall(EventBound {
+            event: self.from,
+            value: -1,
+            basis,
+        }))?;
+        Ok(())
+    }
+
+    // Looks at the next entry, loop, walk or bound, or chooses.
     fn look_on(&mut self) -> Result<Proposal, NoMemory> {
-        if let Some(place) = self.link {
-            let link = self.table.link(place);
-            self.link = link.next;
-            self.examine(link.clause)?;
+        if self.heard < self.trail.len() {
+            let literal = self.trail.entry(self.heard).literal;
+            self.heard = self.heard.saturating_add(1);
+            self.hear(literal)?;
             return Ok(Proposal::Nothing);
         }
-        if self.heard < self.assignment.len() {
-            self.hear();
+        if self.refreshed < self.fresh.len() {
+            self.refresh()?;
+            return Ok(Proposal::Nothing);
+        }
+        if let Some(node) = self.walk {
+            self.walk = None;
+            self.go_round(node)?;
             return Ok(Proposal::Nothing);
         }
         let next = self.sweep.next();
         self.meter.look(self.sweep.looks());
         match next {
-            Some(event) => {
-                self.link = self.table.of_event(event);
+            Some(node) => {
+                self.look_from(node)?;
                 Ok(Proposal::Nothing)
             }
             None => self.choose(),
         }
     }
 
-    /// How many things the checker looks at, where it takes a fall or a literal by a clause: it looks for each literal
-    /// among those that hold. Eight comparisons count as one thing.
-    pub fn line_looks(&self, clause: StoredClause) -> usize {
-        let compared = clause.written.saturating_mul(self.assignment.held());
-        clause
-            .written
-            .saturating_add(clause.ways.count)
-            .saturating_add(compared / 8)
+    // Looks at the next fresh loop. At level 0 none is fresh once all were looked at.
+    fn refresh(&mut self) -> Result<(), NoMemory> {
+        let next = at(&self.fresh, self.refreshed, KeptLoop::Rule(0));
+        self.refreshed = self.refreshed.saturating_add(1);
+        if self.trail.level() == 0 && self.refreshed == self.fresh.len() {
+            self.fresh.clear();
+            self.refreshed = 0;
+        }
+        match next {
+            KeptLoop::Rule(rule) => self.examine(rule),
+            KeptLoop::Clause(clause) => self.look_at_whole(clause),
+        }
+    }
+
+    /// Goes back to a level. Nothing waits then: nothing waited when that level ended. But fresh loops are to be looked at again.
+    pub fn go_back(&mut self, level: usize) {
+        let entries = self.trail.go_back(level);
+        self.meter.look(entries);
+        self.sweep.clear();
+        self.falls.reset();
+        self.refreshed = 0;
+        self.walk = None;
+        self.conflict = None;
+        self.heard = self.trail.len();
     }
 }
 
-// The items of a line: the line itself, and its steps or literals.
+// The items of a line: the line itself, and its steps or edges.
 fn items_of(line: &StoredLine) -> usize {
     match line {
-        StoredLine::Loop(_, steps) => steps.len().saturating_add(1),
-        StoredLine::Assume(literals) => literals.len().saturating_add(1),
+        StoredLine::Loop(_, steps, kept) => steps
+            .len()
+            .saturating_add(kept.len())
+            .saturating_add(1),
+        StoredLine::Assume(edges) => edges.len().saturating_add(1),
         _ => 1,
     }
 }

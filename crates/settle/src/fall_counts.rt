@@ -1,19 +1,27 @@
-//! How often events have fallen lately.
+//! How often bounds have fallen lately.
 
+use crate::node::Node;
 use crate::places::{at, put};
-use itv_base::{EventId, NoMemory};
+use itv_base::NoMemory;
 use std::alloc::Global;
 
-// How often an event has fallen in an epoch. In later epochs it has not fallen yet.
+// How often a bound has fallen in an epoch, at which count a walk back is due, and whether it rests. In later epochs it has not fallen yet.
 #[derive(Clone, Copy)]
 struct FallCount {
     epoch: u64,
     count: u32,
+    due: u32,
+    rests: bool,
 }
 
-const NO_FALL: FallCount = FallCount { epoch: 0, count: 0 };
+const NO_FALL: FallCount = FallCount {
+    epoch: 0,
+    count: 0,
+    due: 3,
+    rests: false,
+};
 
-/// How often each event has fallen since all counts were reset, or since its own count was full.
+/// How often each bound has fallen since all counts were reset.
 #[derive(Drop)]
 pub struct FallCounts {
     counts: Vec<FallCount>,
@@ -21,10 +29,10 @@ pub struct FallCounts {
 }
 
 impl FallCounts {
-    /// Counts for this many events. None has fallen yet.
-    pub fn new(alloc: Global, events: usize) -> Result<FallCounts, NoMemory> {
+    /// Counts for this many bounds. None has fallen yet.
+    pub fn new(alloc: Global, bounds: usize) -> Result<FallCounts, NoMemory> {
         Ok(FallCounts {
-            counts: vec![in alloc; NO_FALL; events]?,
+            counts: vec![in alloc; NO_FALL; bounds]?,
             epoch: 0,
         })
     }
@@ -34,29 +42,46 @@ impl FallCounts {
         self.epoch = self.epoch.saturating_add(1);
     }
 
-    /// Counts a fall of an event, and says whether it is the third. Then its count is reset.
-    pub fn is_third(&mut self, event: EventId) -> bool {
-        let place = event.0 as usize;
-        let last = at(&self.counts, place, NO_FALL);
-        let before = if last.epoch == self.epoch {
-            last.count
-        } else {
-            0
-        };
-        let is_third = 2 <= before;
-        let count = if is_third {
-            0
-        } else {
-            before.saturating_add(1)
-        };
-        put(
-            &mut self.counts,
-            place,
-            FallCount {
-                epoch: self.epoch,
-                count,
-            },
-        );
-        is_third
+    // The count of a bound in this epoch.
+    fn of(&self, node: Node) -> FallCount {
+        let fall = at(&self.counts, node.place(), NO_FALL);
+        if fall.epoch == self.epoch {
+            return fall;
+        }
+        FallCount {
+            epoch: self.epoch,
+            count: NO_FALL.count,
+            due: NO_FALL.due,
+            rests: false,
+        }
+    }
+
+    /// Lets a bound rest until all counts are reset.
+    pub fn let_rest(&mut self, node: Node) {
+        let mut fall = self.of(node);
+        fall.rests = true;
+        put(&mut self.counts, node.place(), fall);
+    }
+
+    /// Whether a bound rests.
+    pub fn rests(&self, node: Node) -> bool {
+        self.of(node).rests
+    }
+
+    /// Whether a bound has fallen twice or more.
+    pub fn has_fallen_again(&self, node: Node) -> bool {
+        2 <= self.of(node).count
+    }
+
+    /// Counts a fall of a bound, and says whether it is the third, the sixth, the twelfth, and so on.
+    pub fn is_due(&mut self, node: Node) -> bool {
+        let mut fall = self.of(node);
+        fall.count = fall.count.saturating_add(1);
+        let is_due = fall.count == fall.due;
+        if is_due {
+            fall.due = fall.due.saturating_mul(2);
+        }
+        put(&mut self.counts, node.place(), fall);
+        is_due
     }
 }

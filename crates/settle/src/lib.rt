@@ -1,20 +1,22 @@
-//! Greatest separations of any network, with choices of both kinds. Values fall, sides are chosen, and clauses are
-//! kept. Two searches take turns: one in the network, one in its negation. Neither search is proved to be right; a
-//! checker takes or refuses each of their lines as it is made. The contract of the crate: [`Settler::greatest`] gives
-//! the greatest separation of a pair with times that attain it and a proof by clauses, or times and a ray that show
-//! that it is unbounded, or a proof that no times satisfy, or it says that the turns were spent.
+//! Greatest separations of any network, with choices of both kinds. A search bounds each event from both sides, chooses sides, and learns a clause over
+//! bounds and sides from each conflict. Two searches take turns: one in the network, one in its negation. Neither is proved to be right; a checker takes or
+//! refuses each of their lines as it is made. The contract of the crate: [`Settler::greatest`] gives the greatest separation of a pair with times that attain
+//! it and a proof by clauses, or times and a ray that show that it is unbounded, or a proof that no times satisfy, or it says that the turns were spent.
 #![tactic(auto)]
 
-mod assignment;
+mod arcs;
 mod best;
+mod bound_rules;
+mod building;
 mod choosing;
-mod clause_table;
+mod clause_store;
 mod engine;
-mod examining;
 mod fall_counts;
-mod line;
+mod literal;
 mod meter;
-mod numbered_literal;
+mod needs;
+mod node;
+mod pace;
 mod places;
 mod prover;
 mod race;
@@ -22,10 +24,11 @@ mod refuting;
 mod rounds;
 mod settler;
 mod shown_answer;
+mod side_table;
+mod spreading;
 mod sweep;
-mod taking;
+mod trail;
 
-pub use line::StoredLine;
+pub use edge_clauses::StoredLine;
 pub use settler::Settler;
 pub use shown_answer::{Settled, ShownAnswer};
-pub use taking::take_line;

@@ -1,12 +1,12 @@
 //! The turns that a search takes, and what it keeps.
 
 // How many things a turn looks at.
-const LOOKS: u64 = 32;
+const LOOKS: u64 = 4;
 
 /// The turns that a search has taken, and the items that it has kept, with the room for them.
 ///
-/// Each step of the search is a turn, and so are each 32 things that it looks at: literals, ways, entries of the trail,
-/// sides of choices, words of 64 flags. An item is a line of the proof, a step or a literal of a line, or a clause, a
+/// Each step of the search is a turn, and so are each 4 things that it looks at: literals, ways, entries of the trail,
+/// sides of choices, words of 64 flags. A fall of a bound is several. An item is a line of the proof, a step or a literal of a line, or a clause, a
 /// literal or a way that is kept. The room is for the items and for the entries of the trail.
 #[derive(Drop)]
 pub struct Meter {

@@ -2,15 +2,12 @@
 
 ghost use Rattle.std.specs.Prelude.{◌≡◌, ◌<◌, ◌≤◌, ◌+◌, ◌≤ℤ◌, [], IfOk, OnOk, length};
 ghost use Rattle.falling.specs.DerivationEnds.{AreLimits};
-ghost use Rattle.clauses.specs.Laws.{claiming};
-ghost use Rattle.clauses.specs.Lines.{IsOver};
+ghost use Rattle.edge_clauses.specs.Lines.{IsOver, claiming};
 ghost use Rattle.settle.specs.declared.prover.SearchState.TheVariants.{Over};
-ghost use Rattle.settle.specs.Proofs.{IsProving};
+ghost use Rattle.edge_clauses.specs.Proofs.{IsProving};
 
 use crate::engine::{Engine, Proposal};
-use crate::line::StoredLine;
-use crate::taking::take_line;
-use clauses::{Claim, ClauseChecker};
+use edge_clauses::{Claim, ClauseChecker, StoredLine};
 use event_graph::Network;
 use falling::Limits;
 use itv_base::{EventId, NoMemory};
@@ -39,7 +36,7 @@ pub struct Prover {
 }
 
 impl Model for Prover {
-    ghost use Rattle.settle.specs.Proofs.{Proving};
+    ghost use Rattle.edge_clauses.specs.Proofs.{Proving};
 
     ghost Value = { Proving };
 
@@ -62,7 +59,7 @@ impl Prover {
         ensures goal { IfOk result (λ prover. prover.check.goal ≡ record { from = from; to = to; claim = claim.value }) }
         ensures empty { IfOk result (λ prover. prover.lines ≡ []) }
     {
-        let checker = ClauseChecker::new(alloc, net, from, to, claim)?;
+        let checker = ClauseChecker::start(alloc, net, from, to, claim)?;
         let cap = checker.limits().cap;
         Ok(Prover {
             checker,
@@ -77,15 +74,15 @@ impl Prover {
         ensures proving { OnOk result (IsProving net.now self.new) }
         ensures goal { OnOk result (self.new.check.goal ≡ self.old.check.goal) }
         ensures more { OnOk result (length self.new.lines ≤ length self.old.lines + 1) }
-        ensures over { IfOk result (λ next. next ≡ Over → IsOver net.now self.new.check.goal self.new.check.state) }
+        ensures over { IfOk result (λ next. next ≡ Over → IsOver self.new.check.goal self.new.check.state) }
     {
         let claim = self.checker.claim();
         let _events = net.events();
-        match self.engine.step(net, self.checker.kept(), claim.value)? {
+        match self.engine.step(claim.value)? {
             Proposal::Nothing => Ok(SearchState::GoesOn),
             Proposal::Line(line) => self.heed(alloc, net, line),
             Proposal::Times => Ok(SearchState::Times),
-            Proposal::Over => Ok(self.over_or_stopped(net)),
+            Proposal::Over => Ok(self.over_or_stopped()),
             Proposal::Rests => Ok(SearchState::Rests),
         }
     }
@@ -103,7 +100,7 @@ impl Prover {
         ensures more { OnOk result (length self.new.lines ≤ length self.old.lines + 1) }
         ensures goes_on { IfOk result (λ next. next ≡ Over → ⊥) }
     {
-        if take_line(alloc, net, &mut self.checker, &line)? {
+        if self.checker.take(alloc, net, &line)? {
             self.lines.push(line)?;
         } else {
             self.engine.stop();
@@ -112,19 +109,18 @@ impl Prover {
     }
 
     // `Over` if the lines are a proof, as the search says. Otherwise the search gives up.
-    fn over_or_stopped(&mut self, net: &Network) -> SearchState
-        requires proving { IsProving net.now self.old }
+    fn over_or_stopped(&mut self) -> SearchState
         ensures same { self.new ≡ self.old }
-        ensures over { result ≡ Over → IsOver net.now self.new.check.goal self.new.check.state }
+        ensures over { result ≡ Over → IsOver self.new.check.goal self.new.check.state }
     {
-        if self.checker.is_over(net) {
+        if self.checker.is_over() {
             return SearchState::Over;
         }
         self.engine.stop();
         SearchState::Rests
     }
 
-    /// Allows the search this many blocks from now on.
+    /// Allows the search this many blocks from now on, and the turns for them.
     pub fn allow(&mut self, blocks: u64)
         ensures same { self.new ≡ self.old }
     {
@@ -157,7 +153,6 @@ impl Prover {
         ensures lines { self.new.lines ≡ self.old.lines }
     {
         self.checker.raise(claim);
-        let _events = net.events();
     }
 
     /// The limits of the network.
@@ -169,9 +164,9 @@ impl Prover {
         self.checker.limits()
     }
 
-    /// The values of the search. The search has said that they are times.
-    pub fn values(&self) -> &Vec<i64> {
-        self.engine.assignment.values()
+    /// The times that the search has found, in picoseconds and one per event. The search has said that they are there.
+    pub fn times(&self) -> Result<Vec<i64>, NoMemory> {
+        self.engine.times()
     }
 
     /// The lines that the checker has taken.

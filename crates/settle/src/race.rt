@@ -10,7 +10,7 @@ ghost use Rattle.settle.specs.Step.Racing.{IsEnding, IsOverAs, IsRacing, IsRayEn
 
 use crate::best::{Best, more_by, times_of};
 use crate::prover::{Prover, SearchState};
-use clauses::Claim;
+use edge_clauses::Claim;
 use event_graph::Network;
 use falling::{Limits, View, gap_level};
 use itv_base::{EventId, NoMemory};
@@ -122,7 +122,7 @@ impl Race {
         requires racing { IsRacing net.now self.old }
         requires negation { negation.now ≡ negated net.now }
         ensures racing { OnOk result (IsRacing net.now self.new) }
-        ensures over { IfOk result (λ next. next ≡ Over → IsOverAs self.new.view net.now self.new) }
+        ensures over { IfOk result (λ next. next ≡ Over → IsOverAs self.new.view self.new) }
         ensures lines { OnOk result (line_count self.new ≤ line_count self.old + 1) }
         ensures from { self.new.from ≡ self.old.from }
         ensures to { self.new.to ≡ self.old.to }
@@ -137,7 +137,7 @@ impl Race {
     // if the claim is not below the far line.
     fn decide(&self) -> Option<RaceEnd>
         ensures ending { IfSome result (λ ending. (net : Net) → IsRacing net self.now
-            → IsOverAs self.now.view net self.now → IsEnding net self.now ending) }
+            → IsOverAs self.now.view self.now → IsEnding net self.now ending) }
     {
         if self.best.times.is_none() {
             return Some(RaceEnd::Inconsistent(self.view));
@@ -201,11 +201,14 @@ impl Race {
         Ok(ending)
     }
 
-    // The times that the values of the current search stand for.
+    // The times that the current search has found. Those of the search in the negation are times of the network negated.
     fn times_found(&self, alloc: Global) -> Result<Vec<i64>, NoMemory> {
         match self.view {
-            View::Plain => times_of(alloc, View::Plain, self.plain.values()),
-            View::Negated => times_of(alloc, View::Negated, self.turned.values()),
+            View::Plain => self.plain.times(),
+            View::Negated => {
+                let values = self.turned.times()?;
+                times_of(alloc, &values)
+            }
         }
     }
 
@@ -237,9 +240,9 @@ fn is_far(claim: Claim, limits: Limits) -> bool
     limits.far <= claim.value
 }
 
-// One and a half times as many blocks, but at least 4.
+// One and a half times as many blocks, but at least 8.
 fn more_blocks(blocks: u64) -> u64 {
-    blocks.saturating_add(blocks / 2).max(4)
+    blocks.saturating_add(blocks / 2).max(8)
 }
 
 // The ending, if a separation is at least the far line and the events beyond a gap among the times are a ray.

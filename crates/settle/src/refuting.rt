@@ -1,89 +1,265 @@
-//! Which choices an end needs.
+//! Which choices a conflict needs.
 
-use crate::assignment::{Assignment, TrailChange, TrailEntry};
-use crate::clause_table::StoredClause;
-use crate::engine::{Engine, Need};
-use crate::line::StoredLine;
+use crate::arcs::Ground;
+use crate::building::Tables;
+use crate::engine::{Conflict, Engine};
+use crate::literal::{Literal, NodeBound, SideLiteral, beyond};
+use crate::node::Node;
 use crate::places::{at, put};
-use clauses::{EventFall, Literal};
+use crate::trail::{Reason, TrailEntry};
+use edge_clauses::{Basis, EventBound, StoredLine};
+use event_graph::Edge;
 use itv_base::{EventId, NoMemory};
 
-// What an end needs of the entries. `first` is the place of the first entry that is not of level 0.
+// A clause as it is learnt. `edges` are assumed in the block, and `literals` are their opposites. The first is of the latest level.
 #[derive(Drop)]
-struct Needs {
-    first: usize,
-    /// The value at which each entry is needed, in picoseconds. The list begins with the entry at `first`.
-    values: Vec<Option<i64>>,
-    /// The latest level, and how many of its entries are needed and still to be gone through.
+struct Learnt {
+    literals: Vec<Literal>,
+    edges: Vec<Edge>,
+    /// How many levels the literals are of, the latest one of them so far, and the one before the latest of all.
+    levels: usize,
     level: usize,
-    open: usize,
-    /// The literals that the block assumes, and the latest level among them that is before the latest level of all.
-    used: Vec<Literal>,
     back: usize,
-    /// How many things were looked at.
-    looks: usize,
 }
 
 impl Engine {
-    /// Writes the block that shows an end, from its last line to its first. Then goes back to the level at which the
-    /// latest of its literals can be refuted. The block assumes one literal of the latest level: the latest literal
-    /// from which all that is needed of that level follows.
-    pub fn refute(&mut self, need: Need) -> Result<(), NoMemory> {
-        let first = self.assignment.root_end();
-        let count = self.assignment.len().saturating_sub(first);
-        let mut needs = Needs {
-            first,
-            values: vec![in self.alloc; None; count]?,
-            level: self.assignment.level(),
-            open: 0,
-            used: Vec::new(self.alloc),
-            back: 0,
-            looks: count.saturating_add(self.block_looks()),
-        };
-        self.want(&mut needs, need.event, need.value);
+    /// Writes the block that shows a conflict, from its last line to its first, and learns its clause. Then goes back to the level at which the clause makes a
+    /// literal hold. The block assumes one entry of the latest level: the latest one from which all that is needed of that level follows. A bound is assumed at
+    /// the value at which it is needed.
+    pub fn refute(&mut self, conflict: Conflict) -> Result<(), NoMemory> {
+        self.needs.begin(&self.trail)?;
         self.outbox.push(StoredLine::Close)?;
-        for place in (first..self.assignment.len()).rev() {
-            if let Some(value) = needs.at(place) {
-                self.go_through(&mut needs, place, value)?;
+        self.want_conflict(conflict)?;
+        let level = self.needs.level();
+        if level == 0 {
+            self.outbox.clear();
+            return self.begin_anew(conflict);
+        }
+        let mut learnt = Learnt {
+            literals: Vec::new(self.alloc),
+            edges: Vec::new(self.alloc),
+            levels: 0,
+            level: 0,
+            back: 0,
+        };
+        for place in (0..self.trail.end_of(level)).rev() {
+            if self.needs.is_done() {
+                break;
+            }
+            let entry = self.trail.entry(place);
+            if let Some(value) = self.needs.take(place, entry) {
+                self.go_through(&mut learnt, entry, value)?;
             }
         }
-        self.gain = self.gain.saturating_add(self.gain / 8);
-        if 1 << 50 < self.gain {
-            self.halve();
+        self.meter.look(self.needs.looks());
+        self.learn(learnt)
+    }
+
+    // Goes back to level 0, where the same conflict comes again: it needs no choice.
+    fn begin_anew(&mut self, conflict: Conflict) -> Result<(), NoMemory> {
+        let clause = match conflict {
+            Conflict::Clause(clause) => Some(clause),
+            Conflict::Bound(node) => self.clause_of(node),
+        };
+        self.go_back(0);
+        self.take_goal()?;
+        self.sweep.add_all();
+        match clause {
+            Some(clause) => self.look_at_whole(clause),
+            None => Ok(()),
         }
-        let level = needs.back;
-        self.meter.look(needs.looks);
-        self.outbox.push(StoredLine::Assume(needs.used))?;
-        self.go_back(level);
+    }
+
+    // The clause that gave a bound its value, if one did.
+    fn clause_of(&self, node: Node) -> Option<usize> {
+        match self.trail.entry(self.trail.last_of(node)?).reason {
+            Reason::Clause(clause) => Some(clause),
+            _ => None,
+        }
+    }
+
+    // Needs what made a conflict, and writes the last line. The end itself is not needed: the clause that it can't hold would say nothing.
+    fn want_conflict(&mut self, conflict: Conflict) -> Result<(), NoMemory> {
+        match conflict {
+            Conflict::Clause(clause) => {
+                self.put_end(clause)?;
+                self.want_clause(clause, None);
+                Ok(())
+            }
+            Conflict::Bound(node) => self.want_bounds(node),
+        }
+    }
+
+    // Needs what made both bounds of an event exclude each other. The bound has fallen latest.
+    fn want_bounds(&mut self, node: Node) -> Result<(), NoMemory> {
+        let Some(place) = self.trail.last_of(node) else {
+            return Ok(());
+        };
+        let reason = self.trail.entry(place).reason;
+        let other = NodeBound {
+            node: node.other(),
+            value: self.trail.value(node.other()),
+        };
+        if let Reason::Goal = reason {
+            let value = beyond(self.trail.value(node));
+            let node = other.node;
+            self.needs
+                .want_bound(&self.trail, self.goal, NodeBound { node, value });
+            return Ok(());
+        }
+        let bound = Literal::Bound(other.opposite());
+        self.put_line(bound, bound, reason)?;
+        self.want_reason(bound, reason);
+        self.needs.want_bound(&self.trail, self.goal, other);
         Ok(())
     }
 
-    // How many things the checker looks at, where it opens and closes a block: it copies the values and the literals that
-    // hold, and looks through the values once more. Eight values or literals count as one thing.
-    fn block_looks(&self) -> usize {
-        let values = self.assignment.values().len();
-        values.saturating_add(self.assignment.held()) / 4
+    // Assumes a needed entry, or needs what made it and writes its line.
+    fn go_through(
+        &mut self,
+        learnt: &mut Learnt,
+        entry: TrailEntry,
+        value: i64,
+    ) -> Result<(), NoMemory> {
+        let needed = match entry.literal {
+            Literal::Bound(bound) => Literal::Bound(NodeBound {
+                node: bound.node,
+                value,
+            }),
+            Literal::Side(side) => {
+                self.count_need(side.side());
+                entry.literal
+            }
+        };
+        if entry.level < self.needs.level() || self.needs.is_last() {
+            return self.assume(learnt, entry.level, needed);
+        }
+        self.put_line(needed, entry.literal, entry.reason)?;
+        self.want_reason(needed, entry.reason);
+        Ok(())
     }
 
-    // Assumes the literal of a needed entry, or wants what made the entry and writes its line.
-    fn go_through(&mut self, needs: &mut Needs, place: usize, value: i64) -> Result<(), NoMemory> {
-        let entry = self.assignment.entry(place);
-        needs.pass(entry);
-        if let TrailChange::Held(literal) = entry.change {
-            self.count_need(literal.side);
-        }
-        match entry.change {
-            TrailChange::Held(literal) if needs.ends_at(entry) => {
-                needs.used.push(self.table.named(literal))?;
-                if entry.level < needs.level {
-                    needs.back = needs.back.max(entry.level);
-                }
-                Ok(())
+    // Assumes a literal of a level, unless it is a bound that is assumed already.
+    fn assume(
+        &mut self,
+        learnt: &mut Learnt,
+        level: usize,
+        literal: Literal,
+    ) -> Result<(), NoMemory> {
+        if let Literal::Bound(bound) = literal {
+            if !self.needs.assumes_first(bound.node) {
+                return Ok(());
             }
-            _ => match entry.clause {
-                Some(clause) => self.put_line(needs, entry, clause, value),
-                None => Ok(()),
-            },
+        }
+        learnt
+            .edges
+            .push(edge_of(&self.tables, self.from, literal))?;
+        learnt.literals.push(literal.opposite())?;
+        if level != learnt.level {
+            if learnt.levels == 1 {
+                learnt.back = level;
+            }
+            learnt.level = level;
+            learnt.levels = learnt.levels.saturating_add(1);
+        }
+        Ok(())
+    }
+
+    // Needs what makes a literal hold for a reason.
+    fn want_reason(&mut self, literal: Literal, reason: Reason) {
+        match reason {
+            Reason::Choice | Reason::Goal => {}
+            Reason::Edge(place) => self.want_edge(literal, place),
+            Reason::Bounds(start) => self.want_excluded(literal, start),
+            Reason::Rule(rule) => self.want_rule(literal, rule),
+            Reason::Clause(clause) => self.want_clause(clause, Some(literal)),
+        }
+    }
+
+    // Needs that an edge is met, and the bound from which it leads.
+    fn want_edge(&mut self, literal: Literal, place: usize) {
+        let edge = self.tables.edges.edge(place);
+        if let Literal::Bound(bound) = literal {
+            let from = NodeBound {
+                node: edge.from,
+                value: bound.value.saturating_sub(edge.weight),
+            };
+            self.needs.want_bound(&self.trail, self.goal, from);
+        }
+        if let Ground::Side(side) = edge.ground {
+            self.needs.want_side(&self.trail, side);
+        }
+    }
+
+    // Needs the bounds that exclude the opposite of a literal.
+    fn want_excluded(&mut self, literal: Literal, start: i64) {
+        let Literal::Side(side) = literal else {
+            return;
+        };
+        let edge = self.tables.sides.edge(side.opposite());
+        let from = NodeBound {
+            node: Node::most(edge.from),
+            value: start,
+        };
+        let to = NodeBound {
+            node: Node::least(edge.to),
+            value: beyond(start.saturating_add(edge.weight)),
+        };
+        self.needs.want_bound(&self.trail, self.goal, from);
+        self.needs.want_bound(&self.trail, self.goal, to);
+    }
+
+    // Needs that none of a rule's literals holds, and the bounds from which its ways lead.
+    fn want_rule(&mut self, literal: Literal, place: usize) {
+        let Literal::Bound(bound) = literal else {
+            return;
+        };
+        let rule = self.tables.rules.rule(place);
+        self.needs
+            .look(rule.ways.count.saturating_add(rule.literals.count));
+        for number in 0..rule.ways.count {
+            let way = self.tables.rules.way(rule, number);
+            let from = NodeBound {
+                node: way.from,
+                value: bound.value.saturating_sub(way.weight),
+            };
+            self.want_way(from, way.side);
+        }
+        for number in 0..rule.literals.count {
+            let side = self.tables.rules.literal(rule, number);
+            self.needs.want_side(&self.trail, side.opposite());
+        }
+    }
+
+    // Needs a bound, or that a literal does not hold: what came first.
+    fn want_way(&mut self, bound: NodeBound, side: Option<SideLiteral>) {
+        if let Some(place) = side.and_then(|side| self.trail.place_of(side.opposite())) {
+            if !self.is_before(bound, place) {
+                return self.needs.want_place(&self.trail, place);
+            }
+        }
+        self.needs.want_bound(&self.trail, self.goal, bound);
+    }
+
+    // Whether a bound is at a value by the goal, or by an entry before this place.
+    fn is_before(&self, bound: NodeBound, place: usize) -> bool {
+        if bound.node == self.goal.node && self.goal.value <= bound.value {
+            return true;
+        }
+        match self.trail.first_at(bound) {
+            Some(other) => other < place,
+            None => self.trail.value(bound.node) <= bound.value,
+        }
+    }
+
+    // Needs that no literal of a clause holds but the one that it makes hold.
+    fn want_clause(&mut self, place: usize, held: Option<Literal>) {
+        let clause = self.tables.clauses.clause(place);
+        for number in 0..clause.literals.count {
+            let literal = self.tables.clauses.literal(clause, number);
+            if !is_of(literal, held) {
+                self.needs.want(&self.trail, self.goal, literal.opposite());
+            }
         }
     }
 
@@ -93,8 +269,12 @@ impl Engine {
         put(&mut self.activity, side, count);
     }
 
-    // Makes all counts of needs smaller.
-    fn halve(&mut self) {
+    // Makes later needs count for more. Where the counts are large, all become smaller.
+    fn age(&mut self) {
+        self.gain = self.gain.saturating_add(self.gain / 8);
+        if self.gain <= 1 << 50 {
+            return;
+        }
         for side in 0..self.activity.len() {
             let count = at(&self.activity, side, 0) / 1_099_511_627_776;
             put(&mut self.activity, side, count);
@@ -102,131 +282,106 @@ impl Engine {
         self.gain = (self.gain / 1_099_511_627_776).max(1024);
     }
 
-    // Wants what made an entry, and writes the entry's line.
-    fn put_line(
-        &mut self,
-        needs: &mut Needs,
-        entry: TrailEntry,
-        clause: usize,
-        value: i64,
-    ) -> Result<(), NoMemory> {
-        let clause = self.table.clause(clause);
-        self.want_reason(needs, entry, clause, value);
-        let looks = clause.literals.count.saturating_add(clause.ways.count);
-        needs.looks = needs
-            .looks
-            .saturating_add(looks)
-            .saturating_add(self.line_looks(clause));
-        let basis = clause.basis;
-        match entry.change {
-            TrailChange::Fell(fallen) => {
-                let event = fallen.event;
-                self.outbox.push(StoredLine::Fall(EventFall {
-                    event,
-                    value,
-                    basis,
-                }))?;
-            }
-            TrailChange::Held(literal) => {
-                let named = self.table.named(literal);
-                self.outbox.push(StoredLine::Know(named, basis))?;
+    // Writes the first lines of the block, goes back, and learns its clause.
+    fn learn(&mut self, learnt: Learnt) -> Result<(), NoMemory> {
+        for literal in &learnt.literals {
+            if let Literal::Bound(bound) = literal.opposite() {
+                let edge = edge_of(&self.tables, self.from, literal.opposite());
+                self.outbox.push(line_of(bound, Basis::Either(edge)))?;
             }
         }
+        self.meter.keep(learnt.literals.len().saturating_add(1));
+        let clause = self.tables.clauses.len();
+        let first = at(&learnt.literals, 0, Literal::Bound(self.goal));
+        let basis = Basis::ByKept(self.kept);
+        self.kept = self.kept.saturating_add(1);
+        self.tables
+            .clauses
+            .push(basis, &learnt.literals, learnt.levels)?;
+        let back = learnt.back;
+        self.outbox.push(StoredLine::Assume(learnt.edges))?;
+        self.age();
+        self.pace.count();
+        self.go_back(back);
+        self.imply(clause, first)
+    }
+
+    /// Proposes the line by which a literal holds at the value of another for a reason. There is none for what the goal says.
+    pub fn put_line(
+        &mut self,
+        literal: Literal,
+        held: Literal,
+        reason: Reason,
+    ) -> Result<(), NoMemory> {
+        let Some(basis) = self.basis_of(held, reason) else {
+            return Ok(());
+        };
+        let line = match literal {
+            Literal::Bound(bound) => line_of(bound, basis),
+            Literal::Side(side) => StoredLine::Know(self.tables.sides.edge(side), basis),
+        };
+        self.outbox.push(line)?;
         Ok(())
     }
 
-    // Wants what a clause needs to make an entry.
-    fn want_reason(&self, needs: &mut Needs, entry: TrailEntry, clause: StoredClause, value: i64) {
-        for number in 0..clause.literals.count {
-            let literal = self.table.literal(clause, number);
-            if entry.change != TrailChange::Held(literal) {
-                if let Some(place) = self.assignment.place_of(literal.opposite()) {
-                    needs.lower(&self.assignment, place, 0);
-                }
-            }
+    // The basis of the clause by which a literal holds for a reason.
+    fn basis_of(&self, literal: Literal, reason: Reason) -> Option<Basis> {
+        match reason {
+            Reason::Choice | Reason::Goal => None,
+            Reason::Edge(place) => Some(match self.tables.edges.edge(place).ground {
+                Ground::Always(name) => Basis::ByEdge(name),
+                Ground::Side(side) => Basis::Either(self.tables.sides.edge(side)),
+            }),
+            Reason::Bounds(_) => Some(Basis::Either(edge_of(&self.tables, self.from, literal))),
+            Reason::Rule(rule) => Some(self.tables.rules.rule(rule).basis),
+            Reason::Clause(clause) => Some(self.tables.clauses.clause(clause).basis),
         }
-        for number in 0..clause.ways.count {
-            let way = self.table.way(clause, number);
-            self.want(needs, way.from, value.saturating_sub(way.weight));
-        }
-    }
-
-    // Wants the earliest entry that puts an event at most at a value, if that entry is not of level 0.
-    fn want(&self, needs: &mut Needs, event: EventId, value: i64) {
-        let mut found = None;
-        let mut next = self.assignment.last_of(event);
-        for _ in 0..self.assignment.len() {
-            let Some(place) = next else {
-                break;
-            };
-            needs.looks = needs.looks.saturating_add(1);
-            match self.assignment.entry(place).change {
-                TrailChange::Fell(fallen) if fallen.old <= value => {
-                    found = None;
-                    next = fallen.before;
-                }
-                TrailChange::Fell(fallen) if fallen.new <= value => {
-                    found = Some(place);
-                    next = None;
-                }
-                _ => next = None,
-            }
-        }
-        if let Some(place) = found {
-            needs.lower(&self.assignment, place, value);
-        }
-    }
-
-    /// Goes back to a level. Nothing waits then: nothing waited when that level ended.
-    pub fn go_back(&mut self, level: usize) {
-        let entries = self.assignment.go_back(level);
-        self.meter.look(entries);
-        self.sweep.clear();
-        self.falls.reset();
-        self.link = None;
-        self.low = None;
-        self.walk = None;
-        self.heard = self.assignment.len();
     }
 }
 
-impl Needs {
-    // The value at which an entry is needed, if it is needed.
-    fn at(&self, place: usize) -> Option<i64> {
-        at(&self.values, place.saturating_sub(self.first), None)
-    }
-
-    // Goes through a needed entry.
-    fn pass(&mut self, entry: TrailEntry) {
-        if entry.level == self.level {
-            self.open = self.open.saturating_sub(1);
-        }
-    }
-
-    // Whether the literal of an entry is to be assumed: it was chosen, its level is before the latest, or all that is
-    // needed of the latest level follows from it.
-    fn ends_at(&self, entry: TrailEntry) -> bool {
-        entry.clause.is_none() || entry.level < self.level || self.open == 0
-    }
-
-    // Needs an entry at a value. An entry that is needed already is needed at the lower of both values.
-    fn lower(&mut self, assignment: &Assignment, place: usize, value: i64) {
-        if place < self.first {
-            return;
-        }
-        let least = match self.at(place) {
-            Some(other) => other.min(value),
-            None => {
-                if assignment.entry(place).level == self.level {
-                    self.open = self.open.saturating_add(1);
-                }
-                value
+// The edge that times meet where a literal holds. A bound is an edge from or to the from-event.
+fn edge_of(tables: &Tables, start: EventId, literal: Literal) -> Edge {
+    match literal {
+        Literal::Side(side) => tables.sides.edge(side),
+        Literal::Bound(bound) => {
+            let event = bound.node.event();
+            let (from, to) = if bound.node.is_most() {
+                (start, event)
+            } else {
+                (event, start)
+            };
+            Edge {
+                from,
+                to,
+                weight: bound.value,
             }
-        };
-        put(
-            &mut self.values,
-            place.saturating_sub(self.first),
-            Some(least),
-        );
+        }
+    }
+}
+
+// The line by which a bound falls.
+fn line_of(bound: NodeBound, basis: Basis) -> StoredLine {
+    let event = bound.node.event();
+    let value = bound.value;
+    if bound.node.is_most() {
+        return StoredLine::Fall(EventBound {
+            event,
+            value,
+            basis,
+        });
+    }
+    StoredLine::Rise(EventBound {
+        event,
+        value: 0i64.saturating_sub(value),
+        basis,
+    })
+}
+
+// Whether a literal of a clause is the one that holds by it: the same side's, or a bound of the same number.
+fn is_of(literal: Literal, held: Option<Literal>) -> bool {
+    match (literal, held) {
+        (Literal::Bound(bound), Some(Literal::Bound(other))) => bound.node == other.node,
+        (Literal::Side(side), Some(Literal::Side(other))) => side == other,
+        _ => false,
     }
 }

@@ -1,35 +1,45 @@
-//! Loops among the ways that give events their values.
+//! Loops among the ways that give bounds their values.
 
-use crate::assignment::TrailChange;
-use crate::clause_table::StoredClause;
-use crate::engine::Engine;
-use crate::line::StoredLine;
+use crate::arcs::Ground;
+use crate::bound_rules::{BoundRule, BoundWay};
+use crate::building::short;
+use crate::engine::{Engine, KeptLoop};
+use crate::literal::{Literal, SideLiteral};
+use crate::node::Node;
 use crate::places::{at, put};
-use clauses::{WalkStep, Way};
-use itv_base::{EventId, NoMemory};
+use crate::trail::Reason;
+use edge_clauses::{Basis, StoredLine, WalkStep};
+use event_graph::Edge;
+use itv_base::{EdgeName, EventId, NoMemory};
 use std::alloc::Global;
 
-// The way that gives an event its value: the clause of the event's latest fall, and the number of its greatest way.
+// How a bound came to its value: by an edge that is met, or by the greatest way of a rule.
 #[derive(Clone, Copy)]
-struct Lead {
-    clause: StoredClause,
-    through: u32,
-    way: Way,
+enum Lead {
+    Always(EdgeName),
+    Side(SideLiteral),
+    Rule(BoundRule, usize),
 }
 
-// A walk back round a loop. The literals are counted as the checker keeps them.
+// A step back: the bound from which it leads, its weight in picoseconds, and how.
+#[derive(Clone, Copy)]
+struct StepBack {
+    from: Node,
+    weight: i64,
+    lead: Lead,
+}
+
+// A walk back round a loop from a bound. `ways` and `literals` are what else may be met.
 #[derive(Drop)]
 struct Round {
-    event: EventId,
+    node: Node,
     steps: Vec<WalkStep>,
     sum: i64,
-    literals: usize,
-    out: Vec<Way>,
-    /// How many things the checker looks at, where it takes the loop.
-    looks: usize,
+    ways: Vec<BoundWay>,
+    literals: Vec<SideLiteral>,
 }
 
-// The place of the way out from an event, in the walk with this number.
+// The place of the way out from a bound, in the walk with this number.
 #[derive(Clone, Copy)]
 struct OutMark {
     walk: usize,
@@ -38,37 +48,39 @@ struct OutMark {
 
 const NO_MARK: OutMark = OutMark { walk: 0, place: 0 };
 
-// The most ways out of a loop that is proposed, the most literals of one that is proposed at once, and how many loops
-// with more literals are passed over before twice as many are allowed.
-const MOST_OUT: usize = 4096;
+const NO_WAY: BoundWay = BoundWay {
+    from: Node(0),
+    weight: 0,
+    place: 0,
+    side: None,
+};
 
-const FEW: usize = 64;
+// The most ways and literals of a loop that is proposed, and the farthest weight of a way from 0.
+const MOST: usize = 4096;
 
-const PATIENCE: u32 = 64;
+const FARTHEST: i64 = 1 << 60;
 
 /// The walks back so far.
 #[derive(Drop)]
 pub struct WalksBack {
     /// The number of the latest walk.
     number: usize,
-    /// For each event the number of the latest walk that came by it.
+    /// For each bound the number of the latest walk that came by it.
     stamps: Vec<usize>,
-    /// For each event the way out from it of the latest walk that has one.
+    /// For each bound the way out from it of the latest walk that has one.
     outs: Vec<OutMark>,
-    /// The most literals of the next loop that is proposed, and how many loops with more were passed over since.
-    most: usize,
-    passed: u32,
+    /// For each literal the number of the latest walk that has it.
+    literals: Vec<usize>,
 }
 
 impl WalksBack {
-    /// No walks yet, over this many events.
-    pub fn new(alloc: Global, events: usize) -> Result<WalksBack, NoMemory> {
+    /// No walks yet, over this many bounds and literals.
+    pub fn new(alloc: Global, bounds: usize, literals: usize) -> Result<WalksBack, NoMemory> {
         Ok(WalksBack {
             number: 0,
-            stamps: vec![in alloc; 0; events]?,
-            outs: vec![in alloc; NO_MARK; events]?,
-            most: FEW,
-            passed: 0,
+            stamps: vec![in alloc; 0; bounds]?,
+            outs: vec![in alloc; NO_MARK; bounds]?,
+            literals: vec![in alloc; 0; literals]?,
         })
     }
 
@@ -77,191 +89,340 @@ impl WalksBack {
         self.number = self.number.saturating_add(1);
     }
 
-    // Comes to an event, and says whether this walk has come to it before.
-    fn comes_again(&mut self, event: EventId) -> bool {
-        let place = event.0 as usize;
-        if at(&self.stamps, place, 0) == self.number {
+    // Comes to a bound, and says whether this walk has come to it before.
+    fn comes_again(&mut self, node: Node) -> bool {
+        if at(&self.stamps, node.place(), 0) == self.number {
             return true;
         }
-        put(&mut self.stamps, place, self.number);
+        put(&mut self.stamps, node.place(), self.number);
         false
     }
 
-    // The place of a way out, if this walk has one from the event. Otherwise it has one at `place` from now on.
-    fn out_from(&mut self, event: EventId, place: usize) -> Option<usize> {
-        let mark = at(&self.outs, event.0 as usize, NO_MARK);
+    // The place of a way out, if this walk has one from the bound. Otherwise it has one at `place` from now on.
+    fn out_from(&mut self, node: Node, place: usize) -> Option<usize> {
+        let mark = at(&self.outs, node.place(), NO_MARK);
         if mark.walk == self.number {
             return Some(mark.place);
         }
         let walk = self.number;
-        put(&mut self.outs, event.0 as usize, OutMark { walk, place });
+        put(&mut self.outs, node.place(), OutMark { walk, place });
         None
     }
 
-    // Whether a loop with so many literals may be proposed. Kept loops with many literals slow the search down, and loops
-    // through them have more still. But where many loops in a row have too many, events fall on and on round a large
-    // loop, and so twice as many literals are allowed. A loop that is proposed ends that.
-    fn allows(&mut self, literals: usize) -> bool {
-        if literals <= self.most {
-            self.most = FEW;
-            self.passed = 0;
-            return true;
+    // Whether this walk has a literal for the first time.
+    fn has_first(&mut self, literal: SideLiteral) -> bool {
+        if at(&self.literals, literal.0, 0) == self.number {
+            return false;
         }
-        self.passed = self.passed.saturating_add(1);
-        if PATIENCE <= self.passed {
-            self.most = self.most.saturating_mul(2);
-            self.passed = 0;
-        }
-        false
+        put(&mut self.literals, literal.0, self.number);
+        true
     }
 }
 
 impl Engine {
-    /// Walks back from an event along the ways that give the events their values. If the walk comes to an event twice,
-    /// it has gone round a loop. The loop is proposed if its sum is below 0 and it lowers that event.
-    pub fn go_round(&mut self, event: EventId) -> Result<(), NoMemory> {
-        match self.met_again(event) {
-            Some(event) => self.propose_round(event),
+    /// Walks back from a bound along the ways that give the bounds their values. If the walk comes to a bound twice, it has gone round a loop. The loop is
+    /// proposed if its sum is below 0 and something follows from it at once.
+    pub fn go_round(&mut self, node: Node) -> Result<(), NoMemory> {
+        match self.met_again(node) {
+            Some(node) => self.propose_round(node),
             None => Ok(()),
         }
     }
 
-    // The first event to which the walk back from an event comes twice, if there is one.
-    fn met_again(&mut self, event: EventId) -> Option<EventId> {
+    // The first bound to which the walk back from a bound comes twice, if there is one. All bounds of a loop round which they fall on and on have fallen twice.
+    fn met_again(&mut self, node: Node) -> Option<Node> {
         self.walks.begin();
-        let mut here = event;
-        for _ in 0..self.assignment.values().len().saturating_add(1) {
+        let mut here = node;
+        for _ in 0..self.trail.bounds().saturating_add(1) {
             if self.walks.comes_again(here) {
                 return Some(here);
             }
-            here = match self.lead(here) {
-                Some(lead) => lead.way.from,
-                None => return None,
-            };
+            if !self.falls.has_fallen_again(here) {
+                return None;
+            }
+            here = self.step_back(here)?.from;
         }
         None
     }
 
-    // The way that gives an event its value, if it has fallen by a way.
-    fn lead(&mut self, event: EventId) -> Option<Lead> {
-        let place = self.assignment.last_of(event)?;
-        let number = self.assignment.entry(place).clause?;
-        let clause = self.table.clause(number);
-        self.meter.look(clause.ways.count.saturating_add(1));
-        let mut best = None;
-        let mut most = self.least;
-        let mut through = 0;
-        for number in 0..clause.ways.count {
-            let way = self.table.way(clause, number);
-            let given = self.assignment.value(way.from).saturating_add(way.weight);
-            if most < given {
-                most = given;
-                best = Some(Lead {
-                    clause,
-                    through,
-                    way,
-                });
+    // The step back from a bound, if it has fallen by an edge or a rule.
+    fn step_back(&mut self, node: Node) -> Option<StepBack> {
+        self.meter.look(1);
+        let place = self.trail.last_of(node)?;
+        match self.trail.entry(place).reason {
+            Reason::Edge(place) => {
+                let edge = self.tables.edges.edge(place);
+                let lead = match edge.ground {
+                    Ground::Always(name) => Lead::Always(name),
+                    Ground::Side(side) => Lead::Side(side),
+                };
+                Some(StepBack {
+                    from: edge.from,
+                    weight: edge.weight,
+                    lead,
+                })
             }
-            through = through.saturating_add(1);
+            Reason::Rule(rule) => self.greatest_way(rule),
+            _ => None,
         }
-        best
     }
 
-    // Proposes the loop back to an event, if the loop lowers the event.
-    fn propose_round(&mut self, event: EventId) -> Result<(), NoMemory> {
+    // The step back through the way of a rule that gives the most.
+    fn greatest_way(&mut self, place: usize) -> Option<StepBack> {
+        let rule = self.tables.rules.rule(place);
+        self.meter.look(rule.ways.count);
+        let mut most = self.least;
+        let mut best = None;
+        for number in 0..rule.ways.count {
+            let given = self.given(rule, number);
+            if most < given && self.counts(rule, number) {
+                most = given;
+                best = Some(number);
+            }
+        }
+        let number = best?;
+        let way = self.tables.rules.way(rule, number);
+        Some(StepBack {
+            from: way.from,
+            weight: way.weight,
+            lead: Lead::Rule(rule, number),
+        })
+    }
+
+    // Proposes the loop back to a bound.
+    fn propose_round(&mut self, node: Node) -> Result<(), NoMemory> {
         let mut round = Round {
-            event,
+            node,
             steps: Vec::new(self.alloc),
             sum: 0,
-            literals: 0,
-            out: Vec::new(self.alloc),
-            looks: 0,
+            ways: Vec::new(self.alloc),
+            literals: Vec::new(self.alloc),
         };
-        let mut here = event;
-        for _ in 0..self.assignment.values().len() {
-            let Some(lead) = self.lead(here) else {
+        self.walks.begin();
+        let mut here = node;
+        for _ in 0..self.trail.bounds() {
+            let Some(step) = self.step_back(here) else {
                 return Ok(());
             };
-            self.step_back(&mut round, lead)?;
-            here = lead.way.from;
-            if here == event {
+            self.go_through_step(&mut round, step)?;
+            here = step.from;
+            if here == node {
                 return self.propose(round);
             }
         }
         Ok(())
     }
 
-    // Goes through a way. The other ways of its clause become ways out of the loop.
-    fn step_back(&mut self, round: &mut Round, lead: Lead) -> Result<(), NoMemory> {
-        for number in 0..lead.clause.ways.count {
-            if number != lead.through as usize {
-                let Way { from, weight } = self.table.way(lead.clause, number);
-                let weight = weight.saturating_add(round.sum);
-                self.join(&mut round.out, Way { from, weight })?;
+    // Goes through a step. What else may be met comes to the ways and literals.
+    fn go_through_step(&mut self, round: &mut Round, step: StepBack) -> Result<(), NoMemory> {
+        let walked = match step.lead {
+            Lead::Always(name) => WalkStep {
+                basis: Basis::ByEdge(name),
+                through: 0,
+            },
+            Lead::Side(side) => {
+                self.join_literal(round, side.opposite())?;
+                WalkStep {
+                    basis: Basis::Either(self.tables.sides.edge(side)),
+                    through: 0,
+                }
+            }
+            Lead::Rule(rule, number) => {
+                self.join_rule(round, rule, number)?;
+                WalkStep {
+                    basis: rule.basis,
+                    through: self.tables.rules.way(rule, number).place,
+                }
+            }
+        };
+        round.steps.push(walked)?;
+        round.sum = round.sum.saturating_add(step.weight);
+        Ok(())
+    }
+
+    // Joins what else may be met of a rule. A loop of bounds of times has its ways, moved by the sum so far. One of negated times has them as they are.
+    fn join_rule(
+        &mut self,
+        round: &mut Round,
+        rule: BoundRule,
+        through: usize,
+    ) -> Result<(), NoMemory> {
+        self.meter
+            .look(rule.ways.count.saturating_add(rule.literals.count));
+        for number in 0..rule.ways.count {
+            if number != through {
+                self.join_other(round, rule, number)?;
             }
         }
-        round.looks = round.looks.saturating_add(looks_at(round, lead.clause));
-        round.literals = round.literals.saturating_add(lead.clause.written);
-        round.sum = round.sum.saturating_add(lead.way.weight);
-        round.steps.push(WalkStep {
-            basis: lead.clause.basis,
-            through: lead.through,
-        })?;
+        for number in 0..rule.literals.count {
+            let literal = self.tables.rules.literal(rule, number);
+            self.join_literal(round, literal)?;
+        }
         Ok(())
     }
 
-    // Joins a way to the ways out of the present walk. Of two ways from the same event, the wider one stays.
-    fn join(&mut self, out: &mut Vec<Way>, way: Way) -> Result<(), NoMemory> {
-        if let Some(place) = self.walks.out_from(way.from, out.len()) {
-            put(out, place, wider(way, at(out, place, way)));
+    // Joins another way of a rule: its literal if it can't hold, or if the loop is one of negated times.
+    fn join_other(
+        &mut self,
+        round: &mut Round,
+        rule: BoundRule,
+        number: usize,
+    ) -> Result<(), NoMemory> {
+        let mut way = self.tables.rules.way(rule, number);
+        if let Some(side) = way.side {
+            if !round.node.is_most() || self.trail.has(side.opposite()) {
+                return self.join_literal(round, side);
+            }
+        }
+        way.side = None;
+        way.weight = way.weight.saturating_add(round.sum);
+        self.join_way(round, way)
+    }
+
+    // Joins a way to those of the present walk. Of two ways from the same bound, the wider one stays.
+    fn join_way(&mut self, round: &mut Round, way: BoundWay) -> Result<(), NoMemory> {
+        let mut joined = way;
+        joined.place = short(round.ways.len());
+        if let Some(place) = self.walks.out_from(way.from, round.ways.len()) {
+            joined.place = short(place);
+            let other = at(&round.ways, place, joined);
+            if other.weight < joined.weight {
+                put(&mut round.ways, place, joined);
+            }
             return Ok(());
         }
-        out.push(way)?;
+        round.ways.push(joined)?;
         Ok(())
     }
 
-    // Proposes a loop, if its sum is below 0, it lowers its event, and it is not too large.
+    // Joins a literal to those of the present walk.
+    fn join_literal(&mut self, round: &mut Round, literal: SideLiteral) -> Result<(), NoMemory> {
+        if self.walks.has_first(literal) {
+            round.literals.push(literal)?;
+        }
+        Ok(())
+    }
+
+    // Proposes a loop, if its sum is below 0, it is not too large, and something follows from it. Otherwise a bound of a negated time rests: it would fall on
+    // and on in small steps. The times that the search finds do not depend on it.
     fn propose(&mut self, round: Round) -> Result<(), NoMemory> {
-        self.meter.look(round.out.len());
-        let lowers = round.sum < 0 && self.most_out(&round) < self.assignment.value(round.event);
-        if !lowers || MOST_OUT < round.out.len() || !self.walks.allows(round.literals) {
+        let size = round.ways.len().saturating_add(round.literals.len());
+        self.meter.look(size);
+        if 0 <= round.sum {
             return Ok(());
         }
-        self.meter.look(round.looks);
+        if MOST < size || !are_near(&round.ways) || !self.says_more(&round) {
+            if !round.node.is_most() {
+                self.falls.let_rest(round.node);
+            }
+            return Ok(());
+        }
+        self.meter.keep(size.saturating_mul(2).saturating_add(1));
+        let kept = self.kept_clause(&round)?;
+        self.adopt(&round)?;
+        let mut steps = round.steps;
+        if !round.node.is_most() {
+            steps.reverse();
+        }
         self.outbox
-            .push(StoredLine::Loop(round.event, round.steps))?;
+            .push(StoredLine::Loop(round.node.event(), steps, kept))?;
         Ok(())
     }
 
-    // The greatest value that a way out of a loop gives, but at least the least value that a line may give.
-    fn most_out(&self, round: &Round) -> i64 {
-        let mut most = self.least;
-        for way in &round.out {
-            let given = self.assignment.value(way.from).saturating_add(way.weight);
-            most = most.max(given);
+    // Whether a loop of bounds of times lowers its bound, or at most one literal of another one may hold.
+    fn says_more(&self, round: &Round) -> bool {
+        if !round.node.is_most() {
+            let mut open = 0usize;
+            for literal in &round.literals {
+                if self.trail.has(*literal) {
+                    return false;
+                }
+                if !self.trail.has(literal.opposite()) {
+                    open = open.saturating_add(1);
+                }
+            }
+            return open < 2;
         }
-        most
+        let mut most = self.least;
+        for way in &round.ways {
+            most = most.max(self.trail.value(way.from).saturating_add(way.weight));
+        }
+        most < self.trail.value(round.node)
+    }
+
+    // The clause of a loop: its ways, and then its literals.
+    fn kept_clause(&self, round: &Round) -> Result<Vec<Edge>, NoMemory> {
+        let mut edges = Vec::new(self.alloc);
+        for way in &round.ways {
+            edges.push(Edge {
+                from: way.from.event(),
+                to: round.node.event(),
+                weight: way.weight,
+            })?;
+        }
+        for literal in &round.literals {
+            edges.push(self.tables.sides.edge(*literal))?;
+        }
+        Ok(edges)
+    }
+
+    // Adds the rule of a loop, or its clause if it has no ways. A way from the event itself says nothing.
+    fn adopt(&mut self, round: &Round) -> Result<(), NoMemory> {
+        let basis = Basis::ByKept(self.kept);
+        self.kept = self.kept.saturating_add(1);
+        let mut ways = Vec::new(self.alloc);
+        for way in &round.ways {
+            if way.from != round.node {
+                ways.push(*way)?;
+            }
+        }
+        if !ways.is_empty() {
+            let rule = self.tables.rules.len();
+            self.tables
+                .rules
+                .push(basis, round.node, &ways, &round.literals)?;
+            self.fresh.push(KeptLoop::Rule(rule))?;
+            return Ok(());
+        }
+        let literals = self.latest_first(&round.literals)?;
+        let clause = self.tables.clauses.len();
+        self.tables.clauses.push(basis, &literals, 0)?;
+        self.fresh.push(KeptLoop::Clause(clause))?;
+        Ok(())
+    }
+
+    // The literals of a clause. The first two are those that may hold, or else those that came to be false latest.
+    fn latest_first(&self, sides: &Vec<SideLiteral>) -> Result<Vec<Literal>, NoMemory> {
+        let mut literals = Vec::new(self.alloc);
+        for side in sides {
+            literals.push(Literal::Side(*side))?;
+        }
+        for first in 0..literals.len().min(2) {
+            let mut latest = first;
+            for place in first..literals.len() {
+                if self.rank(&literals, latest) < self.rank(&literals, place) {
+                    latest = place;
+                }
+            }
+            let literal = at(&literals, first, Literal::Side(SideLiteral(0)));
+            let other = at(&literals, latest, literal);
+            put(&mut literals, first, other);
+            put(&mut literals, latest, literal);
+        }
+        Ok(literals)
+    }
+
+    // The place of the entry that makes a literal of a list false, or the greatest number if it may hold.
+    fn rank(&self, literals: &Vec<Literal>, place: usize) -> usize {
+        match at(literals, place, Literal::Side(SideLiteral(0))) {
+            Literal::Side(side) => self.trail.place_of(side.opposite()).unwrap_or(usize::MAX),
+            Literal::Bound(_) => usize::MAX,
+        }
     }
 }
 
-// How many things the checker looks at in a step back by a clause: it compares each way with the ways out so far, and
-// looks through these once more. Eight comparisons count as one thing.
-fn looks_at(round: &Round, clause: StoredClause) -> usize {
-    let compared = clause
-        .ways
-        .count
-        .saturating_add(1)
-        .saturating_mul(round.out.len());
-    clause
-        .written
-        .saturating_add(clause.ways.count)
-        .saturating_add(compared / 8)
-}
-
-// The wider of two ways.
-fn wider(way: Way, other: Way) -> Way {
-    if way.weight <= other.weight {
-        return other;
-    }
-    way
+// Whether the weights of all ways are such that two of them can be added.
+fn are_near(ways: &Vec<BoundWay>) -> bool {
+    ways.iter()
+        .all(|way| -FARTHEST <= way.weight && way.weight <= FARTHEST)
 }

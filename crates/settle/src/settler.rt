@@ -10,11 +10,10 @@ ghost use Rattle.settle.specs.ShownAnswer.{IsFound, IsMadeFor};
 ghost use Rattle.settle.specs.Step.Racing.{IsEnding, IsRacing, line_count};
 
 use crate::best::Best;
-use crate::line::StoredLine;
 use crate::prover::Prover;
 use crate::race::{Race, RaceEnd};
 use crate::shown_answer::{Settled, ShownAnswer};
-use clauses::Claim;
+use edge_clauses::{Claim, StoredLine};
 use event_graph::Network;
 use falling::{Limits, View, limits_of, negation_of};
 use itv_base::{EventId, NoMemory};
@@ -42,8 +41,8 @@ impl Settler {
     }
 
     /// The greatest separation of a pair of events in picoseconds and what shows it, found in at most this many turns;
-    /// or `NoMemory`. A step of the search makes at most one line. It is a turn, and more of them if it looks at more than
-    /// 32 things. What the search keeps is bounded too: without an answer it ends where either is spent.
+    /// or `NoMemory`. A step of the search makes at most one line. It is a turn, each 4 things that it looks at are one more,
+    /// and each fall of a bound is several. What the search keeps is bounded too: without an answer it ends where either is spent.
     pub fn greatest(
         &self,
         alloc: Global,

@@ -1,16 +1,17 @@
-//! Events whose clauses are to be examined again.
+//! Bounds from which edges and rules are to be looked at again.
 
+use crate::node::Node;
 use crate::places::{at, put};
-use itv_base::{EventId, NoMemory};
+use itv_base::NoMemory;
 use std::alloc::Global;
 
-/// Waiting events. They are given in sweeps: upward by number, then downward, and so on.
+/// Waiting bounds. They are given in sweeps: upward by number, then downward, and so on.
 ///
-/// Each event has a bit in words of 64 bits, the least number first. It waits where the bit is set.
+/// Each bound has a bit in words of 64 bits, the least number first. It waits where the bit is set.
 #[derive(Drop)]
 pub struct Sweep {
     words: Vec<u64>,
-    events: u32,
+    bounds: u32,
     waiting: u32,
     /// Where the sweep goes on.
     place: u32,
@@ -20,34 +21,39 @@ pub struct Sweep {
 }
 
 impl Sweep {
-    /// A sweep over this many events. All of them wait.
-    pub fn new(alloc: Global, events: u32) -> Result<Sweep, NoMemory> {
+    /// A sweep over this many bounds. All of them wait.
+    pub fn new(alloc: Global, bounds: u32) -> Result<Sweep, NoMemory> {
         let mut sweep = Sweep {
-            words: vec![in alloc; 0; (events / 64) as usize + 1]?,
-            events,
+            words: vec![in alloc; 0; (bounds / 64) as usize + 1]?,
+            bounds,
             waiting: 0,
             place: 0,
             is_up: true,
             looks: 0,
         };
-        for event in 0..events {
-            sweep.add(EventId(event));
-        }
+        sweep.add_all();
         Ok(sweep)
     }
 
-    /// Makes an event wait.
-    pub fn add(&mut self, event: EventId) {
-        let place = (event.0 / 64) as usize;
+    /// Makes all bounds wait.
+    pub fn add_all(&mut self) {
+        for bound in 0..self.bounds {
+            self.add(Node(bound));
+        }
+    }
+
+    /// Makes a bound wait.
+    pub fn add(&mut self, node: Node) {
+        let place = (node.0 / 64) as usize;
         let word = at(&self.words, place, u64::MAX);
-        let bit = 1 << (event.0 % 64);
+        let bit = 1 << (node.0 % 64);
         if word & bit == 0 {
             put(&mut self.words, place, word | bit);
             self.waiting = self.waiting.saturating_add(1);
         }
     }
 
-    /// Makes all events stop waiting, and begins a new sweep upward.
+    /// Makes all bounds stop waiting, and begins a new sweep upward.
     pub fn clear(&mut self) {
         if 0 < self.waiting {
             self.looks = self.looks.saturating_add(self.words.len());
@@ -58,94 +64,94 @@ impl Sweep {
         self.is_up = true;
     }
 
-    /// The next waiting event, if there is one. It no longer waits.
-    pub fn next(&mut self) -> Option<EventId> {
+    /// The next waiting bound, if there is one. It no longer waits.
+    pub fn next(&mut self) -> Option<Node> {
         if self.waiting == 0 {
             return None;
         }
         let ahead = match self.ahead() {
-            Some(event) => Some(event),
+            Some(node) => Some(node),
             None => {
                 self.turn_round();
                 self.ahead()
             }
         };
         match ahead {
-            Some(event) => self.give(event),
+            Some(node) => self.give(node),
             None => self.waiting = 0,
         }
         ahead
     }
 
-    // The first waiting event from the place on, in the direction of the sweep.
-    fn ahead(&mut self) -> Option<EventId> {
+    // The first waiting bound from the place on, in the direction of the sweep.
+    fn ahead(&mut self) -> Option<Node> {
         if self.is_up {
             return self.first_from(self.place);
         }
         self.last_to(self.place)
     }
 
-    // The waiting event of the least number from this one on.
-    fn first_from(&mut self, number: u32) -> Option<EventId> {
+    // The waiting bound of the least number from this one on.
+    fn first_from(&mut self, number: u32) -> Option<Node> {
         let mut mask = u64::MAX << (number % 64);
-        for place in number / 64..self.events / 64 + 1 {
+        for place in number / 64..self.bounds / 64 + 1 {
             self.looks = self.looks.saturating_add(1);
             let word = at(&self.words, place as usize, 0) & mask;
             if word != 0 {
                 let first = place.saturating_mul(64);
-                return Some(EventId(first.saturating_add(word.trailing_zeros())));
+                return Some(Node(first.saturating_add(word.trailing_zeros())));
             }
             mask = u64::MAX;
         }
         None
     }
 
-    // The waiting event of the greatest number up to this one.
-    fn last_to(&mut self, number: u32) -> Option<EventId> {
+    // The waiting bound of the greatest number up to this one.
+    fn last_to(&mut self, number: u32) -> Option<Node> {
         let mut mask = u64::MAX >> (63 - number % 64);
         for place in (0..number / 64 + 1).rev() {
             self.looks = self.looks.saturating_add(1);
             let word = at(&self.words, place as usize, 0) & mask;
             if word != 0 {
                 let last = place.saturating_mul(64).saturating_add(63);
-                return Some(EventId(last.saturating_sub(word.leading_zeros())));
+                return Some(Node(last.saturating_sub(word.leading_zeros())));
             }
             mask = u64::MAX;
         }
         None
     }
 
-    // Gives a waiting event, and goes on after it. Turns round at both ends.
-    fn give(&mut self, event: EventId) {
-        let place = (event.0 / 64) as usize;
+    // Gives a waiting bound, and goes on after it. Turns round at both ends.
+    fn give(&mut self, node: Node) {
+        let place = (node.0 / 64) as usize;
         let word = at(&self.words, place, 0);
-        put(&mut self.words, place, word & !(1 << (event.0 % 64)));
+        put(&mut self.words, place, word & !(1 << (node.0 % 64)));
         self.waiting = self.waiting.saturating_sub(1);
         let is_end = if self.is_up {
-            self.events <= event.0.saturating_add(1)
+            self.bounds <= node.0.saturating_add(1)
         } else {
-            event.0 == 0
+            node.0 == 0
         };
         if is_end {
             self.turn_round();
         } else if self.is_up {
-            self.place = event.0.saturating_add(1);
+            self.place = node.0.saturating_add(1);
         } else {
-            self.place = event.0.saturating_sub(1);
+            self.place = node.0.saturating_sub(1);
         }
     }
 
-    // Turns round, to go over all events in the other direction.
+    // Turns round, to go over all bounds in the other direction.
     fn turn_round(&mut self) {
         self.is_up = !self.is_up;
         self.place = if self.is_up {
             0
         } else {
-            self.events.saturating_sub(1)
+            self.bounds.saturating_sub(1)
         };
     }
 
-    /// How many words of 64 events were looked at, since this was asked last.
+    /// How many words of 64 bounds were looked at, since this was asked last.
     pub fn looks(&mut self) -> usize {
         let looks = self.looks;
         self.looks = 0;

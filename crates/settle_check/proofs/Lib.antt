@@ -1,6 +1,4 @@
 mod Determined
-mod Few
-mod Forms
 mod Found
 mod Judged
 mod Lines
@@ -16,5 +14,4 @@ mod Settled
 mod Taken
 mod Turns
 mod Values
-mod Ways
 mod Whole

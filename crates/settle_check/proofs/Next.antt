@@ -1,6 +1,6 @@
 -- Which kind of finding, or of bound, stands next in a right text.
-use Rattle.std.proofs.Common.{◌≡◌, ◌<◌, ℕ, ℤ, true, Bool, List, [], ◌∷◌, ◌++◌, length, codes, get_or, refl, sym, ap, ◌∙◌, append_assoc, arith}
-use Rattle.std.specs.Prelude.{◌^◌, Result}
+use Rattle.std.proofs.Common.{◌≡◌, ℕ, ℤ, true, Bool, List, [], ◌∷◌, ◌++◌, codes, get_or, refl, sym, ap, ◌∙◌, append_assoc, arith}
+use Rattle.std.specs.Prelude.{Result}
 use Rattle.std.specs.Global.{Vec}
 use Rattle.std.specs.List.{flat_map}
 use Rattle.line_words.specs.Lines.{line_of}
@@ -16,7 +16,7 @@ use Rattle.slack_report.specs.Entry as line
 use Rattle.slack_report.specs.Text.{entry_text, which_word, words_of}
 use Rattle.requirements.specs.declared.bound.Bound.TheVariants as bounds
 use Rattle.drawn.specs.declared.row.Row.{Row}
-use Rattle.settle.specs.Proofs.{lines_of}
+use Rattle.edge_clauses.specs.Proofs.{lines_of}
 use Rattle.settle_lines.specs.Text.{claim_text, clause_line_text, view_text, view_word}
 use Rattle.settle_report.specs.declared.finding.Finding.{Finding}
 use Rattle.settle_report.specs.declared.finding.Finding.TheVariants.{Consistent, Inconsistent, Spent}
@@ -26,7 +26,7 @@ use Rattle.settle_report.specs.declared.bound.SettledBound.TheVariants as settle
 use Rattle.settle_report.specs.Answers.{ArePrintedTimes, IsBound, IsEndless, IsFinding, IsNumber, IsRefuted, first_event}
 use Rattle.settle_report.specs.Text.{bound_text, finding_text, shown_text}
 use Rattle.settle_check.specs.declared.check_stop.CheckStop.{CheckStop}
-use Rattle.settle_check.specs.Step.{Begins, Gives, HasFewLines, HasFewLinesIn, IsSameBound, IsSameFinding}
+use Rattle.settle_check.specs.Step.{Begins, Gives, IsSameBound, IsSameFinding}
 use Rattle.settle_check.proofs.Lines.{which_plain}
 use Rattle.settle_check.proofs.Taken.{view_stands}
 
@@ -94,12 +94,12 @@ module _ (net : Net) (rest : List ℕ) where
   -- the finding is inconsistent where neither line stands next
   pub refuted_read : (r : Result Finding CheckStop) → ((line after : List ℕ) → Begins rest line after → line ≡ codes "finding spent" → ⊥)
       → ((line after : List ℕ) → Begins rest line after → line ≡ codes "finding consistent" → ⊥)
-      → ((proof : Proof) (more : List ℕ) → IsRefuted true net proof → length proof.lines.items < 2 ^ 32
+      → ((proof : Proof) (more : List ℕ) → IsRefuted true net proof
       → rest ≡ shown_text true proof ++ (entry_text (line.finding findings.Inconsistent) ++ more) → Gives (IsSameFinding (Inconsistent proof)) r)
-      → (shown : Finding) (more : List ℕ) → IsFinding true net shown → HasFewLines shown → rest ≡ finding_text true shown ++ more → Gives (IsSameFinding shown) r
-  refuted_read r not_spent not_consistent read (Consistent times) more printed few e = absurd (not_consistent _ _ (consistent_begins times rest more e) refl)
-  refuted_read r not_spent not_consistent read (Inconsistent proof) more refuted few e = read proof more refuted few (refuted_stands proof rest more e)
-  refuted_read r not_spent not_consistent read Spent more nothing few e = absurd (not_spent _ _ (spent_begins rest more e) refl)
+      → (shown : Finding) (more : List ℕ) → IsFinding true net shown → rest ≡ finding_text true shown ++ more → Gives (IsSameFinding shown) r
+  refuted_read r not_spent not_consistent read (Consistent times) more printed e = absurd (not_consistent _ _ (consistent_begins times rest more e) refl)
+  refuted_read r not_spent not_consistent read (Inconsistent proof) more refuted e = read proof more refuted (refuted_stands proof rest more e)
+  refuted_read r not_spent not_consistent read Spent more nothing e = absurd (not_spent _ _ (spent_begins rest more e) refl)
 
 -- ---- bounds
 
@@ -166,10 +166,10 @@ module _ (net : Net) (which : Which) (row : Row) (rest : List ℕ) where
   -- the bound is a number where neither line stands next
   pub number_read : (r : Result SettledBound CheckStop) → ((line after : List ℕ) → Begins rest line after → line ≡ spent_key which → ⊥)
       → ((line after : List ℕ) → Begins rest line after → line ≡ endless_key which → ⊥)
-      → ((value : ℤ) (times : Vec ℤ) (proof : Proof) (more : List ℕ) → IsNumber true net which row value times.items proof → length proof.lines.items < 2 ^ 32
+      → ((value : ℤ) (times : Vec ℤ) (proof : Proof) (more : List ℕ) → IsNumber true net which row value times.items proof
       → rest ≡ shown_text true proof ++ (entry_text (line.bound which (bounds.Closed value)) ++ (entry_text (line.times times.items) ++ more))
       → Gives (IsSameBound (settled.Closed value times proof)) r)
-      → (shown : SettledBound) (more : List ℕ) → IsBound true net which row shown → HasFewLinesIn shown → rest ≡ bound_text true which shown ++ more → Gives (IsSameBound shown) r
-  number_read r not_spent not_endless read (settled.Closed value times proof) more number few e = read value times proof more number few (number_begins which value times proof rest more e)
-  number_read r not_spent not_endless read (settled.Unbounded times ray) more endless few e = absurd (not_endless _ _ (endless_begins which times ray rest more e) refl)
-  number_read r not_spent not_endless read settled.Spent more nothing few e = absurd (not_spent _ _ (spent_bound_begins which rest more e) refl)
+      → (shown : SettledBound) (more : List ℕ) → IsBound true net which row shown → rest ≡ bound_text true which shown ++ more → Gives (IsSameBound shown) r
+  number_read r not_spent not_endless read (settled.Closed value times proof) more number e = read value times proof more number (number_begins which value times proof rest more e)
+  number_read r not_spent not_endless read (settled.Unbounded times ray) more endless e = absurd (not_endless _ _ (endless_begins which times ray rest more e) refl)
+  number_read r not_spent not_endless read settled.Spent more nothing e = absurd (not_spent _ _ (spent_bound_begins which rest more e) refl)

@@ -1,29 +1,27 @@
 -- The parts of a right text, of its rows, and of the proofs in it, where they stand.
 use Rattle.std.proofs.Common.{◌≡◌, ◌⊎◌, inl, inr, ◌<◌, ℕ, zero, suc, ℤ, true, List, [], ◌∷◌, ◌++◌, length, drop, Some, slice_get, sym, ap, subst, ◌∙◌, append_assoc, append-nil, arith}
-use Rattle.std.specs.Prelude.{◌^◌, All}
 use Rattle.std.specs.Global.{Vec}
 use Rattle.event_graph.specs.Network.{Net}
 use Rattle.falling.specs.declared.view.View.{View}
 use Rattle.falling.specs.Kinds.{negated}
 use Rattle.falling.specs.declared.view.View.TheVariants.{Plain, Negated}
-use Rattle.clauses.specs.Lines.{IsClauseProof}
+use Rattle.edge_clauses.specs.Lines.{IsClauseProof}
 use Rattle.itv_base.specs.declared.names.EventId.{EventId}
 use Rattle.slack_report.specs.declared.words.Which.TheVariants.{Max, Min}
 use Rattle.slack_report.specs.Entry as line
 use Rattle.slack_report.specs.Text.{entry_text}
 use Rattle.drawn.specs.Drawn.{Drawn, name_of}
 use Rattle.drawn.specs.declared.row.Row.{Row}
-use Rattle.settle.specs.declared.line.StoredLine.{StoredLine}
-use Rattle.settle.specs.Proofs.{IsProofAs, lines_of}
+use Rattle.edge_clauses.specs.declared.line.StoredLine.{StoredLine}
+use Rattle.edge_clauses.specs.Proofs.{IsProofAs, lines_of}
 use Rattle.settle_report.specs.declared.finding.Finding.{Finding}
 use Rattle.settle_report.specs.declared.finding.Finding.TheVariants.{Consistent, Inconsistent, Spent}
 use Rattle.settle_report.specs.declared.proof.Proof.{Proof}
 use Rattle.settle_report.specs.declared.row.RowFound.{RowFound}
-use Rattle.settle_report.specs.Answers.{AreFound, IsBound, IsFinding, IsPastOf}
+use Rattle.settle_report.specs.Answers.{AreFound, AreRowsFound, IsBound, IsFinding, IsPastOf, IsRowFound}
 use Rattle.settle_report.specs.Settle.{IsSettleText}
 use Rattle.settle_report.specs.Text.{behind_text, bound_text, ending_of, finding_text, front_text, judged_text, row_text, rows_text}
-use Rattle.settle_check.specs.Step.{AreSameRows, AreShownRows, HasFewLines, HasFewLinesIn, HasFewRows, IsSameFinding, IsShownRow}
-use Rattle.settle_check.proofs.Few.{few_in_text}
+use Rattle.settle_check.specs.Step.{AreSameRows, IsSameFinding}
 use Rattle.settle_check.proofs.Same.{ending_same}
 use Rattle.settle_check.proofs.Settled.{row_same}
 use Rattle.settle_check.proofs.Whole.{row_stands}
@@ -58,23 +56,19 @@ pub record RowParts (drawn : Drawn) (net : Net) (text : List ℕ) (place number 
   pub greatest : IsBound true net Max row shown.greatest
   pub least : IsBound true net Min row shown.least
   pub past : IsPastOf net row row.kind shown
-  pub few_greatest : HasFewLinesIn shown.greatest
-  pub few_least : HasFewLinesIn shown.least
 
-parts_of : (drawn : Drawn) (text : List ℕ) (place number : ℕ) (row : Row) (shown : RowFound) (more : List ℕ) → IsShownRow drawn.net row shown
+parts_of : (drawn : Drawn) (text : List ℕ) (place number : ℕ) (row : Row) (shown : RowFound) (more : List ℕ) → IsRowFound true drawn.net row shown
     → drop place text ≡ row_text drawn true number row shown ++ more → RowParts drawn drawn.net text place number row shown more
 parts_of drawn text place number row shown more is stands = record {
   stands = row_stands drawn text place number row shown more stands;
-  greatest = is.is_found.greatest;
-  least = is.is_found.least;
-  past = is.is_found.past;
-  few_greatest = is.few.0;
-  few_least = is.few.1;
+  greatest = is.greatest;
+  least = is.least;
+  past = is.past;
 }
 
 -- the parts of the row with a number
 pub row_parts : (drawn : Drawn) (net : Net) (text : List ℕ) (place number : ℕ) (at row : Row) (shown : RowFound) (more : List ℕ) → net ≡ drawn.net
-    → slice_get drawn.rows number ≡ Some at → slice_get drawn.rows number ≡ Some row → IsShownRow drawn.net row shown
+    → slice_get drawn.rows number ≡ Some at → slice_get drawn.rows number ≡ Some row → IsRowFound true drawn.net row shown
     → drop place text ≡ row_text drawn true number row shown ++ more → RowParts drawn net text place number at shown more
 row_parts drawn net text place number at row shown more same is other shows stands =
     subst (λ (r : Row). RowParts drawn net text place number r shown more) (row_same drawn.rows number row at other is)
@@ -84,14 +78,14 @@ row_parts drawn net text place number at row shown more same is other shows stan
 
 -- all rows stand behind a consistent finding
 pub rows_stand : (drawn : Drawn) (text : List ℕ) (place : ℕ) (finding shown : Finding) (times : _) (found : List RowFound) (more : List ℕ) → finding ≡ Consistent times → IsSameFinding shown finding
-    → AreFound true drawn.net drawn.rows shown found → All HasFewRows found → drop place text ≡ behind_text drawn true shown found ++ more
-    → AreShownRows drawn.net drawn.rows found × (drop place text ≡ entry_text (line.rows (length drawn.rows)) ++ (rows_text drawn true 0 drawn.rows found ++ more))
-rows_stand drawn text place finding shown times found more is same are few stands =
+    → AreFound true drawn.net drawn.rows shown found → drop place text ≡ behind_text drawn true shown found ++ more
+    → AreRowsFound true drawn.net drawn.rows found × (drop place text ≡ entry_text (line.rows (length drawn.rows)) ++ (rows_text drawn true 0 drawn.rows found ++ more))
+rows_stand drawn text place finding shown times found more is same are stands =
     by_shown shown (subst (IsSameFinding shown) is same) are stands where
       by_shown : (shown : Finding) → IsSameFinding shown (Consistent times) → AreFound true drawn.net drawn.rows shown found → drop place text ≡ behind_text drawn true shown found ++ more
-          → AreShownRows drawn.net drawn.rows found × (drop place text ≡ entry_text (line.rows (length drawn.rows)) ++ (rows_text drawn true 0 drawn.rows found ++ more))
+          → AreRowsFound true drawn.net drawn.rows found × (drop place text ≡ entry_text (line.rows (length drawn.rows)) ++ (rows_text drawn true 0 drawn.rows found ++ more))
       by_shown (Consistent other) same are stands =
-          (record { are_found = are; few = few }, stands ∙ append_assoc (entry_text (line.rows (length drawn.rows))) (rows_text drawn true 0 drawn.rows found) more)
+          (are, stands ∙ append_assoc (entry_text (line.rows (length drawn.rows))) (rows_text drawn true 0 drawn.rows found) more)
       by_shown (Inconsistent proof) same are stands = absurd same
       by_shown Spent same are stands = absurd same
 
@@ -121,22 +115,17 @@ pub record TextParts (drawn : Drawn) (net : Net) (text : List ℕ) : Type 0 wher
   pub found : List RowFound
   pub is_finding : IsFinding true net finding
   pub are_found : AreFound true drawn.net drawn.rows finding found
-  pub few_finding : HasFewLines finding
-  pub few_rows : All HasFewRows found
   pub stands : text ≡ front_text drawn
       ++ (finding_text true finding ++ (behind_text drawn true finding found ++ entry_text (line.ending (ending_of drawn.rows finding found))))
 
-pub text_parts : (drawn : Drawn) (net : Net) (text : List ℕ) → net ≡ drawn.net → length text < 2 ^ 32 → IsSettleText drawn true text → TextParts drawn net text
-text_parts drawn net text same short (turns, (answer, answers)) =
-    let few = few_in_text drawn answers.finding answers.found text answers.are_found answers.is_text short in record {
-      finding = answers.finding;
-      found = answers.found;
-      is_finding = subst (λ (n : Net). IsFinding true n answers.finding) (sym same) answers.is_finding;
-      are_found = answers.are_found;
-      few_finding = few.0;
-      few_rows = few.1;
-      stands = answers.is_text;
-    }
+pub text_parts : (drawn : Drawn) (net : Net) (text : List ℕ) → net ≡ drawn.net → IsSettleText drawn true text → TextParts drawn net text
+text_parts drawn net text same (turns, (answer, answers)) = record {
+  finding = answers.finding;
+  found = answers.found;
+  is_finding = subst (λ (n : Net). IsFinding true n answers.finding) (sym same) answers.is_finding;
+  are_found = answers.are_found;
+  stands = answers.is_text;
+}
 
 -- no byte is left behind the last part
 pub none_left_over : (text : List ℕ) (place : ℕ) → drop place text ≡ [] → place < length text → ⊥

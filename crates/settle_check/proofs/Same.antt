@@ -1,5 +1,5 @@
 -- The same data have the same text, wherever they lie in memory.
-use Rattle.std.proofs.Common.{◌≡◌, ℕ, ℤ, true, if◌then◌else◌, List, [], ◌∷◌, ◌++◌, map, refl, sym, ap, ◌∙◌}
+use Rattle.std.proofs.Common.{◌≡◌, ℕ, ℤ, true, if◌then◌else◌, List, [], ◌∷◌, ◌++◌, map, refl, ap, ◌∙◌}
 use Rattle.itv_base.specs.Range.{Ends}
 use Rattle.itv_base.specs.declared.row_kind.RowKind.{RowKind}
 use Rattle.itv_base.specs.declared.row_kind.RowKind.TheVariants as kinds
@@ -15,7 +15,7 @@ use Rattle.slack_report.specs.Text.{entry_text}
 use Rattle.right_report.specs.Right.ReportState.{end_word, is_fail, tally_of}
 use Rattle.right_report.specs.RowTally.{kinds_of, with_rows}
 use Rattle.drawn.specs.declared.row.Row.{Row}
-use Rattle.settle.specs.Proofs.{lines_of}
+use Rattle.edge_clauses.specs.Proofs.{lines_of}
 use Rattle.settle_lines.specs.Text.{proof_text}
 use Rattle.settle_report.specs.declared.finding.Finding.{Finding}
 use Rattle.settle_report.specs.declared.finding.Finding.TheVariants.{Consistent, Inconsistent, Spent}

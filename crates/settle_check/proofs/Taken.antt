@@ -1,39 +1,35 @@
 -- The lines of a right proof are read and taken, one after another.
 use Rattle.std.proofs.Common.{◌≡◌, ◌+◌, ◌<◌, ◌≤◌, ℕ, ℤ, List, [], ◌∷◌, ◌++◌, length, codes, Option, Some, None, refl, sym, ap, subst, ◌∙◌, append_assoc, append-nil, length-append, arith}
-use Rattle.std.specs.Prelude.{◌^◌, Result, Ok, Err, IfOk, IfSome, IsSomeAnd, OnOk}
+use Rattle.std.specs.Prelude.{All, Result, Ok, Err, IfOk, IfSome, IsSomeAnd, OnOk}
 use Rattle.std.specs.Global.{Vec}
 use Rattle.std.specs.List.{AllByRecursion, flat_map}
-use Rattle.std.proofs.lemmas.List.{length-map, map-append}
+use Rattle.std.proofs.lemmas.List.{map-append}
+use Rattle.std.proofs.lemmas.List.Elements.{recursion_from_All}
 use Rattle.std.proofs.lemmas.Option.{none-some}
 use Rattle.itv_base.specs.Numerals.{signed_text}
 use Rattle.line_words.specs.Lines.{ended, line_of}
 use Rattle.line_words.specs.Words.{Word, split_words}
 use Rattle.line_words.proofs.Cutting.{IsLine as IsTextLine}
-use Rattle.line_words.proofs.Plain.{ArePlain, join_line, map_plain, number_plain, signed_plain, split-join}
+use Rattle.line_words.proofs.Plain.{ArePlain, join_line, signed_plain, split-join}
 use Rattle.slack_report.specs.declared.words.FindingWord.TheVariants.{Inconsistent}
 use Rattle.slack_report.specs.declared.words.Which.{Which}
 use Rattle.slack_report.specs.declared.words.Which.TheVariants.{Max, Min}
 use Rattle.slack_report.specs.Entry as line
 use Rattle.slack_report.specs.Text.{entry_text, which_word, words_of}
 use Rattle.requirements.specs.declared.bound.Bound.TheVariants as bounds
-use Rattle.event_graph.specs.Network.{IsNet, Net}
-use Rattle.falling.specs.declared.limits.Limits.{Limits}
+use Rattle.event_graph.specs.Network.{Net}
 use Rattle.falling.specs.declared.view.View.{View}
 use Rattle.falling.specs.declared.view.View.TheVariants.{Plain, Negated}
-use Rattle.falling.specs.DerivationEnds.{AreLimits}
-use Rattle.clauses.specs.Checking.{Checking}
-use Rattle.clauses.specs.Lines.{Assume, ClauseLine, Close, Fall, Goal, IsClauseProof, IsLine, IsOver, Know, Loop, ProofLeads, State, starting}
-use Rattle.clauses.specs.declared.basis.WalkStep.{WalkStep}
-use Rattle.settle.specs.declared.line.StoredLine.{StoredLine}
-use Rattle.settle.specs.Proofs.{IsProving, line_of as stored_line, lines_of}
+use Rattle.edge_clauses.specs.Lines.{ClauseLine, Goal, IsClauseProof, IsLine, IsOver, ProofLeads, State, starting}
+use Rattle.edge_clauses.specs.Checking.{Checking}
+use Rattle.edge_clauses.specs.declared.line.StoredLine.{StoredLine}
+use Rattle.edge_clauses.specs.Proofs.{IsProving, line_of as stored_line, lines_of}
 use Rattle.settle_lines.specs.Step.Reading.{clause_in}
-use Rattle.settle_lines.specs.Text.{IsClauseLine, SpellsClause, claim_text, clause_line_text, clause_words, literal_word, step_words, view_text, view_word}
-use Rattle.settle_lines.proofs.LineLaws.{line_is_read}
-use Rattle.settle_lines.proofs.WordLaws.{basis_plain, literal_plain}
+use Rattle.settle_lines.specs.Text.{IsClauseLine, SpellsClause, claim_text, clause_line_text, clause_words, view_text, view_word}
+use Rattle.settle_lines.proofs.LineLaws.{clause_plain, line_is_read}
 use Rattle.settle_check.specs.declared.check_stop.CheckStop.{CheckStop}
 use Rattle.settle_check.specs.Step.{Begins, BeginsOther, Gives}
 use Rattle.settle_check.proofs.Determined.{rest_leads}
-use Rattle.settle_check.proofs.Forms.{proof_named}
 use Rattle.settle_check.proofs.Lines.{number_stands, words_stand}
 
 -- ---- lines that stand next
@@ -48,16 +44,10 @@ view_stands text view more e = record { is_line = join_line (codes "view" ∷ vi
 pub claim_stands : (text : List ℕ) (claim : ℤ) (more : List ℕ) → text ≡ claim_text claim ++ more → Begins text (line_of (codes "claim" ∷ signed_text claim ∷ [])) more
 claim_stands text claim more e = record { is_line = join_line (codes "claim" ∷ signed_text claim ∷ []) (refl, (signed_plain claim, tt)); text_is = e }
 
-steps_plain : (steps : List WalkStep) → ArePlain (step_words steps)
-steps_plain [] = tt
-steps_plain (step ∷ steps) = (basis_plain step.basis, (number_plain step.through, steps_plain steps))
-
 clause_is_line : (l : ClauseLine) → IsTextLine (line_of (clause_words l))
-clause_is_line (Fall event value basis) = join_line (clause_words (Fall event value basis)) (refl, (number_plain event.0, (signed_plain value, (basis_plain basis, tt))))
-clause_is_line (Know l basis) = join_line (clause_words (Know l basis)) (refl, (literal_plain l, (basis_plain basis, tt)))
-clause_is_line (Loop event steps) = join_line (clause_words (Loop event steps)) (refl, (number_plain event.0, steps_plain steps))
-clause_is_line (Assume literals) = join_line (clause_words (Assume literals)) (refl, map_plain literal_word literal_plain literals)
-clause_is_line Close = join_line (clause_words Close) (refl, tt)
+clause_is_line l =
+    let w = clause_plain l in
+    rw w.parts (join_line (w.first ∷ w.others) w.plain)
 
 pub clause_stands : (text : List ℕ) (l : ClauseLine) (more : List ℕ) → text ≡ clause_line_text l ++ more → Begins text (line_of (clause_words l)) more
 clause_stands text l more e = record { is_line = clause_is_line l; text_is = e }
@@ -110,16 +100,15 @@ pub record AreLeft (shown : List ClauseLine) (more : List ℕ) (read : List Clau
 
 -- however a right proof goes on, its lines so far were read, at least one byte for each
 abbrev pub IsReading : Net → Goal → List ℕ → ℕ → List StoredLine → List ℕ → Type 0
-IsReading net goal text number read rest = (shown : List StoredLine) (more : List ℕ) → IsClauseProof net goal (lines_of shown) → length shown < 2 ^ 32 → BeginsOther more
+IsReading net goal text number read rest = (shown : List StoredLine) (more : List ℕ) → IsClauseProof net goal (lines_of shown) → All IsClauseLine (lines_of shown) → BeginsOther more
     → text ≡ flat_map clause_line_text (lines_of shown) ++ more → AreLeft (lines_of shown) more (lines_of read) rest × (number + length rest ≤ length text)
 
-pub starts_reading : (net : Net) (goal : Goal) (limits : Limits) (text rest : List ℕ) (read : List StoredLine) → IsNet net → AreLimits net limits → goal.from.0 < net.events → goal.to.0 < net.events
-    → read ≡ [] → rest ≡ text → IsReading net goal text 0 read rest
-starts_reading net goal limits text rest read is_net are_limits from to none same shown more proof few other stands = (
+pub starts_reading : (net : Net) (goal : Goal) (text rest : List ℕ) (read : List StoredLine) → read ≡ [] → rest ≡ text → IsReading net goal text 0 read rest
+starts_reading net goal text rest read none same shown more proof forms other stands = (
   record {
     left = lines_of shown;
     all = ap (λ (ls : List StoredLine). lines_of ls ++ lines_of shown) none;
-    forms = proof_named net goal limits (lines_of shown) is_net are_limits from to (omega (arith, few, length-map shown stored_line)) proof;
+    forms = recursion_from_All IsClauseLine (lines_of shown) forms;
     stands = same ∙ stands;
   },
   omega (arith, ap length same),
@@ -174,7 +163,7 @@ spent_left shown more read rest h none = none_left shown more read rest h (λ te
 
 -- the lines so far lead to the state of the checker, so the others lead on from there
 pub goes_on : (net : Net) (goal : Goal) (check : Checking) (read : List StoredLine) (others : List ClauseLine) → IsProving net (record { check = check; lines = read }) → check.goal ≡ goal
-    → IsClauseProof net goal (lines_of read ++ others) → (after : State) × ProofLeads net check.goal check.state others after × IsOver net check.goal after
+    → IsClauseProof net goal (lines_of read ++ others) → (after : State) × ProofLeads net check.goal check.state others after × IsOver check.goal after
 goes_on net goal check read others proving same proof =
     let (after, leads, over) = subst (λ (g : Goal). IsClauseProof net g (lines_of read ++ others)) (sym same) proof in
     (after, rest_leads net check.goal (starting net check.goal.from) (lines_of read) others check.state after proving.lines leads, over)
@@ -187,11 +176,11 @@ is_taken net goal check read l others proving same proof refused =
 
 -- behind all lines of a right proof the checker is over
 pub is_over : (net : Net) (goal : Goal) (check : Checking) (read shown : List StoredLine) → IsProving net (record { check = check; lines = read }) → check.goal ≡ goal
-    → lines_of read ≡ lines_of shown → IsClauseProof net goal (lines_of shown) → IsOver net check.goal check.state
+    → lines_of read ≡ lines_of shown → IsClauseProof net goal (lines_of shown) → IsOver check.goal check.state
 is_over net goal check read shown proving same all proof =
     let (after, leads, over) =
     goes_on net goal check read [] proving same (subst (λ (ls : List ClauseLine). IsClauseProof net goal ls) (sym (append-nil (lines_of read) ∙ all)) proof) in
-    subst (λ (s : State). IsOver net check.goal s) (sym leads) over
+    subst (λ (s : State). IsOver check.goal s) (sym leads) over
 
 -- ---- steps of the reading
 
@@ -201,10 +190,10 @@ pub reads_taken : (net : Net) (goal : Goal) (check : Checking) (text rest : List
     → ((line after : List ℕ) → Begins rest line after → SpellsClause line (stored_line r))
     → ((line after : List ℕ) (l : ClauseLine) → Begins rest line after → SpellsClause line l → stored_line r ≡ l)
     → ((next : State) → IsLine net check.goal check.state (stored_line r) next → ⊥)
-    → (shown : List StoredLine) (more : List ℕ) → IsClauseProof net goal (lines_of shown) → length shown < 2 ^ 32 → BeginsOther more
+    → (shown : List StoredLine) (more : List ℕ) → IsClauseProof net goal (lines_of shown) → All IsClauseLine (lines_of shown) → BeginsOther more
     → text ≡ flat_map clause_line_text (lines_of shown) ++ more → ⊥
-reads_taken net goal check text rest number read r reading proving same some is refused shown more proof few other stands =
-    let (left, many) = reading shown more proof few other stands in
+reads_taken net goal check text rest number read r reading proving same some is refused shown more proof forms other stands =
+    let (left, many) = reading shown more proof forms other stands in
     let (others, all, forms, begins) = first_left (lines_of shown) more (lines_of read) rest left other (Some r) some is in
     is_taken net goal check read (stored_line r) others proving same (subst (λ (ls : List ClauseLine). IsClauseProof net goal ls) (sym all) proof) refused
 
@@ -213,8 +202,8 @@ pub reads_more : (net : Net) (goal : Goal) (text rest next : List ℕ) (number :
     → ((line after : List ℕ) → Begins rest line after → SpellsClause line (stored_line r))
     → ((line after : List ℕ) (l : ClauseLine) → Begins rest line after → SpellsClause line l → stored_line r ≡ l)
     → grown ≡ read ++ r ∷ [] → ((line after : List ℕ) → Begins rest line after → next ≡ after) → IsReading net goal text (number + 1) grown next
-reads_more net goal text rest next number read grown r reading some is grows passed shown more proof few other stands =
-    let (left, many) = reading shown more proof few other stands in
+reads_more net goal text rest next number read grown r reading some is grows passed shown more proof forms other stands =
+    let (left, many) = reading shown more proof forms other stands in
     let (others, all, forms, begins) = first_left (lines_of shown) more (lines_of read) rest left other (Some r) some is in
     let behind : next ≡ flat_map clause_line_text others ++ more = passed (line_of (clause_words (stored_line r))) _ begins in
     let is_grown : lines_of grown ≡ lines_of read ++ stored_line r ∷ [] = ap lines_of grows ∙ map-append stored_line read (r ∷ []) in (
@@ -237,7 +226,7 @@ reads_more net goal text rest next number read grown r reading some is grows pas
 
 -- lines that lead to a checker which is over are a proof
 pub ended_proves : (net : Net) (goal : Goal) (check : Checking) (lines : List StoredLine) (r : Result (Vec StoredLine) CheckStop) → IsProving net (record { check = check; lines = lines }) → check.goal ≡ goal
-    → OnOk r (IsOver net check.goal check.state) → IfOk r (λ found. found.items ≡ lines) → IfOk r (λ found. IsClauseProof net goal (lines_of found.items))
+    → OnOk r (IsOver check.goal check.state) → IfOk r (λ found. found.items ≡ lines) → IfOk r (λ found. IsClauseProof net goal (lines_of found.items))
 ended_proves net goal check lines (Ok found) proving same over is =
     subst (λ (ls : List StoredLine). IsClauseProof net goal (lines_of ls)) (sym is)
     (subst (λ (g : Goal). IsClauseProof net g (lines_of lines)) same (check.state, proving.lines, over))

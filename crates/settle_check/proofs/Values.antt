@@ -1,5 +1,5 @@
 -- The numbers of what is found fit 64 bits, and the greatest separation of a bound's pair is below the far line.
-use Rattle.std.proofs.Common.{◌≡◌, ◌<◌, ℕ, ℤ, pos, neg_ℤ, ◌-ℤ◌, ◌<ℤ◌, Bool, true, List, [], length, get_or, All, refl, sym, subst, ◌∙◌, arith}
+use Rattle.std.proofs.Common.{◌≡◌, ◌<◌, ℕ, ℤ, pos, negsuc, neg_ℤ, ◌-ℤ◌, ◌<ℤ◌, Bool, true, List, [], length, get_or, All, refl, sym, subst, ◌∙◌, arith}
 use Rattle.std.specs.Prelude.{◌^◌}
 use Rattle.std.proofs.lemmas.Int.{ints}
 use Rattle.itv_base.specs.declared.names.EventId.{EventId}
@@ -10,7 +10,8 @@ use Rattle.event_graph.specs.Times.{time_of}
 use Rattle.event_graph.proofs.Reversing.{least_is_reversed_greatest}
 use Rattle.falling.specs.Cap.{far_line}
 use Rattle.line_words.specs.Numbers.{IsLong}
-use Rattle.settle.specs.Proofs.{IsProofAs}
+use Rattle.edge_clauses.specs.Proofs.{IsProofAs, lines_of}
+use Rattle.settle_lines.specs.Text.{IsClauseLine}
 use Rattle.slack_report.specs.declared.words.Which.{Which}
 use Rattle.slack_report.specs.declared.words.Which.TheVariants.{Max, Min}
 use Rattle.drawn.specs.Drawn.{IsRowOf}
@@ -19,10 +20,13 @@ use Rattle.settle_report.specs.declared.proof.Proof.{Proof}
 use Rattle.settle_report.specs.Answers.{CanRise, IsEndless, IsExtreme, IsNumber, IsRefuted, ProvesClaim, first_event}
 use Rattle.settle_check.specs.declared.pair.Pair.{Pair}
 use Rattle.settle_check.specs.Step.{IsShownProof, claim_of, pair_of}
-use Rattle.settle_check.proofs.Forms.{wide}
 use Rattle.settle_check.proofs.Near.{greatest_is_near}
 
 -- ---- numbers of 64 bits
+
+wide : (z : ℤ) → neg_ℤ (pos (2 ^ 62)) <ℤ z → z <ℤ pos (2 ^ 62) → IsLong z
+wide (pos n) low high = record { sfits = omega (arith, ints, low, high) }
+wide (negsuc n) low high = record { sfits = omega (arith, ints, low, high) }
 
 long_time : (time : ℤ) → IsPrintedTime time → IsLong time
 long_time time h = wide time (omega (arith, ints, h.0, h.1)) (omega (arith, ints, h.0, h.1))
@@ -57,11 +61,14 @@ claim_long Min value both = both.1
 -- ---- proofs of bounds
 
 proves_as : (net : Net) (from to : EventId) (value : ℤ) (proof : Proof) → ProvesClaim true net from to value proof
-    → (proof.claim ≡ value) × IsProofAs proof.view net from to proof.claim proof.lines.items
-proves_as net from to value proof p = (p.0, subst (λ (claim : ℤ). IsProofAs proof.view net from to claim proof.lines.items) (sym p.0) (p.1 refl))
+    → (proof.claim ≡ value) × IsProofAs proof.view net from to proof.claim proof.lines.items × All IsClauseLine (lines_of proof.lines.items)
+proves_as net from to value proof p =
+    let lines = p.1 refl in
+    (p.0, subst (λ (claim : ℤ). IsProofAs proof.view net from to claim proof.lines.items) (sym p.0) lines.0, lines.1)
 
 extreme_proves : (net : Net) (which : Which) (row : Row) (value : ℤ) (proof : Proof) → IsExtreme true which net row value proof
     → (proof.claim ≡ claim_of which value) × IsProofAs proof.view net (pair_of which row).from (pair_of which row).to proof.claim proof.lines.items
+    × All IsClauseLine (lines_of proof.lines.items)
 extreme_proves net Max row value proof e = proves_as net row.from row.to value proof e.1
 extreme_proves net Min row value proof e = proves_as net row.to row.from (neg_ℤ value) proof e.1
 
@@ -71,13 +78,13 @@ number_claimed net which row value times proof n = (extreme_proves net which row
 
 -- the proof of a number stands for its pair
 pub number_shown : (net : Net) (which : Which) (row : Row) (value : ℤ) (times : List ℤ) (proof : Proof) (pair : Pair) → pair ≡ pair_of which row → IsRowOf net row
-    → IsNumber true net which row value times proof → length proof.lines.items < 2 ^ 32 → IsShownProof net pair proof
-number_shown net which row value times proof pair is within n few =
+    → IsNumber true net which row value times proof → IsShownProof net pair proof
+number_shown net which row value times proof pair is within n =
     let p = extreme_proves net which row value proof n.extreme in
     subst (λ (pair : Pair). IsShownProof net pair proof) (sym is) (record {
       proves = p.1;
       fits = subst IsLong (sym p.0) (claim_long which value (both_long net which row value times proof within n));
-      few = few;
+      forms = p.2;
     })
 
 extreme_near : (net : Net) (which : Which) (row : Row) (value : ℤ) (proof : Proof) → IsNet net → IsRowOf net row → IsExtreme true which net row value proof
@@ -95,10 +102,11 @@ number_near net which row value times proof is_net within n =
 -- ---- proofs that no times satisfy
 
 -- the proof of an inconsistent finding stands for the pair of event 0 and itself
-pub refuted_shown : (net : Net) (proof : Proof) (pair : Pair) → pair ≡ record { from = first_event; to = first_event } → IsRefuted true net proof → length proof.lines.items < 2 ^ 32
+pub refuted_shown : (net : Net) (proof : Proof) (pair : Pair) → pair ≡ record { from = first_event; to = first_event } → IsRefuted true net proof
     → IsShownProof net pair proof
-refuted_shown net proof pair is refuted few =
-    subst (λ (pair : Pair). IsShownProof net pair proof) (sym is) (record { proves = refuted.proves.1 refl; fits = refuted.fits; few = few })
+refuted_shown net proof pair is refuted =
+    let lines = refuted.proves.1 refl in
+    subst (λ (pair : Pair). IsShownProof net pair proof) (sym is) (record { proves = lines.0; fits = refuted.fits; forms = lines.1 })
 
 none_below : {k n : ℕ} → k < n → n ≡ 0 → ⊥
 none_below h e = omega arith

@@ -1,7 +1,6 @@
 -- A right text is read part by part.
 use Rattle.std.proofs.Common.{◌≡◌, ◌+◌, ◌-◌, ◌<◌, ◌≤◌, ℕ, zero, suc, true, List, [], ◌∷◌, ◌++◌, length, take, drop, Some, slice_get, refl, sym, ap, subst, ◌∙◌, append_assoc, append-nil, drop-drop, drop_at, arith, length-drop, take_all}
-use Rattle.std.specs.Prelude.{All, IsErrAnd, Result, Ok, Err}
-use Rattle.std.proofs.lemmas.List.Elements.{All-head, All-tail}
+use Rattle.std.specs.Prelude.{IsErrAnd, Result, Ok, Err}
 use Rattle.std.proofs.lemmas.Option.{same_Some}
 use Rattle.std.proofs.lemmas.Result.{err_from_is_err_and}
 use Rattle.slack_report.specs.declared.words.Which.TheVariants.{Max, Min}
@@ -10,10 +9,10 @@ use Rattle.slack_report.specs.Text.{entry_text}
 use Rattle.drawn.specs.Drawn.{Drawn, name_of}
 use Rattle.drawn.specs.declared.row.Row.{Row}
 use Rattle.settle_report.specs.declared.row.RowFound.{RowFound}
-use Rattle.settle_report.specs.Answers.{AreRowsFound}
+use Rattle.settle_report.specs.Answers.{AreRowsFound, IsRowFound}
 use Rattle.settle_report.specs.Text.{bound_text, judged_text, row_text, rows_text}
 use Rattle.settle_check.specs.declared.check_stop.CheckStop.{CheckStop}
-use Rattle.settle_check.specs.Step.{AreSameRows, AreShownRows, Gives, HasFewRows, IsSameRow, IsShownRow, IsWant}
+use Rattle.settle_check.specs.Step.{AreSameRows, Gives, IsSameRow, IsWant}
 
 -- ---- results
 
@@ -71,12 +70,11 @@ pub record RowsLeft (drawn : Drawn) (found : List RowFound) (more : List ℕ) (n
   pub all : front ++ left ≡ found
   pub same : AreSameRows front read
   pub are_found : AreRowsFound true drawn.net rows left
-  pub few : All HasFewRows left
   pub stands : rest ≡ rows_text drawn true number rows left ++ more
 
 -- however right rows go on, the rows so far were read
 abbrev pub AreReading : Drawn → List ℕ → ℕ → List RowFound → List ℕ → Type 0
-AreReading drawn text number read rest = (found : List RowFound) (more : List ℕ) → AreShownRows drawn.net drawn.rows found → text ≡ rows_text drawn true 0 drawn.rows found ++ more
+AreReading drawn text number read rest = (found : List RowFound) (more : List ℕ) → AreRowsFound true drawn.net drawn.rows found → text ≡ rows_text drawn true 0 drawn.rows found ++ more
     → RowsLeft drawn found more number read rest
 
 pub starts_rows : (drawn : Drawn) (text rest : List ℕ) (read : List RowFound) → read ≡ [] → rest ≡ text → AreReading drawn text 0 read rest
@@ -87,8 +85,7 @@ starts_rows drawn text rest read none same found more shown stands = record {
   rows_are = refl;
   all = refl;
   same = subst (AreSameRows []) (sym none) tt;
-  are_found = shown.are_found;
-  few = shown.few;
+  are_found = shown;
   stands = same ∙ stands;
 }
 
@@ -111,35 +108,33 @@ pub record RowNext (drawn : Drawn) (found : List RowFound) (more : List ℕ) (nu
   pub others : List RowFound
   pub rows : List Row
   pub front : List RowFound
-  pub is_shown : IsShownRow drawn.net row shown
+  pub is_shown : IsRowFound true drawn.net row shown
   pub stands : rest ≡ row_text drawn true number row shown ++ (rows_text drawn true (number + 1) rows others ++ more)
   pub rows_are : drop (number + 1) drawn.rows ≡ rows
   pub all : front ++ shown ∷ others ≡ found
   pub same : AreSameRows front read
   pub are_found : AreRowsFound true drawn.net rows others
-  pub few : All HasFewRows others
 
 pub next_row : (drawn : Drawn) (found : List RowFound) (more : List ℕ) (number : ℕ) (read : List RowFound) (row : Row) (rest : List ℕ) → slice_get drawn.rows number ≡ Some row
     → RowsLeft drawn found more number read rest → RowNext drawn found more number read row rest
 next_row drawn found more number read row rest at h =
     let (others, is) = drop_some drawn.rows number row at in
-    by_left h.left h.all h.few others (subst (λ (rows : List Row). AreRowsFound true drawn.net rows h.left) (sym h.rows_are ∙ is) h.are_found)
+    by_left h.left h.all others (subst (λ (rows : List Row). AreRowsFound true drawn.net rows h.left) (sym h.rows_are ∙ is) h.are_found)
     (subst (λ (rows : List Row). rest ≡ rows_text drawn true number rows h.left ++ more) (sym h.rows_are ∙ is) h.stands) (drop_next drawn.rows number row others is).1 where
-      by_left : (left : List RowFound) → h.front ++ left ≡ found → All HasFewRows left → (others : List Row) → AreRowsFound true drawn.net (row ∷ others) left
+      by_left : (left : List RowFound) → h.front ++ left ≡ found → (others : List Row) → AreRowsFound true drawn.net (row ∷ others) left
           → rest ≡ rows_text drawn true number (row ∷ others) left ++ more → drop (number + 1) drawn.rows ≡ others → RowNext drawn found more number read row rest
-      by_left [] all few others are stands behind = absurd are
-      by_left (shown ∷ left) all few others are stands behind = record {
+      by_left [] all others are stands behind = absurd are
+      by_left (shown ∷ left) all others are stands behind = record {
         shown = shown;
         others = left;
         rows = others;
         front = h.front;
-        is_shown = record { is_found = are.0; few = All-head HasFewRows shown left few };
+        is_shown = are.0;
         stands = stands ∙ append_assoc (row_text drawn true number row shown) (rows_text drawn true (number + 1) others left) more;
         rows_are = behind;
         all = all;
         same = h.same;
         are_found = are.1;
-        few = All-tail HasFewRows shown left few;
       }
 
 -- one row more was read
@@ -154,7 +149,6 @@ row_more drawn found more number read grown row of_row rest next h same grows st
   all = append_assoc h.front (h.shown ∷ []) h.others ∙ h.all;
   same = subst (AreSameRows (h.front ++ h.shown ∷ [])) (sym grows) (same_rows_push h.front read h.shown of_row h.same same);
   are_found = h.are_found;
-  few = h.few;
   stands = stands;
 }
 
@@ -189,9 +183,9 @@ row_there (r ∷ rows) (suc number) within = row_there rows number (omega arith)
 
 -- what is read of each right row that stands next holds of the next row of right rows
 pub row_read : (drawn : Drawn) (text rest : List ℕ) (number : ℕ) (read : List RowFound) (P : RowFound → List ℕ → Type 0) → number < length drawn.rows → AreReading drawn text number read rest
-    → ((row : Row) (shown : RowFound) (more : List ℕ) → slice_get drawn.rows number ≡ Some row → IsShownRow drawn.net row shown
+    → ((row : Row) (shown : RowFound) (more : List ℕ) → slice_get drawn.rows number ≡ Some row → IsRowFound true drawn.net row shown
     → rest ≡ row_text drawn true number row shown ++ more → P shown more)
-    → (found : List RowFound) (more : List ℕ) → AreShownRows drawn.net drawn.rows found → text ≡ rows_text drawn true 0 drawn.rows found ++ more
+    → (found : List RowFound) (more : List ℕ) → AreRowsFound true drawn.net drawn.rows found → text ≡ rows_text drawn true 0 drawn.rows found ++ more
     → (row : Row) × (h : RowNext drawn found more number read row rest) × P h.shown (rows_text drawn true (number + 1) h.rows h.others ++ more)
 row_read drawn text rest number read P within reading next found more shown stands =
     let (row, at) = row_there drawn.rows number within in
@@ -200,15 +194,15 @@ row_read drawn text rest number read P within reading next found more shown stan
 
 -- memory ran out where a row was read
 pub row_wants : (drawn : Drawn) (text rest : List ℕ) (number : ℕ) (read : List RowFound) (e : CheckStop) → number < length drawn.rows → AreReading drawn text number read rest
-    → ((row : Row) (shown : RowFound) (more : List ℕ) → slice_get drawn.rows number ≡ Some row → IsShownRow drawn.net row shown
+    → ((row : Row) (shown : RowFound) (more : List ℕ) → slice_get drawn.rows number ≡ Some row → IsRowFound true drawn.net row shown
     → rest ≡ row_text drawn true number row shown ++ more → IsWant e)
-    → (found : List RowFound) (more : List ℕ) → AreShownRows drawn.net drawn.rows found → text ≡ rows_text drawn true 0 drawn.rows found ++ more → IsWant e
+    → (found : List RowFound) (more : List ℕ) → AreRowsFound true drawn.net drawn.rows found → text ≡ rows_text drawn true 0 drawn.rows found ++ more → IsWant e
 row_wants drawn text rest number read e within reading next found more shown stands =
     let (row, h, want) = row_read drawn text rest number read (λ r behind. IsWant e) within reading next found more shown stands in want
 
 -- the rows are still being read after one row more
 pub reads_row : (drawn : Drawn) (text rest next : List ℕ) (number : ℕ) (read grown : List RowFound) (of_row : RowFound) → number < length drawn.rows → AreReading drawn text number read rest
-    → ((row : Row) (shown : RowFound) (more : List ℕ) → slice_get drawn.rows number ≡ Some row → IsShownRow drawn.net row shown
+    → ((row : Row) (shown : RowFound) (more : List ℕ) → slice_get drawn.rows number ≡ Some row → IsRowFound true drawn.net row shown
     → rest ≡ row_text drawn true number row shown ++ more → IsSameRow shown of_row × (next ≡ more))
     → grown ≡ read ++ of_row ∷ [] → AreReading drawn text (number + 1) grown next
 reads_row drawn text rest next number read grown of_row within reading takes grows found more shown stands =

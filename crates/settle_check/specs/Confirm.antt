@@ -1,14 +1,14 @@
 -- What job confirm answers and writes.
-use Rattle.std.specs.Prelude.{◌<◌, ◌≤◌, ◌^◌, ℕ, List, length, true}
+use Rattle.std.specs.Prelude.{◌≤◌, ℕ, List, true}
 use Rattle.jobs.specs.declared.answer.Answer.{Answer}
 use Rattle.drawn.specs.Drawn.{Drawn}
 use Rattle.report_check.specs.Check.{AnswersBy}
 use Rattle.settle_report.specs.Settle.{IsSettleText}
 
--- A line may be refused: it is counted from 1, and the bytes are no text of job settle with its proofs. Of 2^32 bytes and more nothing is said.
+-- a line may be refused: it is counted from 1, and the bytes are no text of job settle with its proofs
 pub record MayRefuse (drawn : Drawn) (bytes : List ℕ) (line : ℕ) : Type 0 where
   pub counted : 1 ≤ line
-  pub not_settled : length bytes < 2 ^ 32 → IsSettleText drawn true bytes → ⊥
+  pub not_settled : IsSettleText drawn true bytes → ⊥
 
 -- What the job answers and writes. It accepts bytes if and only if they are a text of job settle with its proofs, whoever wrote them. So what an accepted
 -- text says of the network and of each row is right, and each of its proofs is a proof; and a text that job settle wrote with its proofs is accepted.

@@ -1,5 +1,5 @@
 -- What the steps of a check promise one another.
-use Rattle.std.specs.Prelude.{◌≡◌, ◌≤◌, ◌<◌, ◌++◌, ◌∷◌, ◌^◌, ℕ, ℤ, neg_ℤ, true, false, List, [], All, Option, Some, None, Result, Ok, Err, length, take}
+use Rattle.std.specs.Prelude.{◌≡◌, ◌≤◌, ◌<◌, ◌++◌, ◌∷◌, ℕ, ℤ, neg_ℤ, false, List, [], All, Option, Some, None, Result, Ok, Err, length, take}
 use Rattle.std.specs.List.{AllByRecursion}
 use Rattle.std.specs.Str.{IsUtf8}
 use denote.Ref.{Bor}
@@ -12,9 +12,9 @@ use Rattle.event_graph.specs.Network.{Net}
 use Rattle.event_graph.specs.Satisfying.{Satisfies}
 use Rattle.falling.specs.DerivationEnds.{AreLimits}
 use Rattle.falling.specs.Kinds.{negated}
-use Rattle.clauses.specs.Lines.{ClauseLine}
-use Rattle.settle.specs.Proofs.{IsProofAs, lines_of}
-use Rattle.settle_lines.specs.Text.{SpellsClause}
+use Rattle.edge_clauses.specs.Lines.{ClauseLine}
+use Rattle.edge_clauses.specs.Proofs.{IsProofAs, lines_of}
+use Rattle.settle_lines.specs.Text.{IsClauseLine, SpellsClause}
 use Rattle.slack_report.specs.declared.words.Which.{Which}
 use Rattle.slack_report.specs.declared.words.Which.TheVariants.{Max, Min}
 use Rattle.drawn.specs.declared.row.Row.{Row}
@@ -24,7 +24,6 @@ use Rattle.settle_report.specs.declared.proof.Proof.{Proof}
 use Rattle.settle_report.specs.declared.bound.SettledBound.{SettledBound}
 use Rattle.settle_report.specs.declared.bound.SettledBound.TheVariants as settled
 use Rattle.settle_report.specs.declared.row.RowFound.{RowFound}
-use Rattle.settle_report.specs.Answers.{AreRowsFound, IsRowFound}
 use Rattle.settle_check.specs.declared.check_stop.CheckStop.{CheckStop}
 use Rattle.settle_check.specs.declared.check_stop.CheckStop.TheVariants.{Refused, NoMemory}
 use Rattle.settle_check.specs.declared.draft.Draft.{Draft}
@@ -159,34 +158,8 @@ AreSameRows (row ∷ rows) (other ∷ others) = IsSameRow row other × AreSameRo
 
 -- ---- proofs that stand next
 
--- a proof for a pair, whose claim has 64 bits and whose lines can be numbered by 32 bits
+-- a proof for a pair, whose claim has 64 bits and whose lines have texts
 pub record IsShownProof (net : Net) (pair : Pair) (proof : Proof) : Type 0 where
   pub proves : IsProofAs proof.view net pair.from pair.to proof.claim proof.lines.items
   pub fits : IsLong proof.claim
-  pub few : length proof.lines.items < 2 ^ 32
-
--- the proof of a finding, if it has one, can be numbered by 32 bits
-abbrev pub HasFewLines : Finding → Type 0
-HasFewLines (Consistent times) = Unit {0}
-HasFewLines (Inconsistent proof) = length proof.lines.items < 2 ^ 32
-HasFewLines Spent = Unit {0}
-
--- the proof of a bound, if it has one, can be numbered by 32 bits
-abbrev pub HasFewLinesIn : SettledBound → Type 0
-HasFewLinesIn (settled.Closed value times proof) = length proof.lines.items < 2 ^ 32
-HasFewLinesIn (settled.Unbounded times ray) = Unit {0}
-HasFewLinesIn settled.Spent = Unit {0}
-
--- the proofs of both bounds of a row can be numbered by 32 bits
-abbrev pub HasFewRows : RowFound → Type 0
-HasFewRows found = HasFewLinesIn found.greatest × HasFewLinesIn found.least
-
--- what was found of a row, with proofs that can be numbered by 32 bits
-pub record IsShownRow (net : Net) (row : Row) (found : RowFound) : Type 0 where
-  pub is_found : IsRowFound true net row found
-  pub few : HasFewRows found
-
--- what was found of each row, with such proofs
-pub record AreShownRows (net : Net) (rows : List Row) (found : List RowFound) : Type 0 where
-  pub are_found : AreRowsFound true net rows found
-  pub few : All HasFewRows found
+  pub forms : All IsClauseLine (lines_of proof.lines.items)

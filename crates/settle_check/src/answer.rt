@@ -1,6 +1,6 @@
 //! The line that says whether a text is accepted.
 
-ghost use Rattle.std.specs.Prelude.{◌≡◌, ◌<◌, ◌≤◌, ◌^◌, ℕ, List, length, true};
+ghost use Rattle.std.specs.Prelude.{◌≡◌, ◌≤◌, ℕ, List, true};
 ghost use Rattle.jobs.specs.JobWrote.{Answered, JobWrote};
 ghost use Rattle.drawn.specs.Drawn.{Drawn};
 ghost use Rattle.report_check.specs.Check.{accepted_text, refused_text};
@@ -47,7 +47,7 @@ fn accept<K: Sink>(sink: &mut K) -> Result<Answer, Unanswered>
 // Writes that a line is refused.
 fn refuse<K: Sink>(line: u64, sink: &mut K) -> Result<Answer, Unanswered>
     requires line { 1 ≤ line }
-    ensures works { (drawn : Drawn) (text : List ℕ) → (length text < 2 ^ 32 → IsSettleText drawn true text → ⊥)
+    ensures works { (drawn : Drawn) (text : List ℕ) → (IsSettleText drawn true text → ⊥)
         → JobWrote (AnswersConfirm drawn text) (Answered (AnswersConfirm drawn text)) (K.state sink.old) (K.state sink.new) result }
 {
     match put_refused(line, sink) {

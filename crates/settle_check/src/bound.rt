@@ -1,6 +1,6 @@
 //! Checking a bound of a row.
 
-ghost use Rattle.std.specs.Prelude.{◌≡◌, ◌∷◌, ◌<ℤ◌, ◌<◌, ◌^◌, ◌++◌, ◌↔◌, ℕ, ℤ, pos, true, [], IfOk, Bool, IsTrue, List, codes, length};
+ghost use Rattle.std.specs.Prelude.{◌≡◌, ◌∷◌, ◌<ℤ◌, ◌++◌, ◌↔◌, ℕ, ℤ, pos, true, [], IfOk, Bool, IsTrue, List, codes};
 ghost use Rattle.std.specs.Global.{Vec};
 ghost use Rattle.line_words.specs.Lines.{line_of};
 ghost use Rattle.event_graph.specs.Network.{Net};
@@ -8,7 +8,7 @@ ghost use Rattle.event_graph.specs.Times.{separation};
 ghost use Rattle.requirements.specs.Bounds.{HasTimes};
 ghost use Rattle.drawn.specs.Drawn.{IsRowOf};
 ghost use Rattle.falling.specs.Cap.{far_line};
-ghost use Rattle.settle.specs.Proofs.{IsProofAs};
+ghost use Rattle.edge_clauses.specs.Proofs.{IsProofAs};
 ghost use Rattle.requirements.specs.declared.bound.Bound.TheVariants as bounds;
 ghost use Rattle.slack_report.specs.Entry.{bound as entry_bound, raise, times as entry_times};
 ghost use Rattle.slack_report.specs.Text.{entry_line, entry_text, which_word};
@@ -17,7 +17,7 @@ ghost use Rattle.settle_report.specs.declared.bound.SettledBound.TheVariants.{Cl
 ghost use Rattle.settle_report.specs.declared.proof.Proof.{Proof};
 ghost use Rattle.settle_report.specs.Answers.{ArePrintedTimes, IsBound, IsEndless, IsNumber, bound_of};
 ghost use Rattle.settle_report.specs.Text.{bound_text, shown_text};
-ghost use Rattle.settle_check.specs.Step.{AreViewsOf, Gives, HasFewLinesIn, IsSameBound, claim_of, pair_of};
+ghost use Rattle.settle_check.specs.Step.{AreViewsOf, Gives, IsSameBound, claim_of, pair_of};
 
 use crate::check_stop::CheckStop;
 use crate::pair::Pair;
@@ -27,6 +27,7 @@ use crate::times::{attain, can_rise, row_times_next};
 use crate::views::Views;
 use drawn::Row;
 use event_graph::Network;
+use settle_lines::have_texts;
 use settle_report::{Proof, SettledBound};
 use slack_report::Which;
 use std::alloc::Global;
@@ -45,7 +46,7 @@ pub fn bound_next(
     requires row { IsRowOf net.now row.now }
     ensures bound { IfOk result (IsBound true net.now which row.now) }
     ensures times { IfOk result (λ found. HasTimes (bound_of found)) }
-    ensures read { (shown : SettledBound) → (more : List ℕ) → IsBound true net.now which row.now shown → HasFewLinesIn shown
+    ensures read { (shown : SettledBound) → (more : List ℕ) → IsBound true net.now which row.now shown
         → reader.old.rest.now ≡ bound_text true which shown ++ more → Gives (IsSameBound shown) result }
 {
     if reader.passes(spent_line(which)) {
@@ -113,7 +114,6 @@ fn number_next(
     ensures bound { IfOk result (IsBound true net.now which row.now) }
     ensures times { IfOk result (λ found. HasTimes (bound_of found)) }
     ensures read { (value : ℤ) → (times : Vec ℤ) → (proof : Proof) → (more : List ℕ) → IsNumber true net.now which row.now value times.items proof
-        → length proof.lines.items < 2 ^ 32
         → reader.old.rest.now ≡ shown_text true proof ++ (entry_text (entry_bound which (bounds.Closed value)) ++ (entry_text (entry_times times.items) ++ more))
         → Gives (IsSameBound (Closed value times proof)) result }
 {
@@ -175,5 +175,6 @@ fn number_of(
 {
     // The network is within its limits.
     let _events = net.events();
+    have_texts(&proof.lines);
     SettledBound::Closed(value, times, proof)
 }

@@ -1,11 +1,11 @@
 //! Checking a text from its front to its end.
 
-ghost use Rattle.std.specs.Prelude.{◌≡◌, ◌<◌, ◌≤◌, ◌^◌, ◌++◌, ℕ, true, IfOk, List, OnOk, drop, length};
+ghost use Rattle.std.specs.Prelude.{◌≡◌, ◌≤◌, ◌++◌, ℕ, true, IfOk, List, OnOk, drop, length};
 ghost use Rattle.settle_report.specs.declared.finding.Finding.{Finding};
 ghost use Rattle.settle_report.specs.Answers.{IsFinding};
 ghost use Rattle.settle_report.specs.Settle.{IsSettleText};
 ghost use Rattle.settle_report.specs.Text.{finding_text};
-ghost use Rattle.settle_check.specs.Step.{AreViewsOf, Gives, HasFewLines, GivesSome, IsPieceAt, IsSameFinding};
+ghost use Rattle.settle_check.specs.Step.{AreViewsOf, Gives, GivesSome, IsPieceAt, IsSameFinding};
 
 use crate::check_stop::CheckStop;
 use crate::compare::{behind_ending, behind_finding, behind_front};
@@ -23,7 +23,7 @@ use std::alloc::Global;
 /// Checks a text against a drawn network, part by part. Each part is read, checked, written again and compared.
 pub fn confirm_text(alloc: Global, drawn: &DrawnNetwork, text: &[u8]) -> Result<(), CheckStop>
     ensures confirmed { OnOk result (IsSettleText drawn.now true text.now) }
-    ensures whole { length text.now < 2 ^ 32 → IsSettleText drawn.now true text.now → GivesSome result }
+    ensures whole { IsSettleText drawn.now true text.now → GivesSome result }
 {
     let net = drawn.network();
     let views = Views::new(alloc, net)?;
@@ -76,7 +76,7 @@ fn finding_read(
     requires place { place ≤ length text.now }
     ensures finding { IfOk result (λ read. IsFinding true net.now read.finding) }
     ensures behind { IfOk result (λ read. IsPieceAt text.now place (finding_text true read.finding) read.place) }
-    ensures read { (shown : Finding) → (more : List ℕ) → IsFinding true net.now shown → HasFewLines shown → drop place text.now ≡ finding_text true shown ++ more
+    ensures read { (shown : Finding) → (more : List ℕ) → IsFinding true net.now shown → drop place text.now ≡ finding_text true shown ++ more
         → Gives (λ read. IsSameFinding shown read.finding × (drop read.place text.now ≡ more)) result }
 {
     let finding = finding_next(alloc, net, views, &mut Reader::new(text, place))?;

@@ -1,6 +1,6 @@
 //! Checking the finding.
 
-ghost use Rattle.std.specs.Prelude.{◌≡◌, ◌<◌, ◌<ℤ◌, ◌^◌, ◌++◌, ◌↔◌, ℕ, ℤ, neg_ℤ, pos, true, IfOk, IsTrue, List, length};
+ghost use Rattle.std.specs.Prelude.{◌≡◌, ◌<◌, ◌<ℤ◌, ◌++◌, ◌↔◌, ℕ, ℤ, neg_ℤ, pos, true, IfOk, IsTrue, List};
 ghost use Rattle.std.specs.Global.{Vec};
 ghost use Rattle.line_words.specs.Numbers.{IsLong};
 ghost use Rattle.slack_report.specs.declared.words.FindingWord.TheVariants.{Inconsistent as IsInconsistentWord};
@@ -8,13 +8,13 @@ ghost use Rattle.slack_report.specs.Entry.{finding as entry_finding, times as en
 ghost use Rattle.slack_report.specs.Text.{entry_text};
 ghost use Rattle.event_graph.specs.Network.{Net};
 ghost use Rattle.falling.specs.Cap.{far_line};
-ghost use Rattle.settle.specs.Proofs.{IsProofAs};
+ghost use Rattle.edge_clauses.specs.Proofs.{IsProofAs};
 ghost use Rattle.settle_report.specs.declared.finding.Finding.{Finding};
 ghost use Rattle.settle_report.specs.declared.finding.Finding.TheVariants.{Consistent, Inconsistent};
 ghost use Rattle.settle_report.specs.declared.proof.Proof.{Proof};
 ghost use Rattle.settle_report.specs.Answers.{ArePrintedTimes, IsFinding, IsRefuted, first_event};
 ghost use Rattle.settle_report.specs.Text.{finding_text, shown_text};
-ghost use Rattle.settle_check.specs.Step.{AreViewsOf, Gives, HasFewLines, IsSameFinding};
+ghost use Rattle.settle_check.specs.Step.{AreViewsOf, Gives, IsSameFinding};
 
 use crate::check_stop::CheckStop;
 use crate::pair::Pair;
@@ -24,6 +24,7 @@ use crate::times::are_printed;
 use crate::views::Views;
 use event_graph::{Network, time_of};
 use itv_base::EventId;
+use settle_lines::have_texts;
 use settle_report::{Finding, Proof};
 use std::alloc::Global;
 
@@ -40,7 +41,7 @@ pub fn finding_next(
 ) -> Result<Finding, CheckStop>
     requires views { AreViewsOf net.now views.now }
     ensures finding { IfOk result (IsFinding true net.now) }
-    ensures read { (shown : Finding) → (more : List ℕ) → IsFinding true net.now shown → HasFewLines shown → reader.old.rest.now ≡ finding_text true shown ++ more
+    ensures read { (shown : Finding) → (more : List ℕ) → IsFinding true net.now shown → reader.old.rest.now ≡ finding_text true shown ++ more
         → Gives (IsSameFinding shown) result }
 {
     if reader.passes(b"finding spent") {
@@ -86,7 +87,7 @@ fn refuted_next(
 ) -> Result<Finding, CheckStop>
     requires views { AreViewsOf net.now views.now }
     ensures finding { IfOk result (IsFinding true net.now) }
-    ensures read { (shown : Proof) → (more : List ℕ) → IsRefuted true net.now shown → length shown.lines.items < 2 ^ 32
+    ensures read { (shown : Proof) → (more : List ℕ) → IsRefuted true net.now shown
         → reader.old.rest.now ≡ shown_text true shown ++ (entry_text (entry_finding IsInconsistentWord) ++ more) → Gives (IsSameFinding (Inconsistent shown)) result }
 {
     if net.events() == 0 {
@@ -124,5 +125,6 @@ fn refuted_by(net: &Network, proof: Proof) -> Finding
 {
     // The network is within its limits.
     let _events = net.events();
+    have_texts(&proof.lines);
     Finding::Inconsistent(proof)
 }

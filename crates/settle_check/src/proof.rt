@@ -1,13 +1,12 @@
 //! Checking the proof of a pair, line by line.
 
-ghost use Rattle.std.specs.Prelude.{◌≡◌, ◌<◌, ◌^◌, ◌++◌, ℕ, IfOk, List, OnOk, length};
+ghost use Rattle.std.specs.Prelude.{◌≡◌, ◌++◌, ℕ, All, IfOk, List, OnOk};
 ghost use Rattle.std.specs.List.{flat_map};
-ghost use Rattle.clauses.specs.Checking.{IsChecking};
-ghost use Rattle.clauses.specs.Lines.{IsClauseProof, IsOver};
+ghost use Rattle.edge_clauses.specs.Lines.{IsClauseProof, IsOver};
 ghost use Rattle.line_words.specs.Numbers.{IsLong};
-ghost use Rattle.settle.specs.declared.line.StoredLine.{StoredLine};
-ghost use Rattle.settle.specs.Proofs.{IsProofAs, lines_of};
-ghost use Rattle.settle_lines.specs.Text.{clause_line_text, proof_text};
+ghost use Rattle.edge_clauses.specs.declared.line.StoredLine.{StoredLine};
+ghost use Rattle.edge_clauses.specs.Proofs.{IsProofAs, lines_of};
+ghost use Rattle.settle_lines.specs.Text.{IsClauseLine, clause_line_text, proof_text};
 ghost use Rattle.settle_report.specs.declared.proof.Proof.{Proof};
 ghost use Rattle.settle_check.specs.Step.{AreViewsOf, BeginsOther, Gives, IsPairOf, IsSameProof, IsShownProof};
 
@@ -15,10 +14,9 @@ use crate::check_stop::CheckStop;
 use crate::pair::Pair;
 use crate::reader::Reader;
 use crate::views::Views;
-use clauses::{Claim, ClauseChecker};
+use edge_clauses::{Claim, ClauseChecker, StoredLine};
 use event_graph::Network;
 use falling::View;
-use settle::{StoredLine, take_line};
 use settle_report::Proof;
 use std::alloc::Global;
 
@@ -64,7 +62,7 @@ fn lines_as(
     requires views { AreViewsOf net.now views.now }
     requires pair { IsPairOf net.now pair }
     ensures proof { IfOk result (λ lines. IsProofAs view net.now pair.from pair.to claim.value lines.items) }
-    ensures read { (shown : List StoredLine) → (more : List ℕ) → IsProofAs view net.now pair.from pair.to claim.value shown → length shown < 2 ^ 32 → BeginsOther more
+    ensures read { (shown : List StoredLine) → (more : List ℕ) → IsProofAs view net.now pair.from pair.to claim.value shown → All IsClauseLine (lines_of shown) → BeginsOther more
         → reader.old.rest.now ≡ flat_map clause_line_text (lines_of shown) ++ more
         → Gives (λ lines. (lines_of shown ≡ lines_of lines.items) × (reader.new.rest.now ≡ more)) result }
 {
@@ -86,39 +84,35 @@ fn lines_next(
     ensures proof { IfOk result (λ lines. IsClauseProof net.now (record { from = pair.from; to = pair.to; claim = claim.value })
         (lines_of lines.items)) }
     ensures read { (shown : List StoredLine) → (more : List ℕ) → IsClauseProof net.now (record { from = pair.from; to = pair.to; claim = claim.value }) (lines_of shown)
-        → length shown < 2 ^ 32 → BeginsOther more → reader.old.rest.now ≡ flat_map clause_line_text (lines_of shown) ++ more
+        → All IsClauseLine (lines_of shown) → BeginsOther more → reader.old.rest.now ≡ flat_map clause_line_text (lines_of shown) ++ more
         → Gives (λ lines. (lines_of shown ≡ lines_of lines.items) × (reader.new.rest.now ≡ more)) result }
 {
-    // The network is within its limits.
-    let _events = net.events();
-    let mut checker = ClauseChecker::new(alloc, net, pair.from, pair.to, claim)?;
+    let mut checker = ClauseChecker::start(alloc, net, pair.from, pair.to, claim)?;
     let mut lines = Vec::new(alloc);
     for _number in 0..reader.left() {
         let Some(line) = reader.clause(alloc)? else {
-            return ended(net, &checker, lines, reader);
+            return ended(&checker, lines, reader);
         };
-        if !take_line(alloc, net, &mut checker, &line)? {
+        if !checker.take(alloc, net, &line)? {
             return Err(reader.refused());
         }
         lines.push(line)?;
         reader.pass();
     }
-    ended(net, &checker, lines, reader)
+    ended(&checker, lines, reader)
 }
 
 // The lines that a checker has taken, if they are a proof. Otherwise the line that stands next is refused.
 fn ended(
-    net: &Network,
     checker: &ClauseChecker,
     lines: Vec<StoredLine>,
     reader: &Reader<'_>,
 ) -> Result<Vec<StoredLine>, CheckStop>
-    requires checking { IsChecking net.now checker.now }
-    ensures over { OnOk result (IsOver net.now checker.now.goal checker.now.state) }
+    ensures over { OnOk result (IsOver checker.now.goal checker.now.state) }
     ensures same { IfOk result (λ found. found.items ≡ lines.items) }
-    ensures given { IsOver net.now checker.now.goal checker.now.state → Gives (λ found. found.items ≡ lines.items) result }
+    ensures given { IsOver checker.now.goal checker.now.state → Gives (λ found. found.items ≡ lines.items) result }
 {
-    if !checker.is_over(net) {
+    if !checker.is_over() {
         return Err(reader.refused());
     }
     Ok(lines)

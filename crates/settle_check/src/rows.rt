@@ -1,6 +1,6 @@
 //! Checking the rows.
 
-ghost use Rattle.std.specs.Prelude.{◌≡◌, ◌<◌, ◌≤◌, ◌++◌, ℕ, true, Some, All, IfOk, List, drop, length, slice_get};
+ghost use Rattle.std.specs.Prelude.{◌≡◌, ◌<◌, ◌≤◌, ◌++◌, ℕ, true, Some, IfOk, List, drop, length, slice_get};
 ghost use Rattle.requirements.specs.Bounds.{HasTimes};
 ghost use Rattle.drawn.specs.Drawn.{IsRowOf};
 ghost use Rattle.drawn.specs.declared.row.Row.{Row as DrawnRow};
@@ -9,7 +9,7 @@ ghost use Rattle.settle_report.specs.Text.{behind_text, bound_text, judged_text,
 ghost use Rattle.settle_report.specs.declared.bound.SettledBound.{SettledBound};
 ghost use Rattle.settle_report.specs.declared.finding.Finding.{Finding};
 ghost use Rattle.settle_report.specs.declared.row.RowFound.{RowFound};
-ghost use Rattle.settle_check.specs.Step.{AreSameRows, AreShownRows, AreViewsOf, Gives, HasFewLinesIn, HasFewRows, IsPieceAt, IsSameBound, IsSameFinding, IsSameRow, IsShownRow};
+ghost use Rattle.settle_check.specs.Step.{AreSameRows, AreViewsOf, Gives, IsPieceAt, IsSameBound, IsSameFinding, IsSameRow};
 
 use crate::bound::bound_next;
 use crate::check_stop::CheckStop;
@@ -48,7 +48,7 @@ pub fn rows_behind(
     ensures found { IfOk result (λ read. AreFound true drawn.now.net drawn.now.rows finding.now read.found.items) }
     ensures behind { IfOk result (λ read. IsPieceAt text.now place (behind_text drawn.now true finding.now read.found.items) read.place) }
     ensures read { (shown : Finding) → (found : List RowFound) → (more : List ℕ) → IsSameFinding shown finding.now
-        → AreFound true drawn.now.net drawn.now.rows shown found → All HasFewRows found
+        → AreFound true drawn.now.net drawn.now.rows shown found
         → drop place text.now ≡ behind_text drawn.now true shown found ++ more
         → Gives (λ read. AreSameRows found read.found.items × (drop read.place text.now ≡ more)) result }
 {
@@ -77,7 +77,7 @@ fn all_rows(
     requires start { start ≤ length text.now }
     ensures found { IfOk result (λ read. AreRowsFound true drawn.now.net drawn.now.rows read.found.items) }
     ensures behind { IfOk result (λ read. IsPieceAt text.now start (rows_text drawn.now true 0 drawn.now.rows read.found.items) read.place) }
-    ensures read { (found : List RowFound) → (more : List ℕ) → AreShownRows drawn.now.net drawn.now.rows found
+    ensures read { (found : List RowFound) → (more : List ℕ) → AreRowsFound true drawn.now.net drawn.now.rows found
         → drop start text.now ≡ rows_text drawn.now true 0 drawn.now.rows found ++ more
         → Gives (λ read. AreSameRows found read.found.items × (drop read.place text.now ≡ more)) result }
 {
@@ -114,7 +114,7 @@ fn row_next(
     ensures found { IfOk result (λ read. (row : DrawnRow) → slice_get drawn.now.rows number ≡ Some row → IsRowFound true drawn.now.net row read.found) }
     ensures behind { IfOk result (λ read. (row : DrawnRow) → slice_get drawn.now.rows number ≡ Some row
         → IsPieceAt text.now place (row_text drawn.now true number row read.found) read.place) }
-    ensures read { (row : DrawnRow) → (shown : RowFound) → (more : List ℕ) → slice_get drawn.now.rows number ≡ Some row → IsShownRow drawn.now.net row shown
+    ensures read { (row : DrawnRow) → (shown : RowFound) → (more : List ℕ) → slice_get drawn.now.rows number ≡ Some row → IsRowFound true drawn.now.net row shown
         → drop place text.now ≡ row_text drawn.now true number row shown ++ more
         → Gives (λ read. IsSameRow shown read.found × (drop read.place text.now ≡ more)) result }
 {
@@ -161,7 +161,7 @@ fn bound_read(
     ensures bound { IfOk result (λ read. IsBound true net.now which row.now read.found) }
     ensures times { IfOk result (λ read. HasTimes (bound_of read.found)) }
     ensures behind { IfOk result (λ read. IsPieceAt text.now place (bound_text true which read.found) read.place) }
-    ensures read { (shown : SettledBound) → (more : List ℕ) → IsBound true net.now which row.now shown → HasFewLinesIn shown
+    ensures read { (shown : SettledBound) → (more : List ℕ) → IsBound true net.now which row.now shown
         → drop place text.now ≡ bound_text true which shown ++ more
         → Gives (λ read. IsSameBound shown read.found × (drop read.place text.now ≡ more)) result }
 {

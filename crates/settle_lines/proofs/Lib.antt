@@ -1,5 +1,6 @@
 pub mod Putting
 pub mod WordLaws
 pub mod LineLaws
-pub mod Stepping
+pub mod Parting
+pub mod OneMore
 pub mod HeadingLaws

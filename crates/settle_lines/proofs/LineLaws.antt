@@ -1,71 +1,79 @@
 -- A line of a proof is read from its text, and from no other.
-use Rattle.std.proofs.Common.{◌≡◌, ◌^◌, ◌<◌, ℕ, ℤ, List, [], ◌∷◌, map, codes, Option, Some, None, Result, Ok, Err, refl, sym, ap, subst, ◌∙◌}
+use Rattle.std.proofs.Common.{◌≡◌, ◌^◌, ◌<◌, ℕ, ℤ, Bool, true, false, if◌then◌else◌, List, [], ◌∷◌, ◌++◌, map, codes, Option, Some, None, option_map, Result, Ok, Err, refl, sym, ap, subst, ◌∙◌}
 use Rattle.std.specs.Prelude.{All, IfOk, IsErrOf}
 use Rattle.std.specs.List.{AllByRecursion}
 use Rattle.std.specs.Str.{IsUtf8}
 use Rattle.std.proofs.lemmas.Option.{none-some, same_Some}
-use Rattle.std.proofs.lemmas.List.Elements.{All-from_recursion, recursion_from_All}
+use Rattle.std.proofs.lemmas.List.Elements.{recursion_from_All}
 use Rattle.std.proofs.lemmas.List.Splits.{join_with_byte-slice_split}
 use Rattle.itv_base.specs.Numerals.{number_text, signed_text}
-use Rattle.line_words.specs.Words.{◌>>=◌, Word, keyed, many, or_else, split_words, two}
+use Rattle.line_words.specs.Words.{◌>>=◌, Word, is_word, keyed, many, or_else, split_words, two}
 use Rattle.line_words.specs.Lines.{line_of}
 use Rattle.line_words.specs.Numbers.{IsLong, long_in}
-use Rattle.line_words.proofs.Inverts.{Inverts, bind_some, keyed_inverts, keyed_takes, many_inverts, two_inverts}
+use Rattle.line_words.proofs.Inverts.{Inverts, bind_some, keyed_inverts, keyed_takes, many_inverts, map_some, two_inverts, word_is, word_same}
 use Rattle.line_words.proofs.NumberLaws.{long_inverts}
 use Rattle.line_words.proofs.Plain.{ArePlain, line_is_text, map_plain, number_plain, signed_plain, split-join}
 use Rattle.certificate.specs.declared.fault.LineFault.{LineFault}
 use Rattle.certificate.specs.declared.fault.LineFault.TheVariants.{BadLine, NoMemory}
-use Rattle.clauses.specs.declared.basis.Basis.{Basis}
-use Rattle.clauses.specs.declared.basis.WalkStep.{WalkStep}
-use Rattle.clauses.specs.Lines.{Assume, ClauseLine, Close, Fall, Know, Loop}
-use Rattle.settle.specs.declared.line.StoredLine.{StoredLine}
-use Rattle.settle.specs.Proofs.{line_of as stored_line_of}
+use Rattle.event_graph.specs.declared.edge.Edge.{Edge}
+use Rattle.edge_clauses.specs.declared.basis.Basis.{Basis}
+use Rattle.edge_clauses.specs.declared.basis.WalkStep.{WalkStep}
+use Rattle.edge_clauses.specs.declared.line.EventBound.{EventBound}
+use Rattle.edge_clauses.specs.declared.line.StoredLine.{StoredLine}
+use Rattle.edge_clauses.specs.Lines.{Assume, ClauseLine, Close, Fall, Know, Loop, Rise}
+use Rattle.edge_clauses.specs.Proofs.{line_of as stored_line_of}
 use Rattle.settle_lines.specs.Answer.{IsReadAs}
 use Rattle.settle_lines.specs.Step.Answer.{IsClauseRead}
-use Rattle.settle_lines.specs.Step.Reading.{assume_in, basis_in, clause_in, close_in, closing, fall_of, first_number, know_in, know_of, line_in, literal_in, loop_in, loop_of, number_then, short_in, step_in, steps_in}
-use Rattle.settle_lines.specs.Text.{IsBasisName, IsClauseLine, IsLiteralName, IsStepName, SpellsClause, basis_word, clause_words, literal_word, step_words}
-use Rattle.settle_lines.proofs.WordLaws.{basis_inverts, basis_plain, literal_inverts, literal_plain, one_of, short_inverts}
+use Rattle.settle_lines.specs.Step.Reading.{assume_in, basis_in, bound_in, bound_of, clause_in, close_in, closing, difference_in, fall_of, first_number, know_in, know_of, line_in, loop_in, loop_of, many_and_many, number_then, parted, rise_in, rise_of, short_in, step_in}
+use Rattle.settle_lines.specs.Text.{IsBasisName, IsClauseLine, IsDifference, IsStepName, SpellsClause, basis_word, clause_words, difference_word, step_word}
+use Rattle.settle_lines.proofs.WordLaws.{basis_inverts, basis_plain, difference_inverts, difference_plain, one_of, short_inverts, step_inverts, step_plain}
 
--- ---- steps
+-- ---- words before a word and words after it
 
-step_takes : (word way : Word) (step : WalkStep) → step_in word way ≡ Some step → ((word ≡ basis_word step.basis) × (way ≡ number_text step.through)) × IsStepName step
-step_takes word way step e =
-    let a = bind_some (basis_in word) (λ basis. short_in way >>= λ through. Some (record { basis = basis; through = through })) step e in
-    let b = bind_some (short_in way) (λ through. Some (record { basis = a.0; through = through })) step a.2 in
-    let first = basis_inverts.takes word a.0 a.1 in
-    let second = short_inverts.takes way b.0 b.1 in
-    subst (λ (s : WalkStep). ((word ≡ basis_word s.basis) × (way ≡ number_text s.through)) × IsStepName s) (same_Some (record { basis = a.0; through = b.0 }) step b.2)
-    ((first.0, second.0), (first.1, second.1))
+parted_is : (key : Word) (words : List Word) (p : List Word × List Word) → parted key words ≡ Some p → words ≡ p.0 ++ key ∷ p.1
+parted_is key [] p e = absurd (cc)
+parted_is key (word ∷ words) p e = by_test (is_word word key) refl e (parted_is key words)
+  where
+    by_test : (t : Bool) → is_word word key ≡ t
+        → (if t then Some ([], words) else option_map (λ (q : List Word × List Word). (word ∷ q.0, q.1)) (parted key words)) ≡ Some p
+        → ((q : List Word × List Word) → parted key words ≡ Some q → words ≡ q.0 ++ key ∷ q.1) → word ∷ words ≡ p.0 ++ key ∷ p.1
+    by_test true is h rest =
+        subst (λ (q : List Word × List Word). word ∷ words ≡ q.0 ++ key ∷ q.1) (same_Some ([], words) p h) (ap (λ (w : Word). w ∷ words) (word_is word key is))
+    by_test false is h rest =
+        let m = map_some (λ (q : List Word × List Word). (word ∷ q.0, q.1)) (parted key words) p h in
+        subst (λ (q : List Word × List Word). word ∷ words ≡ q.0 ++ key ∷ q.1) m.2 (ap (λ (ws : List Word). word ∷ ws) (rest m.0 m.1))
 
-step_again : (step : WalkStep) → IsStepName step → step_in (basis_word step.basis) (number_text step.through) ≡ Some step
-step_again step form = rw (basis_inverts.again step.basis form.0) (rw (short_inverts.again step.through form.1) refl)
+-- no word is this one
+abbrev AreOthers : Word → List Word → Type 0
+AreOthers key words = AllByRecursion (λ (word : Word). is_word word key ≡ false) words
 
-abbrev AreSteps : List Word → List WalkStep → Type 0
-AreSteps words steps = (words ≡ step_words steps) × AllByRecursion IsStepName steps
+parted_again : (key : Word) (front behind : List Word) → AreOthers key front → parted key (front ++ key ∷ behind) ≡ Some (front, behind)
+parted_again key [] behind others = rw (word_same key) refl
+parted_again key (word ∷ front) behind others = rw others.0 (rw (parted_again key front behind others.1) refl)
 
-steps_takes : (words : List Word) (steps : List WalkStep) → steps_in words ≡ Some steps → AreSteps words steps
-steps_takes [] steps e = subst (AreSteps []) (same_Some [] steps e) (refl, tt)
-steps_takes (word ∷ []) steps e = absurd (cc)
-steps_takes (word ∷ way ∷ words) steps e =
-    let a = bind_some (step_in word way) (λ step. steps_in words >>= λ more. Some (step ∷ more)) steps e in
-    let b = bind_some (steps_in words) (λ more. Some (a.0 ∷ more)) steps a.2 in
-    let first = step_takes word way a.0 a.1 in
-    let rest = steps_takes words b.0 b.1 in
-    let whole : word ∷ way ∷ words ≡ basis_word a.0.basis ∷ number_text a.0.through ∷ step_words b.0 =
-    ap (λ (w : Word). w ∷ way ∷ words) first.0.0 ∙ ap (λ (w : Word). basis_word a.0.basis ∷ w ∷ words) first.0.1 ∙ ap (λ (ws : List Word). basis_word a.0.basis ∷ number_text a.0.through ∷ ws) rest.0 in
-    subst (AreSteps (word ∷ way ∷ words)) (same_Some (a.0 ∷ b.0) steps b.2) (whole, (first.1, rest.1))
+both_inverts : {A B : Type 0} (read : Word → Option A) (spell : A → Word) (Form : A → Type 0) (key : Word) (also : Word → Option B) (spell_too : B → Word) (FormToo : B → Type 0)
+    → Inverts read spell Form → Inverts also spell_too FormToo → ((x : A) → Form x → is_word (spell x) key ≡ false)
+    → Inverts (many_and_many read key also) (λ p. map spell p.0 ++ key ∷ map spell_too p.1) (λ p. All Form p.0 × All FormToo p.1)
+both_inverts {A} {B} read spell Form key also spell_too FormToo i j other = record {
+  takes = λ words p e.
+      let a = bind_some (parted key words) (λ q. many read q.0 >>= λ xs. many also q.1 >>= λ ys. Some (xs, ys)) p e in
+      let b = bind_some (many read a.0.0) (λ xs. many also a.0.1 >>= λ ys. Some (xs, ys)) p a.2 in
+      let d = bind_some (many also a.0.1) (λ ys. Some (b.0, ys)) p b.2 in
+      let first = (many_inverts read spell Form i).takes a.0.0 b.0 b.1 in
+      let second = (many_inverts also spell_too FormToo j).takes a.0.1 d.0 d.1 in
+      let whole : words ≡ map spell b.0 ++ key ∷ map spell_too d.0 =
+      parted_is key words a.0 a.1 ∙ ap (λ (ws : List Word). ws ++ key ∷ a.0.1) first.0 ∙ ap (λ (ws : List Word). map spell b.0 ++ key ∷ ws) second.0 in
+      subst (λ (q : List A × List B). (words ≡ map spell q.0 ++ key ∷ map spell_too q.1) × (All Form q.0 × All FormToo q.1)) (same_Some (b.0, d.0) p d.2)
+      (whole, (first.1, second.1));
+  again = λ p form.
+      let front = parted_again key (map spell p.0) (map spell_too p.1) (others p.0 (recursion_from_All Form p.0 form.0)) in
+      rw front (rw ((many_inverts read spell Form i).again p.0 form.0) (rw ((many_inverts also spell_too FormToo j).again p.1 form.1) refl));
+} where
+  others : (xs : List A) → AllByRecursion Form xs → AreOthers key (map spell xs)
+  others [] form = tt
+  others (x ∷ xs) form = (other x form.0, others xs form.1)
 
-steps_again : (steps : List WalkStep) → AllByRecursion IsStepName steps → steps_in (step_words steps) ≡ Some steps
-steps_again [] form = refl
-steps_again (step ∷ steps) form = rw (step_again step form.0) (rw (steps_again steps form.1) refl)
-
-steps_invert : Inverts steps_in step_words (All IsStepName)
-steps_invert = record {
-  takes = λ words steps e. let t = steps_takes words steps e in (t.0, All-from_recursion IsStepName steps t.1);
-  again = λ steps form. steps_again steps (recursion_from_All IsStepName steps form);
-}
-
--- ---- a number and what stands behind it
+-- ---- a number and what is after it
 
 first_is : (words : List Word) (p : ℕ × List Word) → first_number words ≡ Some p → (words ≡ number_text p.0 ∷ p.1) × (p.0 < 2 ^ 32)
 first_is [] p e = absurd (cc)
@@ -87,7 +95,7 @@ numbered_inverts {A} read spell Form i = record {
   again = λ p form. rw (short_inverts.again p.0 form.0) (rw (i.again p.1 form.1) refl);
 }
 
--- ---- lines
+-- ---- bounds of events
 
 abbrev LongAndBasis : ℤ × Basis → Type 0
 LongAndBasis p = IsLong p.0 × IsBasisName p.1
@@ -95,23 +103,65 @@ LongAndBasis p = IsLong p.0 × IsBasisName p.1
 long_and_basis : Inverts (two long_in basis_in) (λ p. signed_text p.0 ∷ basis_word p.1 ∷ []) LongAndBasis
 long_and_basis = two_inverts long_in signed_text IsLong basis_in basis_word IsBasisName long_inverts basis_inverts
 
-fall_inverts : Inverts (keyed (codes "fall") (number_then (two long_in basis_in))) (λ p. codes "fall" ∷ number_text p.0 ∷ signed_text p.1.0 ∷ basis_word p.1.1 ∷ []) (λ p. (p.0 < 2 ^ 32) × LongAndBasis p.1)
-fall_inverts =
-    keyed_inverts (codes "fall") (number_then (two long_in basis_in)) (λ p. number_text p.0 ∷ signed_text p.1.0 ∷ basis_word p.1.1 ∷ []) (λ p. (p.0 < 2 ^ 32) × LongAndBasis p.1)
-    (numbered_inverts (two long_in basis_in) (λ p. signed_text p.0 ∷ basis_word p.1 ∷ []) LongAndBasis long_and_basis)
+number_long_basis : Inverts (number_then (two long_in basis_in)) (λ p. number_text p.0 ∷ signed_text p.1.0 ∷ basis_word p.1.1 ∷ []) (λ p. (p.0 < 2 ^ 32) × LongAndBasis p.1)
+number_long_basis = numbered_inverts (two long_in basis_in) (λ p. signed_text p.0 ∷ basis_word p.1 ∷ []) LongAndBasis long_and_basis
 
-know_inverts : Inverts (keyed (codes "know") (two literal_in basis_in)) (λ p. codes "know" ∷ literal_word p.0 ∷ basis_word p.1 ∷ []) (λ p. IsLiteralName p.0 × IsBasisName p.1)
+abbrev bound_words : EventBound → List Word
+bound_words bound = number_text bound.event.0 ∷ signed_text bound.value ∷ basis_word bound.basis ∷ []
+
+abbrev IsNamedBound : EventBound → Type 0
+IsNamedBound bound = (bound.event.0 < 2 ^ 32) × IsLong bound.value × IsBasisName bound.basis
+
+bound_inverts : Inverts bound_in bound_words IsNamedBound
+bound_inverts = record {
+  takes = λ words bound e.
+      let m = map_some bound_of (number_then (two long_in basis_in) words) bound e in
+      let t = number_long_basis.takes words m.0 m.1 in
+      subst (λ (b : EventBound). (words ≡ bound_words b) × IsNamedBound b) m.2 (t.0, (t.1.0, t.1.1.0, t.1.1.1));
+  again = λ bound form. rw (number_long_basis.again (bound.event.0, (bound.value, bound.basis)) (form.0, (form.1, form.2))) refl;
+}
+
+-- ---- lines
+
+bound_line : (key : Word) → Inverts (keyed key bound_in) (λ bound. key ∷ bound_words bound) IsNamedBound
+bound_line key = keyed_inverts key bound_in bound_words IsNamedBound bound_inverts
+
+know_inverts : Inverts (keyed (codes "know") (two difference_in basis_in)) (λ p. codes "know" ∷ difference_word p.0 ∷ basis_word p.1 ∷ []) (λ p. IsDifference p.0 × IsBasisName p.1)
 know_inverts =
-    keyed_inverts (codes "know") (two literal_in basis_in) (λ p. literal_word p.0 ∷ basis_word p.1 ∷ []) (λ p. IsLiteralName p.0 × IsBasisName p.1)
-    (two_inverts literal_in literal_word IsLiteralName basis_in basis_word IsBasisName literal_inverts basis_inverts)
+    keyed_inverts (codes "know") (two difference_in basis_in) (λ p. difference_word p.0 ∷ basis_word p.1 ∷ []) (λ p. IsDifference p.0 × IsBasisName p.1)
+    (two_inverts difference_in difference_word IsDifference basis_in basis_word IsBasisName difference_inverts basis_inverts)
 
-loop_inverts : Inverts (keyed (codes "loop") (number_then steps_in)) (λ p. codes "loop" ∷ number_text p.0 ∷ step_words p.1) (λ p. (p.0 < 2 ^ 32) × All IsStepName p.1)
+keep_is_no_step : step_in (codes "keep") ≡ None
+unfolding step_in
+keep_is_no_step = refl
+
+-- no step is the word `keep`
+no_keep : (step : WalkStep) → IsStepName step → is_word (step_word step) (codes "keep") ≡ false
+no_keep step form = by_test (is_word (step_word step) (codes "keep")) refl
+  where
+    by_test : (t : Bool) → is_word (step_word step) (codes "keep") ≡ t → t ≡ false
+    by_test true e =
+        absurd (none-some step (sym keep_is_no_step ∙ (ap step_in (sym (word_is (step_word step) (codes "keep") e)) ∙ step_inverts.again step form)))
+    by_test false e = refl
+
+abbrev kept_words : List WalkStep × List Edge → List Word
+kept_words p = map step_word p.0 ++ codes "keep" ∷ map difference_word p.1
+
+abbrev AreNamed : List WalkStep × List Edge → Type 0
+AreNamed p = All IsStepName p.0 × All IsDifference p.1
+
+kept_inverts : Inverts (many_and_many step_in (codes "keep") difference_in) kept_words AreNamed
+kept_inverts = both_inverts step_in step_word IsStepName (codes "keep") difference_in difference_word IsDifference step_inverts difference_inverts no_keep
+
+loop_inverts : Inverts (keyed (codes "loop") (number_then (many_and_many step_in (codes "keep") difference_in)))
+    (λ p. codes "loop" ∷ number_text p.0 ∷ kept_words p.1) (λ p. (p.0 < 2 ^ 32) × AreNamed p.1)
 loop_inverts =
-    keyed_inverts (codes "loop") (number_then steps_in) (λ p. number_text p.0 ∷ step_words p.1) (λ p. (p.0 < 2 ^ 32) × All IsStepName p.1)
-    (numbered_inverts steps_in step_words (All IsStepName) steps_invert)
+    keyed_inverts (codes "loop") (number_then (many_and_many step_in (codes "keep") difference_in)) (λ p. number_text p.0 ∷ kept_words p.1) (λ p. (p.0 < 2 ^ 32) × AreNamed p.1)
+    (numbered_inverts (many_and_many step_in (codes "keep") difference_in) kept_words AreNamed kept_inverts)
 
-assume_inverts : Inverts (keyed (codes "assume") (many literal_in)) (λ ls. codes "assume" ∷ map literal_word ls) (All IsLiteralName)
-assume_inverts = keyed_inverts (codes "assume") (many literal_in) (map literal_word) (All IsLiteralName) (many_inverts literal_in literal_word IsLiteralName literal_inverts)
+assume_inverts : Inverts (keyed (codes "assume") (many difference_in)) (λ edges. codes "assume" ∷ map difference_word edges) (All IsDifference)
+assume_inverts =
+    keyed_inverts (codes "assume") (many difference_in) (map difference_word) (All IsDifference) (many_inverts difference_in difference_word IsDifference difference_inverts)
 
 abbrev Taken : List Word → ClauseLine → Type 0
 Taken words line = (words ≡ clause_words line) × IsClauseLine line
@@ -127,56 +177,87 @@ close_takes words line e =
 
 assume_takes : (words : List Word) (line : ClauseLine) → or_else (assume_in words) (close_in words) ≡ Some line → Taken words line
 assume_takes words line e =
-    one_of Assume (keyed (codes "assume") (many literal_in) words) (close_in words) line (Taken words) e
-    (λ ls h. assume_inverts.takes words ls h) (close_takes words line)
+    one_of Assume (keyed (codes "assume") (many difference_in) words) (close_in words) line (Taken words) e
+    (λ edges h. assume_inverts.takes words edges h) (close_takes words line)
 
 loop_takes : (words : List Word) (line : ClauseLine) → or_else (loop_in words) (or_else (assume_in words) (close_in words)) ≡ Some line → Taken words line
 loop_takes words line e =
-    one_of loop_of (keyed (codes "loop") (number_then steps_in) words) (or_else (assume_in words) (close_in words)) line (Taken words) e
-    (λ p h. loop_inverts.takes words p h) (assume_takes words line)
+    one_of loop_of (keyed (codes "loop") (number_then (many_and_many step_in (codes "keep") difference_in)) words) (or_else (assume_in words) (close_in words)) line (Taken words) e
+    (λ p h. let t = loop_inverts.takes words p h in (t.0, (t.1.0, t.1.1.0, t.1.1.1))) (assume_takes words line)
 
 know_takes : (words : List Word) (line : ClauseLine) → or_else (know_in words) (or_else (loop_in words) (or_else (assume_in words) (close_in words))) ≡ Some line → Taken words line
 know_takes words line e =
-    one_of know_of (keyed (codes "know") (two literal_in basis_in) words) (or_else (loop_in words) (or_else (assume_in words) (close_in words))) line (Taken words) e
+    one_of know_of (keyed (codes "know") (two difference_in basis_in) words) (or_else (loop_in words) (or_else (assume_in words) (close_in words))) line (Taken words) e
     (λ p h. know_inverts.takes words p h) (loop_takes words line)
+
+rise_takes : (words : List Word) (line : ClauseLine)
+    → or_else (rise_in words) (or_else (know_in words) (or_else (loop_in words) (or_else (assume_in words) (close_in words)))) ≡ Some line → Taken words line
+rise_takes words line e =
+    one_of rise_of (keyed (codes "rise") bound_in words) (or_else (know_in words) (or_else (loop_in words) (or_else (assume_in words) (close_in words)))) line (Taken words) e
+    (λ bound h. (bound_line (codes "rise")).takes words bound h) (know_takes words line)
 
 clause_takes : (words : List Word) (line : ClauseLine) → clause_in words ≡ Some line → Taken words line
 unfolding clause_in
 clause_takes words line e =
-    one_of fall_of (keyed (codes "fall") (number_then (two long_in basis_in)) words) (or_else (know_in words) (or_else (loop_in words) (or_else (assume_in words) (close_in words)))) line (Taken words) e
-    (λ p h. let t = fall_inverts.takes words p h in (t.0, (t.1.0, t.1.1.0, t.1.1.1))) (know_takes words line)
+    one_of fall_of (keyed (codes "fall") bound_in words)
+    (or_else (rise_in words) (or_else (know_in words) (or_else (loop_in words) (or_else (assume_in words) (close_in words))))) line (Taken words) e
+    (λ bound h. (bound_line (codes "fall")).takes words bound h) (rise_takes words line)
 
 clause_again : (line : ClauseLine) → IsClauseLine line → clause_in (clause_words line) ≡ Some line
 unfolding clause_in
-clause_again (Fall event value basis) form = rw (fall_inverts.again (event.0, (value, basis)) (form.0, (form.1, form.2))) refl
-clause_again (Know l basis) form = rw (know_inverts.again (l, basis) form) refl
-clause_again (Loop event steps) form = rw (loop_inverts.again (event.0, steps) form) refl
-clause_again (Assume literals) form = rw (assume_inverts.again literals form) refl
+clause_again (Fall event value basis) form = rw ((bound_line (codes "fall")).again (record { event = event; value = value; basis = basis }) form) refl
+clause_again (Rise event value basis) form = rw ((bound_line (codes "rise")).again (record { event = event; value = value; basis = basis }) form) refl
+clause_again (Know e basis) form = rw (know_inverts.again (e, basis) form) refl
+clause_again (Loop event steps clause) form = rw (loop_inverts.again (event.0, (steps, clause)) (form.0, (form.1, form.2))) refl
+clause_again (Assume edges) form = rw (assume_inverts.again edges form) refl
 clause_again Close form = refl
 
 -- ---- texts
 
-steps_plain : (steps : List WalkStep) → ArePlain (step_words steps)
-steps_plain [] = tt
-steps_plain (step ∷ steps) = (basis_plain step.basis, (number_plain step.through, steps_plain steps))
+append_plain : (front behind : List Word) → ArePlain front → ArePlain behind → ArePlain (front ++ behind)
+append_plain [] behind all more = more
+append_plain (word ∷ front) behind all more = (all.0, append_plain front behind all.1 more)
+
+loop_plain : (event : ℕ) (steps : List WalkStep) (clause : List Edge) → ArePlain (number_text event ∷ (map step_word steps ++ codes "keep" ∷ map difference_word clause))
+loop_plain event steps clause = (
+  number_plain event,
+  append_plain (map step_word steps) (codes "keep" ∷ map difference_word clause) (map_plain step_word step_plain steps)
+      (refl, map_plain difference_word difference_plain clause),
+)
 
 -- the words of a line of a proof: a first word and others, all of them plain
-record LineWords (line : ClauseLine) : Type 0 where
-  first : Word
-  others : List Word
-  parts : clause_words line ≡ first ∷ others
-  plain : ArePlain (first ∷ others)
+pub record LineWords (line : ClauseLine) : Type 0 where
+  pub first : Word
+  pub others : List Word
+  pub parts : clause_words line ≡ first ∷ others
+  pub plain : ArePlain (first ∷ others)
 
-clause_plain : (line : ClauseLine) → LineWords line
+pub clause_plain : (line : ClauseLine) → LineWords line
 clause_plain (Fall event value basis) = record {
   first = codes "fall";
   others = number_text event.0 ∷ signed_text value ∷ basis_word basis ∷ [];
   parts = refl;
   plain = (refl, (number_plain event.0, (signed_plain value, (basis_plain basis, tt))));
 }
-clause_plain (Know l basis) = record { first = codes "know"; others = literal_word l ∷ basis_word basis ∷ []; parts = refl; plain = (refl, (literal_plain l, (basis_plain basis, tt))) }
-clause_plain (Loop event steps) = record { first = codes "loop"; others = number_text event.0 ∷ step_words steps; parts = refl; plain = (refl, (number_plain event.0, steps_plain steps)) }
-clause_plain (Assume literals) = record { first = codes "assume"; others = map literal_word literals; parts = refl; plain = (refl, map_plain literal_word literal_plain literals) }
+clause_plain (Rise event value basis) = record {
+  first = codes "rise";
+  others = number_text event.0 ∷ signed_text value ∷ basis_word basis ∷ [];
+  parts = refl;
+  plain = (refl, (number_plain event.0, (signed_plain value, (basis_plain basis, tt))));
+}
+clause_plain (Know e basis) = record {
+  first = codes "know";
+  others = difference_word e ∷ basis_word basis ∷ [];
+  parts = refl;
+  plain = (refl, (difference_plain e, (basis_plain basis, tt)));
+}
+clause_plain (Loop event steps clause) = record {
+  first = codes "loop";
+  others = number_text event.0 ∷ (map step_word steps ++ codes "keep" ∷ map difference_word clause);
+  parts = refl;
+  plain = (refl, loop_plain event.0 steps clause);
+}
+clause_plain (Assume edges) = record { first = codes "assume"; others = map difference_word edges; parts = refl; plain = (refl, map_plain difference_word difference_plain edges) }
 clause_plain Close = record { first = codes "close"; others = []; parts = refl; plain = (refl, tt) }
 
 -- a line is cut into its words

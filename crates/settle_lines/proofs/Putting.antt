@@ -1,22 +1,24 @@
 -- A line of a proof as a writer puts it, piece by piece.
-use Rattle.std.proofs.Common.{◌≡◌, ℕ, suc, ◌+◌, ◌<◌, ℤ, List, [], ◌∷◌, ◌++◌, length, get_or, drop, codes, Result, refl, sym, subst, ap, append_assoc, add-one, drop-cons}
+use Rattle.std.proofs.Common.{◌≡◌, ℕ, ◌+◌, ◌<◌, ℤ, List, [], ◌∷◌, ◌++◌, map, length, get_or, drop, codes, Result, refl, sym, subst, ap, ◌∙◌, append_assoc, add-one, drop-cons}
 use Rattle.std.specs.List.{flat_map}
 use Rattle.std.specs.Bool.{⊤}
 use Rattle.itv_base.specs.Numerals.{number_text, signed_text}
 use Rattle.itv_base.specs.Outside.{CutShort, Puts, SinkState, grown}
+use Rattle.itv_base.specs.declared.names.EdgeName.{EdgeName}
 use Rattle.itv_base.specs.declared.names.EventId.{EventId}
 use Rattle.itv_base.proofs.Written.{cut_more, cut_then, puts_same, puts_then}
 use Rattle.line_words.specs.Words.{Word}
 use Rattle.line_words.specs.Lines.{ended, line_of, spaced}
 use Rattle.line_words.proofs.Printing.{join_spaced}
+use Rattle.certificate.specs.Text.{edge_word, side_letter}
+use Rattle.event_graph.specs.declared.edge.Edge.{Edge}
 use Rattle.falling.specs.declared.view.View.{View}
-use Rattle.clauses.specs.declared.basis.Basis.{Basis}
-use Rattle.clauses.specs.declared.basis.WalkStep.{WalkStep}
-use Rattle.clauses.specs.declared.literal.Literal.{Literal}
-use Rattle.clauses.specs.Lines.{ClauseLine, Fall, Know, Loop}
-use Rattle.settle.specs.declared.line.StoredLine.{StoredLine}
-use Rattle.settle.specs.Proofs.{lines_of, line_of as stored_line_of}
-use Rattle.settle_lines.specs.Text.{basis_word, claim_text, clause_line_text, literal_word, proof_text, step_words, view_text}
+use Rattle.edge_clauses.specs.declared.basis.Basis.{Basis}
+use Rattle.edge_clauses.specs.declared.basis.WalkStep.{WalkStep}
+use Rattle.edge_clauses.specs.declared.line.StoredLine.{StoredLine}
+use Rattle.edge_clauses.specs.Lines.{ClauseLine, Fall, Know, Loop, Rise}
+use Rattle.edge_clauses.specs.Proofs.{lines_of, line_of as stored_line_of}
+use Rattle.settle_lines.specs.Text.{basis_word, claim_text, clause_line_text, difference_word, proof_text, step_word, view_text}
 
 -- ---- texts of three pieces
 
@@ -41,40 +43,75 @@ module _ {a b c whole : List ℕ} (parts : Parts a b c whole) where
 
 -- ---- lines by their pieces
 
+four_words : (a b c d : Word) → (a ++ spaced b) ++ (spaced c ++ ended (spaced d)) ≡ ended (line_of (a ∷ b ∷ c ∷ d ∷ []))
+four_words a b c d = simp append_assoc
+
 pub fall_parts : (event : EventId) (value : ℤ) (basis : Basis)
     → Parts (codes "fall" ++ spaced (number_text event.0)) (spaced (signed_text value)) (ended (spaced (basis_word basis))) (clause_line_text (Fall event value basis))
 fall_parts event value basis = record { join = four_words (codes "fall") (number_text event.0) (signed_text value) (basis_word basis) }
-  where
-    four_words : (a b c d : Word) → (a ++ spaced b) ++ (spaced c ++ ended (spaced d)) ≡ ended (line_of (a ∷ b ∷ c ∷ d ∷ []))
-    four_words a b c d = simp append_assoc
 
-pub know_parts : (l : Literal) (basis : Basis) → Parts (codes "know") (spaced (literal_word l)) (ended (spaced (basis_word basis))) (clause_line_text (Know l basis))
-know_parts l basis = record { join = three_words (codes "know") (literal_word l) (basis_word basis) }
+pub rise_parts : (event : EventId) (value : ℤ) (basis : Basis)
+    → Parts (codes "rise" ++ spaced (number_text event.0)) (spaced (signed_text value)) (ended (spaced (basis_word basis))) (clause_line_text (Rise event value basis))
+rise_parts event value basis = record { join = four_words (codes "rise") (number_text event.0) (signed_text value) (basis_word basis) }
+
+pub know_parts : (e : Edge) (basis : Basis) → Parts (codes "know") (spaced (difference_word e)) (ended (spaced (basis_word basis))) (clause_line_text (Know e basis))
+know_parts e basis = record { join = three_words (codes "know") (difference_word e) (basis_word basis) }
   where
     three_words : (a b c : Word) → a ++ (spaced b ++ ended (spaced c)) ≡ ended (line_of (a ∷ b ∷ c ∷ []))
     three_words a b c = simp append_assoc
 
-pub loop_parts : (event : EventId) (steps : List WalkStep)
-    → Parts (codes "loop" ++ spaced (number_text event.0)) (flat_map spaced (step_words steps)) (10 ∷ []) (clause_line_text (Loop event steps))
-loop_parts event steps = record { join = many_words (codes "loop") (number_text event.0) (step_words steps) }
+-- the steps, the word `keep` and the clause of a loop, each word after a space
+abbrev pub kept_text : List WalkStep → List Edge → List ℕ
+kept_text steps clause = flat_map spaced (map step_word steps) ++ (spaced (codes "keep") ++ flat_map spaced (map difference_word clause))
+
+pub kept_parts : (steps : List WalkStep) (clause : List Edge)
+    → Parts (flat_map spaced (map step_word steps)) (spaced (codes "keep")) (flat_map spaced (map difference_word clause)) (kept_text steps clause)
+kept_parts steps clause = record { join = refl }
+
+pub loop_parts : (event : EventId) (steps : List WalkStep) (clause : List Edge)
+    → Parts (codes "loop" ++ spaced (number_text event.0)) (kept_text steps clause) (10 ∷ []) (clause_line_text (Loop event steps clause))
+loop_parts event steps clause = record { join = many_words (codes "loop") (number_text event.0) (map step_word steps) (codes "keep") (map difference_word clause) }
   where
-    many_words : (a b : Word) (words : List Word) → (a ++ spaced b) ++ (flat_map spaced words ++ 10 ∷ []) ≡ ended (line_of (a ∷ b ∷ words))
-    many_words a b words = rw (join_spaced a (b ∷ words)) (simp append_assoc)
+    spaced_append : (words others : List Word) → flat_map spaced (words ++ others) ≡ flat_map spaced words ++ flat_map spaced others
+    spaced_append [] others = refl
+    spaced_append (word ∷ words) others =
+        ap (λ rest. spaced word ++ rest) (spaced_append words others) ∙ sym (append_assoc (spaced word) (flat_map spaced words) (flat_map spaced others))
+
+    pieces : (a b f k o : List ℕ) → (a ++ b) ++ ((f ++ (k ++ o)) ++ 10 ∷ []) ≡ (a ++ (b ++ (f ++ (k ++ o)))) ++ 10 ∷ []
+    pieces a b f k o = simp append_assoc
+
+    many_words : (a b : Word) (words : List Word) (key : Word) (others : List Word)
+        → (a ++ spaced b) ++ ((flat_map spaced words ++ (spaced key ++ flat_map spaced others)) ++ 10 ∷ []) ≡ ended (line_of (a ∷ b ∷ (words ++ key ∷ others)))
+    many_words a b words key others =
+        let whole : line_of (a ∷ b ∷ (words ++ key ∷ others)) ≡ a ++ (spaced b ++ (flat_map spaced words ++ (spaced key ++ flat_map spaced others))) =
+        join_spaced a (b ∷ (words ++ key ∷ others)) ∙ ap (λ rest. a ++ (spaced b ++ rest)) (spaced_append words (key ∷ others)) in
+        pieces a (spaced b) (flat_map spaced words) (spaced key) (flat_map spaced others) ∙ sym (ap ended whole)
 
 -- the pieces of a proof; the claim that is passed on is the given one
 pub proof_parts : (view : View) (claim passed : ℤ) (lines : List ClauseLine) → passed ≡ claim
     → Parts (view_text view) (claim_text passed) (flat_map clause_line_text lines) (proof_text view claim lines)
 proof_parts view claim passed lines e = record { join = ap (λ z. view_text view ++ (claim_text z ++ flat_map clause_line_text lines)) e }
 
--- ---- lists by their first element and the others
+-- ---- names of edges
 
--- the steps from a place on
-pub steps_more : (steps : List WalkStep) (i : ℕ) (d : WalkStep) → i < length steps
-    → flat_map spaced (step_words (drop i steps))
-    ≡ (spaced (basis_word (get_or steps i d).basis) ++ spaced (number_text (get_or steps i d).through)) ++ flat_map spaced (step_words (drop (i + 1) steps))
-steps_more steps i d h =
-    let s = get_or steps i d in
-    rw (add-one, drop-cons steps i d h) (sym (append_assoc (spaced (basis_word s.basis)) (spaced (number_text s.through)) (flat_map spaced (step_words (drop (suc i) steps)))))
+-- what stands after the constraint of a name
+abbrev pub behind : EdgeName → List ℕ
+behind edge = 46 ∷ (number_text edge.cause ++ side_letter edge.side)
+
+module _ (front : List ℕ) (edge : EdgeName) where
+  -- a front of the constraint is put
+  pub name_cut : (old new : SinkState) → CutShort old new (front ++ number_text edge.constraint) → CutShort old new (front ++ edge_word edge)
+  name_cut old new cut =
+      subst (CutShort old new) (append_assoc front (number_text edge.constraint) (behind edge)) (cut_more old new (front ++ number_text edge.constraint) (behind edge) cut)
+
+  -- the constraint is put, and then the cause and the side, or a front of them
+  pub name_puts : {E : Type 0} (old first_put new : SinkState) (r : Result ⊤ E) → first_put ≡ grown old (front ++ number_text edge.constraint)
+      → Puts first_put new (behind edge) r → Puts old new (front ++ edge_word edge) r
+  name_puts old first_put new r p last =
+      puts_same old new ((front ++ number_text edge.constraint) ++ behind edge) (front ++ edge_word edge) r (append_assoc front (number_text edge.constraint) (behind edge))
+      (puts_then old first_put new (front ++ number_text edge.constraint) (behind edge) r p last)
+
+-- ---- lists by their first element and the others
 
 -- the lines from a place on
 pub lines_more : (lines : List StoredLine) (i : ℕ) (d line : StoredLine) → i < length lines → line ≡ get_or lines i d

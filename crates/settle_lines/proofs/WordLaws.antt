@@ -1,29 +1,30 @@
 -- A word of a line of a proof is read from its text, and from no other.
-use Rattle.std.proofs.Common.{◌≡◌, ◌^◌, ◌-◌, ◌<◌, ◌≤◌, ℕ, Bool, true, false, ◌∷◌, ◌++◌, codes, Option, Some, None, option_map, refl, ap, subst, ◌∙◌, arith}
+use Rattle.std.proofs.Common.{◌≡◌, ◌^◌, ◌-◌, ◌<◌, ◌≤◌, ℕ, true, ◌∷◌, ◌++◌, codes, Option, Some, option_map, refl, ap, subst, ◌∙◌, arith}
 use Rattle.std.specs.List.{take_while}
-use Rattle.std.specs.Char.{is_ascii_digit, is_ascii_graphic}
-use Rattle.std.proofs.lemmas.Bool.{and_from}
+use Rattle.std.specs.Char.{is_ascii_digit}
 use Rattle.std.proofs.lemmas.Option.{same_Some}
-use Rattle.itv_base.specs.Cuts.{after, after_while, stripped}
-use Rattle.itv_base.specs.Numerals.{number_text}
+use Rattle.itv_base.specs.Cuts.{after_while, stripped}
+use Rattle.itv_base.specs.Numerals.{number_text, signed_text}
 use Rattle.itv_base.specs.declared.names.EdgeName.{EdgeName}
 use Rattle.itv_base.specs.declared.names.Side.{Side}
 use Rattle.itv_base.specs.declared.names.Side.TheVariants.{Lower, Upper}
 use Rattle.itv_base.proofs.Cuts.{stripped-append, stripped_some}
 use Rattle.itv_base.proofs.Numerals.{digits-text}
-use Rattle.itv_base.proofs.Runs.{front_of_run, rest_of_run, run_whole}
+use Rattle.itv_base.proofs.Runs.{front_of_run, rest_of_run, run_whole, stops}
 use Rattle.line_words.specs.Words.{◌>>=◌, Word, or_else}
+use Rattle.line_words.specs.Numbers.{long_in}
 use Rattle.line_words.proofs.Inverts.{Inverts, bind_some, map_some, or_cases_some}
-use Rattle.line_words.proofs.NumberLaws.{number_inverts}
-use Rattle.line_words.proofs.Plain.{is_plain, number_plain, plain_append}
+use Rattle.line_words.proofs.NumberLaws.{long_inverts, number_inverts}
+use Rattle.line_words.proofs.Plain.{is_plain, number_plain, plain_append, signed_plain}
 use Rattle.certificate.specs.Text.{edge_word, side_letter}
 use Rattle.certificate.specs.Reading.{edge_in}
 use Rattle.certificate.proofs.LineLaws.{edge_inverts}
-use Rattle.clauses.specs.declared.basis.Basis.{Basis}
-use Rattle.clauses.specs.declared.basis.Basis.TheVariants.{ByEdge, BySide, ByLatest, ByEarliest, ByKept}
-use Rattle.clauses.specs.declared.literal.Literal.{Literal}
-use Rattle.settle_lines.specs.Step.Reading.{basis_in, lettered_in, literal_in, short_in, side_in}
-use Rattle.settle_lines.specs.Text.{IsBasisName, IsLiteralName, basis_word, literal_word, met_sign}
+use Rattle.event_graph.specs.declared.edge.Edge.{Edge}
+use Rattle.edge_clauses.specs.declared.basis.Basis.{Basis}
+use Rattle.edge_clauses.specs.declared.basis.Basis.TheVariants.{ByEdge, Either, ByChoice, ByKept}
+use Rattle.edge_clauses.specs.declared.basis.WalkStep.{WalkStep}
+use Rattle.settle_lines.specs.Step.Reading.{basis_in, difference_in, either_in, lettered_in, number_before, short_in, step_in, target_in, through_in, weight_in}
+use Rattle.settle_lines.specs.Text.{IsBasisName, IsDifference, IsStepName, basis_word, difference_word, step_word}
 
 -- ---- numbers
 
@@ -40,7 +41,7 @@ short_inverts =
       again = λ n h. i.again n (to_below n h);
     }
 
--- numbers behind a letter
+-- numbers after a letter
 lettered_inverts : (letter : Word) → Inverts (lettered_in letter) (λ n. letter ++ number_text n) (λ n. n < 2 ^ 32)
 lettered_inverts letter = record {
   takes = λ word n e.
@@ -50,54 +51,68 @@ lettered_inverts letter = record {
   again = λ n h. rw (stripped-append letter (number_text n)) (short_inverts.again n h);
 }
 
--- ---- literals
+-- ---- a number, a mark and what is after it
 
-side_takes : (is_met : Bool) (word : Word) (l : Literal) → side_in is_met word ≡ Some l → (met_sign is_met ∷ word ≡ literal_word l) × IsLiteralName l
-side_takes is_met word l e =
+record Numbered {A : Type 0} (mark : Word) (read : ℕ → Word → Option A) (word : Word) (x : A) : Type 0 where
+  number : ℕ
+  rest : Word
+  whole : word ≡ number_text number ++ (mark ++ rest)
+  small : number < 2 ^ 32
+  reads : read number rest ≡ Some x
+
+numbered_takes : {A : Type 0} (mark : Word) (read : ℕ → Word → Option A) (word : Word) (x : A) → number_before mark read word ≡ Some x → Numbered mark read word x
+numbered_takes mark read word x e =
     let digits = take_while is_ascii_digit word in
     let behind = after_while is_ascii_digit word in
-    let a = bind_some (short_in digits) (λ constraint. stripped (codes ".") behind >>= λ rest. short_in rest >>= λ cause. Some (record { constraint = constraint; cause = cause; is_met = is_met })) l e in
-    let b = bind_some (stripped (codes ".") behind) (λ rest. short_in rest >>= λ cause. Some (record { constraint = a.0; cause = cause; is_met = is_met })) l a.2 in
-    let d = bind_some (short_in b.0) (λ cause. Some (record { constraint = a.0; cause = cause; is_met = is_met })) l b.2 in
-    let first = short_inverts.takes digits a.0 a.1 in
-    let second = short_inverts.takes b.0 d.0 d.1 in
-    let word_is : word ≡ number_text a.0 ++ (46 ∷ number_text d.0) =
-    run_whole is_ascii_digit word ∙ ap (λ x. x ++ behind) first.0 ∙ ap (λ x. number_text a.0 ++ x) (stripped_some (codes ".") behind b.0 b.1 ∙ ap (λ x. 46 ∷ x) second.0) in
-    subst (λ (x : Literal). (met_sign is_met ∷ word ≡ literal_word x) × IsLiteralName x) (same_Some (record { constraint = a.0; cause = d.0; is_met = is_met }) l d.2)
-    (ap (λ x. met_sign is_met ∷ x) word_is, (first.1, second.1))
+    let a = bind_some (short_in digits) (λ number. stripped mark behind >>= λ rest. read number rest) x e in
+    let b = bind_some (stripped mark behind) (λ rest. read a.0 rest) x a.2 in
+    let first = short_inverts.takes digits a.0 a.1 in record {
+      number = a.0;
+      rest = b.0;
+      whole = run_whole is_ascii_digit word ∙ ap (λ text. text ++ behind) first.0 ∙ ap (λ text. number_text a.0 ++ text) (stripped_some mark behind b.0 b.1);
+      small = first.1;
+      reads = b.2;
+    }
 
--- what was read: of the text behind a front, or of the whole text in another way
-after_takes : {A : Type 0} (o : Option Word) (f : Word → Option A) (other : Option A) (x : A) (P : Type 0) → after o f other ≡ Some x
-    → ((rest : Word) → o ≡ Some rest → f rest ≡ Some x → P) → (other ≡ Some x → P) → P
-after_takes None f other x P e here there = there e
-after_takes (Some rest) f other x P e here there = here rest refl e
+numbered_again : {A : Type 0} (mark : Word) (read : ℕ → Word → Option A) (number : ℕ) (rest : Word) → number < 2 ^ 32 → stops is_ascii_digit (mark ++ rest) ≡ true
+    → number_before mark read (number_text number ++ (mark ++ rest)) ≡ read number rest
+numbered_again mark read number rest small ends =
+    let front = front_of_run is_ascii_digit (number_text number) (mark ++ rest) (digits-text number) ends in
+    let behind = rest_of_run is_ascii_digit (number_text number) (mark ++ rest) (digits-text number) ends in
+    rw (front, behind, short_inverts.again number small) (rw (stripped-append mark rest) refl)
 
-literal_takes : (word : Word) (l : Literal) → literal_in word ≡ Some l → (word ≡ literal_word l) × IsLiteralName l
-unfolding literal_in
-literal_takes word l e =
-    after_takes (stripped (codes "+") word) (side_in true) (stripped (codes "-") word >>= side_in false) l ((word ≡ literal_word l) × IsLiteralName l) e
-    (λ rest s h. let t = side_takes true rest l h in (stripped_some (codes "+") word rest s ∙ t.0, t.1))
-    (λ h. let b = bind_some (stripped (codes "-") word) (side_in false) l h in
-    let t = side_takes false b.0 l b.2 in
-    (stripped_some (codes "-") word b.0 b.1 ∙ t.0, t.1))
+-- ---- edges between events
 
-side_again : (l : Literal) → IsLiteralName l → side_in l.is_met (number_text l.constraint ++ (46 ∷ number_text l.cause)) ≡ Some l
-side_again l form =
-    let rest : Word = 46 ∷ number_text l.cause in
-    let front = front_of_run is_ascii_digit (number_text l.constraint) rest (digits-text l.constraint) refl in
-    let behind = rest_of_run is_ascii_digit (number_text l.constraint) rest (digits-text l.constraint) refl in
-    rw (front, behind, short_inverts.again l.constraint form.0) (rw (short_inverts.again l.cause form.1) refl)
+abbrev TakenDifference : Word → Edge → Type 0
+TakenDifference word e = (word ≡ difference_word e) × IsDifference e
 
-sign_again : (is_met : Bool) (word : Word) → literal_in (met_sign is_met ∷ word) ≡ side_in is_met word
-unfolding literal_in
-sign_again true word = refl
-sign_again false word = refl
+difference_takes : (word : Word) (e : Edge) → difference_in word ≡ Some e → TakenDifference word e
+unfolding difference_in
+difference_takes word e h =
+    let first = numbered_takes (codes ">") target_in word e h in
+    let second = numbered_takes (codes ":") (weight_in first.number) first.rest e first.reads in
+    let w =
+    bind_some (long_in second.rest) (λ weight. Some (record { from = record { 0 = first.number }; to = record { 0 = second.number }; weight = weight })) e second.reads in
+    let third = long_inverts.takes second.rest w.0 w.1 in
+    let text : word ≡ number_text first.number ++ (62 ∷ (number_text second.number ++ (58 ∷ signed_text w.0))) =
+    first.whole ∙ ap (λ rest. number_text first.number ++ (62 ∷ rest)) (second.whole ∙ ap (λ rest. number_text second.number ++ (58 ∷ rest)) third.0) in
+    subst (TakenDifference word) (same_Some (record { from = record { 0 = first.number }; to = record { 0 = second.number }; weight = w.0 }) e w.2)
+    (text, (first.small, second.small, third.1))
 
-literal_again : (l : Literal) → IsLiteralName l → literal_in (literal_word l) ≡ Some l
-literal_again l form = sign_again l.is_met (number_text l.constraint ++ (46 ∷ number_text l.cause)) ∙ side_again l form
+difference_again : (e : Edge) → IsDifference e → difference_in (difference_word e) ≡ Some e
+unfolding difference_in
+difference_again e form =
+    numbered_again (codes ">") target_in e.from.0 (number_text e.to.0 ++ (58 ∷ signed_text e.weight)) form.0 refl
+    ∙ (numbered_again (codes ":") (weight_in e.from.0) e.to.0 (signed_text e.weight) form.1 refl ∙ rw (long_inverts.again e.weight form.2) refl)
 
-pub literal_inverts : Inverts literal_in literal_word IsLiteralName
-literal_inverts = record { takes = literal_takes; again = literal_again }
+pub difference_inverts : Inverts difference_in difference_word IsDifference
+difference_inverts = record { takes = difference_takes; again = difference_again }
+
+either_takes : (word : Word) (e : Edge) → either_in word ≡ Some e → (word ≡ 69 ∷ difference_word e) × IsDifference e
+either_takes word e h =
+    let b = bind_some (stripped (codes "E") word) difference_in e h in
+    let t = difference_inverts.takes b.0 e b.2 in
+    (stripped_some (codes "E") word b.0 b.1 ∙ ap (λ x. 69 ∷ x) t.0, t.1)
 
 -- ---- where clauses come from
 
@@ -115,81 +130,83 @@ kept_takes word basis e =
     let m = map_some ByKept (lettered_in (codes "K") word) basis e in
     subst (TakenBasis word) m.2 ((lettered_inverts (codes "K")).takes word m.0 m.1)
 
-earliest_takes : (word : Word) (basis : Basis) → or_else (option_map ByEarliest (lettered_in (codes "E") word)) (option_map ByKept (lettered_in (codes "K") word)) ≡ Some basis
+choice_takes : (word : Word) (basis : Basis) → or_else (option_map ByChoice (lettered_in (codes "C") word)) (option_map ByKept (lettered_in (codes "K") word)) ≡ Some basis
     → TakenBasis word basis
-earliest_takes word basis e =
-    one_of ByEarliest (lettered_in (codes "E") word) (option_map ByKept (lettered_in (codes "K") word)) basis (TakenBasis word) e
-    (λ n h. (lettered_inverts (codes "E")).takes word n h) (kept_takes word basis)
-
-latest_takes : (word : Word) (basis : Basis)
-    → or_else (option_map ByLatest (lettered_in (codes "L") word)) (or_else (option_map ByEarliest (lettered_in (codes "E") word)) (option_map ByKept (lettered_in (codes "K") word))) ≡ Some basis
-    → TakenBasis word basis
-latest_takes word basis e =
-    one_of ByLatest (lettered_in (codes "L") word) (or_else (option_map ByEarliest (lettered_in (codes "E") word)) (option_map ByKept (lettered_in (codes "K") word))) basis (TakenBasis word) e
-    (λ n h. (lettered_inverts (codes "L")).takes word n h) (earliest_takes word basis)
+choice_takes word basis e =
+    one_of ByChoice (lettered_in (codes "C") word) (option_map ByKept (lettered_in (codes "K") word)) basis (TakenBasis word) e
+    (λ n h. (lettered_inverts (codes "C")).takes word n h) (kept_takes word basis)
 
 basis_takes : (word : Word) (basis : Basis) → basis_in word ≡ Some basis → TakenBasis word basis
 unfolding basis_in
 basis_takes word basis e =
-    let letters = or_else (option_map ByLatest (lettered_in (codes "L") word)) (or_else (option_map ByEarliest (lettered_in (codes "E") word)) (option_map ByKept (lettered_in (codes "K") word))) in
-    one_of ByEdge (edge_in word) (or_else (option_map BySide (literal_in word)) letters) basis (TakenBasis word) e
+    let letters = or_else (option_map ByChoice (lettered_in (codes "C") word)) (option_map ByKept (lettered_in (codes "K") word)) in
+    one_of ByEdge (edge_in word) (or_else (option_map Either (either_in word)) letters) basis (TakenBasis word) e
     (λ edge h. edge_inverts.takes word edge h)
-    (λ others. one_of BySide (literal_in word) letters basis (TakenBasis word) others
-    (λ l h. literal_inverts.takes word l h) (latest_takes word basis))
+    (λ others. one_of Either (either_in word) letters basis (TakenBasis word) others
+    (λ difference h. either_takes word difference h) (choice_takes word basis))
 
-no_edge : (is_met : Bool) (word : Word) → edge_in (met_sign is_met ∷ word) ≡ None
-unfolding edge_in
-no_edge true word = refl
-no_edge false word = refl
+-- a letter begins no name of an edge
+either_again : (e : Edge) → IsDifference e → basis_in (69 ∷ difference_word e) ≡ Some (Either e)
+unfolding basis_in edge_in
+either_again e form = rw (difference_inverts.again e form) refl
 
--- a letter begins neither an edge nor a literal
-latest_again : (n : ℕ) → n < 2 ^ 32 → basis_in (76 ∷ number_text n) ≡ Some (ByLatest n)
-unfolding basis_in edge_in literal_in
-latest_again n h = rw (short_inverts.again n h) refl
-
-earliest_again : (n : ℕ) → n < 2 ^ 32 → basis_in (69 ∷ number_text n) ≡ Some (ByEarliest n)
-unfolding basis_in edge_in literal_in
-earliest_again n h = rw (short_inverts.again n h) refl
+choice_again : (n : ℕ) → n < 2 ^ 32 → basis_in (67 ∷ number_text n) ≡ Some (ByChoice n)
+unfolding basis_in edge_in
+choice_again n h = rw (short_inverts.again n h) refl
 
 kept_again : (n : ℕ) → n < 2 ^ 32 → basis_in (75 ∷ number_text n) ≡ Some (ByKept n)
-unfolding basis_in edge_in literal_in
+unfolding basis_in edge_in
 kept_again n h = rw (short_inverts.again n h) refl
 
 basis_again : (basis : Basis) → IsBasisName basis → basis_in (basis_word basis) ≡ Some basis
 unfolding basis_in
 basis_again (ByEdge edge) form = rw (edge_inverts.again edge form) refl
-basis_again (BySide l) form = rw (no_edge l.is_met (number_text l.constraint ++ (46 ∷ number_text l.cause)), literal_again l form) refl
-basis_again (ByLatest constraint) form = latest_again constraint form
-basis_again (ByEarliest constraint) form = earliest_again constraint form
+basis_again (Either e) form = either_again e form
+basis_again (ByChoice constraint) form = choice_again constraint form
 basis_again (ByKept clause) form = kept_again clause form
 
 pub basis_inverts : Inverts basis_in basis_word IsBasisName
 basis_inverts = record { takes = basis_takes; again = basis_again }
 
+-- ---- steps
+
+step_takes : (word : Word) (step : WalkStep) → step_in word ≡ Some step → (word ≡ step_word step) × IsStepName step
+unfolding step_in
+step_takes word step e =
+    let place = numbered_takes (codes "/") through_in word step e in
+    let b = bind_some (basis_in place.rest) (λ basis. Some (record { basis = basis; through = place.number })) step place.reads in
+    let t = basis_inverts.takes place.rest b.0 b.1 in
+    subst (λ (s : WalkStep). (word ≡ step_word s) × IsStepName s) (same_Some (record { basis = b.0; through = place.number }) step b.2)
+    (place.whole ∙ ap (λ rest. number_text place.number ++ (47 ∷ rest)) t.0, (t.1, place.small))
+
+step_again : (step : WalkStep) → IsStepName step → step_in (step_word step) ≡ Some step
+unfolding step_in
+step_again step form = numbered_again (codes "/") through_in step.through (basis_word step.basis) form.1 refl ∙ rw (basis_inverts.again step.basis form.0) refl
+
+pub step_inverts : Inverts step_in step_word IsStepName
+step_inverts = record { takes = step_takes; again = step_again }
+
 -- ---- visible characters
 
-edge_side_plain : (side : Side) → is_plain (side_letter side) ≡ true
-edge_side_plain Upper = refl
-edge_side_plain Lower = refl
+side_plain : (side : Side) → is_plain (side_letter side) ≡ true
+side_plain Upper = refl
+side_plain Lower = refl
 
 edge_plain : (edge : EdgeName) → is_plain (edge_word edge) ≡ true
 edge_plain edge =
     plain_append (number_text edge.constraint) (46 ∷ (number_text edge.cause ++ side_letter edge.side)) (number_plain edge.constraint)
-    (plain_append (number_text edge.cause) (side_letter edge.side) (number_plain edge.cause) (edge_side_plain edge.side))
+    (plain_append (number_text edge.cause) (side_letter edge.side) (number_plain edge.cause) (side_plain edge.side))
 
-sign_plain : (is_met : Bool) → is_ascii_graphic (met_sign is_met) ≡ true
-sign_plain true = refl
-sign_plain false = refl
-
-pub literal_plain : (l : Literal) → is_plain (literal_word l) ≡ true
-literal_plain l =
-    let rest : Word = number_text l.constraint ++ (46 ∷ number_text l.cause) in
-    and_from (is_ascii_graphic (met_sign l.is_met)) (is_plain rest) (sign_plain l.is_met)
-    (plain_append (number_text l.constraint) (46 ∷ number_text l.cause) (number_plain l.constraint) (number_plain l.cause))
+pub difference_plain : (e : Edge) → is_plain (difference_word e) ≡ true
+difference_plain e =
+    plain_append (number_text e.from.0) (62 ∷ (number_text e.to.0 ++ (58 ∷ signed_text e.weight))) (number_plain e.from.0)
+    (plain_append (number_text e.to.0) (58 ∷ signed_text e.weight) (number_plain e.to.0) (signed_plain e.weight))
 
 pub basis_plain : (basis : Basis) → is_plain (basis_word basis) ≡ true
 basis_plain (ByEdge edge) = edge_plain edge
-basis_plain (BySide l) = literal_plain l
-basis_plain (ByLatest constraint) = number_plain constraint
-basis_plain (ByEarliest constraint) = number_plain constraint
+basis_plain (Either e) = difference_plain e
+basis_plain (ByChoice constraint) = number_plain constraint
 basis_plain (ByKept clause) = number_plain clause
+
+pub step_plain : (step : WalkStep) → is_plain (step_word step) ≡ true
+step_plain step = plain_append (number_text step.through) (47 ∷ basis_word step.basis) (number_plain step.through) (basis_plain step.basis)

@@ -2,9 +2,9 @@
 use Rattle.std.specs.Prelude.{◌≡◌, Result, Ok, Err}
 use Rattle.certificate.specs.declared.fault.LineFault.{LineFault}
 use Rattle.certificate.specs.declared.fault.LineFault.TheVariants.{BadLine, NoMemory}
-use Rattle.clauses.specs.Lines.{ClauseLine}
-use Rattle.settle.specs.declared.line.StoredLine.{StoredLine}
-use Rattle.settle.specs.Proofs.{line_of}
+use Rattle.edge_clauses.specs.declared.line.StoredLine.{StoredLine}
+use Rattle.edge_clauses.specs.Lines.{ClauseLine}
+use Rattle.edge_clauses.specs.Proofs.{line_of}
 
 -- this line was read, unless memory ran out
 abbrev pub IsReadAs : Result StoredLine LineFault → ClauseLine → Type 0

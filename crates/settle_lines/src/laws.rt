@@ -1,7 +1,7 @@
 //! Laws of the definitions that the contracts of this crate cite. The function has no code.
 
 ghost use Rattle.std.specs.Prelude.{◌≡◌, ℕ, ℤ, List};
-ghost use Rattle.clauses.specs.Lines.{ClauseLine};
+ghost use Rattle.edge_clauses.specs.Lines.{ClauseLine};
 ghost use Rattle.falling.specs.declared.view.View.{View};
 ghost use Rattle.line_words.specs.Lines.{ended};
 ghost use Rattle.settle_lines.specs.Text.{SpellsClause, claim_text, view_text};

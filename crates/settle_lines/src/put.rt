@@ -1,16 +1,18 @@
 //! Putting the words of a line of a proof by clauses.
 
-ghost use Rattle.std.specs.Prelude.{◌≡◌, ◌∷◌, ◌++◌, [], map};
+ghost use Rattle.std.specs.Prelude.{◌∷◌, ◌++◌, map};
 ghost use Rattle.std.specs.List.{flat_map};
 ghost use Rattle.itv_base.specs.Numerals.{number_text, signed_text};
 ghost use Rattle.itv_base.specs.Outside.{Puts};
 ghost use Rattle.line_words.specs.Lines.{ended, spaced};
-ghost use Rattle.settle_lines.specs.Text.{basis_word, literal_word, met_sign, step_words};
+ghost use Rattle.certificate.specs.Text.{edge_word, side_letter};
+ghost use Rattle.settle_lines.specs.Text.{basis_word, difference_word, step_word};
 
-use certificate::put_edge;
-use clauses::{Basis, EventFall, Literal, WalkStep};
+use certificate::side_letter;
+use edge_clauses::{Basis, EventBound, WalkStep};
+use event_graph::Edge;
 use itoa::Buffer;
-use itv_base::{EventId, PutFailed, Sink, number_text, put_all, signed_text};
+use itv_base::{EdgeName, EventId, PutFailed, Side, Sink, number_text, put_all, signed_text};
 use line_words::put_spaced;
 
 /// Puts the first word of a line, a space and the number of an event.
@@ -28,25 +30,25 @@ pub fn put_named<K: Sink>(name: &[u8], event: EventId, sink: &mut K) -> Result<(
     )
 }
 
-/// Puts a space and the value, in picoseconds, to which an event falls.
-pub fn put_value<K: Sink>(fall: EventFall, sink: &mut K) -> Result<(), PutFailed>
-    ensures { Puts (K.state sink.old) (K.state sink.new) (spaced (signed_text fall.value)) result }
+/// Puts a space and the value of a bound, in picoseconds.
+pub fn put_value<K: Sink>(bound: EventBound, sink: &mut K) -> Result<(), PutFailed>
+    ensures { Puts (K.state sink.old) (K.state sink.new) (spaced (signed_text bound.value)) result }
 {
     let mut digits = Buffer::new();
-    put_spaced(signed_text(fall.value, &mut digits).as_bytes(), sink)
+    put_spaced(signed_text(bound.value, &mut digits).as_bytes(), sink)
 }
 
 /// Puts a space, where a clause comes from, and the end of the line.
 pub fn put_basis_end<K: Sink>(basis: Basis, sink: &mut K) -> Result<(), PutFailed>
     ensures { Puts (K.state sink.old) (K.state sink.new) (ended (spaced (basis_word basis))) result }
 {
-    put_basis(basis, sink)?;
+    put_basis(b" ", basis, sink)?;
     sink.put(b"\n")
 }
 
-/// Puts two words for each step, each behind a space: its basis and the number of its way.
+/// Puts each step after a space.
 pub fn put_steps<K: Sink>(steps: &[WalkStep], sink: &mut K) -> Result<(), PutFailed>
-    ensures { Puts (K.state sink.old) (K.state sink.new) (flat_map spaced (step_words steps.now)) result }
+    ensures { Puts (K.state sink.old) (K.state sink.new) (flat_map spaced (map step_word steps.now)) result }
 {
     for step in steps {
         put_step(*step, sink)?;
@@ -54,71 +56,108 @@ pub fn put_steps<K: Sink>(steps: &[WalkStep], sink: &mut K) -> Result<(), PutFai
     Ok(())
 }
 
+// Puts a space, the place of a step's edge, and where its clause comes from.
 fn put_step<K: Sink>(step: WalkStep, sink: &mut K) -> Result<(), PutFailed>
-    ensures { Puts (K.state sink.old) (K.state sink.new) (spaced (basis_word step.basis) ++ spaced (number_text step.through)) result }
+    ensures { Puts (K.state sink.old) (K.state sink.new) (spaced (step_word step)) result }
 {
-    put_basis(step.basis, sink)?;
-    put_number(b"", step.through, sink)
+    put_number(b" ", b"", step.through, sink)?;
+    put_basis(b"/", step.basis, sink)
 }
 
-// Puts a space and where a clause comes from.
-fn put_basis<K: Sink>(basis: Basis, sink: &mut K) -> Result<(), PutFailed>
-    ensures { Puts (K.state sink.old) (K.state sink.new) (spaced (basis_word basis)) result }
+// Puts a front, and where a clause comes from.
+fn put_basis<K: Sink>(front: &[u8], basis: Basis, sink: &mut K) -> Result<(), PutFailed>
+    ensures { Puts (K.state sink.old) (K.state sink.new) (front.now ++ basis_word basis) result }
 {
     match basis {
-        Basis::ByEdge(edge) => put_edge(edge, sink),
-        Basis::BySide(literal) => put_literal(literal, sink),
-        Basis::ByLatest(constraint) => put_number(b"L", constraint, sink),
-        Basis::ByEarliest(constraint) => put_number(b"E", constraint, sink),
-        Basis::ByKept(clause) => put_number(b"K", clause, sink),
+        Basis::ByEdge(edge) => put_edge(front, edge, sink),
+        Basis::Either(edge) => put_lettered(front, b"E", edge, sink),
+        Basis::ByChoice(constraint) => put_number(front, b"C", constraint, sink),
+        Basis::ByKept(clause) => put_number(front, b"K", clause, sink),
     }
 }
 
-// Puts a space, a letter or none, and a number.
-fn put_number<K: Sink>(letter: &[u8], number: u32, sink: &mut K) -> Result<(), PutFailed>
-    ensures { Puts (K.state sink.old) (K.state sink.new) (spaced (letter.now ++ number_text number)) result }
+// Puts a front and the name of an always-edge.
+fn put_edge<K: Sink>(front: &[u8], edge: EdgeName, sink: &mut K) -> Result<(), PutFailed>
+    ensures { Puts (K.state sink.old) (K.state sink.new) (front.now ++ edge_word edge) result }
+{
+    put_number(front, b"", edge.constraint, sink)?;
+    put_cause(edge.cause, edge.side, sink)
+}
+
+// Puts a full stop, the number of a cause and the letter of a side.
+fn put_cause<K: Sink>(cause: u32, side: Side, sink: &mut K) -> Result<(), PutFailed>
+    ensures { Puts (K.state sink.old) (K.state sink.new) (46 ∷ (number_text cause ++ side_letter side)) result }
 {
     let mut digits = Buffer::new();
     put_all(
         sink,
         &[
-            b" ",
+            b".",
+            number_text(u64::from(cause), &mut digits).as_bytes(),
+            side_letter(side),
+        ],
+    )
+}
+
+// Puts a front, a letter or none, and a number.
+fn put_number<K: Sink>(
+    front: &[u8],
+    letter: &[u8],
+    number: u32,
+    sink: &mut K,
+) -> Result<(), PutFailed>
+    ensures { Puts (K.state sink.old) (K.state sink.new) (front.now ++ (letter.now ++ number_text number)) result }
+{
+    let mut digits = Buffer::new();
+    put_all(
+        sink,
+        &[
+            front,
             letter,
             number_text(u64::from(number), &mut digits).as_bytes(),
         ],
     )
 }
 
-/// Puts each literal behind a space.
-pub fn put_literals<K: Sink>(literals: &[Literal], sink: &mut K) -> Result<(), PutFailed>
-    ensures { Puts (K.state sink.old) (K.state sink.new) (flat_map spaced (map literal_word literals.now)) result }
+/// Puts each edge after a space.
+pub fn put_differences<K: Sink>(edges: &[Edge], sink: &mut K) -> Result<(), PutFailed>
+    ensures { Puts (K.state sink.old) (K.state sink.new) (flat_map spaced (map difference_word edges.now)) result }
 {
-    for literal in literals {
-        put_literal(*literal, sink)?;
+    for edge in edges {
+        put_difference(*edge, sink)?;
     }
     Ok(())
 }
 
-/// Puts a space and a literal.
-pub fn put_literal<K: Sink>(literal: Literal, sink: &mut K) -> Result<(), PutFailed>
-    ensures { Puts (K.state sink.old) (K.state sink.new) (spaced (literal_word literal)) result }
+/// Puts a space and an edge.
+pub fn put_difference<K: Sink>(edge: Edge, sink: &mut K) -> Result<(), PutFailed>
+    ensures { Puts (K.state sink.old) (K.state sink.new) (spaced (difference_word edge)) result }
 {
-    let mut constraint = Buffer::new();
-    let mut cause = Buffer::new();
+    put_lettered(b" ", b"", edge, sink)
+}
+
+// Puts a front, a letter or none, and an edge.
+fn put_lettered<K: Sink>(
+    front: &[u8],
+    letter: &[u8],
+    edge: Edge,
+    sink: &mut K,
+) -> Result<(), PutFailed>
+    ensures { Puts (K.state sink.old) (K.state sink.new) (front.now ++ (letter.now ++ difference_word edge)) result }
+{
+    let mut from = Buffer::new();
+    let mut to = Buffer::new();
+    let mut weight = Buffer::new();
     put_all(
         sink,
         &[
-            b" ",
-            met_sign(literal.is_met),
-            number_text(u64::from(literal.constraint), &mut constraint).as_bytes(),
-            b".",
-            number_text(u64::from(literal.cause), &mut cause).as_bytes(),
+            front,
+            letter,
+            number_text(u64::from(edge.from.0), &mut from).as_bytes(),
+            b">",
+            number_text(u64::from(edge.to.0), &mut to).as_bytes(),
+            b":",
+            signed_text(edge.weight, &mut weight).as_bytes(),
         ],
     )
-}
-
-fn met_sign(is_met: bool) -> &'static [u8]
-    ensures { result.now ≡ met_sign is_met ∷ [] }
-{
-    if is_met { b"+" } else { b"-" }
 }

@@ -1,21 +1,21 @@
 //! Reading a line of a proof by clauses.
 
-ghost use Rattle.std.specs.Prelude.{◌≡◌, IfOk, IsErrOf, option_map};
-ghost use Rattle.clauses.specs.Lines.{ClauseLine};
+ghost use Rattle.std.specs.Prelude.{◌≡◌, IfOk, IsErrOf, codes, option_map};
 ghost use Rattle.line_words.specs.Views.{texts};
 ghost use Rattle.line_words.specs.Words.{many};
-ghost use Rattle.settle.specs.Proofs.{line_of};
+ghost use Rattle.edge_clauses.specs.Lines.{ClauseLine};
+ghost use Rattle.edge_clauses.specs.Proofs.{line_of};
 ghost use Rattle.settle_lines.specs.Answer.{IsReadAs};
 ghost use Rattle.settle_lines.specs.Step.Answer.{IsClauseRead};
-ghost use Rattle.settle_lines.specs.Step.Reading.{assume_in, clause_in, close_in, fall_in, know_in, line_in, literal_in, loop_in, steps_in};
+ghost use Rattle.settle_lines.specs.Step.Reading.{assume_in, bound_in, clause_in, close_in, difference_in, fall_in, know_in, line_in, loop_in, many_and_many, rise_in, step_in};
 ghost use Rattle.settle_lines.specs.Text.{SpellsClause};
 
-use crate::words::{basis_in, first_number, first_step, literal_in};
+use crate::words::{basis_in, difference_in, first_number, parted, step_in};
 use certificate::LineFault;
-use clauses::{EventFall, Literal, WalkStep};
+use edge_clauses::{EventBound, StoredLine, WalkStep};
+use event_graph::Edge;
 use itv_base::{EventId, NoMemory};
 use line_words::{behind_word, long_in, split_words, two_words};
-use settle::StoredLine;
 use std::alloc::Global;
 
 /// Reads a line of a proof, without its line end. The faults are `BadLine`, for any other text, and `NoMemory`.
@@ -58,6 +58,9 @@ fn clause_in(alloc: Global, words: &[&str]) -> Result<Option<StoredLine>, NoMemo
     if let Some(line) = fall_in(words) {
         return Ok(Some(line));
     }
+    if let Some(line) = rise_in(words) {
+        return Ok(Some(line));
+    }
     if let Some(line) = know_in(words) {
         return Ok(Some(line));
     }
@@ -73,23 +76,36 @@ fn clause_in(alloc: Global, words: &[&str]) -> Result<Option<StoredLine>, NoMemo
 fn fall_in(words: &[&str]) -> Option<StoredLine>
     ensures { option_map (λ l. line_of l) result ≡ fall_in (texts words.now) }
 {
-    let (event, others) = first_number(behind_word(words, "fall")?)?;
+    Some(StoredLine::Fall(bound_in(behind_word(words, "fall")?)?))
+}
+
+fn rise_in(words: &[&str]) -> Option<StoredLine>
+    ensures { option_map (λ l. line_of l) result ≡ rise_in (texts words.now) }
+{
+    Some(StoredLine::Rise(bound_in(behind_word(words, "rise")?)?))
+}
+
+// A bound of an event: the event, the value and where the clause comes from.
+fn bound_in(words: &[&str]) -> Option<EventBound>
+    ensures { result ≡ bound_in (texts words.now) }
+{
+    let (event, others) = first_number(words)?;
     let (value, basis) = two_words(others)?;
     let value = long_in(value)?;
     let basis = basis_in(basis)?;
-    Some(StoredLine::Fall(EventFall {
+    Some(EventBound {
         event: EventId(event),
         value,
         basis,
-    }))
+    })
 }
 
 fn know_in(words: &[&str]) -> Option<StoredLine>
     ensures { option_map (λ l. line_of l) result ≡ know_in (texts words.now) }
 {
-    let (literal, basis) = two_words(behind_word(words, "know")?)?;
-    let literal = literal_in(literal)?;
-    Some(StoredLine::Know(literal, basis_in(basis)?))
+    let (edge, basis) = two_words(behind_word(words, "know")?)?;
+    let edge = difference_in(edge)?;
+    Some(StoredLine::Know(edge, basis_in(basis)?))
 }
 
 fn loop_in(alloc: Global, words: &[&str]) -> Result<Option<StoredLine>, NoMemory>
@@ -101,24 +117,39 @@ fn loop_in(alloc: Global, words: &[&str]) -> Result<Option<StoredLine>, NoMemory
     let Some((event, others)) = first_number(rest) else {
         return Ok(None);
     };
-    match steps_in(alloc, others)? {
+    match kept_in(alloc, others)? {
         None => Ok(None),
-        Some(steps) => Ok(Some(StoredLine::Loop(EventId(event), steps))),
+        Some((steps, clause)) => Ok(Some(StoredLine::Loop(EventId(event), steps, clause))),
     }
 }
 
-// A step for each two words.
+// The steps of a loop, and the clause that is kept.
+fn kept_in(alloc: Global, words: &[&str]) -> Result<Option<(Vec<WalkStep>, Vec<Edge>)>, NoMemory>
+    ensures { IfOk result (λ o. option_map (λ p. (p.0.items, p.1.items)) o
+        ≡ many_and_many step_in (codes "keep") difference_in (texts words.now)) }
+{
+    let Some((before, after)) = parted(words) else {
+        return Ok(None);
+    };
+    let Some(steps) = steps_in(alloc, before)? else {
+        return Ok(None);
+    };
+    match differences_in(alloc, after)? {
+        None => Ok(None),
+        Some(clause) => Ok(Some((steps, clause))),
+    }
+}
+
+// A step for each word.
 fn steps_in(alloc: Global, words: &[&str]) -> Result<Option<Vec<WalkStep>>, NoMemory>
-    ensures { IfOk result (λ o. option_map (λ v. v.items) o ≡ steps_in (texts words.now)) }
+    ensures { IfOk result (λ o. option_map (λ v. v.items) o ≡ many step_in (texts words.now)) }
 {
     let mut list = Vec::new(alloc);
-    let mut first = 0;
-    while first < words.len() {
-        let Some(step) = first_step(&words[first..]) else {
+    for word in words {
+        let Some(step) = step_in(word) else {
             return Ok(None);
         };
         list.push(step)?;
-        first += 2;
     }
     Ok(Some(list))
 }
@@ -129,22 +160,22 @@ fn assume_in(alloc: Global, words: &[&str]) -> Result<Option<StoredLine>, NoMemo
     let Some(others) = behind_word(words, "assume") else {
         return Ok(None);
     };
-    match literals_in(alloc, others)? {
+    match differences_in(alloc, others)? {
         None => Ok(None),
-        Some(literals) => Ok(Some(StoredLine::Assume(literals))),
+        Some(edges) => Ok(Some(StoredLine::Assume(edges))),
     }
 }
 
-// A literal for each word.
-fn literals_in(alloc: Global, words: &[&str]) -> Result<Option<Vec<Literal>>, NoMemory>
-    ensures { IfOk result (λ o. option_map (λ v. v.items) o ≡ many literal_in (texts words.now)) }
+// An edge for each word.
+fn differences_in(alloc: Global, words: &[&str]) -> Result<Option<Vec<Edge>>, NoMemory>
+    ensures { IfOk result (λ o. option_map (λ v. v.items) o ≡ many difference_in (texts words.now)) }
 {
     let mut list = Vec::new(alloc);
     for word in words {
-        let Some(literal) = literal_in(word) else {
+        let Some(edge) = difference_in(word) else {
             return Ok(None);
         };
-        list.push(literal)?;
+        list.push(edge)?;
     }
     Ok(Some(list))
 }

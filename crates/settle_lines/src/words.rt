@@ -1,34 +1,16 @@
 //! Reading the words of a line of a proof by clauses.
 
-ghost use Rattle.std.specs.Prelude.{◌≡◌, ◌≤◌, IfSome, length, option_map};
+ghost use Rattle.std.specs.Prelude.{◌≡◌, ◌≤◌, codes, length, option_map};
+ghost use Rattle.std.specs.List.{position_or_len};
 ghost use Rattle.line_words.specs.Views.{texts};
-ghost use Rattle.certificate.specs.Reading.{cause_in, edge_in, side_in as edge_side_in};
-ghost use Rattle.settle_lines.specs.Step.Reading.{basis_in, first_number, first_step, lettered_in, literal_in, side_in, step_in};
+ghost use Rattle.line_words.specs.Words.{is_word};
+ghost use Rattle.certificate.specs.Reading.{cause_in, edge_in, side_in};
+ghost use Rattle.settle_lines.specs.Step.Reading.{basis_in, difference_in, either_in, first_number, lettered_in, parted, step_in, target_in, weight_in};
 
-use clauses::{Basis, Literal, WalkStep};
-use itv_base::{EdgeName, Side, split_digits, strip};
-use line_words::short_in;
-
-/// The step of the first two words.
-pub fn first_step(words: &[&str]) -> Option<WalkStep>
-    ensures step { result ≡ first_step (texts words.now) }
-    ensures two { IfSome result (λ step. 2 ≤ length words.now) }
-{
-    match words {
-        [basis, way, ..] => step_in(basis, way),
-        _ => None,
-    }
-}
-
-// A step, by the word of its basis and the word of its way.
-fn step_in(basis: &str, way: &str) -> Option<WalkStep>
-    ensures { result ≡ step_in basis.now way.now }
-{
-    Some(WalkStep {
-        basis: basis_in(basis)?,
-        through: short_in(way)?,
-    })
-}
+use edge_clauses::{Basis, WalkStep};
+use event_graph::Edge;
+use itv_base::{EdgeName, EventId, Side, split_digits, strip};
+use line_words::{long_in, short_in};
 
 /// The first word as a number of 32 bits, and the other words.
 pub fn first_number<'a, 'b>(words: &'b [&'a str]) -> Option<(u32, &'b [&'a str])>
@@ -40,6 +22,36 @@ pub fn first_number<'a, 'b>(words: &'b [&'a str]) -> Option<(u32, &'b [&'a str])
     }
 }
 
+/// The words before the first word `keep`, and the words after it.
+pub fn parted<'a, 'b>(words: &'b [&'a str]) -> Option<(&'b [&'a str], &'b [&'a str])>
+    ensures { option_map (λ p. (texts p.0.now, texts p.1.now)) result ≡ parted (codes "keep") (texts words.now) }
+{
+    let place = place_of(words, "keep");
+    if place == words.len() {
+        return None;
+    }
+    Some((&words[..place], &words[place + 1..]))
+}
+
+// How many words stand before the first word that is this one.
+fn place_of(words: &[&str], key: &str) -> usize
+    ensures place { result ≡ position_or_len (λ word. is_word word.now key.now) words.now }
+    ensures within { result ≤ length words.now }
+{
+    words.iter().take_while(|word| **word != key).count()
+}
+
+/// A step: the place of its edge, and where its clause comes from.
+#[tactic(auto, unfolding(crate::specs::Step::Reading::step_in))]
+pub fn step_in(word: &str) -> Option<WalkStep>
+    ensures { result ≡ step_in word.now }
+{
+    let (digits, rest) = split_digits(word);
+    let through = short_in(digits)?;
+    let basis = basis_in(strip(rest, "/")?)?;
+    Some(WalkStep { basis, through })
+}
+
 /// Where a clause comes from.
 #[tactic(auto, unfolding(crate::specs::Step::Reading::basis_in))]
 pub fn basis_in(word: &str) -> Option<Basis>
@@ -48,47 +60,57 @@ pub fn basis_in(word: &str) -> Option<Basis>
     if let Some(edge) = edge_in(word) {
         return Some(Basis::ByEdge(edge));
     }
-    if let Some(literal) = literal_in(word) {
-        return Some(Basis::BySide(literal));
+    if let Some(edge) = either_in(word) {
+        return Some(Basis::Either(edge));
     }
-    if let Some(constraint) = lettered_in("L", word) {
-        return Some(Basis::ByLatest(constraint));
-    }
-    if let Some(constraint) = lettered_in("E", word) {
-        return Some(Basis::ByEarliest(constraint));
+    if let Some(constraint) = lettered_in("C", word) {
+        return Some(Basis::ByChoice(constraint));
     }
     Some(Basis::ByKept(lettered_in("K", word)?))
 }
 
-// A number of 32 bits behind a letter.
+// An edge of which either it or its opposite is met.
+fn either_in(word: &str) -> Option<Edge>
+    ensures { result ≡ either_in word.now }
+{
+    difference_in(strip(word, "E")?)
+}
+
+// A number of 32 bits after a letter.
 fn lettered_in(letter: &str, word: &str) -> Option<u32>
     ensures { result ≡ lettered_in letter.now word.now }
 {
     short_in(strip(word, letter)?)
 }
 
-/// A literal.
-#[tactic(auto, unfolding(crate::specs::Step::Reading::literal_in))]
-pub fn literal_in(word: &str) -> Option<Literal>
-    ensures { result ≡ literal_in word.now }
-{
-    match strip(word, "+") {
-        Some(rest) => side_in(true, rest),
-        None => side_in(false, strip(word, "-")?),
-    }
-}
-
-// A literal without its sign.
-fn side_in(is_met: bool, word: &str) -> Option<Literal>
-    ensures { result ≡ side_in is_met word.now }
+/// An edge between two events.
+#[tactic(auto, unfolding(crate::specs::Step::Reading::difference_in))]
+pub fn difference_in(word: &str) -> Option<Edge>
+    ensures { result ≡ difference_in word.now }
 {
     let (digits, rest) = split_digits(word);
-    let constraint = short_in(digits)?;
-    let cause = short_in(strip(rest, ".")?)?;
-    Some(Literal {
-        constraint,
-        cause,
-        is_met,
+    let from = short_in(digits)?;
+    target_in(from, strip(rest, ">")?)
+}
+
+// An edge from an event, by the event that it leads to and its weight.
+fn target_in(from: u32, word: &str) -> Option<Edge>
+    ensures { result ≡ target_in from word.now }
+{
+    let (digits, rest) = split_digits(word);
+    let to = short_in(digits)?;
+    weight_in(from, to, strip(rest, ":")?)
+}
+
+// An edge between these events, by its weight.
+fn weight_in(from: u32, to: u32, word: &str) -> Option<Edge>
+    ensures { result ≡ weight_in from to word.now }
+{
+    let weight = long_in(word)?;
+    Some(Edge {
+        from: EventId(from),
+        to: EventId(to),
+        weight,
     })
 }
 
@@ -107,7 +129,7 @@ fn cause_in(constraint: u32, word: &str) -> Option<EdgeName>
 {
     let (digits, rest) = split_digits(word);
     let cause = short_in(digits)?;
-    let side = edge_side_in(rest)?;
+    let side = side_in(rest)?;
     Some(EdgeName {
         constraint,
         cause,
@@ -115,8 +137,8 @@ fn cause_in(constraint: u32, word: &str) -> Option<EdgeName>
     })
 }
 
-fn edge_side_in(word: &str) -> Option<Side>
-    ensures { result ≡ edge_side_in word.now }
+fn side_in(word: &str) -> Option<Side>
+    ensures { result ≡ side_in word.now }
 {
     if word == "u" {
         return Some(Side::Upper);

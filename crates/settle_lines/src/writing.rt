@@ -1,19 +1,20 @@
 //! Writing the lines of a proof by clauses.
 
+ghost use Rattle.std.specs.Prelude.{◌++◌, codes, map};
 ghost use Rattle.std.specs.List.{flat_map};
-ghost use Rattle.std.specs.Prelude.{map};
 ghost use Rattle.itv_base.specs.Outside.{Puts};
-ghost use Rattle.clauses.specs.Lines.{Assume, Fall, Know, Loop};
-ghost use Rattle.settle.specs.Proofs.{line_of, lines_of};
-ghost use Rattle.settle_lines.specs.Text.{claim_text, clause_line_text, proof_text, view_text};
+ghost use Rattle.line_words.specs.Lines.{spaced};
+ghost use Rattle.edge_clauses.specs.Lines.{Assume, Fall, Know, Loop, Rise};
+ghost use Rattle.edge_clauses.specs.Proofs.{line_of, lines_of};
+ghost use Rattle.settle_lines.specs.Text.{claim_text, clause_line_text, difference_word, proof_text, step_word, view_text};
 
-use crate::put::{put_basis_end, put_literal, put_literals, put_named, put_steps, put_value};
-use clauses::{Basis, EventFall, Literal, WalkStep};
+use crate::put::{put_basis_end, put_difference, put_differences, put_named, put_steps, put_value};
+use edge_clauses::{Basis, EventBound, StoredLine, WalkStep};
+use event_graph::Edge;
 use falling::View;
 use itoa::Buffer;
 use itv_base::{EventId, PutFailed, Sink, signed_text};
 use line_words::put_words;
-use settle::StoredLine;
 
 /// Writes a proof by clauses: the view, the claim in picoseconds, and each line. If a put failed, a front of it was written, and the sink's count of
 /// faults rose.
@@ -65,42 +66,66 @@ pub fn write_clause_line<K: Sink>(line: &StoredLine, sink: &mut K) -> Result<(),
     ensures puts { Puts (K.state sink.old) (K.state sink.new) (clause_line_text (line_of line.now)) result }
 {
     match line {
-        StoredLine::Fall(fall) => put_fall(*fall, sink),
-        StoredLine::Know(literal, basis) => put_know(*literal, *basis, sink),
-        StoredLine::Loop(event, steps) => put_loop(*event, steps, sink),
-        StoredLine::Assume(literals) => put_assume(literals, sink),
+        StoredLine::Fall(bound) => put_fall(*bound, sink),
+        StoredLine::Rise(bound) => put_rise(*bound, sink),
+        StoredLine::Know(edge, basis) => put_know(*edge, *basis, sink),
+        StoredLine::Loop(event, steps, clause) => put_loop(*event, steps, clause, sink),
+        StoredLine::Assume(edges) => put_assume(edges, sink),
         StoredLine::Close => sink.put(b"close\n"),
     }
 }
 
-fn put_fall<K: Sink>(fall: EventFall, sink: &mut K) -> Result<(), PutFailed>
-    ensures { Puts (K.state sink.old) (K.state sink.new) (clause_line_text (Fall fall.event fall.value fall.basis)) result }
+fn put_fall<K: Sink>(bound: EventBound, sink: &mut K) -> Result<(), PutFailed>
+    ensures { Puts (K.state sink.old) (K.state sink.new) (clause_line_text (Fall bound.event bound.value bound.basis)) result }
 {
-    put_named(b"fall", fall.event, sink)?;
-    put_value(fall, sink)?;
-    put_basis_end(fall.basis, sink)
+    put_named(b"fall", bound.event, sink)?;
+    put_value(bound, sink)?;
+    put_basis_end(bound.basis, sink)
 }
 
-fn put_know<K: Sink>(literal: Literal, basis: Basis, sink: &mut K) -> Result<(), PutFailed>
-    ensures { Puts (K.state sink.old) (K.state sink.new) (clause_line_text (Know literal basis)) result }
+fn put_rise<K: Sink>(bound: EventBound, sink: &mut K) -> Result<(), PutFailed>
+    ensures { Puts (K.state sink.old) (K.state sink.new) (clause_line_text (Rise bound.event bound.value bound.basis)) result }
+{
+    put_named(b"rise", bound.event, sink)?;
+    put_value(bound, sink)?;
+    put_basis_end(bound.basis, sink)
+}
+
+fn put_know<K: Sink>(edge: Edge, basis: Basis, sink: &mut K) -> Result<(), PutFailed>
+    ensures { Puts (K.state sink.old) (K.state sink.new) (clause_line_text (Know edge basis)) result }
 {
     sink.put(b"know")?;
-    put_literal(literal, sink)?;
+    put_difference(edge, sink)?;
     put_basis_end(basis, sink)
 }
 
-fn put_loop<K: Sink>(event: EventId, steps: &[WalkStep], sink: &mut K) -> Result<(), PutFailed>
-    ensures { Puts (K.state sink.old) (K.state sink.new) (clause_line_text (Loop event steps.now)) result }
+fn put_loop<K: Sink>(
+    event: EventId,
+    steps: &[WalkStep],
+    clause: &[Edge],
+    sink: &mut K,
+) -> Result<(), PutFailed>
+    ensures { Puts (K.state sink.old) (K.state sink.new) (clause_line_text (Loop event steps.now clause.now)) result }
 {
     put_named(b"loop", event, sink)?;
-    put_steps(steps, sink)?;
+    put_kept(steps, clause, sink)?;
     sink.put(b"\n")
 }
 
-fn put_assume<K: Sink>(literals: &[Literal], sink: &mut K) -> Result<(), PutFailed>
-    ensures { Puts (K.state sink.old) (K.state sink.new) (clause_line_text (Assume literals.now)) result }
+// Puts the steps of a loop, the word `keep` and the clause that is kept, each word after a space.
+fn put_kept<K: Sink>(steps: &[WalkStep], clause: &[Edge], sink: &mut K) -> Result<(), PutFailed>
+    ensures { Puts (K.state sink.old) (K.state sink.new)
+        (flat_map spaced (map step_word steps.now) ++ (spaced (codes "keep") ++ flat_map spaced (map difference_word clause.now))) result }
+{
+    put_steps(steps, sink)?;
+    sink.put(b" keep")?;
+    put_differences(clause, sink)
+}
+
+fn put_assume<K: Sink>(edges: &[Edge], sink: &mut K) -> Result<(), PutFailed>
+    ensures { Puts (K.state sink.old) (K.state sink.new) (clause_line_text (Assume edges.now)) result }
 {
     sink.put(b"assume")?;
-    put_literals(literals, sink)?;
+    put_differences(edges, sink)?;
     sink.put(b"\n")
 }

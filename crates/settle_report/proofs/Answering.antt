@@ -17,7 +17,7 @@ use Rattle.settle.specs.declared.shown_answer.ShownAnswer.{ShownAnswer}
 use Rattle.settle.specs.declared.shown_answer.Settled.{Settled}
 use Rattle.settle.specs.declared.shown_answer.Settled.TheVariants.{Closed, Unbounded, Inconsistent}
 use Rattle.settle.specs.ShownAnswer.{IsFound, IsRightAnswer}
-use Rattle.settle.specs.Proofs.{IsProofAs}
+use Rattle.edge_clauses.specs.Proofs.{IsProofAs}
 use Rattle.settle_report.specs.declared.finding.Finding.TheVariants as findings
 use Rattle.settle_report.specs.declared.proof.Proof.{Proof}
 use Rattle.settle_report.specs.Answers.{ArePrintedTimes, CanRise, IsEndless, IsExtreme, IsFinding, IsNumber, IsRefuted, ProvesClaim, first_event}

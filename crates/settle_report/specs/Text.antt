@@ -17,7 +17,7 @@ use Rattle.right_report.specs.RowTally.{kinds_of, with_rows}
 use Rattle.drawn.specs.Drawn.{Drawn, name_of}
 use Rattle.drawn.specs.declared.row.Row.{Row}
 use Rattle.jobs.specs.Events.{event_lines}
-use Rattle.settle.specs.Proofs.{lines_of}
+use Rattle.edge_clauses.specs.Proofs.{lines_of}
 use Rattle.settle_lines.specs.Text.{proof_text}
 use Rattle.settle_report.specs.declared.finding.Finding.{Finding}
 use Rattle.settle_report.specs.declared.finding.Finding.TheVariants.{Consistent, Inconsistent, Spent}
@@ -29,7 +29,7 @@ use Rattle.settle_report.specs.Answers.{both_of, bound_of, verdict_in}
 
 -- the heading, and the events by their names
 abbrev pub front_text : Drawn → List ℕ
-front_text drawn = ended (codes "itv settle 1") ++ report_text (event_lines drawn.names)
+front_text drawn = ended (codes "itv settle 2") ++ report_text (event_lines drawn.names)
 
 -- a proof, if proofs are wanted
 abbrev pub shown_text : Bool → Proof → List ℕ

@@ -5,15 +5,14 @@ ghost use Rattle.itv_base.specs.Outside.{Puts};
 ghost use Rattle.itv_base.specs.declared.names.EventId.{EventId};
 ghost use Rattle.event_graph.specs.Network.{Net};
 ghost use Rattle.line_words.specs.Numbers.{IsLong};
-ghost use Rattle.settle.specs.Proofs.{IsProofAs};
+ghost use Rattle.edge_clauses.specs.Proofs.{IsProofAs};
 ghost use Rattle.settle_report.specs.Answers.{ProvesClaim};
 ghost use Rattle.settle_report.specs.Text.{shown_text};
 
-use clauses::Claim;
+use edge_clauses::{Claim, StoredLine};
 use falling::View;
 use itv_base::{PutFailed, Sink};
-use settle::StoredLine;
-use settle_lines::write_proof;
+use settle_lines::{have_texts, write_proof};
 use std::alloc::Global;
 
 /// What the lines prove: no satisfying separation of a pair exceeds the claim, in picoseconds.
@@ -39,6 +38,7 @@ pub fn proof_of(
     ensures fits { IsLong result.claim }
 {
     if is_wanted {
+        have_texts(&lines);
         Proof {
             view,
             claim: claim.value,

@@ -2,7 +2,7 @@
 
 mod times;
 
-pub use times::separation;
+pub use times::{separation, time_of};
 
 use crate::itv_base::*;
 

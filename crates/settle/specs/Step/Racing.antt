@@ -10,13 +10,13 @@ use Rattle.falling.specs.declared.view.View.TheVariants.{Plain, Negated}
 use Rattle.falling.specs.Cap.{IsNearValue, far_line}
 use Rattle.falling.specs.DerivationEnds.{AreLimits}
 use Rattle.falling.specs.Kinds.{negated}
-use Rattle.clauses.specs.Lines.{IsOver}
+use Rattle.edge_clauses.specs.Lines.{IsOver}
 use Rattle.settle.specs.declared.best.Best.{Best}
-use Rattle.settle.specs.declared.line.StoredLine.{StoredLine}
+use Rattle.edge_clauses.specs.declared.line.StoredLine.{StoredLine}
 use Rattle.settle.specs.declared.race.RaceEnd.{RaceEnd}
 use Rattle.settle.specs.declared.race.RaceEnd.TheVariants.{Closed, Unbounded, Inconsistent}
 use Rattle.settle.specs.declared.race.Race.{Race}
-use Rattle.settle.specs.Proofs.{IsProving}
+use Rattle.edge_clauses.specs.Proofs.{IsProving}
 
 -- times within the greatest cap that satisfy and have this separation
 pub record AreRaceTimes (net : Net) (from to : EventId) (value : ℤ) (times : List ℤ) : Type 0 where
@@ -50,9 +50,9 @@ lines_as Plain race = race.plain.lines
 lines_as Negated race = race.turned.lines
 
 -- the search of a view is over
-abbrev pub IsOverAs : View → Net → Race → Type 0
-IsOverAs Plain net race = IsOver net race.plain.check.goal race.plain.check.state
-IsOverAs Negated net race = IsOver (negated net) race.turned.check.goal race.turned.check.state
+abbrev pub IsOverAs : View → Race → Type 0
+IsOverAs Plain race = IsOver race.plain.check.goal race.plain.check.state
+IsOverAs Negated race = IsOver race.turned.check.goal race.turned.check.state
 
 -- an ending with a ray that starts at these times
 abbrev pub IsRayEnding : Net → EventId → EventId → List ℤ → RaceEnd → Type 0
@@ -63,6 +63,6 @@ IsRayEnding net from to times (Inconsistent view) = ⊥
 -- how a race ends: the lines of a view prove that nothing exceeds the best times, or that no times satisfy, or the best times and a ray show that every
 -- number is exceeded
 abbrev pub IsEnding : Net → Race → RaceEnd → Type 0
-IsEnding net race (Closed view) = IsOverAs view net race × IsSome race.best.times × (race.best.claim.value <ℤ pos (far_line net))
+IsEnding net race (Closed view) = IsOverAs view race × IsSome race.best.times × (race.best.claim.value <ℤ pos (far_line net))
 IsEnding net race (Unbounded ray) = IsSomeAnd race.best.times (λ times. IsRay net race.from race.to times.items ray.items)
-IsEnding net race (Inconsistent view) = IsOverAs view net race × (race.best.times ≡ None)
+IsEnding net race (Inconsistent view) = IsOverAs view race × (race.best.times ≡ None)

@@ -1,4 +1,4 @@
-use Rattle.clauses.specs.Checking.{IsChecking}
+use Rattle.edge_clauses.specs.Checking.{IsChecking}
 use Rattle.parts.proofs.clause_lines.take_each.Given as goal
 
 -- lines lead to the state of the checker

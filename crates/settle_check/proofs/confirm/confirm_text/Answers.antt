@@ -12,36 +12,36 @@ use Rattle.settle_check.proofs.Whole.{want_on}
 use Rattle.settle_check.proofs.confirm.confirm_text.Goals as goal
 
 pub returns-in_err-place-clause-whole : goal.returns-in_err-place-clause-whole
-returns-in_err-place-clause-whole c short settled =
-    let p = text_parts c.args.drawn.now c.network-net.result.now c.args.text.now c.network-net.ensures.network short settled in
+returns-in_err-place-clause-whole c settled =
+    let p = text_parts c.args.drawn.now c.network-net.result.now c.args.text.now c.network-net.ensures.network settled in
     want_on _ c.from_residual-in_err-place.result _ c.from_residual-in_err-place.ensures.1 (c.in_err-place.ensures.whole _ p.stands)
 
 pub returns-in_err-read-clause-whole : goal.returns-in_err-read-clause-whole
-returns-in_err-read-clause-whole c short settled =
-    let p = text_parts c.args.drawn.now c.network-net.result.now c.args.text.now c.network-net.ensures.network short settled in
+returns-in_err-read-clause-whole c settled =
+    let p = text_parts c.args.drawn.now c.network-net.result.now c.args.text.now c.network-net.ensures.network settled in
     want_on _ c.from_residual-in_err-read.result _ c.from_residual-in_err-read.ensures.1
-    (c.in_err-read.ensures.read p.finding _ p.is_finding p.few_finding (c.in_ok-place.ensures.whole _ p.stands))
+    (c.in_err-read.ensures.read p.finding _ p.is_finding (c.in_ok-place.ensures.whole _ p.stands))
 
 pub returns-in_err-rows-clause-whole : goal.returns-in_err-rows-clause-whole
-returns-in_err-rows-clause-whole c short settled =
-    let p = text_parts c.args.drawn.now c.network-net.result.now c.args.text.now c.network-net.ensures.network short settled in
-    let (same, next) = c.in_ok-read.ensures.read p.finding _ p.is_finding p.few_finding (c.in_ok-place.ensures.whole _ p.stands) in
+returns-in_err-rows-clause-whole c settled =
+    let p = text_parts c.args.drawn.now c.network-net.result.now c.args.text.now c.network-net.ensures.network settled in
+    let (same, next) = c.in_ok-read.ensures.read p.finding _ p.is_finding (c.in_ok-place.ensures.whole _ p.stands) in
     want_on _ c.from_residual-in_err-rows.result _ c.from_residual-in_err-rows.ensures.1
-    (c.in_err-rows.ensures.read p.finding p.found _ same p.are_found p.few_rows next)
+    (c.in_err-rows.ensures.read p.finding p.found _ same p.are_found next)
 
 pub returns-in_err-place-2-clause-whole : goal.returns-in_err-place-2-clause-whole
-returns-in_err-place-2-clause-whole c short settled =
-    let p = text_parts c.args.drawn.now c.network-net.result.now c.args.text.now c.network-net.ensures.network short settled in
-    let (same, next) = c.in_ok-read.ensures.read p.finding _ p.is_finding p.few_finding (c.in_ok-place.ensures.whole _ p.stands) in
-    let (rows, behind) = c.in_ok-rows.ensures.read p.finding p.found _ same p.are_found p.few_rows next in
+returns-in_err-place-2-clause-whole c settled =
+    let p = text_parts c.args.drawn.now c.network-net.result.now c.args.text.now c.network-net.ensures.network settled in
+    let (same, next) = c.in_ok-read.ensures.read p.finding _ p.is_finding (c.in_ok-place.ensures.whole _ p.stands) in
+    let (rows, behind) = c.in_ok-rows.ensures.read p.finding p.found _ same p.are_found next in
     want_on _ c.from_residual-in_err-place-2.result _ c.from_residual-in_err-place-2.ensures.1
     (c.in_err-place-2.ensures.whole [] (ending_stands c.args.drawn.now.rows p.finding c.in_ok-read.read.finding p.found c.in_ok-rows.rows.found.items _ _ same rows c.deref.ensures.value behind))
 
 pub returns-then-place-text-clause-whole : goal.returns-then-place-text-clause-whole
-returns-then-place-text-clause-whole c short settled =
-    let p = text_parts c.args.drawn.now c.network-net.result.now c.args.text.now c.network-net.ensures.network short settled in
-    let (same, next) = c.in_ok-read.ensures.read p.finding _ p.is_finding p.few_finding (c.in_ok-place.ensures.whole _ p.stands) in
-    let (rows, behind) = c.in_ok-rows.ensures.read p.finding p.found _ same p.are_found p.few_rows next in
+returns-then-place-text-clause-whole c settled =
+    let p = text_parts c.args.drawn.now c.network-net.result.now c.args.text.now c.network-net.ensures.network settled in
+    let (same, next) = c.in_ok-read.ensures.read p.finding _ p.is_finding (c.in_ok-place.ensures.whole _ p.stands) in
+    let (rows, behind) = c.in_ok-rows.ensures.read p.finding p.found _ same p.are_found next in
     let last = c.in_ok-place-2.ensures.whole [] (ending_stands c.args.drawn.now.rows p.finding c.in_ok-read.read.finding p.found c.in_ok-rows.rows.found.items _ _ same rows c.deref.ensures.value behind) in
     absurd (none_left_over c.args.text.now c.in_ok-place-2.place last c.if-place-text.true)
 

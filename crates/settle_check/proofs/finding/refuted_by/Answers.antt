@@ -1,6 +1,12 @@
-use Rattle.std.proofs.Common.{refl}
+use Rattle.std.proofs.Common.{All, ap, refl, subst}
+use Rattle.edge_clauses.specs.Proofs.{lines_of}
+use Rattle.settle_lines.specs.Text.{IsClauseLine}
 use Rattle.settle_check.proofs.Proved.{is_refuted}
 use Rattle.settle_check.proofs.finding.refuted_by.Goals as goal
 
 pub returns : goal.returns
-returns c = record { finding = is_refuted c.args.net.now c.args.proof c.events-events.ensures.net c.requires.some c.requires.low c.requires.fits c.requires.proof; is = refl }
+returns c = record {
+  finding = is_refuted c.args.net.now c.args.proof c.events-events.ensures.net c.requires.some c.requires.low c.requires.fits c.requires.proof
+      (subst (All IsClauseLine) (ap lines_of c.deref.ensures.value) c.have_texts.ensures.lines);
+  is = refl;
+}

@@ -2,10 +2,10 @@ use Rattle.settle_check.proofs.Parts.{proof_negated, proof_plain}
 use Rattle.settle_check.proofs.proof.lines_as.Goals as goal
 
 pub returns-in-Plain-clause-read : goal.returns-in-Plain-clause-read
-returns-in-Plain-clause-read c shown more proof few other stands =
-    c.lines_next.ensures.read shown more (proof_plain c.args.view c.args.net.now c.args.pair.from c.args.pair.to c.args.claim.value shown c.in-Plain.is proof) few other stands
+returns-in-Plain-clause-read c shown more proof forms other stands =
+    c.lines_next.ensures.read shown more (proof_plain c.args.view c.args.net.now c.args.pair.from c.args.pair.to c.args.claim.value shown c.in-Plain.is proof) forms other stands
 
 pub returns-in-Negated-clause-read : goal.returns-in-Negated-clause-read
-returns-in-Negated-clause-read c shown more proof few other stands =
+returns-in-Negated-clause-read c shown more proof forms other stands =
     rw c.turned.ensures.pair at c.lines_next-in-Negated.ensures.read shown more
-    (proof_negated c.args.view c.args.net.now c.args.views.now.negation c.args.pair.from c.args.pair.to c.args.claim.value shown c.in-Negated.is c.requires.views.negation_is proof) few other stands
+    (proof_negated c.args.view c.args.net.now c.args.views.now.negation c.args.pair.from c.args.pair.to c.args.claim.value shown c.in-Negated.is c.requires.views.negation_is proof) forms other stands

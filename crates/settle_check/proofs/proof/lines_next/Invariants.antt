@@ -1,5 +1,5 @@
 use Rattle.std.proofs.Common.{◌≡◌}
-use Rattle.settle.specs.Proofs.{IsProving}
+use Rattle.edge_clauses.specs.Proofs.{IsProving}
 use Rattle.settle_check.proofs.Taken.{IsReading}
 use Rattle.settle_check.proofs.proof.lines_next.Given as goal
 

@@ -23,7 +23,7 @@ returns-in_err-lines-clause-read c shown more s other stands =
     let claim = c.in_ok-claim.ensures.read _ _ shown.claim (claim_stands _ shown.claim _ next) refl s.fits in
     let behind = c.pass-2.ensures.passed _ _ (claim_stands _ shown.claim _ next) in
     want_on _ c.from_residual-in_err-lines.result _ c.from_residual-in_err-lines.ensures.1
-    (c.in_err-lines.ensures.read shown.lines.items more (shown_as c.args.net.now c.args.pair.from c.args.pair.to shown _ _ view claim s.proves) s.few other behind)
+    (c.in_err-lines.ensures.read shown.lines.items more (shown_as c.args.net.now c.args.pair.from c.args.pair.to shown _ _ view claim s.proves) s.forms other behind)
 
 pub returns-clause-read : goal.returns-clause-read
 returns-clause-read c shown more s other stands =
@@ -31,5 +31,5 @@ returns-clause-read c shown more s other stands =
     let next = c.pass.ensures.passed _ _ (proof_begins shown _ more stands) in
     let claim = c.in_ok-claim.ensures.read _ _ shown.claim (claim_stands _ shown.claim _ next) refl s.fits in
     let behind = c.pass-2.ensures.passed _ _ (claim_stands _ shown.claim _ next) in
-    let (lines, left) = c.in_ok-lines.ensures.read shown.lines.items more (shown_as c.args.net.now c.args.pair.from c.args.pair.to shown _ _ view claim s.proves) s.few other behind in
+    let (lines, left) = c.in_ok-lines.ensures.read shown.lines.items more (shown_as c.args.net.now c.args.pair.from c.args.pair.to shown _ _ view claim s.proves) s.forms other behind in
     (record { view = sym view; claim = sym claim ∙ sym (to_z-of_z w64 c.in_ok-claim.claim.value c.in_ok-claim.ensures.fits); lines = lines }, left)

@@ -28,20 +28,20 @@ returns-in_err-greatest-clause-read c row shown more at is stands =
     c.row_at-row.ensures.row at is stands in
     let next = c.in_ok-place.ensures.whole _ p.stands in
     want_on _ c.from_residual-in_err-greatest.result _ c.from_residual-in_err-greatest.ensures.1
-    (c.in_err-greatest.ensures.read shown.greatest _ p.greatest p.few_greatest next)
+    (c.in_err-greatest.ensures.read shown.greatest _ p.greatest next)
 
 pub returns-in_err-least-clause-read : goal.returns-in_err-least-clause-read
 returns-in_err-least-clause-read c row shown more at is stands =
     let p = row_parts c.args.drawn.now c.network-net.result.now c.args.text.now c.args.place c.args.number c.row_at-row.result.now row shown more c.network-net.ensures.network
     c.row_at-row.ensures.row at is stands in
-    let (greatest, next) = c.in_ok-greatest.ensures.read shown.greatest _ p.greatest p.few_greatest (c.in_ok-place.ensures.whole _ p.stands) in
+    let (greatest, next) = c.in_ok-greatest.ensures.read shown.greatest _ p.greatest (c.in_ok-place.ensures.whole _ p.stands) in
     want_on _ c.from_residual-in_err-least.result _ c.from_residual-in_err-least.ensures.1
-    (c.in_err-least.ensures.read shown.least _ p.least p.few_least next)
+    (c.in_err-least.ensures.read shown.least _ p.least next)
 
 pub returns-clause-read : goal.returns-clause-read
 returns-clause-read c row shown more at is stands =
     let p = row_parts c.args.drawn.now c.network-net.result.now c.args.text.now c.args.place c.args.number c.row_at-row.result.now row shown more c.network-net.ensures.network
     c.row_at-row.ensures.row at is stands in
-    let (greatest, next) = c.in_ok-greatest.ensures.read shown.greatest _ p.greatest p.few_greatest (c.in_ok-place.ensures.whole _ p.stands) in
-    let (least, behind) = c.in_ok-least.ensures.read shown.least _ p.least p.few_least next in
+    let (greatest, next) = c.in_ok-greatest.ensures.read shown.greatest _ p.greatest (c.in_ok-place.ensures.whole _ p.stands) in
+    let (least, behind) = c.in_ok-least.ensures.read shown.least _ p.least next in
     c.judged_read.ensures.read shown more p.past greatest least behind

@@ -1,10 +1,10 @@
-use Rattle.std.proofs.Common.{drop}
+use Rattle.std.proofs.Common.{drop, map}
 use Rattle.std.specs.List.{flat_map}
 use Rattle.itv_base.proofs.Written.{Left}
 use Rattle.line_words.specs.Lines.{spaced}
-use Rattle.settle_lines.specs.Text.{step_words}
+use Rattle.settle_lines.specs.Text.{step_word}
 use Rattle.settle_lines.proofs.put.put_steps.Given as goal
 
 abbrev pub invariant-loop-step : goal.invariant-loop-step
 invariant-loop-step g l =
-    Left (g.K.Sink.state l.fn.sink) (g.K.Sink.state l.sink) (flat_map spaced (step_words (drop l.step-index l.steps))) (flat_map spaced (step_words l.steps))
+    Left (g.K.Sink.state l.fn.sink) (g.K.Sink.state l.sink) (flat_map spaced (map step_word (drop l.step-index l.steps))) (flat_map spaced (map step_word l.steps))

@@ -1,12 +1,9 @@
-use Rattle.std.proofs.Common.{◌-◌, drop, length}
+use Rattle.std.proofs.Common.{◌≡◌, drop}
 use Rattle.line_words.specs.Views.{texts}
-use Rattle.settle_lines.specs.Step.Reading.{steps_in}
-use Rattle.settle_lines.proofs.Stepping.{StepsSoFar}
+use Rattle.line_words.specs.Words.{many}
+use Rattle.line_words.proofs.Looping.{in_front}
+use Rattle.settle_lines.specs.Step.Reading.{step_in}
 use Rattle.settle_lines.proofs.reading.steps_in.Given as goal
 
--- the steps so far, and the words that are left
-abbrev pub invariant-loop-first : goal.invariant-loop-first
-invariant-loop-first l = StepsSoFar l.list.items (texts (drop l.first l.words)) (steps_in (texts l.words))
-
-abbrev pub decreases-loop-first : goal.decreases-loop-first
-decreases-loop-first l = length l.words - l.first
+abbrev pub invariant-loop-word : goal.invariant-loop-word
+invariant-loop-word l = in_front l.list.items (many step_in (texts (drop l.word-index l.words))) ≡ many step_in (texts l.words)

@@ -1,7 +1,7 @@
 use Rattle.std.proofs.Common.{drop}
 use Rattle.std.specs.List.{flat_map}
 use Rattle.itv_base.proofs.Written.{Left}
-use Rattle.settle.specs.Proofs.{lines_of}
+use Rattle.edge_clauses.specs.Proofs.{lines_of}
 use Rattle.settle_lines.specs.Text.{clause_line_text}
 use Rattle.settle_lines.proofs.writing.put_lines.Given as goal
 

@@ -1,11 +1,11 @@
 use Rattle.std.proofs.Common.{List, sym, subst}
-use Rattle.settle.specs.declared.line.StoredLine.{StoredLine}
-use Rattle.settle.specs.Proofs.{IsProving, Proving}
-use Rattle.settle.proofs.Leading.{taken_proving}
+use Rattle.edge_clauses.specs.declared.line.StoredLine.{StoredLine}
+use Rattle.edge_clauses.specs.Proofs.{IsProving, Proving}
+use Rattle.edge_clauses.proofs.Leading.{taken_proving}
 use Rattle.settle.proofs.prover.Prover.heed.Goals as goal
 
 pub returns-in_ok-push-clause-proving : goal.returns-in_ok-push-clause-proving
 returns-in_ok-push-clause-proving c =
-    subst (λ (ls : List StoredLine). IsProving c.args.net.now (record { check = c.take_line.new.checker; lines = ls })) (sym c.in_ok-push.ensures.items)
-    (taken_proving c.args.net.now c.self.inside.checker c.take_line.new.checker c.self.inside.lines.items c.args.line
-    (subst (λ (p : Proving). IsProving c.args.net.now p) (sym c.self.view_is) c.requires.proving) (c.in_ok-take_line.ensures.taken c.if-branch.true))
+    subst (λ (ls : List StoredLine). IsProving c.args.net.now (record { check = c.take.new.self; lines = ls })) (sym c.in_ok-push.ensures.items)
+    (taken_proving c.args.net.now c.self.inside.checker c.take.new.self c.self.inside.lines.items c.args.line
+    (subst (λ (p : Proving). IsProving c.args.net.now p) (sym c.self.view_is) c.requires.proving) (c.in_ok-take.ensures.taken c.if-branch.true))

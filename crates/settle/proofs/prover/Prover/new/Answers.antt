@@ -1,4 +1,4 @@
-use Rattle.settle.proofs.Leading.{start_proving}
+use Rattle.edge_clauses.proofs.Leading.{start_proving}
 use Rattle.settle.proofs.prover.Prover.new.Goals as goal
 
 pub returns-clause-proving : goal.returns-clause-proving

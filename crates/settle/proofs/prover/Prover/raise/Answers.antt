@@ -1,6 +1,6 @@
 use Rattle.std.proofs.Common.{◌≤ℤ◌, sym, subst}
-use Rattle.settle.specs.Proofs.{IsProving, Proving}
-use Rattle.settle.proofs.Leading.{raised_proving}
+use Rattle.edge_clauses.specs.Proofs.{IsProving, Proving}
+use Rattle.edge_clauses.proofs.Leading.{raised_proving}
 use Rattle.settle.proofs.prover.Prover.raise.Goals as goal
 
 pub returns-clause-proving : goal.returns-clause-proving

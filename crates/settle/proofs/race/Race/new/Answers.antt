@@ -1,7 +1,7 @@
 use Rattle.std.proofs.Common.{subst}
 use Rattle.event_graph.specs.Network.{Net}
 use Rattle.falling.specs.Cap.{far_line}
-use Rattle.settle.specs.Proofs.{IsProving}
+use Rattle.edge_clauses.specs.Proofs.{IsProving}
 use Rattle.settle.proofs.Concluding.{start_low}
 use Rattle.settle.proofs.race.Race.new.Goals as goal
 

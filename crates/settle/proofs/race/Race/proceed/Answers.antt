@@ -1,7 +1,5 @@
 use Rattle.std.proofs.Common.{◌≡◌, IfOk, sym, subst}
-use Rattle.event_graph.specs.Network.{Net}
 use Rattle.falling.specs.declared.view.View.{View}
-use Rattle.clauses.specs.Lines.{IsOver}
 use Rattle.settle.specs.declared.prover.SearchState.{SearchState}
 use Rattle.settle.specs.declared.prover.SearchState.TheVariants.{Over}
 use Rattle.settle.specs.Step.Racing.{IsOverAs}
@@ -12,7 +10,7 @@ returns-in-Negated-clause-over c =
     subst
     (λ (v : View). IfOk c.step-in-Negated.result
     (λ (next : SearchState). next ≡ Over
-    → IsOverAs v c.args.net.now
+    → IsOverAs v
     (record {
       from = c.args.self.now.from;
       to = c.args.self.now.to;
@@ -24,5 +22,4 @@ returns-in-Negated-clause-over c =
       blocks = c.args.self.now.blocks;
     })))
     (sym c.in-Negated.is)
-    (subst (λ (n : Net). IfOk c.step-in-Negated.result (λ (next : SearchState). next ≡ Over → IsOver n c.step-in-Negated.new.self.check.goal c.step-in-Negated.new.self.check.state))
-    c.requires.negation c.step-in-Negated.ensures.over)
+    c.step-in-Negated.ensures.over

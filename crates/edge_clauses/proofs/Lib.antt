@@ -1,0 +1,16 @@
+pub mod Anys
+pub mod NegatedNet
+pub mod Between
+pub mod Edges
+pub mod Meeting
+pub mod Covering
+pub mod Proving
+pub mod Checked
+pub mod Leading
+pub mod Deciding
+pub mod Bounding
+pub mod Knowing
+pub mod Filling
+pub mod Walking
+pub mod Judging
+pub mod Taking

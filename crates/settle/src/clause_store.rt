@@ -1,0 +1,310 @@
+//! The clauses over bounds and sides. Two literals of each are watched.
+
+use crate::literal::{Literal, SideLiteral, beyond};
+use crate::places::{EMPTY, Stretch, at, put};
+use edge_clauses::Basis;
+use itv_base::NoMemory;
+use std::alloc::Global;
+
+/// A clause: one of its literals holds. The first two are watched.
+#[derive(Clone, Copy)]
+pub struct StoredClause {
+    pub basis: Basis,
+    pub literals: Stretch,
+    /// How many levels its literals were of as it was learnt. Clauses of 0 are kept for ever.
+    pub levels: usize,
+}
+
+/// A watch of a clause: which of its two, and the next watch in the chain. A literal over a bound can't hold where the other bound of its event is at most
+/// `value`.
+#[derive(Clone, Copy)]
+pub struct Watch {
+    pub clause: usize,
+    pub is_second: bool,
+    pub value: i64,
+    pub next: Option<usize>,
+}
+
+const NO_CLAUSE: StoredClause = StoredClause {
+    basis: Basis::ByKept(0),
+    literals: EMPTY,
+    levels: 0,
+};
+
+const NO_WATCH: Watch = Watch {
+    clause: 0,
+    is_second: false,
+    value: i64::MIN,
+    next: None,
+};
+
+const NO_LITERAL: Literal = Literal::Side(SideLiteral(0));
+
+/// The clauses. A watch stands in the chain of what makes its literal false: of the other bound of the event, or of the opposite literal.
+#[derive(Drop)]
+pub struct ClauseStore {
+    clauses: Vec<StoredClause>,
+    literals: Vec<Literal>,
+    /// Two for each clause.
+    watches: Vec<Watch>,
+    by_bound: Vec<Option<usize>>,
+    by_literal: Vec<Option<usize>>,
+    /// How many clauses were learnt and are not let go.
+    learnt: usize,
+}
+
+impl ClauseStore {
+    /// No clauses yet, over so many bounds and literals.
+    pub fn new(alloc: Global, bounds: usize, literals: usize) -> Result<ClauseStore, NoMemory> {
+        Ok(ClauseStore {
+            clauses: Vec::new(alloc),
+            literals: Vec::new(alloc),
+            watches: Vec::new(alloc),
+            by_bound: vec![in alloc; None; bounds]?,
+            by_literal: vec![in alloc; None; literals]?,
+            learnt: 0,
+        })
+    }
+
+    /// Adds a clause. Of a learnt clause the literals are of so many levels, of another one of 0.
+    pub fn push(
+        &mut self,
+        basis: Basis,
+        literals: &[Literal],
+        levels: usize,
+    ) -> Result<(), NoMemory> {
+        let stretch = Stretch {
+            first: self.literals.len(),
+            count: literals.len(),
+        };
+        self.literals.extend_from_slice(literals)?;
+        let clause = self.clauses.len();
+        self.clauses.push(StoredClause {
+            basis,
+            literals: stretch,
+            levels,
+        })?;
+        if 0 < levels {
+            self.learnt = self.learnt.saturating_add(1);
+        }
+        self.watches.push(watch_of(clause, false))?;
+        self.watches.push(watch_of(clause, true))?;
+        if 1 < stretch.count {
+            self.attach(clause, false);
+            self.attach(clause, true);
+        }
+        Ok(())
+    }
+
+    // Puts a watch of a clause into the chain of what makes its literal false.
+    fn attach(&mut self, clause: usize, is_second: bool) {
+        let place = place_of(clause, is_second);
+        let watched = self.watched(clause, is_second);
+        let next = self.first_watch(watched.opposite());
+        let value = match watched {
+            Literal::Bound(bound) => beyond(bound.value),
+            Literal::Side(_) => i64::MAX,
+        };
+        put(
+            &mut self.watches,
+            place,
+            Watch {
+                clause,
+                is_second,
+                value,
+                next,
+            },
+        );
+        self.set_first(watched.opposite(), Some(place));
+    }
+
+    // Sets the first watch of the chain of a literal.
+    fn set_first(&mut self, literal: Literal, place: Option<usize>) {
+        match literal {
+            Literal::Bound(bound) => put(&mut self.by_bound, bound.node.place(), place),
+            Literal::Side(side) => put(&mut self.by_literal, side.0, place),
+        }
+    }
+
+    /// The first watch of the chain that is to be looked at where a literal has come to hold.
+    pub fn first_watch(&self, literal: Literal) -> Option<usize> {
+        match literal {
+            Literal::Bound(bound) => at(&self.by_bound, bound.node.place(), None),
+            Literal::Side(side) => at(&self.by_literal, side.0, None),
+        }
+    }
+
+    /// The watch at a place.
+    pub fn watch(&self, place: usize) -> Watch {
+        at(&self.watches, place, NO_WATCH)
+    }
+
+    /// How many watches there are.
+    pub fn watches(&self) -> usize {
+        self.watches.len()
+    }
+
+    /// Watches another literal of a clause in place of a watched one. The watch is in the chain of a literal, after the watch `previous` or at its head.
+    pub fn move_watch(
+        &mut self,
+        place: usize,
+        number: usize,
+        chain: Literal,
+        previous: Option<usize>,
+    ) {
+        let watch = self.watch(place);
+        match previous {
+            Some(other) => {
+                let mut last = self.watch(other);
+                last.next = watch.next;
+                put(&mut self.watches, other, last);
+            }
+            None => self.set_first(chain, watch.next),
+        }
+        let literals = self.clause(watch.clause).literals;
+        self.swap(
+            literals.place(number_of(watch.is_second)),
+            literals.place(number),
+        );
+        self.attach(watch.clause, watch.is_second);
+    }
+
+    // Exchanges two literals.
+    fn swap(&mut self, one: usize, other: usize) {
+        let literal = at(&self.literals, one, NO_LITERAL);
+        let exchanged = at(&self.literals, other, NO_LITERAL);
+        put(&mut self.literals, one, exchanged);
+        put(&mut self.literals, other, literal);
+    }
+
+    /// How many clauses there are.
+    pub fn len(&self) -> usize {
+        self.clauses.len()
+    }
+
+    /// How many literals all clauses have.
+    pub fn size(&self) -> usize {
+        self.literals.len()
+    }
+
+    /// How many clauses were learnt and are not let go.
+    pub fn learnt(&self) -> usize {
+        self.learnt
+    }
+
+    /// The clause at a place.
+    pub fn clause(&self, place: usize) -> StoredClause {
+        at(&self.clauses, place, NO_CLAUSE)
+    }
+
+    /// A literal of a clause.
+    pub fn literal(&self, clause: StoredClause, number: usize) -> Literal {
+        at(&self.literals, clause.literals.place(number), NO_LITERAL)
+    }
+
+    /// A watched literal of a clause: the first or the second.
+    pub fn watched(&self, clause: usize, is_second: bool) -> Literal {
+        self.literal(self.clause(clause), number_of(is_second))
+    }
+
+    /// Lets go about half of the learnt clauses: those whose literals are of the most levels, and of equal ones the oldest. The others keep their order, and
+    /// their places change. Nothing may name a place then.
+    pub fn let_go(&mut self, alloc: Global) -> Result<(), NoMemory> {
+        let mut cut = self.cut(alloc)?;
+        let clauses = take(&mut self.clauses, Vec::new(alloc));
+        let literals = take(&mut self.literals, Vec::new(alloc));
+        self.watches.clear();
+        self.by_bound.fill(None);
+        self.by_literal.fill(None);
+        self.learnt = 0;
+        for clause in &clauses {
+            if cut.keeps(*clause) {
+                let first = clause.literals.first;
+                let end = first.saturating_add(clause.literals.count);
+                if let Some(kept) = literals.get(first..end) {
+                    self.push(clause.basis, kept, clause.levels)?;
+                }
+            }
+        }
+        Ok(())
+    }
+
+    // Where the half begins that goes.
+    fn cut(&self, alloc: Global) -> Result<Cut, NoMemory> {
+        let mut counts = vec![in alloc; 0usize; MOST_LEVELS + 1]?;
+        for clause in &self.clauses {
+            let place = clause.levels.min(MOST_LEVELS);
+            let count = at(&counts, place, 0);
+            put(&mut counts, place, count.saturating_add(1));
+        }
+        let half = self.learnt / 2;
+        let mut sum = 0usize;
+        for levels in 1..MOST_LEVELS + 1 {
+            sum = sum.saturating_add(at(&counts, levels, 0));
+            if half < sum {
+                return Ok(Cut {
+                    levels,
+                    old: sum.saturating_sub(half),
+                });
+            }
+        }
+        Ok(Cut {
+            levels: MOST_LEVELS,
+            old: 0,
+        })
+    }
+}
+
+// Clauses of more levels are one with those of this many.
+const MOST_LEVELS: usize = 255;
+
+// Clauses with literals of more levels go, and of those with so many levels the oldest.
+#[derive(Clone, Copy)]
+struct Cut {
+    levels: usize,
+    old: usize,
+}
+
+impl Cut {
+    // Whether the next clause stays.
+    fn keeps(&mut self, clause: StoredClause) -> bool {
+        let levels = clause.levels.min(MOST_LEVELS);
+        if levels == self.levels && 0 < self.old {
+            self.old = self.old.saturating_sub(1);
+            return false;
+        }
+        levels <= self.levels
+    }
+}
+
+// A watch in no chain.
+fn watch_of(clause: usize, is_second: bool) -> Watch {
+    Watch {
+        clause,
+        is_second,
+        value: i64::MAX,
+        next: None,
+    }
+}
+
+// The number of a watched literal.
+fn number_of(is_second: bool) -> usize {
+    if is_second {
+        return 1;
+    }
+    0
+}
+
+// The place of a watch of a clause.
+fn place_of(clause: usize, is_second: bool) -> usize {
+    let first = clause.saturating_mul(2);
+    if is_second {
+        return first.saturating_add(1);
+    }
+    first
+}
+
+// Puts a list in place of another, and gives that.
+fn take<T>(list: &mut Vec<T>, other: Vec<T>) -> Vec<T> {
+    std::mem::replace(list, other)
+}

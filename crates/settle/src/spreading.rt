@@ -1,0 +1,297 @@
+//! What follows from bounds and literals.
+
+use crate::arcs::Ground;
+use crate::bound_rules::BoundRule;
+use crate::clause_store::Watch;
+use crate::engine::{Conflict, Engine};
+use crate::literal::{Literal, NodeBound, SideLiteral};
+use crate::node::Node;
+use crate::trail::Reason;
+use itv_base::NoMemory;
+
+// How many turns a fall of a bound takes. What follows from it is looked at again.
+const FALL_TURNS: usize = 8;
+
+// The most that the ways of a rule give, in picoseconds, and the number of the way that gives it.
+#[derive(Clone, Copy)]
+struct MostWay {
+    value: i64,
+    number: usize,
+}
+
+impl Engine {
+    /// Begins: sides from an event to itself are met or not, and clauses of one literal make it hold.
+    pub fn begin(&mut self) -> Result<(), NoMemory> {
+        for side in 0..self.tables.sides.len() {
+            let literal = SideLiteral(side.saturating_mul(2));
+            let edge = self.tables.sides.edge(literal);
+            if edge.from == edge.to {
+                let held = if edge.weight < 0 {
+                    literal.opposite()
+                } else {
+                    literal
+                };
+                self.hold(held, Reason::Bounds(0))?;
+            }
+        }
+        for clause in 0..self.tables.clauses.len() {
+            if self.tables.clauses.clause(clause).literals.count == 1 {
+                self.look_at_whole(clause)?;
+            }
+        }
+        Ok(())
+    }
+
+    /// Lowers a bound, but at most to one below minus the cap. After a conflict nothing is lowered.
+    pub fn lower(&mut self, bound: NodeBound, reason: Reason) -> Result<(), NoMemory> {
+        let node = bound.node;
+        let value = bound.value.max(self.least);
+        if self.trail.value(node) <= value || self.conflict.is_some() || self.rests(node, reason) {
+            return Ok(());
+        }
+        self.trail.lower(NodeBound { node, value }, reason)?;
+        self.meter.take(FALL_TURNS);
+        self.sweep.add(node);
+        if self.falls.is_due(node) {
+            self.walk = Some(node);
+        }
+        if value.saturating_add(self.trail.value(node.other())) < 0 {
+            self.conflict = Some(Conflict::Bound(node));
+        }
+        Ok(())
+    }
+
+    // Whether a bound rests. Clauses lower it all the same.
+    fn rests(&self, node: Node, reason: Reason) -> bool {
+        match reason {
+            Reason::Edge(_) | Reason::Rule(_) => self.falls.rests(node),
+            _ => false,
+        }
+    }
+
+    // Lets a literal hold. After a conflict nothing is held.
+    fn hold(&mut self, side: SideLiteral, reason: Reason) -> Result<(), NoMemory> {
+        if self.trail.has(side) || self.conflict.is_some() {
+            return Ok(());
+        }
+        self.trail.hold(side, reason)
+    }
+
+    /// Looks at the edges and rules that lead from a bound.
+    pub fn look_from(&mut self, node: Node) -> Result<(), NoMemory> {
+        let edges = self.tables.edges.leading_from(node);
+        self.meter.look(edges.count);
+        for number in 0..edges.count {
+            self.follow(edges.place(number))?;
+        }
+        let value = self.trail.value(node);
+        self.look_at_rules(Literal::Bound(NodeBound { node, value }))
+    }
+
+    // Follows an edge, if it is met. If its literal is open and the bounds exclude it, the opposite holds.
+    fn follow(&mut self, place: usize) -> Result<(), NoMemory> {
+        let edge = self.tables.edges.edge(place);
+        let value = self.trail.value(edge.from).saturating_add(edge.weight);
+        if let Ground::Side(side) = edge.ground {
+            if !self.trail.has(side) {
+                return self.exclude(side, value, edge.to);
+            }
+        }
+        let node = edge.to;
+        self.lower(NodeBound { node, value }, Reason::Edge(place))
+    }
+
+    // Lets the opposite of a literal hold, if its edge would give a bound too low a value.
+    fn exclude(&mut self, side: SideLiteral, value: i64, node: Node) -> Result<(), NoMemory> {
+        let other = self.trail.value(node.other());
+        if 0 <= value.saturating_add(other) || self.trail.has(side.opposite()) {
+            return Ok(());
+        }
+        let edge = self.tables.sides.edge(side);
+        let start = self.trail.value(Node::most(edge.from));
+        self.hold(side.opposite(), Reason::Bounds(start))
+    }
+
+    /// Looks at what follows where a literal has come to hold: at clauses, and for a literal of a side at its edges and at rules.
+    pub fn hear(&mut self, literal: Literal) -> Result<(), NoMemory> {
+        self.look_at_clauses(literal)?;
+        if let Literal::Side(side) = literal {
+            let forth = self.tables.edges.of_literal(side, true);
+            self.follow(forth)?;
+            let back = self.tables.edges.of_literal(side, false);
+            self.follow(back)?;
+            self.look_at_rules(literal)?;
+        }
+        Ok(())
+    }
+
+    // Looks at the rules in the chain of a literal.
+    fn look_at_rules(&mut self, literal: Literal) -> Result<(), NoMemory> {
+        let mut next = self.tables.rules.first_link(literal);
+        for _ in 0..self.tables.rules.links() {
+            let Some(place) = next else {
+                return Ok(());
+            };
+            let link = self.tables.rules.link(place);
+            self.examine(link.rule)?;
+            next = link.next;
+        }
+        Ok(())
+    }
+
+    /// Lowers the target of a rule, if the rule says so.
+    pub fn examine(&mut self, place: usize) -> Result<(), NoMemory> {
+        let rule = self.tables.rules.rule(place);
+        self.meter.look(1);
+        let value = self.trail.value(rule.target);
+        if value <= self.given(rule, rule.hint) && self.counts(rule, rule.hint) {
+            return Ok(());
+        }
+        self.meter
+            .look(rule.ways.count.saturating_add(rule.literals.count));
+        let most = self.most_of(rule);
+        if most.number != rule.hint {
+            self.tables.rules.hint(place, most.number);
+        }
+        if value <= most.value || self.may_hold(rule) {
+            return Ok(());
+        }
+        let bound = NodeBound {
+            node: rule.target,
+            value: most.value,
+        };
+        self.lower(bound, Reason::Rule(place))
+    }
+
+    /// What a way of a rule gives, in picoseconds.
+    pub fn given(&self, rule: BoundRule, number: usize) -> i64 {
+        let way = self.tables.rules.way(rule, number);
+        self.trail.value(way.from).saturating_add(way.weight)
+    }
+
+    /// Whether a way of a rule counts.
+    pub fn counts(&self, rule: BoundRule, number: usize) -> bool {
+        match self.tables.rules.way(rule, number).side {
+            Some(side) => !self.trail.has(side.opposite()),
+            None => number < rule.ways.count,
+        }
+    }
+
+    // The most that the ways of a rule give.
+    fn most_of(&self, rule: BoundRule) -> MostWay {
+        let mut most = MostWay {
+            value: self.least,
+            number: 0,
+        };
+        for number in 0..rule.ways.count {
+            let value = self.given(rule, number);
+            if most.value < value && self.counts(rule, number) {
+                most = MostWay { value, number };
+            }
+        }
+        most
+    }
+
+    // Whether a literal of a rule may hold.
+    fn may_hold(&self, rule: BoundRule) -> bool {
+        for number in 0..rule.literals.count {
+            let literal = self.tables.rules.literal(rule, number);
+            if !self.trail.has(literal.opposite()) {
+                return true;
+            }
+        }
+        false
+    }
+
+    // Looks at the clauses whose watches are in the chain of a literal.
+    fn look_at_clauses(&mut self, chain: Literal) -> Result<(), NoMemory> {
+        let mut previous = None;
+        let mut next = self.tables.clauses.first_watch(chain);
+        for _ in 0..self.tables.clauses.watches() {
+            let Some(place) = next else {
+                return Ok(());
+            };
+            let watch = self.tables.clauses.watch(place);
+            self.meter.look(1);
+            next = watch.next;
+            if self.may_still_hold(chain, watch)
+                || !self.has_moved(place, watch, chain, previous)?
+            {
+                previous = Some(place);
+            }
+        }
+        Ok(())
+    }
+
+    // Whether the literal of a watch may hold, though that of its chain holds.
+    fn may_still_hold(&self, chain: Literal, watch: Watch) -> bool {
+        match chain {
+            Literal::Bound(bound) => watch.value < self.trail.value(bound.node),
+            Literal::Side(_) => false,
+        }
+    }
+
+    // Watches a literal that may hold in place of one that can't, and says so. If there is none, the clause makes the literal of the other watch hold.
+    fn has_moved(
+        &mut self,
+        place: usize,
+        watch: Watch,
+        chain: Literal,
+        previous: Option<usize>,
+    ) -> Result<bool, NoMemory> {
+        let other = self.tables.clauses.watched(watch.clause, !watch.is_second);
+        if self.trail.holds(other) {
+            return Ok(false);
+        }
+        let clause = self.tables.clauses.clause(watch.clause);
+        self.meter.look(clause.literals.count);
+        for number in 2..clause.literals.count {
+            let literal = self.tables.clauses.literal(clause, number);
+            if !self.trail.is_false(literal) {
+                self.tables
+                    .clauses
+                    .move_watch(place, number, chain, previous);
+                return Ok(true);
+            }
+        }
+        self.imply(watch.clause, other)?;
+        Ok(false)
+    }
+
+    /// Makes a literal hold by a clause none of whose other literals can hold.
+    pub fn imply(&mut self, clause: usize, literal: Literal) -> Result<(), NoMemory> {
+        if self.trail.is_false(literal) {
+            if self.conflict.is_none() {
+                self.conflict = Some(Conflict::Clause(clause));
+            }
+            return Ok(());
+        }
+        match literal {
+            Literal::Bound(bound) => self.lower(bound, Reason::Clause(clause)),
+            Literal::Side(side) => self.hold(side, Reason::Clause(clause)),
+        }
+    }
+
+    /// Looks at all literals of a clause.
+    pub fn look_at_whole(&mut self, place: usize) -> Result<(), NoMemory> {
+        let clause = self.tables.clauses.clause(place);
+        self.meter.look(clause.literals.count);
+        let mut open = None;
+        for number in 0..clause.literals.count {
+            let literal = self.tables.clauses.literal(clause, number);
+            if !self.trail.is_false(literal) {
+                if open.is_some() || self.trail.holds(literal) {
+                    return Ok(());
+                }
+                open = Some(literal);
+            }
+        }
+        match open {
+            Some(literal) => self.imply(place, literal),
+            None => {
+                self.conflict = Some(Conflict::Clause(place));
+                Ok(())
+            }
+        }
+    }
+}
