@@ -38,7 +38,7 @@ def as_rust(crate, text):
     text = re.sub(r"#\[derive\(Drop\)\]\n", "", without_contracts(text)).replace(", Drop)", ")")
     text = text.replace("crate::", f"crate::{crate}::").replace("pub mod laws;\n", "").replace("mod decided;\n", "")
     text = re.sub(r"pub use decided::.*\n", "", text)
-    text = re.sub(r"\buse (itv_base|event_graph|falling|clauses|edge_clauses)::", r"use crate::\1::", text)
+    text = re.sub(r"\buse (itv_base|event_graph|falling|edge_clauses)::", r"use crate::\1::", text)
     text = re.sub(r"impl<T: Drop> From<AllocFailed<T>> for \w+ \{.*?\n\}\n", "", text, flags=re.S)
     text = re.sub(r"use std::(alloc|marker|error|fmt)[^;]*;\n", "", text)
     return "use crate::shim::*;\n" + text

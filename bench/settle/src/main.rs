@@ -7,7 +7,6 @@
 
 #[macro_use]
 mod shim;
-mod clauses;
 mod edge_clauses;
 mod event_graph;
 mod falling;

@@ -3,11 +3,9 @@ use Rattle.std.proofs.Common.{◌≡◌, ◌<◌, Bool, true, false, IsTrue, IsF
 use Rattle.itv_base.specs.declared.text.NoMemory.{NoMemory}
 use Rattle.event_graph.specs.Network.{Net}
 use Rattle.falling.specs.DerivationEnds.{AreLimits}
-use Rattle.clauses.specs.Laws.{claiming}
-use Rattle.clauses.specs.Lines.{Goal}
+use Rattle.edge_clauses.specs.Lines.{ClauseLine, Goal, IsLine, ProofLeads, State, claiming, starting}
 use Rattle.edge_clauses.specs.Checking.{Checking, IsChecking, TakesLine}
 use Rattle.edge_clauses.specs.Laws.{RaisedKeepsChecking, StartIsChecking, TakenLineKeepsChecking}
-use Rattle.edge_clauses.specs.Lines.{ClauseLine, IsLine, ProofLeads, State, starting}
 use Rattle.edge_clauses.proofs.Proving.{claim_can_rise}
 
 -- a line after lines

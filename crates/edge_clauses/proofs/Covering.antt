@@ -11,13 +11,12 @@ use Rattle.event_graph.specs.Network.{Net}
 use Rattle.event_graph.specs.Satisfying.{Satisfies}
 use Rattle.event_graph.specs.Times.{time_of}
 use Rattle.falling.proofs.Bounding.{AreAbove, past_end, set_at, some_and}
-use Rattle.clauses.specs.Lines.{Goal}
-use Rattle.clauses.proofs.Anys.{any_element}
-use Rattle.clauses.proofs.Between.{IsBetween}
+use Rattle.edge_clauses.specs.Lines.{Assume, Block, ClauseLine, Close, Excludes, Fall, Forces, Frame, GivesLeast, GivesMost, Goal, IsClauseLoop, IsCovered, IsEdgeRefuted, IsEnded, IsLine, IsLow, Know, LetsFall, LetsRise, Loop, ProofLeads, Rise, State, StepsTo, Walks, frame_in, refuting, with_frame_in}
+use Rattle.edge_clauses.proofs.Anys.{any_element}
+use Rattle.edge_clauses.proofs.Between.{IsBetween}
 use Rattle.edge_clauses.specs.declared.basis.WalkStep.{WalkStep}
 use Rattle.edge_clauses.specs.declared.walk.Walk.{Walk}
 use Rattle.edge_clauses.specs.Clauses.{Clause}
-use Rattle.edge_clauses.specs.Lines.{Assume, Block, ClauseLine, Close, Excludes, Fall, Forces, Frame, GivesLeast, GivesMost, IsClauseLoop, IsCovered, IsEnded, IsLine, IsLow, IsEdgeRefuted, Know, LetsFall, LetsRise, Loop, ProofLeads, Rise, State, StepsTo, Walks, frame_in, refuting, with_frame_in}
 use Rattle.edge_clauses.proofs.Edges.{refuting_met}
 use Rattle.edge_clauses.proofs.Meeting.{MeetsClause, clause_met}
 

@@ -4,7 +4,7 @@ use Rattle.event_graph.specs.Bounds.{IsInconsistent}
 use Rattle.event_graph.specs.Network.{IsNet, Net}
 use Rattle.event_graph.specs.Satisfying.{Satisfies}
 use Rattle.event_graph.specs.Times.{separation}
-use Rattle.clauses.specs.declared.decided.ProofVerdict.TheVariants.{Closed}
+use Rattle.edge_clauses.specs.declared.decided.ProofVerdict.TheVariants.{Closed}
 use Rattle.edge_clauses.specs.Checking.{Checking, IsChecking, IsVerdict}
 use Rattle.edge_clauses.specs.Lines.{IsOver}
 use Rattle.edge_clauses.proofs.Proving.{clause_proof_of_nothing, proof_and_times_close}

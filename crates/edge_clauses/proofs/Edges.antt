@@ -7,7 +7,7 @@ use Rattle.event_graph.specs.Edges.{Meets}
 use Rattle.event_graph.specs.Times.{time_of}
 use Rattle.falling.proofs.Near.{below_or_not}
 use Rattle.falling.proofs.Negating.{any_map}
-use Rattle.clauses.proofs.Anys.{all_or_any}
+use Rattle.edge_clauses.proofs.Anys.{all_or_any}
 use Rattle.edge_clauses.specs.Clauses.{unmet}
 
 met_or_not : (from to weight : ℤ) → ((to -ℤ from) ≤ℤ weight) ⊎ ((from -ℤ to) ≤ℤ (neg_ℤ weight -ℤ pos 1))

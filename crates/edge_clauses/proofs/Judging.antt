@@ -4,11 +4,10 @@ use Rattle.std.proofs.lemmas.Int.{ints}
 use Rattle.itv_base.specs.declared.names.EventId.{EventId}
 use Rattle.event_graph.specs.Network.{Net}
 use Rattle.event_graph.specs.Times.{time_of}
-use Rattle.clauses.specs.Lines.{Goal}
+use Rattle.edge_clauses.specs.Lines.{Frame, Goal, IsEnded, IsNearBound, LetsFall, LetsRise}
 use Rattle.edge_clauses.specs.declared.basis.Basis.{Basis}
 use Rattle.edge_clauses.specs.Checking.{SomeClause}
 use Rattle.edge_clauses.specs.Clauses.{Clause, IsClause}
-use Rattle.edge_clauses.specs.Lines.{Frame, IsNearBound, IsEnded, LetsFall, LetsRise}
 use Rattle.edge_clauses.specs.Step.Bounding.{HasCrossed}
 use Rattle.edge_clauses.specs.Step.Judging.{AllowsFall, AllowsRise}
 use Rattle.edge_clauses.proofs.Filling.{one_clause}

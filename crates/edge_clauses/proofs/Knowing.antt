@@ -4,7 +4,7 @@ use Rattle.std.proofs.lemmas.List.{get_or-set_other, get_or-set_same, get_or-tak
 use Rattle.std.proofs.lemmas.Option.{get_or_from_slice_get, same_Some, slice_get_read, slice_get_within}
 use Rattle.itv_base.specs.declared.names.EventId.{EventId}
 use Rattle.event_graph.specs.declared.edge.Edge.{Edge}
-use Rattle.clauses.proofs.Anys.{any_cases, any_head, any_none, any_tail}
+use Rattle.edge_clauses.proofs.Anys.{any_cases, any_head, any_none, any_tail}
 use Rattle.edge_clauses.specs.Lines.{Excludes}
 use Rattle.edge_clauses.specs.Step.Knowing.{AreChained, chain_of, last_in, later}
 

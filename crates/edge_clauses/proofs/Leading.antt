@@ -5,9 +5,7 @@ use Rattle.itv_base.specs.declared.names.EventId.{EventId}
 use Rattle.event_graph.specs.Network.{Net}
 use Rattle.falling.specs.DerivationEnds.{AreLimits}
 use Rattle.edge_clauses.specs.Checking.{Checking, TakesLine}
-use Rattle.clauses.specs.Laws.{claiming}
-use Rattle.clauses.specs.Lines.{Goal}
-use Rattle.edge_clauses.specs.Lines.{ClauseLine, ProofLeads, State, starting}
+use Rattle.edge_clauses.specs.Lines.{ClauseLine, Goal, ProofLeads, State, claiming, starting}
 use Rattle.edge_clauses.proofs.Checked.{leads_more, raised_keeps_checking, start_is_checking, taken_line_keeps_checking}
 use Rattle.edge_clauses.proofs.Proving.{claim_can_rise}
 use Rattle.edge_clauses.specs.declared.line.StoredLine.{StoredLine}

@@ -1,3 +1,6 @@
+pub mod Anys
+pub mod NegatedNet
+pub mod Between
 pub mod Edges
 pub mod Meeting
 pub mod Covering

@@ -15,7 +15,7 @@ use Rattle.event_graph.specs.Times.{time_of}
 use Rattle.event_graph.proofs.ByEdges.{satisfying_meets_always}
 use Rattle.event_graph.proofs.EdgesMet.{All-found}
 use Rattle.falling.proofs.Bounding.{some_and}
-use Rattle.clauses.proofs.Anys.{any_cases, any_head, any_none, any_tail, any_weaker}
+use Rattle.edge_clauses.proofs.Anys.{any_cases, any_head, any_none, any_tail, any_weaker}
 use Rattle.edge_clauses.specs.declared.basis.Basis.{Basis}
 use Rattle.edge_clauses.specs.declared.basis.Basis.TheVariants.{ByEdge, Either, ByChoice, ByKept}
 use Rattle.edge_clauses.specs.Clauses.{Clause, IsClause, unmet}

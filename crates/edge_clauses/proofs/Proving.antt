@@ -13,14 +13,12 @@ use Rattle.falling.proofs.Bounding.{AreAbove, past_end, replicated, set_at, some
 use Rattle.falling.proofs.Near.{below_or_not}
 use Rattle.falling.proofs.NegatedNets.{inconsistent_from, widest-negated}
 use Rattle.falling.proofs.Negating.{satisfies_turns, separation-negated}
-use Rattle.clauses.specs.Laws.{claiming}
-use Rattle.clauses.specs.Lines.{Goal}
-use Rattle.clauses.proofs.Anys.{all_none}
-use Rattle.clauses.proofs.Between.{IsBetween, between, between_near}
-use Rattle.clauses.proofs.NegatedNet.{net_negated}
+use Rattle.edge_clauses.specs.Lines.{Assume, ClauseLine, Close, Fall, Forces, Frame, Goal, IsClauseProof, IsEdgeRefuted, IsEnded, IsLine, IsLow, Know, LetsFall, LetsRise, Loop, Rise, State, claiming, frame_of, starting, starting_lows}
+use Rattle.edge_clauses.proofs.Anys.{all_none}
+use Rattle.edge_clauses.proofs.Between.{IsBetween, between, between_near}
+use Rattle.edge_clauses.proofs.NegatedNet.{net_negated}
 use Rattle.edge_clauses.specs.Clauses.{Clause}
 use Rattle.edge_clauses.specs.Laws.{ClaimCanRise, ClauseProofBounds, ClauseProofOfNothing, NegatedProofBounds, NegatedProofOfNothing, ProofAndTimesClose}
-use Rattle.edge_clauses.specs.Lines.{Assume, ClauseLine, Close, Fall, Forces, Frame, IsClauseProof, IsEnded, IsLine, IsLow, IsEdgeRefuted, Know, LetsFall, LetsRise, Loop, Rise, State, frame_of, starting, starting_lows}
 use Rattle.edge_clauses.proofs.Covering.{Keeps, lead_keeps, over_fails}
 use Rattle.edge_clauses.proofs.Meeting.{MeetsClause}
 

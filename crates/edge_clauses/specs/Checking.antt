@@ -6,12 +6,11 @@ use Rattle.event_graph.specs.Satisfying.{Satisfies}
 use Rattle.event_graph.specs.Times.{separation}
 use Rattle.falling.specs.declared.limits.Limits.{Limits}
 use Rattle.falling.specs.DerivationEnds.{AreLimits}
-use Rattle.clauses.specs.Lines.{Goal}
-use Rattle.clauses.specs.declared.decided.ProofVerdict.{ProofVerdict}
-use Rattle.clauses.specs.declared.decided.ProofVerdict.TheVariants.{Closed, Inconsistent, Open}
+use Rattle.edge_clauses.specs.Lines.{ClauseLine, Goal, IsLine, IsOver, ProofLeads, State, starting}
+use Rattle.edge_clauses.specs.declared.decided.ProofVerdict.{ProofVerdict}
+use Rattle.edge_clauses.specs.declared.decided.ProofVerdict.TheVariants.{Closed, Inconsistent, Open}
 use Rattle.edge_clauses.specs.declared.basis.Basis.{Basis}
 use Rattle.edge_clauses.specs.Clauses.{Clause, IsClause}
-use Rattle.edge_clauses.specs.Lines.{ClauseLine, IsLine, IsOver, ProofLeads, State, starting}
 
 -- the basis has no clause
 abbrev pub HasNoClause : Net → List Clause → Basis → Type 0

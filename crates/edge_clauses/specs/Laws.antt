@@ -8,10 +8,8 @@ use Rattle.event_graph.specs.Times.{separation}
 use Rattle.falling.specs.Cap.{far_line}
 use Rattle.falling.specs.DerivationEnds.{AreLimits}
 use Rattle.falling.specs.Kinds.{negated}
-use Rattle.clauses.specs.Laws.{claiming}
-use Rattle.clauses.specs.Lines.{Goal}
+use Rattle.edge_clauses.specs.Lines.{ClauseLine, Goal, IsClauseProof, ProofLeads, State, claiming, starting}
 use Rattle.edge_clauses.specs.Checking.{Checking, IsChecking, TakesLine}
-use Rattle.edge_clauses.specs.Lines.{ClauseLine, IsClauseProof, ProofLeads, State, starting}
 
 -- if the claim of a proof is below the far line, no satisfying times have a greater separation of the pair
 abbrev pub ClauseProofBounds : Type 0

@@ -6,11 +6,20 @@ use Rattle.event_graph.specs.Network.{Net}
 use Rattle.event_graph.specs.Times.{time_of}
 use Rattle.falling.specs.Cap.{cap}
 use Rattle.falling.specs.Derivation.{starting_values}
-use Rattle.clauses.specs.Lines.{Goal}
 use Rattle.edge_clauses.specs.declared.basis.Basis.{Basis}
 use Rattle.edge_clauses.specs.declared.basis.WalkStep.{WalkStep}
 use Rattle.edge_clauses.specs.declared.walk.Walk.{Walk}
 use Rattle.edge_clauses.specs.Clauses.{Clause, IsAddable, IsClause, IsNearClause, unmet}
+
+-- what a proof is to show: no satisfying times have a separation of the pair above the claim
+pub record Goal : Type 0 where
+  pub from : EventId
+  pub to : EventId
+  pub claim : ℤ
+
+-- the goal with another claim
+abbrev pub claiming : Goal → ℤ → Goal
+claiming goal claim = record { from = goal.from; to = goal.to; claim = claim }
 
 -- a line: the upper bound of an event falls, or its lower bound rises; an edge becomes known; a loop back from an event is kept as this clause; a block
 -- opens that assumes edges, in place of an open block; or the open block closes

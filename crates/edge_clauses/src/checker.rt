@@ -3,13 +3,13 @@
 ghost use Rattle.std.specs.Prelude.{◌≡◌, ◌↔◌, ◌<◌, ◌≤ℤ◌, IsTrue, IsFalse, IfOk, OnErr, length};
 ghost use Rattle.event_graph.specs.Network.{IsNet};
 ghost use Rattle.falling.specs.DerivationEnds.{AreLimits};
-ghost use Rattle.clauses.specs.Laws.{claiming};
 ghost use Rattle.edge_clauses.specs.Checking.{IsChecking, IsNoLine, TakesLine};
-ghost use Rattle.edge_clauses.specs.Lines.{Assume, Close, Fall, IsOver, Know, Loop, Rise, starting};
+ghost use Rattle.edge_clauses.specs.Lines.{Assume, Close, Fall, IsOver, Know, Loop, Rise, claiming, starting};
 ghost use Rattle.edge_clauses.specs.Proofs.{line_of};
 
 use crate::basis::WalkStep;
 use crate::changing::{KnownBy, fall_in, know_in, rise_in};
+use crate::claim::Claim;
 use crate::edge_list::EdgeList;
 use crate::frames::Frames;
 use crate::judge::has_ended;
@@ -17,7 +17,6 @@ use crate::line::{EventBound, StoredLine};
 use crate::terms::Terms;
 use crate::walk::is_loop;
 use crate::weights::{are_addable, are_opposites_addable, list_of, refuting};
-use clauses::Claim;
 use event_graph::{Edge, Network};
 use falling::{Limits, limits_of};
 use itv_base::{EventId, NoMemory};

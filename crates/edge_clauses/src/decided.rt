@@ -3,13 +3,22 @@
 ghost use Rattle.std.specs.Prelude.{◌≡◌, ◌↔◌, ◌<ℤ◌, IsTrue, All, length};
 ghost use Rattle.event_graph.specs.Satisfying.{Satisfies};
 ghost use Rattle.event_graph.specs.Times.{IsTime, separation};
-ghost use Rattle.clauses.specs.declared.decided.ProofVerdict.TheVariants.{Closed, Open};
+ghost use Rattle.edge_clauses.specs.declared.decided.ProofVerdict.TheVariants.{Closed, Open};
 ghost use Rattle.edge_clauses.specs.Checking.{IsChecking, IsVerdict, SaysNothing};
 
 use crate::checker::ClauseChecker;
-use clauses::{Claim, ProofVerdict};
+use crate::claim::Claim;
 use event_graph::{Network, separation};
 use falling::Limits;
+
+/// What a proof and times say of the pair of a goal: its greatest separation in picoseconds, or that no times satisfy
+/// the network, or nothing.
+#[derive(Clone, Copy)]
+pub enum ProofVerdict {
+    Closed(i64),
+    Inconsistent,
+    Open,
+}
 
 /// What a checker and times say of the pair of the checker's goal. The times are in picoseconds, one per event. If the
 /// lines are a proof with a claim below minus the far line, no times satisfy the network. If they are a proof with a

@@ -11,7 +11,7 @@ ghost use Rattle.edge_clauses.specs.Step.Standing.{frame_now, goal_of};
 
 use crate::frames::Frames;
 use crate::line::EventBound;
-use crate::reach::Reach;
+use crate::long_sum::LongSum;
 use crate::terms::Terms;
 use crate::weights::is_same;
 use event_graph::Edge;
@@ -116,26 +116,26 @@ fn is_bound(terms: Terms, bound: EventBound) -> bool
 }
 
 // One more than the cap.
-fn most_of(terms: Terms) -> Reach
-    ensures { result.time ≡ (terms.limits.cap +ℤ pos 1) }
+fn most_of(terms: Terms) -> LongSum
+    ensures { result.value ≡ (terms.limits.cap +ℤ pos 1) }
 {
-    Reach {
-        time: i128::from(terms.limits.cap) + 1,
+    LongSum {
+        value: i128::from(terms.limits.cap) + 1,
     }
 }
 
 // Whether a value is at most a time.
-fn is_at_most(bound: EventBound, most: Reach) -> bool
-    ensures { IsTrue result ↔ (bound.value ≤ℤ most.time) }
+fn is_at_most(bound: EventBound, most: LongSum) -> bool
+    ensures { IsTrue result ↔ (bound.value ≤ℤ most.value) }
 {
-    i128::from(bound.value) <= most.time
+    i128::from(bound.value) <= most.value
 }
 
 // Whether a value is at least minus a time.
-fn is_at_least(bound: EventBound, most: Reach) -> bool
-    ensures { IsTrue result ↔ (neg_ℤ most.time ≤ℤ bound.value) }
+fn is_at_least(bound: EventBound, most: LongSum) -> bool
+    ensures { IsTrue result ↔ (neg_ℤ most.value ≤ℤ bound.value) }
 {
-    -i128::from(bound.value) <= most.time
+    -i128::from(bound.value) <= most.value
 }
 
 // Whether a value is below the upper bound of an event.
@@ -156,7 +156,7 @@ fn is_higher(frames: &Frames, bound: EventBound) -> bool
 fn is_refuted(frames: &Frames, terms: Terms, edge: Edge) -> bool
     ensures refuted { IsTrue result ↔ IsEdgeRefuted (goal_of terms) (frame_now frames.now) edge }
 {
-    is_after(frames, terms, edge.to, reach_of(frames, edge))
+    is_after(frames, terms, edge.to, sum_along(frames, edge))
         || is_falling_loop(edge)
         || frames.known.has_excluding(edge)
 }
@@ -172,14 +172,14 @@ fn is_falling_loop(edge: Edge) -> bool
 fn gives_most(frames: &Frames, bound: EventBound, edge: Edge) -> bool
     ensures most { IsTrue result ↔ GivesMost (frame_now frames.now) bound.event bound.value edge }
 {
-    edge.to == bound.event && is_reached(bound, reach_of(frames, edge))
+    edge.to == bound.event && is_reached(bound, sum_along(frames, edge))
 }
 
 // Whether a time is at most a value.
-fn is_reached(bound: EventBound, reach: Reach) -> bool
-    ensures { IsTrue result ↔ (reach.time ≤ℤ bound.value) }
+fn is_reached(bound: EventBound, sum: LongSum) -> bool
+    ensures { IsTrue result ↔ (sum.value ≤ℤ bound.value) }
 {
-    reach.time <= i128::from(bound.value)
+    sum.value <= i128::from(bound.value)
 }
 
 // Whether an edge gives an event a lower bound of at least a value.
@@ -190,40 +190,40 @@ fn gives_least(frames: &Frames, terms: Terms, bound: EventBound, edge: Edge) -> 
 }
 
 // The upper bound of the from-event of an edge, and its weight.
-fn reach_of(frames: &Frames, edge: Edge) -> Reach
-    ensures reach { result.time ≡ (time_of (frame_now frames.now).up edge.from +ℤ edge.weight) }
+fn sum_along(frames: &Frames, edge: Edge) -> LongSum
+    ensures sum { result.value ≡ (time_of (frame_now frames.now).up edge.from +ℤ edge.weight) }
 {
-    Reach {
-        time: i128::from(frames.bounds.up(edge.from)) + i128::from(edge.weight),
+    LongSum {
+        value: i128::from(frames.bounds.up(edge.from)) + i128::from(edge.weight),
     }
 }
 
 // One less than a value and the weight of an edge.
-fn before(bound: EventBound, edge: Edge) -> Reach
-    ensures before { (result.time +ℤ pos 1) ≡ (bound.value +ℤ edge.weight) }
+fn before(bound: EventBound, edge: Edge) -> LongSum
+    ensures before { (result.value +ℤ pos 1) ≡ (bound.value +ℤ edge.weight) }
 {
-    Reach {
-        time: i128::from(bound.value) + i128::from(edge.weight) - 1,
+    LongSum {
+        value: i128::from(bound.value) + i128::from(edge.weight) - 1,
     }
 }
 
 // Whether an event comes after a time: by its lower bound, or since the goal is about separations above its claim.
-fn is_after(frames: &Frames, terms: Terms, event: EventId, reach: Reach) -> bool
-    ensures after { IsTrue result ↔ IsLow (goal_of terms) (frame_now frames.now) event (reach.time +ℤ pos 1) }
+fn is_after(frames: &Frames, terms: Terms, event: EventId, sum: LongSum) -> bool
+    ensures after { IsTrue result ↔ IsLow (goal_of terms) (frame_now frames.now) event (sum.value +ℤ pos 1) }
 {
-    is_below_low(frames, event, reach) || (event == terms.to && is_within_claim(terms, reach))
+    is_below_low(frames, event, sum) || (event == terms.to && is_within_claim(terms, sum))
 }
 
 // Whether a time is before the lower bound of an event.
-fn is_below_low(frames: &Frames, event: EventId, reach: Reach) -> bool
-    ensures { IsTrue result ↔ ((reach.time +ℤ pos 1) ≤ℤ time_of (frame_now frames.now).low event) }
+fn is_below_low(frames: &Frames, event: EventId, sum: LongSum) -> bool
+    ensures { IsTrue result ↔ ((sum.value +ℤ pos 1) ≤ℤ time_of (frame_now frames.now).low event) }
 {
-    reach.time < i128::from(frames.bounds.low(event))
+    sum.value < i128::from(frames.bounds.low(event))
 }
 
 // Whether a time is at most the claim.
-fn is_within_claim(terms: Terms, reach: Reach) -> bool
-    ensures { IsTrue result ↔ ((reach.time +ℤ pos 1) ≤ℤ (terms.claim +ℤ pos 1)) }
+fn is_within_claim(terms: Terms, sum: LongSum) -> bool
+    ensures { IsTrue result ↔ ((sum.value +ℤ pos 1) ≤ℤ (terms.claim +ℤ pos 1)) }
 {
-    reach.time <= i128::from(terms.claim)
+    sum.value <= i128::from(terms.claim)
 }

@@ -10,7 +10,7 @@ use crate::basis::WalkStep;
 use crate::clause_room::fill;
 use crate::edge_list::EdgeList;
 use crate::judge::contains;
-use crate::reach::Reach;
+use crate::long_sum::LongSum;
 use crate::weights::are_addable;
 use event_graph::{Edge, Network};
 use itv_base::{EventId, NoMemory};
@@ -87,7 +87,7 @@ fn stepped(
     led_on(walk, edge)
 }
 
-// The walk behind an edge, or none if its sum is too great to be added to.
+// The walk after an edge, or none if its sum is too great to be added to.
 fn led_on(walk: Walk, edge: Edge) -> Option<Walk>
     ensures next { IfSome result (λ next. (next ≡ record { at = edge.from; sum = walk.sum +ℤ edge.weight }) × IsAddable next.sum) }
     ensures none { IfNone result (IsAddable (walk.sum +ℤ edge.weight) → ⊥) }
@@ -159,32 +159,32 @@ fn is_covered(event: EventId, shown: &[Edge], walk: Walk, edge: Edge) -> bool
     contains(shown, edge) || (edge.to == walk.at && has_wide(event, shown, walk, edge))
 }
 
-// Whether the clause that is shown has an edge that is as wide as this edge behind the walk.
+// Whether the clause that is shown has an edge that is as wide as this edge after the walk.
 fn has_wide(event: EventId, shown: &[Edge], walk: Walk, edge: Edge) -> bool
     ensures wide { IsTrue result ↔ Any (IsWide event walk edge) shown.now }
 {
     shown.iter().any(|wide| is_wide(event, walk, edge, *wide))
 }
 
-// Whether an edge is as wide as another behind the walk.
+// Whether an edge is as wide as another after the walk.
 fn is_wide(event: EventId, walk: Walk, edge: Edge, wide: Edge) -> bool
     ensures { IsTrue result ↔ IsWide event walk edge wide }
 {
-    wide.from == edge.from && wide.to == event && is_within(behind(walk, edge), wide)
+    wide.from == edge.from && wide.to == event && is_within(sum_after(walk, edge), wide)
 }
 
-// The sum of a walk and an edge.
-fn behind(walk: Walk, edge: Edge) -> Reach
-    ensures { result.time ≡ (walk.sum +ℤ edge.weight) }
+// The sum of a walk and an edge after it.
+fn sum_after(walk: Walk, edge: Edge) -> LongSum
+    ensures { result.value ≡ (walk.sum +ℤ edge.weight) }
 {
-    Reach {
-        time: i128::from(walk.sum) + i128::from(edge.weight),
+    LongSum {
+        value: i128::from(walk.sum) + i128::from(edge.weight),
     }
 }
 
 // Whether a sum is at most the weight of an edge.
-fn is_within(reach: Reach, wide: Edge) -> bool
-    ensures { IsTrue result ↔ (reach.time ≤ℤ wide.weight) }
+fn is_within(sum: LongSum, wide: Edge) -> bool
+    ensures { IsTrue result ↔ (sum.value ≤ℤ wide.weight) }
 {
-    reach.time <= i128::from(wide.weight)
+    sum.value <= i128::from(wide.weight)
 }

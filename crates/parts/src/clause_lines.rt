@@ -3,8 +3,7 @@
 ghost use Rattle.edge_clauses.specs.Checking.{IsChecking};
 
 use crate::unfit::Unfit;
-use clauses::Claim;
-use edge_clauses::ClauseChecker;
+use edge_clauses::{Claim, ClauseChecker};
 use event_graph::Network;
 use itv_base::EventId;
 use line_words::long_in;

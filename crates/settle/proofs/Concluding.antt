@@ -9,8 +9,7 @@ use Rattle.falling.specs.declared.view.View.TheVariants.{Plain, Negated}
 use Rattle.falling.specs.Cap.{far_line}
 use Rattle.falling.specs.Kinds.{negated}
 use Rattle.falling.proofs.Bounding.{some_and}
-use Rattle.clauses.specs.Lines.{Goal}
-use Rattle.edge_clauses.specs.Lines.{IsOver, IsClauseProof}
+use Rattle.edge_clauses.specs.Lines.{Goal, IsClauseProof, IsOver}
 use Rattle.edge_clauses.proofs.Proving.{clause_proof_bounds, clause_proof_of_nothing, negated_proof_bounds, negated_proof_of_nothing}
 use Rattle.settle.specs.declared.shown_answer.ShownAnswer.{ShownAnswer}
 use Rattle.settle.specs.declared.shown_answer.Settled.{Settled}

@@ -6,7 +6,7 @@ ghost use Rattle.event_graph.specs.Times.{IsTime, separation};
 ghost use Rattle.settle.specs.Step.Racing.{AreRaceTimes};
 ghost use Rattle.falling.specs.Cap.{IsNearValue};
 
-use clauses::Claim;
+use edge_clauses::Claim;
 use event_graph::{Network, separation};
 use itv_base::{END_LIMIT, EventId, MAX_EVENTS, NoMemory};
 use std::alloc::Global;

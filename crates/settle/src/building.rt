@@ -222,11 +222,11 @@ fn edges_of(alloc: Global, net: &Network, sides: &SideTable) -> Result<BoundEdge
     Ok(edges)
 }
 
-// Adds the always-edges of a constraint.
+// Adds the always-edges of a constraint. A linear constraint has cause 0 too.
 fn push_always(net: &Network, number: u32, edges: &mut BoundEdges) -> Result<(), NoMemory>
     requires number { number < length net.now.constraints }
 {
-    for cause in 0..net.cause_count(number) {
+    for cause in 0..net.cause_count(number).max(1) {
         push_always_edge(net, number, cause, Side::Upper, edges)?;
         push_always_edge(net, number, cause, Side::Lower, edges)?;
     }

@@ -2,14 +2,12 @@
 
 ghost use Rattle.std.specs.Prelude.{◌≡◌, ◌<◌, ◌≤◌, ◌+◌, ◌≤ℤ◌, [], IfOk, OnOk, length};
 ghost use Rattle.falling.specs.DerivationEnds.{AreLimits};
-ghost use Rattle.clauses.specs.Laws.{claiming};
-ghost use Rattle.edge_clauses.specs.Lines.{IsOver};
+ghost use Rattle.edge_clauses.specs.Lines.{IsOver, claiming};
 ghost use Rattle.settle.specs.declared.prover.SearchState.TheVariants.{Over};
 ghost use Rattle.edge_clauses.specs.Proofs.{IsProving};
 
 use crate::engine::{Engine, Proposal};
-use clauses::Claim;
-use edge_clauses::{ClauseChecker, StoredLine};
+use edge_clauses::{Claim, ClauseChecker, StoredLine};
 use event_graph::Network;
 use falling::Limits;
 use itv_base::{EventId, NoMemory};

@@ -10,7 +10,7 @@ ghost use Rattle.settle.specs.Step.Racing.{IsEnding, IsOverAs, IsRacing, IsRayEn
 
 use crate::best::{Best, more_by, times_of};
 use crate::prover::{Prover, SearchState};
-use clauses::Claim;
+use edge_clauses::Claim;
 use event_graph::Network;
 use falling::{Limits, View, gap_level};
 use itv_base::{EventId, NoMemory};

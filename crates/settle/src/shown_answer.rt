@@ -1,7 +1,6 @@
 //! What is found of a pair.
 
-use clauses::Claim;
-use edge_clauses::StoredLine;
+use edge_clauses::{Claim, StoredLine};
 use falling::View;
 
 /// What is known of the greatest separation of a pair of events.

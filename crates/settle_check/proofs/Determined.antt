@@ -3,8 +3,7 @@ use Rattle.std.proofs.Common.{◌≡◌, List, [], ◌∷◌, ◌++◌, None, sy
 use Rattle.std.proofs.lemmas.Option.{same_Some}
 use Rattle.event_graph.specs.Network.{Net}
 use Rattle.falling.proofs.Bounding.{some_and}
-use Rattle.clauses.specs.Lines.{Goal}
-use Rattle.edge_clauses.specs.Lines.{Assume, Block, ClauseLine, Close, Fall, IsLine, Know, Loop, ProofLeads, Rise, State, refuting}
+use Rattle.edge_clauses.specs.Lines.{Assume, Block, ClauseLine, Close, Fall, Goal, IsLine, Know, Loop, ProofLeads, Rise, State, refuting}
 
 pub one_line : (net : Net) (goal : Goal) (state : State) (line : ClauseLine) (a b : State) → IsLine net goal state line a → IsLine net goal state line b → a ≡ b
 one_line net goal state (Fall event value basis) a b p q = p.1 ∙ sym q.1

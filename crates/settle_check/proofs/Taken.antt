@@ -20,9 +20,8 @@ use Rattle.requirements.specs.declared.bound.Bound.TheVariants as bounds
 use Rattle.event_graph.specs.Network.{Net}
 use Rattle.falling.specs.declared.view.View.{View}
 use Rattle.falling.specs.declared.view.View.TheVariants.{Plain, Negated}
-use Rattle.clauses.specs.Lines.{Goal}
+use Rattle.edge_clauses.specs.Lines.{ClauseLine, Goal, IsClauseProof, IsLine, IsOver, ProofLeads, State, starting}
 use Rattle.edge_clauses.specs.Checking.{Checking}
-use Rattle.edge_clauses.specs.Lines.{ClauseLine, IsClauseProof, IsLine, IsOver, ProofLeads, State, starting}
 use Rattle.edge_clauses.specs.declared.line.StoredLine.{StoredLine}
 use Rattle.edge_clauses.specs.Proofs.{IsProving, line_of as stored_line, lines_of}
 use Rattle.settle_lines.specs.Step.Reading.{clause_in}

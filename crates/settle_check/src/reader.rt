@@ -19,8 +19,7 @@ ghost use Rattle.settle_check.specs.Step.{Begins, BeginsWith, Gives, IsCutAs};
 
 use crate::check_stop::CheckStop;
 use certificate::LineFault;
-use clauses::Claim;
-use edge_clauses::StoredLine;
+use edge_clauses::{Claim, StoredLine};
 use falling::View;
 use itoa::Buffer;
 use itv_base::{NoMemory, number_text};

@@ -15,7 +15,7 @@ use Rattle.line_words.proofs.NumberLaws.{long_inverts}
 use Rattle.line_words.proofs.Plain.{ArePlain, line_is_text, signed_plain, split-join}
 use Rattle.falling.specs.declared.view.View.{View}
 use Rattle.falling.specs.declared.view.View.TheVariants.{Plain, Negated}
-use Rattle.clauses.specs.declared.claim.Claim.{Claim}
+use Rattle.edge_clauses.specs.declared.claim.Claim.{Claim}
 use Rattle.edge_clauses.specs.Lines.{ClauseLine}
 use Rattle.settle_lines.specs.Step.Reading.{claim_in, claim_of, clause_in, view_in}
 use Rattle.settle_lines.specs.Text.{SpellsClause, claim_text, view_text, view_word}

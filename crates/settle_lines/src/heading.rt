@@ -6,7 +6,7 @@ ghost use Rattle.line_words.specs.Numbers.{IsLong};
 ghost use Rattle.settle_lines.specs.Step.Reading.{claim_in, view_in};
 ghost use Rattle.settle_lines.specs.Text.{claim_text, view_text};
 
-use clauses::Claim;
+use edge_clauses::Claim;
 use falling::View;
 use itv_base::strip;
 use line_words::long_in;

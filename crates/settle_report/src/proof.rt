@@ -9,8 +9,7 @@ ghost use Rattle.edge_clauses.specs.Proofs.{IsProofAs};
 ghost use Rattle.settle_report.specs.Answers.{ProvesClaim};
 ghost use Rattle.settle_report.specs.Text.{shown_text};
 
-use clauses::Claim;
-use edge_clauses::StoredLine;
+use edge_clauses::{Claim, StoredLine};
 use falling::View;
 use itv_base::{PutFailed, Sink};
 use settle_lines::{have_texts, write_proof};

@@ -2,8 +2,7 @@
 use Rattle.std.specs.Prelude.{◌⊎◌, ℤ}
 use Rattle.itv_base.specs.declared.names.EventId.{EventId}
 use Rattle.event_graph.specs.declared.edge.Edge.{Edge}
-use Rattle.clauses.specs.Lines.{Goal}
-use Rattle.edge_clauses.specs.Lines.{Frame, GivesLeast, GivesMost, IsEdgeRefuted}
+use Rattle.edge_clauses.specs.Lines.{Frame, GivesLeast, GivesMost, Goal, IsEdgeRefuted}
 
 -- an edge is refuted, or gives the event an upper bound of at most this
 unfoldable pub AllowsFall : Goal → Frame → EventId → ℤ → Edge → Type 0

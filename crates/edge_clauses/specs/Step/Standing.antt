@@ -1,12 +1,11 @@
 -- Frames: the frame that lines change, and the frame outside of the block.
 use Rattle.std.specs.Prelude.{◌≡◌, List, Option, Some, None, IsSome}
 use Rattle.event_graph.specs.declared.edge.Edge.{Edge}
-use Rattle.clauses.specs.Lines.{Goal}
+use Rattle.edge_clauses.specs.Lines.{Frame, Goal, State}
 use Rattle.edge_clauses.specs.declared.frames.Frames.{Frames}
 use Rattle.edge_clauses.specs.declared.terms.Terms.{Terms}
 use Rattle.edge_clauses.specs.Checking.{Checking}
 use Rattle.edge_clauses.specs.Clauses.{Clause}
-use Rattle.edge_clauses.specs.Lines.{Frame, State}
 
 -- the goal that lines are judged by
 abbrev pub goal_of : Terms → Goal

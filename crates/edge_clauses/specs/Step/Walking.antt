@@ -6,7 +6,7 @@ use Rattle.edge_clauses.specs.declared.walk.Walk.{Walk}
 use Rattle.edge_clauses.specs.Clauses.{Clause, IsAddable}
 use Rattle.edge_clauses.specs.Lines.{IsCovered}
 
--- an edge of the clause that is shown is at least as wide as this edge behind the walk
+-- an edge of the clause that is shown is at least as wide as this edge after the walk
 abbrev pub IsWide : EventId → Walk → Edge → Edge → Type 0
 IsWide event walk e r = (r.from ≡ e.from) × (r.to ≡ event) × ((walk.sum +ℤ e.weight) ≤ℤ r.weight)
 

@@ -9,7 +9,7 @@ use Rattle.certificate.specs.Reading.{edge_in}
 use Rattle.event_graph.specs.declared.edge.Edge.{Edge}
 use Rattle.falling.specs.declared.view.View.{View}
 use Rattle.falling.specs.declared.view.View.TheVariants.{Plain, Negated}
-use Rattle.clauses.specs.declared.claim.Claim.{Claim}
+use Rattle.edge_clauses.specs.declared.claim.Claim.{Claim}
 use Rattle.edge_clauses.specs.declared.basis.Basis.{Basis}
 use Rattle.edge_clauses.specs.declared.basis.Basis.TheVariants.{ByEdge, Either, ByChoice, ByKept}
 use Rattle.edge_clauses.specs.declared.basis.WalkStep.{WalkStep}

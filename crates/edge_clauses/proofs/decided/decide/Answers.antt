@@ -1,7 +1,7 @@
 use Rattle.std.proofs.Common.{◌≡◌, ◌<ℤ◌, ap, ◌∙◌, sym, refl, subst}
 use Rattle.falling.specs.declared.limits.Limits.{Limits}
-use Rattle.clauses.specs.declared.decided.ProofVerdict.{ProofVerdict}
-use Rattle.clauses.specs.declared.decided.ProofVerdict.TheVariants.{Closed}
+use Rattle.edge_clauses.specs.declared.decided.ProofVerdict.{ProofVerdict}
+use Rattle.edge_clauses.specs.declared.decided.ProofVerdict.TheVariants.{Closed}
 use Rattle.edge_clauses.specs.Checking.{IsVerdict}
 use Rattle.edge_clauses.proofs.Deciding.{closed_by, inconsistent_by}
 use Rattle.edge_clauses.proofs.decided.decide.Goals as goal

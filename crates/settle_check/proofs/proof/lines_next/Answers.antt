@@ -1,6 +1,6 @@
 use Rattle.std.proofs.Common.{◌≡◌, List, Option, arith, length, refl, ◌∙◌, sym, subst}
 use Rattle.std.specs.Prelude.{IfSome, IsSomeAnd}
-use Rattle.clauses.specs.Lines.{Goal}
+use Rattle.edge_clauses.specs.Lines.{Goal}
 use Rattle.edge_clauses.specs.declared.line.StoredLine.{StoredLine}
 use Rattle.edge_clauses.specs.Proofs.{IsProving, line_of, lines_of}
 use Rattle.edge_clauses.proofs.Leading.{start_proving, taken_proving}

@@ -1,6 +1,6 @@
 use Rattle.std.proofs.Common.{◌≡◌, Option, Some, IsSomeAnd, refl, sym, subst, ap, ◌∙◌}
 use Rattle.line_words.specs.Lines.{ended}
-use Rattle.clauses.specs.declared.claim.Claim.{Claim}
+use Rattle.edge_clauses.specs.declared.claim.Claim.{Claim}
 use Rattle.settle_check.proofs.reader.claim_in.Goals as goal
 
 pub returns-in-Some-clause-claim : goal.returns-in-Some-clause-claim

@@ -2,6 +2,6 @@
 
 /// A sum, in picoseconds.
 #[derive(Clone, Copy)]
-pub struct Reach {
-    pub time: i128,
+pub struct LongSum {
+    pub value: i128,
 }

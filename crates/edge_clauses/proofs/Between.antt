@@ -13,8 +13,8 @@ use Rattle.falling.proofs.NegatedNets.{widest-negated}
 use Rattle.falling.proofs.Negating.{get_or-negated, length-mapped, satisfies_from, satisfies_turns}
 use Rattle.falling.proofs.Removed.{narrowed}
 use Rattle.falling.proofs.Within.{IsNarrowed, at_event, cap_is, narrowed_by, narrowed_is, room_within, satisfies_narrowed, separation_within_cap, times_near_source}
-use Rattle.clauses.specs.Lines.{Goal}
-use Rattle.clauses.proofs.NegatedNet.{net_negated}
+use Rattle.edge_clauses.specs.Lines.{Goal}
+use Rattle.edge_clauses.proofs.NegatedNet.{net_negated}
 
 -- times that a proof of the goal refutes
 pub record IsBetween (net : Net) (goal : Goal) (times : List ℤ) : Type 0 where

@@ -1,6 +1,5 @@
 -- Some element of a list, and all of them.
-use Rattle.std.proofs.Common.{◌+◌, ◌⊎◌, inl, inr, zero, suc, List, [], ◌∷◌, ◌++◌, All, Any, length, sym, ◌∙◌, refl, subst, arith}
-use Rattle.std.proofs.lemmas.List.{get_or-append-add, get_or_append_left, length-append}
+use Rattle.std.proofs.Common.{◌⊎◌, inl, inr, zero, suc, List, [], ◌∷◌, All, Any, sym, refl, subst, arith}
 
 pub any_head : {X : Type 0} (P : X → Type 0) (x : X) (xs : List X) → P x → Any P (x ∷ xs)
 any_head P x xs h = (0, x, omega arith, refl, h)
@@ -14,12 +13,6 @@ any_none P (i, y, within, here, h) = omega arith
 pub any_cases : {X : Type 0} (P : X → Type 0) (x : X) (xs : List X) → Any P (x ∷ xs) → P x ⊎ Any P xs
 any_cases P x xs (zero, y, within, here, h) = inl (subst P (sym here) h)
 any_cases P x xs (suc i, y, within, here, h) = inr (i, y, omega arith, here, h)
-
-pub any_left : {X : Type 0} (P : X → Type 0) (xs ys : List X) → Any P xs → Any P (xs ++ ys)
-any_left P xs ys (i, y, within, here, h) = (i, y, omega (arith, length-append xs ys), get_or_append_left xs ys y i within ∙ here, h)
-
-pub any_right : {X : Type 0} (P : X → Type 0) (xs ys : List X) → Any P ys → Any P (xs ++ ys)
-any_right P xs ys (i, y, within, here, h) = (length xs + i, y, omega (arith, length-append xs ys), get_or-append-add xs ys i y ∙ here, h)
 
 pub any_weaker : {X : Type 0} (P Q : X → Type 0) (xs : List X) → ((x : X) → P x → Q x) → Any P xs → Any Q xs
 any_weaker P Q xs follows (i, y, within, here, h) = (i, y, within, here, follows y h)
@@ -41,10 +34,6 @@ all_or_any P Q (x ∷ xs) h = elim (h 0 x (omega arith)) [
   ]
   | inr here ↦ inr (any_head Q x xs here)
 ]
-
--- if a fact holds of some element and another of all, both hold of some element
-pub any_beside : {X : Type 0} (P Q : X → Type 0) (xs : List X) → All Q xs → Any P xs → Any (λ x. P x × Q x) xs
-any_beside P Q xs all (i, y, within, here, h) = (i, y, within, here, (h, subst Q here (all i y within)))
 
 -- a fact of some element that follows from a fact of all
 pub any_element : {X : Type 0} (P Q : X → Type 0) (xs : List X) → All Q xs → Any P xs → (x : X) × P x × Q x

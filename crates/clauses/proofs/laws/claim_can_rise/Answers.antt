@@ -1,5 +1,0 @@
-use Rattle.clauses.proofs.Proving.{claim_can_rise}
-use Rattle.clauses.proofs.laws.claim_can_rise.Goals as goal
-
-pub returns : goal.returns
-returns c = record { law = claim_can_rise }

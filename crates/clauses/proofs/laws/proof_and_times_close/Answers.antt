@@ -1,5 +1,0 @@
-use Rattle.clauses.proofs.Proving.{proof_and_times_close}
-use Rattle.clauses.proofs.laws.proof_and_times_close.Goals as goal
-
-pub returns : goal.returns
-returns c = record { law = proof_and_times_close }

@@ -1,5 +1,0 @@
-use Rattle.clauses.proofs.Checked.{raised_keeps_checking}
-use Rattle.clauses.proofs.laws.raised_keeps_checking.Goals as goal
-
-pub returns : goal.returns
-returns c = record { law = raised_keeps_checking }
