@@ -79,8 +79,13 @@ impl Network {
         self.constraints[constraint as usize].target
     }
 
+    /// 0 for a linear constraint, though it has a cause 0.
     pub fn cause_count(&self, constraint: u32) -> u32 {
-        self.constraints[constraint as usize].causes.len() as u32
+        let constraint = &self.constraints[constraint as usize];
+        match constraint.kind {
+            RuleKind::Lin => 0,
+            RuleKind::Late | RuleKind::Early => constraint.causes.len() as u32,
+        }
     }
 
     pub fn cause(&self, constraint: u32, cause: u32) -> Cause {
