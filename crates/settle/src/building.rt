@@ -28,61 +28,116 @@ pub struct Tables {
 impl Tables {
     /// The tables of a network.
     pub fn new(alloc: Global, net: &Network) -> Result<Tables, NoMemory> {
-        let bounds = (net.events() as usize).saturating_mul(2);
-        let mut sides = SideTable::new(alloc, side_count(net))?;
-        let mut edges = BoundEdges::new(alloc, bounds)?;
-        for number in 0..net.len() {
-            push_always(net, number, &mut edges)?;
-            push_sides(alloc, net, number, &mut sides)?;
-        }
-        push_literals(&sides, &mut edges)?;
-        edges.sort(alloc, sides.len())?;
-        let literals = sides.len().saturating_mul(2);
-        let mut tables = Tables {
+        let mut sides = sides_of(alloc, net)?;
+        let edges = edges_of(alloc, net, &sides)?;
+        let choices = choices_of(alloc, net, &mut sides)?;
+        Ok(Tables {
             sides,
             edges,
-            rules: BoundRules::new(alloc, bounds, literals)?,
-            clauses: ClauseStore::new(alloc, bounds, literals)?,
+            rules: choices.rules,
+            clauses: choices.clauses,
+            earliest: choices.earliest,
+        })
+    }
+}
+
+// The rules and the clauses of a network, and which of the rules are those of earliest constraints.
+#[derive(Drop)]
+struct Choices {
+    rules: BoundRules,
+    clauses: ClauseStore,
+    earliest: Vec<usize>,
+}
+
+impl Choices {
+    // No choices yet, over so many bounds and literals.
+    fn new(alloc: Global, bounds: usize, literals: usize) -> Result<Choices, NoMemory> {
+        Ok(Choices {
             earliest: Vec::new(alloc),
-        };
-        for number in 0..net.len() {
-            tables.push_choice(alloc, net, number)?;
-        }
-        Ok(tables)
+            clauses: ClauseStore::new(alloc, bounds, literals)?,
+            rules: BoundRules::new(alloc, bounds, literals)?,
+        })
     }
 
     // Adds the rule and the clause of a latest or earliest constraint, if it has them.
-    fn push_choice(&mut self, alloc: Global, net: &Network, number: u32) -> Result<(), NoMemory>
+    fn push(
+        &mut self,
+        alloc: Global,
+        net: &Network,
+        number: u32,
+        sides: &mut SideTable,
+    ) -> Result<(), NoMemory>
         requires number { number < length net.now.constraints }
     {
         let edges = choice_edges(alloc, net, number)?;
         if edges.len() < 2 {
             return Ok(());
         }
+        self.push_rule(alloc, net, number, &edges, sides)?;
+        self.push_clause(alloc, number, &edges, sides)
+    }
+
+    // Adds the rule of a constraint with these edges.
+    fn push_rule(
+        &mut self,
+        alloc: Global,
+        net: &Network,
+        number: u32,
+        edges: &Vec<Edge>,
+        sides: &mut SideTable,
+    ) -> Result<(), NoMemory>
+        requires number { number < length net.now.constraints }
+    {
         let is_late = net.kind(number) == RuleKind::Late;
         let target = if is_late {
             Node::most(net.target(number))
         } else {
             Node::least(net.target(number))
         };
-        let mut ways = Vec::new(alloc);
-        let mut literals = Vec::new(alloc);
-        for edge in &edges {
-            let side = self.sides.literal(*edge)?;
-            let place = short(ways.len());
-            ways.push(way_of(*edge, is_late, place, side))?;
-            if !has(&literals, side) {
-                literals.push(Literal::Side(side))?;
-            }
-        }
         if !is_late {
-            let rule = self.rules.len();
-            self.earliest.push(rule)?;
+            self.earliest.push(self.rules.len())?;
         }
-        let basis = Basis::ByChoice(number);
-        self.rules.push(basis, target, &ways, &[])?;
-        self.clauses.push(basis, &literals, 0)
+        let ways = ways_of(alloc, is_late, edges, sides)?;
+        self.rules.push(Basis::ByChoice(number), target, &ways, &[])
     }
+
+    // Adds the clause of a constraint with these edges.
+    fn push_clause(
+        &mut self,
+        alloc: Global,
+        number: u32,
+        edges: &Vec<Edge>,
+        sides: &mut SideTable,
+    ) -> Result<(), NoMemory> {
+        let literals = literals_of(alloc, edges, sides)?;
+        self.clauses.push(Basis::ByChoice(number), &literals, 0)
+    }
+}
+
+// The rules and the clauses of a network with these sides.
+fn choices_of(alloc: Global, net: &Network, sides: &mut SideTable) -> Result<Choices, NoMemory> {
+    let literals = sides.len().saturating_mul(2);
+    let mut choices = Choices::new(alloc, bounds_of(net), literals)?;
+    for number in 0..net.len() {
+        choices.push(alloc, net, number, sides)?;
+    }
+    Ok(choices)
+}
+
+// The ways of a rule with these edges.
+fn ways_of(
+    alloc: Global,
+    is_late: bool,
+    edges: &Vec<Edge>,
+    sides: &mut SideTable,
+) -> Result<Vec<BoundWay>, NoMemory> {
+    let mut ways = Vec::new(alloc);
+    for edge in edges {
+        let side = sides.literal(*edge)?;
+        let place = short(ways.len());
+        ways.push(way_of(*edge, is_late, place, side))?;
+    }
+    Ok(ways)
 }
 
 // The way of an edge in a rule of the latest or of the earliest.
@@ -100,6 +155,22 @@ fn way_of(edge: Edge, is_late: bool, place: u32, side: SideLiteral) -> BoundWay 
     }
 }
 
+// The literals of a clause with these edges. Each is there once.
+fn literals_of(
+    alloc: Global,
+    edges: &Vec<Edge>,
+    sides: &mut SideTable,
+) -> Result<Vec<Literal>, NoMemory> {
+    let mut literals = Vec::new(alloc);
+    for edge in edges {
+        let side = sides.literal(*edge)?;
+        if !has(&literals, side) {
+            literals.push(Literal::Side(side))?;
+        }
+    }
+    Ok(literals)
+}
+
 // Whether a literal of a side is in a clause.
 fn has(literals: &[Literal], side: SideLiteral) -> bool {
     for literal in literals {
@@ -115,6 +186,20 @@ pub fn short(number: usize) -> u32 {
     number.min(u32::MAX as usize) as u32
 }
 
+// How many bounds the events of a network have.
+fn bounds_of(net: &Network) -> usize {
+    (net.events() as usize).saturating_mul(2)
+}
+
+// The sides of a network.
+fn sides_of(alloc: Global, net: &Network) -> Result<SideTable, NoMemory> {
+    let mut sides = SideTable::new(alloc, side_count(net))?;
+    for number in 0..net.len() {
+        push_sides(alloc, net, number, &mut sides)?;
+    }
+    Ok(sides)
+}
+
 // How many causes all latest and earliest constraints have.
 fn side_count(net: &Network) -> usize {
     let mut count = 0usize;
@@ -124,6 +209,17 @@ fn side_count(net: &Network) -> usize {
         }
     }
     count
+}
+
+// The always-edges of a network and the edges of its sides, sorted.
+fn edges_of(alloc: Global, net: &Network, sides: &SideTable) -> Result<BoundEdges, NoMemory> {
+    let mut edges = BoundEdges::new(alloc, bounds_of(net))?;
+    for number in 0..net.len() {
+        push_always(net, number, &mut edges)?;
+    }
+    push_literals(sides, &mut edges)?;
+    edges.sort(alloc, sides.len())?;
+    Ok(edges)
 }
 
 // Adds the always-edges of a constraint. A linear constraint has cause 0 too.

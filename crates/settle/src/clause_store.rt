@@ -1,7 +1,7 @@
 //! The clauses over bounds and sides. Two literals of each are watched.
 
 use crate::literal::{Literal, SideLiteral, beyond};
-use crate::places::{EMPTY, Stretch, at, put};
+use crate::places::{EMPTY, Stretch, at, put, take};
 use edge_clauses::Basis;
 use itv_base::NoMemory;
 use std::alloc::Global;
@@ -302,9 +302,4 @@ fn place_of(clause: usize, is_second: bool) -> usize {
         return first.saturating_add(1);
     }
     first
-}
-
-// Puts a list in place of another, and gives that.
-fn take<T>(list: &mut Vec<T>, other: Vec<T>) -> Vec<T> {
-    std::mem::replace(list, other)
 }

@@ -94,6 +94,40 @@ pub struct Engine {
     pub meter: Meter,
 }
 
+// What a search keeps of each bound and of each side.
+#[derive(Drop)]
+struct Work {
+    activity: Vec<u64>,
+    falls: FallCounts,
+    sweep: Sweep,
+    needs: Needs,
+    walks: WalksBack,
+    trail: Trail,
+}
+
+impl Work {
+    // The start of a search over so many events and sides.
+    fn new(
+        alloc: Global,
+        events: u32,
+        sides: usize,
+        from: EventId,
+        cap: i64,
+    ) -> Result<Work, NoMemory> {
+        let nodes = events.saturating_mul(2);
+        let bounds = nodes as usize;
+        let literals = sides.saturating_mul(2);
+        Ok(Work {
+            activity: vec![in alloc; 0; sides]?,
+            falls: FallCounts::new(alloc, bounds)?,
+            sweep: Sweep::new(alloc, nodes)?,
+            needs: Needs::new(alloc, bounds)?,
+            walks: WalksBack::new(alloc, bounds, literals)?,
+            trail: Trail::new(alloc, bounds, literals, Node::most(from), cap)?,
+        })
+    }
+}
+
 impl Engine {
     /// The search at its start, with room for so many items. No blocks are allowed yet.
     pub fn new(
@@ -105,17 +139,13 @@ impl Engine {
         room: u64,
     ) -> Result<Engine, NoMemory> {
         let tables = Tables::new(alloc, net)?;
-        let nodes = net.events().saturating_mul(2);
-        let bounds = nodes as usize;
-        let sides = tables.sides.len();
-        let literals = sides.saturating_mul(2);
-        let trail = Trail::new(alloc, bounds, literals, Node::most(from), cap)?;
+        let work = Work::new(alloc, net.events(), tables.sides.len(), from, cap)?;
         let mut engine = Engine {
             alloc,
             tables,
-            trail,
-            needs: Needs::new(alloc, bounds)?,
-            sweep: Sweep::new(alloc, nodes)?,
+            trail: work.trail,
+            needs: work.needs,
+            sweep: work.sweep,
             from,
             to,
             least: beyond(cap),
@@ -123,8 +153,8 @@ impl Engine {
                 node: Node::least(to),
                 value: cap,
             },
-            falls: FallCounts::new(alloc, bounds)?,
-            walks: WalksBack::new(alloc, bounds, literals)?,
+            falls: work.falls,
+            walks: work.walks,
             heard: 0,
             fresh: Vec::new(alloc),
             refreshed: 0,
@@ -133,7 +163,7 @@ impl Engine {
             told: 0,
             kept: 0,
             outbox: Vec::new(alloc),
-            activity: vec![in alloc; 0; sides]?,
+            activity: work.activity,
             gain: 1024,
             pace: Pace::new(),
             blocks: 0,
@@ -142,8 +172,13 @@ impl Engine {
             is_over: false,
             meter: Meter::new(room),
         };
-        engine.begin()?;
-        Ok(engine)
+        match engine.begin() {
+            Ok(()) => Ok(engine),
+            Err(fault) => {
+                drop(engine);
+                Err(fault)
+            }
+        }
     }
 
     /// Allows this many blocks from now on, and the turns for them.

@@ -31,3 +31,8 @@ pub fn put<T: Copy>(items: &mut Vec<T>, place: usize, item: T) {
         items[place] = item;
     }
 }
+
+/// Puts a list in place of another, and gives that.
+pub fn take<T>(list: &mut Vec<T>, other: Vec<T>) -> Vec<T> {
+    std::mem::replace(list, other)
+}

@@ -6,7 +6,7 @@ use crate::building::short;
 use crate::engine::{Engine, KeptLoop};
 use crate::literal::{Literal, SideLiteral};
 use crate::node::Node;
-use crate::places::{at, put};
+use crate::places::{at, put, take};
 use crate::trail::Reason;
 use edge_clauses::{Basis, StoredLine, WalkStep};
 use event_graph::Edge;
@@ -39,6 +39,24 @@ struct Round {
     literals: Vec<SideLiteral>,
 }
 
+impl Round {
+    // A walk that has not begun, back from a bound.
+    fn new(alloc: Global, node: Node) -> Round {
+        Round {
+            node,
+            steps: Vec::new(alloc),
+            sum: 0,
+            ways: Vec::new(alloc),
+            literals: Vec::new(alloc),
+        }
+    }
+
+    // How many ways and literals else may be met.
+    fn size(&self) -> usize {
+        self.ways.len().saturating_add(self.literals.len())
+    }
+}
+
 // The place of the way out from a bound, in the walk with this number.
 #[derive(Clone, Copy)]
 struct OutMark {
@@ -47,13 +65,6 @@ struct OutMark {
 }
 
 const NO_MARK: OutMark = OutMark { walk: 0, place: 0 };
-
-const NO_WAY: BoundWay = BoundWay {
-    from: Node(0),
-    weight: 0,
-    place: 0,
-    side: None,
-};
 
 // The most ways and literals of a loop that is proposed, and the farthest weight of a way from 0.
 const MOST: usize = 4096;
@@ -191,26 +202,28 @@ impl Engine {
 
     // Proposes the loop back to a bound.
     fn propose_round(&mut self, node: Node) -> Result<(), NoMemory> {
-        let mut round = Round {
-            node,
-            steps: Vec::new(self.alloc),
-            sum: 0,
-            ways: Vec::new(self.alloc),
-            literals: Vec::new(self.alloc),
-        };
-        self.walks.begin();
-        let mut here = node;
-        for _ in 0..self.trail.bounds() {
-            let Some(step) = self.step_back(here) else {
-                return Ok(());
-            };
-            self.go_through_step(&mut round, step)?;
-            here = step.from;
-            if here == node {
-                return self.propose(round);
-            }
+        let mut round = Round::new(self.alloc, node);
+        if self.walks_round(&mut round)? {
+            self.propose(&mut round)?;
         }
         Ok(())
+    }
+
+    // Walks back from a bound, and says whether the walk has come to it again.
+    fn walks_round(&mut self, round: &mut Round) -> Result<bool, NoMemory> {
+        self.walks.begin();
+        let mut here = round.node;
+        for _ in 0..self.trail.bounds() {
+            let Some(step) = self.step_back(here) else {
+                return Ok(false);
+            };
+            self.go_through_step(round, step)?;
+            here = step.from;
+            if here == round.node {
+                return Ok(true);
+            }
+        }
+        Ok(false)
     }
 
     // Goes through a step. What else may be met comes to the ways and literals.
@@ -305,22 +318,27 @@ impl Engine {
 
     // Proposes a loop, if its sum is below 0, it is not too large, and something follows from it. Otherwise a bound of a negated time rests: it would fall on
     // and on in small steps. The times that the search finds do not depend on it.
-    fn propose(&mut self, round: Round) -> Result<(), NoMemory> {
-        let size = round.ways.len().saturating_add(round.literals.len());
-        self.meter.look(size);
+    fn propose(&mut self, round: &mut Round) -> Result<(), NoMemory> {
+        self.meter.look(round.size());
         if 0 <= round.sum {
             return Ok(());
         }
-        if MOST < size || !are_near(&round.ways) || !self.says_more(&round) {
+        if MOST < round.size() || !are_near(&round.ways) || !self.says_more(round) {
             if !round.node.is_most() {
                 self.falls.let_rest(round.node);
             }
             return Ok(());
         }
-        self.meter.keep(size.saturating_mul(2).saturating_add(1));
-        let kept = self.kept_clause(&round)?;
-        self.adopt(&round)?;
-        let mut steps = round.steps;
+        self.put_loop(round)?;
+        self.adopt(round)
+    }
+
+    // Proposes the line of a loop. Its steps go into the line.
+    fn put_loop(&mut self, round: &mut Round) -> Result<(), NoMemory> {
+        self.meter
+            .keep(round.size().saturating_mul(2).saturating_add(1));
+        let kept = self.kept_clause(round)?;
+        let mut steps = take(&mut round.steps, Vec::new(self.alloc));
         if !round.node.is_most() {
             steps.reverse();
         }
@@ -370,20 +388,20 @@ impl Engine {
     fn adopt(&mut self, round: &Round) -> Result<(), NoMemory> {
         let basis = Basis::ByKept(self.kept);
         self.kept = self.kept.saturating_add(1);
-        let mut ways = Vec::new(self.alloc);
-        for way in &round.ways {
-            if way.from != round.node {
-                ways.push(*way)?;
-            }
+        let ways = other_ways(self.alloc, round)?;
+        if ways.is_empty() {
+            return self.adopt_clause(basis, round);
         }
-        if !ways.is_empty() {
-            let rule = self.tables.rules.len();
-            self.tables
-                .rules
-                .push(basis, round.node, &ways, &round.literals)?;
-            self.fresh.push(KeptLoop::Rule(rule))?;
-            return Ok(());
-        }
+        let rule = self.tables.rules.len();
+        self.tables
+            .rules
+            .push(basis, round.node, &ways, &round.literals)?;
+        self.fresh.push(KeptLoop::Rule(rule))?;
+        Ok(())
+    }
+
+    // Adds the clause of a loop without ways.
+    fn adopt_clause(&mut self, basis: Basis, round: &Round) -> Result<(), NoMemory> {
         let literals = self.latest_first(&round.literals)?;
         let clause = self.tables.clauses.len();
         self.tables.clauses.push(basis, &literals, 0)?;
@@ -425,4 +443,15 @@ impl Engine {
 fn are_near(ways: &Vec<BoundWay>) -> bool {
     ways.iter()
         .all(|way| -FARTHEST <= way.weight && way.weight <= FARTHEST)
+}
+
+// The ways of a loop that lead from other bounds than its own.
+fn other_ways(alloc: Global, round: &Round) -> Result<Vec<BoundWay>, NoMemory> {
+    let mut ways = Vec::new(alloc);
+    for way in &round.ways {
+        if way.from != round.node {
+            ways.push(*way)?;
+        }
+    }
+    Ok(ways)
 }

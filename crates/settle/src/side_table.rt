@@ -102,8 +102,8 @@ fn met(side: usize) -> SideLiteral {
     SideLiteral(side.saturating_mul(2))
 }
 
-/// The edge that times meet where they do not meet this one.
-pub fn unmet(edge: Edge) -> Edge {
+// The edge that times meet where they do not meet this one.
+fn unmet(edge: Edge) -> Edge {
     Edge {
         from: edge.to,
         to: edge.from,
