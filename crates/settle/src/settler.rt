@@ -167,16 +167,12 @@ fn lines_of(view: View, plain: Prover, turned: Prover) -> Vec<StoredLine>
     ensures plain { view ≡ Plain → result.items ≡ plain.lines }
     ensures negated { view ≡ Negated → result.items ≡ turned.lines }
 {
-    match view {
-        View::Plain => {
-            drop(turned);
-            plain.into_lines()
-        }
-        View::Negated => {
-            drop(plain);
-            turned.into_lines()
-        }
-    }
+    let (shown, other) = match view {
+        View::Plain => (plain, turned),
+        View::Negated => (turned, plain),
+    };
+    drop(other);
+    shown.into_lines()
 }
 
 // The answer after all turns were spent.
