@@ -151,8 +151,8 @@ bound_lines (settled.Closed value times proof) = length proof.lines.items
 bound_lines _ = 0
 
 -- how many lines the proofs of both bounds of a row have
-abbrev pub row_lines : RowFound → ℕ
-row_lines found = bound_lines found.greatest + bound_lines found.least
+abbrev pub lines_in_row : RowFound → ℕ
+lines_in_row found = bound_lines found.greatest + bound_lines found.least
 
 -- the proofs of both bounds of a row have at most so many lines each
 abbrev pub IsRowWithin : ℕ → RowFound → Type 0
@@ -162,4 +162,4 @@ IsRowWithin turns found = (bound_lines found.greatest ≤ turns) × (bound_lines
 pub record HaveLinesWithin (turns : ℕ) (finding : Finding) (found : List RowFound) : Type 0 where
   pub of_finding : finding_lines finding ≤ turns
   pub of_rows : All (IsRowWithin turns) found
-  pub of_run : finding_lines finding + sum_by row_lines found ≤ 4 * turns
+  pub of_run : finding_lines finding + sum_by lines_in_row found ≤ 4 * turns

@@ -5,7 +5,7 @@ ghost use Rattle.std.specs.List.{sum_by};
 ghost use Rattle.event_graph.specs.Satisfying.{Satisfies};
 ghost use Rattle.drawn.specs.Drawn.{IsRowOf};
 ghost use Rattle.settle.specs.ShownAnswer.{IsMadeFor};
-ghost use Rattle.settle_report.specs.Answers.{AreFound, AreRowsFound, IsFinding, IsRowFound, IsRowWithin, row_lines};
+ghost use Rattle.settle_report.specs.Answers.{AreFound, AreRowsFound, IsFinding, IsRowFound, IsRowWithin, lines_in_row};
 
 use crate::bounding::find_bound;
 use crate::finding::Finding;
@@ -34,7 +34,7 @@ pub fn find_rows(
     requires finding { IsFinding wanted.cert drawn.now.net finding.now }
     ensures found { IfOk result (λ found. AreFound wanted.cert drawn.now.net drawn.now.rows finding.now found.items) }
     ensures within { IfOk result (λ found. All (IsRowWithin wanted.turns) found.items) }
-    ensures lines { IfOk result (λ found. sum_by row_lines found.items + left.new.left ≤ left.old.left) }
+    ensures lines { IfOk result (λ found. sum_by lines_in_row found.items + left.new.left ≤ left.old.left) }
 {
     match finding {
         Finding::Consistent(_) => find_all(alloc, drawn, settler, wanted, left),
@@ -54,7 +54,7 @@ fn find_all(
     requires consistent { (times : List ℤ) × Satisfies times drawn.now.net }
     ensures found { IfOk result (λ found. AreRowsFound wanted.cert drawn.now.net drawn.now.rows found.items) }
     ensures within { IfOk result (λ found. All (IsRowWithin wanted.turns) found.items) }
-    ensures lines { IfOk result (λ found. sum_by row_lines found.items + left.new.left ≤ left.old.left) }
+    ensures lines { IfOk result (λ found. sum_by lines_in_row found.items + left.new.left ≤ left.old.left) }
 {
     let mut found = Vec::new(alloc);
     for number in 0..drawn.rows().len() as u32 {
@@ -79,7 +79,7 @@ fn find_row(
     requires row { IsRowOf net.now row.now }
     ensures found { IfOk result (IsRowFound wanted.cert net.now row.now) }
     ensures within { IfOk result (IsRowWithin wanted.turns) }
-    ensures lines { IfOk result (λ found. row_lines found + left.new.left ≤ left.old.left) }
+    ensures lines { IfOk result (λ found. lines_in_row found + left.new.left ≤ left.old.left) }
 {
     let greatest = find_bound(alloc, Which::Max, row, net, settler, wanted, left)?;
     let least = find_bound(alloc, Which::Min, row, net, settler, wanted, left)?;
