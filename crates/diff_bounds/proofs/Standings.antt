@@ -237,7 +237,7 @@ loop_is net st a edges walk h same is =
     let Q : List EdgeName → Type 0 = λ chosen. All (IsCurrent net chosen) (reverse h.way ++ a.name ∷ []) in
     subst P (sym is) (record { event = a.edge.to; walk = h.walk; current = subst Q same h.current; negative = h.negative; count = h.short })
 
-never_chosen : (name : EdgeName) → Contains [] name → ⊥
+pub never_chosen : (name : EdgeName) → Contains [] name → ⊥
 never_chosen name (k, below, is) = absurd (omega arith)
 
 -- with nothing chosen the current edges are the always-edges

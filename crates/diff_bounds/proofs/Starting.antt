@@ -124,31 +124,12 @@ begun_low n stamps begun v label below at =
 pub begun_near : (n : ℕ) (stamps : List Stamp) → HasBegun n stamps → AreLabelsNear stamps
 begun_near n stamps begun = near_low stamps (halves_low n stamps begun.slots begun.uppers (begun_low n stamps begun))
 
--- no edge counts yet
-none_among : (net : Net) (chosen : List EdgeName) (name : EdgeName) (e : Edge) → IsNet net → IsAmong (scope_by net chosen net.events) name e → ⊥
-none_among net chosen name e is_net among =
-    let within = edge_within net name e is_net among.is in
-    let from = among.from in
-    let below = within.from in
-    omega arith
-
 -- without parents, labels that are the first labels are a forest
 pub bare_forest : (s : Scope) (start label : GraphLabels) (parent : Parents) → ((v : ℕ) → v < s.net.events → parent v ≡ None) → ((v : ℕ) → v < s.net.events → label v ≡ start v) → IsForest s start label parent
 bare_forest s start label parent bare same = record {
   rooted = λ v below. record { root = v; way = []; climb = refl; top = bare v below };
   held = λ v name below at. absurd (none-some name (sym (bare v below) ∙ at));
   roots = λ v below top. same v below;
-}
-
-pub begun_feasible : (net : Net) (chosen : List EdgeName) (stamps : List Stamp) → IsNet net → HasBegun net.events stamps → IsFeasible (scope_by net chosen net.events) stamps
-begun_feasible net chosen stamps is_net begun = record {
-  slots = begun.slots;
-  labels = record {
-    forest = bare_forest (scope_by net chosen net.events) zeros (labels_from stamps net.events) (parents_from stamps net.events)
-        (λ v below. ap (λ (x : Stamp). x.parent) (begun.feasible v below)) (λ v below. ap (λ (x : Stamp). x.label) (begun.feasible v below));
-    settled = λ name e among. absurd (none_among net chosen name e is_net among);
-  };
-  low = begun_low net.events stamps begun;
 }
 
 -- ---- the labels from a source, before they fall

@@ -11,10 +11,13 @@ mod falling;
 mod fit;
 mod guess;
 mod heap;
+mod joining;
+mod order;
 mod out_edges;
 mod pending;
 mod settling;
 mod times;
+mod turns;
 mod walks;
 
 pub use bounds::Bounds;

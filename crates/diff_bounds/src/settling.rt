@@ -4,12 +4,12 @@ ghost use Rattle.std.specs.Prelude.{◌≡◌, ◌+◌, ◌<◌, ◌≤◌, ℕ,
 ghost use Rattle.itv_base.specs.declared.limits.TheConstants.{MAX_EVENTS};
 ghost use Rattle.itv_base.specs.declared.names.EventId.{EventId};
 ghost use Rattle.event_graph.specs.Network.{IsNet};
-ghost use Rattle.event_graph.specs.RootBound.{MeetsAlways};
 ghost use Rattle.trail.specs.Stack.{new_stack};
 ghost use Rattle.diff_bounds.specs.Arcs.{AreAlwaysArcs, AreChosenArcs};
 ghost use Rattle.diff_bounds.specs.Labels.{HasFallen, HaveSettled, labels_from, stamp_at};
 ghost use Rattle.diff_bounds.specs.Settled.{AreLabelsNear, IsFeasible, IsRootGraph, IsSettled, at_source, bottom, zeros};
 ghost use Rattle.diff_bounds.specs.Step.Falling.{Closes, RunHasFallen, IsPlaced, IsRunning, RunsOn, scope_of, with_stamps};
+ghost use Rattle.diff_bounds.specs.Step.Guessing.{MeetFrom};
 ghost use Rattle.diff_bounds.specs.Step.Poised.{AreLow, AreOthersFollowed, HasBegun, HasCleared, IsFirstGraph, IsRunReady, feasible_run, scope_from, upper_run};
 ghost use Rattle.diff_bounds.specs.Step.Waiting.{is_waiting};
 ghost use Rattle.diff_bounds.specs.Step.Walking.{HasLoop};
@@ -36,8 +36,9 @@ const ZERO: Stamp = Stamp {
 /// Makes the first graph the current one, and computes its feasible times where they have not settled yet. The answer is an edge that closes a loop
 /// of negative sum, if there is one.
 ///
-/// Where a guess of times meets all always-edges, the feasible times settle over all of them at once. Otherwise they settle event by event, which
-/// finds a loop if there is one. Both ways give the same feasible times.
+/// A guess of times meets the always-edges from an event on: mostly from the first event on for which there are such times. Over these edges the
+/// feasible times settle at once. Over the edges of the events before it they settle event by event, which finds a loop if there is one. Both ways give
+/// the same feasible times, so the loop is the same wherever the guess ends.
 pub fn settle_root(
     settled: bool,
     net: &Network,
@@ -70,11 +71,9 @@ pub fn settle_root(
     }
     trail.reset();
     begin(trail, net.events());
-    if guess.make(net, out) {
-        settle_at_once(net, out, chosen, guess, trail, pending);
-        return None;
-    }
-    settle_all(net, out, chosen, trail, pending)
+    let first = guess.make(net, out, pending);
+    settle_at_once(net, out, chosen, guess, first, trail, pending);
+    settle_by_event(net, out, chosen, first, trail, pending)
 }
 
 // Takes all levels back.
@@ -102,13 +101,15 @@ fn begin(trail: &mut Trail, events: u32)
     }
 }
 
-// Lets the feasible times of the first graph settle over all always-edges at once, where a guess meets these edges. All events wait. The event whose
-// feasible time is the least far above the guess comes first, so no event falls again after it was taken.
+// Lets the feasible times of the first graph settle at once over the always-edges that start at event `first` or at a later one, where a guess meets
+// these edges. All these events wait. The event whose feasible time is the least far above the guess comes first, so no event falls again after it was
+// taken.
 fn settle_at_once(
     net: &Network,
     out: &ByEvent<Arc>,
     chosen: &ChosenEdges,
     guess: &Guess,
+    first: u32,
     trail: &mut Trail,
     pending: &mut Pending,
 )
@@ -116,20 +117,22 @@ fn settle_at_once(
     requires out { AreAlwaysArcs net.now out.now }
     requires chosen { chosen.now.arcs ≡ [] }
     requires events { chosen.now.events ≡ net.now.events }
-    requires guess { MeetsAlways guess.now net.now }
+    requires guess { MeetFrom first guess.now net.now }
+    requires times { length guess.now ≡ net.now.events }
     requires edges { trail.old.current.edges ≡ [] }
     requires begun { HasBegun net.now.events trail.old.current.stamps }
     requires marks { length pending.old.marks ≡ net.now.events }
     ensures stack { trail.new ≡ with_stamps trail.old trail.new.current.stamps }
     ensures slots { length trail.new.current.stamps ≡ length trail.old.current.stamps }
-    ensures feasible { IsFeasible (scope_from net.now trail.old 0) trail.new.current.stamps }
+    ensures near { AreLabelsNear trail.new.current.stamps }
+    ensures feasible { IsFeasible (scope_from net.now trail.old first) trail.new.current.stamps }
     ensures marks { length pending.new.marks ≡ length pending.old.marks }
 {
     let events = net.events();
-    push_all(events, guess, pending);
+    push_from(first, events, guess, pending);
     let run = Run {
         base: events,
-        first: 0,
+        first,
         stop: None,
     };
     match fall(net, out, chosen, run, trail, pending) {
@@ -138,26 +141,28 @@ fn settle_at_once(
     }
 }
 
-// Queues all events. An event's priority is its label minus its guess; at the start the label is 0. Each later fall of the label is added to it.
-fn push_all(events: u32, guess: &Guess, pending: &mut Pending)
+// Queues event `first` and all events after it. An event's priority is its label minus its guess; at the start the label is 0. Each later fall of the
+// label is added to it.
+fn push_from(first: u32, events: u32, guess: &Guess, pending: &mut Pending)
     requires guess { length guess.now ≡ events }
     requires marks { length pending.old.marks ≡ events }
     ensures marks { length pending.new.marks ≡ length pending.old.marks }
-    ensures all { (event : ℕ) → event < events → is_waiting pending.new.marks event ≡ true }
+    ensures all { (event : ℕ) → first ≤ event → event < events → is_waiting pending.new.marks event ≡ true }
 {
     pending.clear();
-    for event in 0..events {
+    for event in first..events {
         let event = EventId(event);
         pending.push(event, guess.time(event).wrapping_neg());
     }
 }
 
-// Lets the feasible times of the first graph settle over the always-edges. The edges are added event by event, the last event first. The answer is an
-// edge that closes a loop of negative sum, if there is one.
-fn settle_all(
+// Lets the feasible times of the first graph settle over the always-edges that start before event `settled`. They have settled over all others. The
+// edges are added event by event, the last event first. The answer is an edge that closes a loop of negative sum, if there is one.
+fn settle_by_event(
     net: &Network,
     out: &ByEvent<Arc>,
     chosen: &ChosenEdges,
+    settled: u32,
     trail: &mut Trail,
     pending: &mut Pending,
 ) -> Option<Arc>
@@ -165,9 +170,10 @@ fn settle_all(
     requires out { AreAlwaysArcs net.now out.now }
     requires chosen { chosen.now.arcs ≡ [] }
     requires events { chosen.now.events ≡ net.now.events }
+    requires settled { settled ≤ net.now.events }
     requires edges { trail.old.current.edges ≡ [] }
     requires near { AreLabelsNear trail.old.current.stamps }
-    requires feasible { IsFeasible (scope_from net.now trail.old net.now.events) trail.old.current.stamps }
+    requires feasible { IsFeasible (scope_from net.now trail.old settled) trail.old.current.stamps }
     requires marks { length pending.old.marks ≡ net.now.events }
     ensures stack { trail.new ≡ with_stamps trail.old trail.new.current.stamps }
     ensures slots { length trail.new.current.stamps ≡ length trail.old.current.stamps }
@@ -175,7 +181,7 @@ fn settle_all(
     ensures loops { IfSome result (HasLoop net.now trail.new) }
     ensures marks { length pending.new.marks ≡ length pending.old.marks }
 {
-    let mut first = net.events();
+    let mut first = settled;
     while first > 0 {
         first -= 1;
         let from = EventId(first);

@@ -26,20 +26,25 @@ impl Engine {
         if self.blocks == 0 || self.rest_at <= self.meter.turns() {
             return Ok(Proposal::Rests);
         }
-        if self.pace.is_due() {
-            self.pace.begin();
-            if 0 < self.trail.level() {
-                self.go_back(0);
-            }
+        if !self.pace.is_due() {
+            self.choose_side(candidate.side)?;
             return Ok(Proposal::Nothing);
         }
+        self.pace.begin();
+        if 0 < self.trail.level() {
+            self.go_back(0);
+        }
+        Ok(Proposal::Nothing)
+    }
+
+    // Chooses a side. If it is the first choice and many clauses were learnt, half of them go before.
+    fn choose_side(&mut self, side: SideLiteral) -> Result<(), NoMemory> {
         if self.trail.level() == 0 && MOST_LEARNT <= self.tables.clauses.learnt() {
             self.meter.look(self.tables.clauses.size());
             self.tables.clauses.let_go(self.alloc)?;
         }
         self.falls.reset();
-        self.trail.choose(candidate.side)?;
-        Ok(Proposal::Nothing)
+        self.trail.choose(side)
     }
 
     // The side to choose, or none if the bounds break no earliest constraint.

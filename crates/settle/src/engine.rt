@@ -139,7 +139,14 @@ impl Engine {
         room: u64,
     ) -> Result<Engine, NoMemory> {
         let tables = Tables::new(alloc, net)?;
-        let work = Work::new(alloc, net.events(), tables.sides.len(), from, cap)?;
+        let sides = tables.sides.len();
+        let work = match Work::new(alloc, net.events(), sides, from, cap) {
+            Ok(work) => work,
+            Err(fault) => {
+                drop(tables);
+                return Err(fault);
+            }
+        };
         let mut engine = Engine {
             alloc,
             tables,
@@ -220,6 +227,11 @@ impl Engine {
         if self.is_over {
             return Ok(Proposal::Rests);
         }
+        self.go_on(claim)
+    }
+
+    // A step of a search of which no lines wait: tells what holds at level 0, ends, or looks on.
+    fn go_on(&mut self, claim: i64) -> Result<Proposal, NoMemory> {
         if self.told < self.trail.end_of(0) {
             self.tell()?;
             return Ok(Proposal::Nothing);
@@ -230,12 +242,14 @@ impl Engine {
         }
         self.goal.value = beyond(claim);
         self.take_goal()?;
-        if let Some(conflict) = self.conflict {
-            self.conflict = None;
-            self.end_with(conflict)?;
-            return Ok(Proposal::Nothing);
+        match self.conflict {
+            Some(conflict) => {
+                self.conflict = None;
+                self.end_with(conflict)?;
+                Ok(Proposal::Nothing)
+            }
+            None => self.look_on(),
         }
-        self.look_on()
     }
 
     // Proposes the line of the next entry of level 0.
@@ -280,29 +294,32 @@ impl Engine {
     // Looks at the next entry, loop, walk or bound, or chooses.
     fn look_on(&mut self) -> Result<Proposal, NoMemory> {
         if self.heard < self.trail.len() {
-            let literal = self.trail.entry(self.heard).literal;
-            self.heard = self.heard.saturating_add(1);
-            self.hear(literal)?;
-            return Ok(Proposal::Nothing);
-        }
-        if self.refreshed < self.fresh.len() {
+            self.hear_next()?;
+        } else if self.refreshed < self.fresh.len() {
             self.refresh()?;
-            return Ok(Proposal::Nothing);
-        }
-        if let Some(node) = self.walk {
+        } else if let Some(node) = self.walk {
             self.walk = None;
             self.go_round(node)?;
-            return Ok(Proposal::Nothing);
+        } else if let Some(node) = self.next_waiting() {
+            self.look_from(node)?;
+        } else {
+            return self.choose();
         }
+        Ok(Proposal::Nothing)
+    }
+
+    // Looks at what follows from the next entry.
+    fn hear_next(&mut self) -> Result<(), NoMemory> {
+        let literal = self.trail.entry(self.heard).literal;
+        self.heard = self.heard.saturating_add(1);
+        self.hear(literal)
+    }
+
+    // The next waiting bound, if there is one.
+    fn next_waiting(&mut self) -> Option<Node> {
         let next = self.sweep.next();
         self.meter.look(self.sweep.looks());
-        match next {
-            Some(node) => {
-                self.look_from(node)?;
-                Ok(Proposal::Nothing)
-            }
-            None => self.choose(),
-        }
+        next
     }
 
     // Looks at the next fresh loop. At level 0 none is fresh once all were looked at.

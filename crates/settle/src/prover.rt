@@ -174,10 +174,12 @@ impl Prover {
         ensures lines { result.items ≡ self.lines }
     {
         let Prover {
-            checker: _,
-            engine: _,
+            checker,
+            engine,
             lines,
         } = self;
+        drop(checker);
+        drop(engine);
         lines
     }
 }

@@ -27,6 +27,13 @@ pub enum RaceEnd {
     Inconsistent(View),
 }
 
+/// How a race has ended, and the turns that both searches have taken. They have made at most as many lines.
+#[derive(Drop)]
+pub struct Finish {
+    pub ending: RaceEnd,
+    pub turns: u64,
+}
+
 /// Two searches for the greatest separation of a pair. They share the best times that either finds. One search goes on
 /// until it rests. Then the other is allowed as many blocks. After both have rested, each is allowed more blocks.
 #[derive(Drop)]
@@ -64,30 +71,69 @@ impl Race {
         ensures lines { IfOk result (λ race. line_count race ≡ 0) }
     {
         let claim = start_claim(limits);
-        Ok(Race {
-            from,
-            to,
-            limits,
-            plain: Prover::new(alloc, net, from, to, claim, room)?,
-            turned: Prover::new(alloc, negation, to, from, claim, room)?,
-            best: Best { times: None, claim },
-            view: View::Plain,
-            blocks: 0,
-        })
+        let plain = Prover::new(alloc, net, from, to, claim, room)?;
+        match Prover::new(alloc, negation, to, from, claim, room) {
+            Ok(turned) => Ok(Race {
+                from,
+                to,
+                limits,
+                plain,
+                turned,
+                best: Best { times: None, claim },
+                view: View::Plain,
+                blocks: 0,
+            }),
+            Err(NoMemory) => {
+                drop(plain);
+                Err(NoMemory)
+            }
+        }
     }
 
-    /// The turns that both searches have taken.
-    pub fn turns(&self) -> u64 {
+    /// Takes step after step, until the race has ended, both searches have given up, or so many turns are spent. Says how it ended, if it has.
+    pub fn run(
+        &mut self,
+        alloc: Global,
+        net: &Network,
+        negation: &Network,
+        turns: u64,
+    ) -> Result<Option<Finish>, NoMemory>
+        requires racing { IsRacing net.now self.old }
+        requires negation { negation.now ≡ negated net.now }
+        requires start { line_count self.old ≡ 0 }
+        ensures racing { OnOk result (IsRacing net.now self.new) }
+        ensures ending { IfOk result (λ finish. IfSome finish (λ finish. IsEnding net.now self.new finish.ending)) }
+        ensures lines { IfOk result (λ finish. IfSome finish (λ finish. line_count self.new ≤ finish.turns)) }
+        ensures most { IfOk result (λ finish. IfSome finish (λ finish. finish.turns ≤ turns)) }
+        ensures from { OnOk result (self.new.from ≡ self.old.from) }
+        ensures to { OnOk result (self.new.to ≡ self.old.to) }
+    {
+        let mut taken = 0;
+        'turns: while taken < turns && !self.has_stopped() {
+            let ending = self.step(alloc, net, negation)?;
+            taken = more_turns(taken, self.turns(), turns);
+            if let Some(ending) = ending {
+                return Ok(Some(Finish {
+                    ending,
+                    turns: taken,
+                }));
+            }
+        }
+        Ok(None)
+    }
+
+    // The turns that both searches have taken.
+    fn turns(&self) -> u64 {
         self.plain.turns().saturating_add(self.turned.turns())
     }
 
-    /// Whether both searches have ended or given up.
-    pub fn has_stopped(&self) -> bool {
+    // Whether both searches have ended or given up.
+    fn has_stopped(&self) -> bool {
         self.plain.has_stopped() && self.turned.has_stopped()
     }
 
-    /// One step. It may end the race.
-    pub fn step(
+    // One step. It may end the race.
+    fn step(
         &mut self,
         alloc: Global,
         net: &Network,
@@ -221,6 +267,15 @@ impl Race {
             View::Negated => self.turned.stop(),
         }
     }
+}
+
+// The turns taken after one more step, where both searches have taken `now` in all, but at most `most`.
+fn more_turns(taken: u64, now: u64, most: u64) -> u64
+    requires less { taken < most }
+    ensures more { taken + 1 ≤ result }
+    ensures most { result ≤ most }
+{
+    now.max(taken + 1).min(most)
 }
 
 // A claim below minus the far line, in picoseconds: it is below every separation of times that are near each other.

@@ -11,7 +11,7 @@ ghost use Rattle.settle.specs.Step.Racing.{IsEnding, IsRacing, line_count};
 
 use crate::best::Best;
 use crate::prover::Prover;
-use crate::race::{Race, RaceEnd};
+use crate::race::{Finish, Race, RaceEnd};
 use crate::shown_answer::{Settled, ShownAnswer};
 use edge_clauses::{Claim, StoredLine};
 use event_graph::Network;
@@ -58,15 +58,17 @@ impl Settler {
     {
         let room = room_of(net, turns);
         let mut race = Race::new(alloc, net, &self.negation, from, to, self.limits, room)?;
-        let mut taken = 0;
-        'turns: while taken < turns && !race.has_stopped() {
-            let ending = race.step(alloc, net, &self.negation)?;
-            taken = more_turns(taken, race.turns(), turns);
-            if let Some(ending) = ending {
-                return Ok(found_by(alloc, net, from, to, race, ending, taken));
+        match race.run(alloc, net, &self.negation, turns) {
+            Ok(Some(finish)) => Ok(found_by(alloc, net, from, to, race, finish)),
+            Ok(None) => {
+                drop(race);
+                Ok(spent(alloc, turns))
+            }
+            Err(NoMemory) => {
+                drop(race);
+                Err(NoMemory)
             }
         }
-        Ok(spent(alloc, turns))
     }
 }
 
@@ -76,15 +78,6 @@ fn room_of(net: &Network, turns: u64) -> u64 {
     size.saturating_mul(32).saturating_add(turns / 50)
 }
 
-// The turns taken after one more step, where both searches have taken `now` in all, but at most `most`.
-fn more_turns(taken: u64, now: u64, most: u64) -> u64
-    requires less { taken < most }
-    ensures more { taken + 1 ≤ result }
-    ensures most { result ≤ most }
-{
-    now.max(taken + 1).min(most)
-}
-
 // The answer of a race that has ended.
 fn found_by(
     alloc: Global,
@@ -92,17 +85,17 @@ fn found_by(
     from: EventId,
     to: EventId,
     race: Race,
-    ending: RaceEnd,
-    turns: u64,
+    finish: Finish,
 ) -> ShownAnswer
     requires racing { IsRacing net.now race }
     requires from { race.from ≡ from }
     requires to { race.to ≡ to }
-    requires ending { IsEnding net.now race ending }
-    requires lines { line_count race ≤ turns }
-    ensures found { (most : ℕ) → turns ≤ most → IsFound net.now from to most result }
+    requires ending { IsEnding net.now race finish.ending }
+    requires lines { line_count race ≤ finish.turns }
+    ensures found { (most : ℕ) → finish.turns ≤ most → IsFound net.now from to most result }
 {
     let _events = net.events();
+    let Finish { ending, turns } = finish;
     let Race {
         from: _,
         to: _,
@@ -124,24 +117,31 @@ fn found_by(
             lines: lines_of(view, plain, turned),
             turns,
         },
-        RaceEnd::Unbounded(ray) => ShownAnswer {
-            answer: Settled::Unbounded,
-            times: times_in(alloc, best),
-            ray,
-            claim,
-            view: View::Plain,
-            lines: Vec::new(alloc),
-            turns,
-        },
-        RaceEnd::Inconsistent(view) => ShownAnswer {
-            answer: Settled::Inconsistent,
-            times: Vec::new(alloc),
-            ray: Vec::new(alloc),
-            claim,
-            view,
-            lines: lines_of(view, plain, turned),
-            turns,
-        },
+        RaceEnd::Unbounded(ray) => {
+            drop(plain);
+            drop(turned);
+            ShownAnswer {
+                answer: Settled::Unbounded,
+                times: times_in(alloc, best),
+                ray,
+                claim,
+                view: View::Plain,
+                lines: Vec::new(alloc),
+                turns,
+            }
+        }
+        RaceEnd::Inconsistent(view) => {
+            drop(best);
+            ShownAnswer {
+                answer: Settled::Inconsistent,
+                times: Vec::new(alloc),
+                ray: Vec::new(alloc),
+                claim,
+                view,
+                lines: lines_of(view, plain, turned),
+                turns,
+            }
+        }
     }
 }
 
@@ -167,10 +167,12 @@ fn lines_of(view: View, plain: Prover, turned: Prover) -> Vec<StoredLine>
     ensures plain { view ≡ Plain → result.items ≡ plain.lines }
     ensures negated { view ≡ Negated → result.items ≡ turned.lines }
 {
-    match view {
-        View::Plain => plain.into_lines(),
-        View::Negated => turned.into_lines(),
-    }
+    let (shown, other) = match view {
+        View::Plain => (plain, turned),
+        View::Negated => (turned, plain),
+    };
+    drop(other);
+    shown.into_lines()
 }
 
 // The answer after all turns were spent.

@@ -1,5 +1,6 @@
 -- What is found of a network and of its rows.
-use Rattle.std.specs.Prelude.{◌≡◌, ◌≤◌, ℕ, ℤ, pos, neg_ℤ, ◌<ℤ◌, Bool, List, [], ◌∷◌, length, All, None, IsTrue}
+use Rattle.std.specs.Prelude.{◌≡◌, ◌+◌, ◌*◌, ◌≤◌, ℕ, ℤ, pos, neg_ℤ, ◌<ℤ◌, Bool, List, [], ◌∷◌, length, All, None, IsTrue}
+use Rattle.std.specs.List.{sum_by}
 use Rattle.itv_base.specs.Range.{Ends}
 use Rattle.itv_base.specs.declared.names.EventId.{EventId}
 use Rattle.itv_base.specs.declared.row_kind.RowKind.{RowKind}
@@ -137,25 +138,28 @@ AreFound cert net rows (Consistent times) found = AreRowsFound cert net rows fou
 AreFound cert net rows (Inconsistent proof) found = found ≡ []
 AreFound cert net rows Spent found = found ≡ []
 
--- ---- what the turns of a search bound
+-- ---- what the turns bound
 
--- the proof of an inconsistent finding has at most so many lines
-abbrev pub IsFindingWithin : ℕ → Finding → Type 0
-IsFindingWithin turns (Consistent times) = Unit {0}
-IsFindingWithin turns (Inconsistent proof) = length proof.lines.items ≤ turns
-IsFindingWithin turns Spent = Unit {0}
+-- how many lines the proof of a finding has
+abbrev pub finding_lines : Finding → ℕ
+finding_lines (Inconsistent proof) = length proof.lines.items
+finding_lines _ = 0
 
--- the proof of a number has at most so many lines
-abbrev pub IsBoundWithin : ℕ → SettledBound → Type 0
-IsBoundWithin turns (settled.Closed value times proof) = length proof.lines.items ≤ turns
-IsBoundWithin turns (settled.Unbounded times ray) = Unit {0}
-IsBoundWithin turns settled.Spent = Unit {0}
+-- how many lines the proof of a bound has
+abbrev pub bound_lines : SettledBound → ℕ
+bound_lines (settled.Closed value times proof) = length proof.lines.items
+bound_lines _ = 0
+
+-- how many lines the proofs of both bounds of a row have
+abbrev pub lines_in_row : RowFound → ℕ
+lines_in_row found = bound_lines found.greatest + bound_lines found.least
 
 -- the proofs of both bounds of a row have at most so many lines each
 abbrev pub IsRowWithin : ℕ → RowFound → Type 0
-IsRowWithin turns found = IsBoundWithin turns found.greatest × IsBoundWithin turns found.least
+IsRowWithin turns found = (bound_lines found.greatest ≤ turns) × (bound_lines found.least ≤ turns)
 
--- each proof has at most as many lines as its search had turns
+-- each proof has at most as many lines as a search may take turns, and all together have at most four times as many
 pub record HaveLinesWithin (turns : ℕ) (finding : Finding) (found : List RowFound) : Type 0 where
-  pub of_finding : IsFindingWithin turns finding
+  pub of_finding : finding_lines finding ≤ turns
   pub of_rows : All (IsRowWithin turns) found
+  pub of_run : finding_lines finding + sum_by lines_in_row found ≤ 4 * turns

@@ -1,5 +1,5 @@
 -- What the steps of job settle promise one another.
-use Rattle.std.specs.Prelude.{◌*◌, ℤ, pos, neg_ℤ, ◌≤ℤ◌, ◌<ℤ◌, Bool, List, All}
+use Rattle.std.specs.Prelude.{◌+◌, ◌*◌, ◌≤◌, ℕ, ℤ, pos, neg_ℤ, ◌≤ℤ◌, ◌<ℤ◌, Bool, List, All}
 use Rattle.itv_base.specs.declared.names.EventId.{EventId}
 use Rattle.event_graph.specs.Network.{Net}
 use Rattle.event_graph.specs.Times.{separation}
@@ -9,6 +9,7 @@ use Rattle.slack_report.specs.declared.words.Which.TheVariants.{Max, Min}
 use Rattle.drawn.specs.declared.row.Row.{Row}
 use Rattle.settle_report.specs.declared.bound.SettledBound.{SettledBound}
 use Rattle.settle_report.specs.declared.bound.SettledBound.TheVariants as settled
+use Rattle.settle_report.specs.declared.run_turns.RunTurns.{RunTurns}
 use Rattle.settle_report.specs.Answers.{ArePrintedTimes, IsBound}
 
 -- the pair whose greatest separation is searched for a bound of a row; for a least bound it is the reversed pair
@@ -49,3 +50,7 @@ IsBeyond which settled.Spent limit = ⊥
 pub record ArePast (net : Net) (which : Which) (row : Row) (limit : ℤ) (times : List ℤ) : Type 0 where
   pub are_times : ArePrintedTimes net row.from times
   pub past : limit <ℤ separation times (source which row) (target which row)
+
+-- a search that may take so many turns made so many lines, and took at least as many of the turns that were left of the run
+abbrev pub Took : ℕ → ℕ → RunTurns → RunTurns → Type 0
+Took turns lines old new = (lines ≤ turns) × (lines + new.left ≤ old.left)

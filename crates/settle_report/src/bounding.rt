@@ -1,16 +1,17 @@
 //! Finding one bound of a row.
 
-ghost use Rattle.std.specs.Prelude.{◌≡◌, ℕ, ℤ, List, IfOk};
+ghost use Rattle.std.specs.Prelude.{◌≡◌, ◌≤◌, ℕ, ℤ, List, IfOk, length};
 ghost use Rattle.event_graph.specs.Satisfying.{Satisfies};
 ghost use Rattle.event_graph.specs.Times.{IsTime};
 ghost use Rattle.drawn.specs.Drawn.{IsRowOf};
 ghost use Rattle.settle.specs.ShownAnswer.{IsFound, IsMadeFor};
-ghost use Rattle.settle_report.specs.Answers.{IsBound, IsBoundWithin};
-ghost use Rattle.settle_report.specs.Step.{HasNearby, shown_by, source, target};
+ghost use Rattle.settle_report.specs.Answers.{IsBound, bound_lines};
+ghost use Rattle.settle_report.specs.Step.{HasNearby, Took, shown_by, source, target};
 
 use crate::bound::SettledBound;
 use crate::pair::{source, target};
 use crate::proof::proof_of;
+use crate::run_turns::RunTurns;
 use crate::times::moved;
 use crate::wanted::Wanted;
 use drawn::Row;
@@ -20,7 +21,8 @@ use settle::{Settled, Settler, ShownAnswer};
 use slack_report::Which;
 use std::alloc::Global;
 
-/// Searches for a bound of a row of a network that some times satisfy.
+/// Searches for a bound of a row of a network that some times satisfy. The search takes its turns from those that are left of the run. If none are left,
+/// nothing is searched.
 pub fn find_bound(
     alloc: Global,
     which: Which,
@@ -28,17 +30,23 @@ pub fn find_bound(
     net: &Network,
     settler: &Settler,
     wanted: Wanted,
+    left: &mut RunTurns,
 ) -> Result<SettledBound, NoMemory>
     requires made { IsMadeFor net.now settler.now }
     requires consistent { (times : List ℤ) × Satisfies times net.now }
     requires row { IsRowOf net.now row.now }
     ensures bound { IfOk result (IsBound wanted.cert net.now which row.now) }
     ensures nearby { IfOk result HasNearby }
-    ensures within { IfOk result (IsBoundWithin wanted.turns) }
+    ensures took { IfOk result (λ bound. Took wanted.turns (bound_lines bound) left.old left.new) }
 {
     let from = source(which, row);
     let to = target(which, row);
-    let found = settler.greatest(alloc, net, from, to, wanted.turns)?;
+    let turns = left.next(wanted.turns);
+    if turns == 0 {
+        return Ok(SettledBound::Spent);
+    }
+    let found = settler.greatest(alloc, net, from, to, turns)?;
+    left.take(found.turns);
     Ok(bound_by(alloc, which, row, net, found, wanted.cert))
 }
 
@@ -56,8 +64,7 @@ fn bound_by(
     requires found { (turns : ℕ) × IsFound net.now (source which row.now) (target which row.now) turns found }
     ensures bound { IsBound cert net.now which row.now result }
     ensures nearby { HasNearby result }
-    ensures within { (turns : ℕ) → IsFound net.now (source which row.now) (target which row.now) turns found
-        → IsBoundWithin turns result }
+    ensures lines { bound_lines result ≤ length found.lines.items }
 {
     // The call also gives the invariant: the network is within its limits.
     let _events = net.events();

@@ -1,10 +1,12 @@
 //! What is found of a network.
 
-ghost use Rattle.std.specs.Prelude.{◌<◌, ℕ, IfOk};
+ghost use Rattle.std.specs.Prelude.{◌<◌, ◌≤◌, ℕ, IfOk, length};
 ghost use Rattle.settle.specs.ShownAnswer.{IsFound, IsMadeFor};
-ghost use Rattle.settle_report.specs.Answers.{IsFinding, IsFindingWithin, first_event};
+ghost use Rattle.settle_report.specs.Answers.{IsFinding, first_event, finding_lines};
+ghost use Rattle.settle_report.specs.Step.{Took};
 
 use crate::proof::{Proof, proof_of};
+use crate::run_turns::RunTurns;
 use crate::times::moved;
 use crate::wanted::Wanted;
 use event_graph::Network;
@@ -23,22 +25,26 @@ pub enum Finding {
     Spent,
 }
 
-/// Looks for times that satisfy a network. A network without events is satisfied by the empty list of times.
+/// Looks for times that satisfy a network. A network without events is satisfied by the empty list of times. The search takes its turns from those that
+/// are left of the run.
 pub fn find(
     alloc: Global,
     net: &Network,
     settler: &Settler,
     wanted: Wanted,
+    left: &mut RunTurns,
 ) -> Result<Finding, NoMemory>
     requires made { IsMadeFor net.now settler.now }
     ensures finding { IfOk result (IsFinding wanted.cert net.now) }
-    ensures within { IfOk result (IsFindingWithin wanted.turns) }
+    ensures took { IfOk result (λ finding. Took wanted.turns (finding_lines finding) left.old left.new) }
 {
     if net.events() == 0 {
         return Ok(Finding::Consistent(Vec::new(alloc)));
     }
     let first = EventId(0);
-    let found = settler.greatest(alloc, net, first, first, wanted.turns)?;
+    let turns = left.next(wanted.turns);
+    let found = settler.greatest(alloc, net, first, first, turns)?;
+    left.take(found.turns);
     Ok(finding_of(alloc, net, found, wanted.cert))
 }
 
@@ -47,7 +53,7 @@ fn finding_of(alloc: Global, net: &Network, found: ShownAnswer, cert: bool) -> F
     requires events { 0 < net.now.events }
     requires found { (turns : ℕ) × IsFound net.now first_event first_event turns found }
     ensures finding { IsFinding cert net.now result }
-    ensures within { (turns : ℕ) → IsFound net.now first_event first_event turns found → IsFindingWithin turns result }
+    ensures lines { finding_lines result ≤ length found.lines.items }
 {
     // The call also gives the invariant: the network is within its limits.
     let _events = net.events();

@@ -13,6 +13,7 @@ use crate::put_bounds::put_finding;
 use crate::put_rows::put_behind;
 use crate::row::RowFound;
 use crate::rows::find_rows;
+use crate::run_turns::RunTurns;
 use crate::wanted::Wanted;
 use drawn::DrawnNetwork;
 use itv_base::{NoMemory, PutFailed, Sink};
@@ -23,8 +24,8 @@ use slack_report::{EndWord, Item, LINE_ROOM, write_item};
 use std::alloc::Global;
 
 /// Writes the exact bounds of a drawn network, whatever its choices: the events, whether some times satisfy the network, and both
-/// bounds of each of its rows, with verdict and slack of each requirement. Each search takes at most this many turns, and with `cert`
-/// its proof is printed. All is found before the first put.
+/// bounds of each of its rows, with verdict and slack of each requirement. Each search takes at most this many turns, and all together take at most four
+/// times as many. With `cert` the proof of each search is printed. All is found before the first put.
 pub fn write_settle<K: Sink>(
     alloc: Global,
     drawn: &DrawnNetwork,
@@ -57,8 +58,9 @@ fn find_network(
     ensures within { IfOk result (λ found. HaveLinesWithin wanted.turns found.finding found.rows.items) }
 {
     let settler = Settler::new(alloc, drawn.network())?;
-    let finding = find(alloc, drawn.network(), &settler, wanted)?;
-    let rows = find_rows(alloc, drawn, &finding, &settler, wanted)?;
+    let mut left = RunTurns::of(wanted.turns);
+    let finding = find(alloc, drawn.network(), &settler, wanted, &mut left)?;
+    let rows = find_rows(alloc, drawn, &finding, &settler, wanted, &mut left)?;
     Ok(NetworkFound { finding, rows })
 }
 

@@ -20,7 +20,7 @@ returns-in-Closed c =
     record {
       bound = n.0;
       nearby = n.1;
-      within = λ turns found. omega (arith, found.lines, found.most, c.proof_of.ensures.lines);
+      lines = c.proof_of.ensures.lines;
     }
 
 pub moved-requires-in-Unbounded-clause-times : goal.moved-requires-in-Unbounded-clause-times
@@ -32,4 +32,4 @@ pub returns-in-Unbounded : goal.returns-in-Unbounded
 returns-in-Unbounded c =
     let f = c.requires.found in
     let n = endless_shown c.args.net.now c.args.which c.args.row.now f.0 c.args.found c.events-events.ensures.net c.requires.row f.1 _ c.in-Unbounded.is c.moved-in-Unbounded.ensures.moved in
-    record { bound = n.0; nearby = n.1; within = λ turns found. tt }
+    record { bound = n.0; nearby = n.1; lines = omega arith }

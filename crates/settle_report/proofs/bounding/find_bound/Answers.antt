@@ -1,5 +1,7 @@
+use Rattle.std.proofs.Common.{arith}
 use Rattle.settle_report.proofs.bounding.find_bound.Goals as goal
 
-pub returns-clause-within : goal.returns-clause-within
-returns-clause-within c =
-    c.bound_by.ensures.within c.args.wanted.turns (rw (c.source-from.ensures.event, c.target-to.ensures.event) at c.in_ok-found.ensures.found)
+pub returns-clause-took : goal.returns-clause-took
+returns-clause-took c =
+    let f = c.in_ok-found.ensures.found in
+    (omega (arith, c.bound_by.ensures.lines, f.lines, f.most, c.next-turns.ensures.most), omega (arith, c.bound_by.ensures.lines, f.lines, c.take.ensures.left))

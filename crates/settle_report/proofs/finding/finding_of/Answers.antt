@@ -1,4 +1,4 @@
-use Rattle.std.proofs.Common.{subst, sym}
+use Rattle.std.proofs.Common.{subst, sym, arith}
 use Rattle.settle_report.specs.Answers.{ArePrintedTimes, first_event}
 use Rattle.settle_report.proofs.Answering.{first_times, refuted}
 use Rattle.settle_report.proofs.finding.finding_of.Goals as goal
@@ -9,7 +9,7 @@ returns-in-Closed c =
     record {
       finding = subst (ArePrintedTimes c.args.net.now first_event) (sym c.moved.ensures.moved)
           (first_times c.args.net.now f.0 c.args.found c.events-events.ensures.net c.requires.events f.1 _ c.in-Closed.is);
-      within = λ turns found. tt;
+      lines = omega arith;
     }
 
 pub returns-in-Inconsistent-clause-finding : goal.returns-in-Inconsistent-clause-finding

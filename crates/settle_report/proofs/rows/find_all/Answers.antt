@@ -1,6 +1,7 @@
-use Rattle.std.proofs.Common.{All, subst, sym}
+use Rattle.std.proofs.Common.{All, subst, sym, arith}
 use Rattle.std.proofs.lemmas.List.Elements.{All-push}
-use Rattle.settle_report.specs.Answers.{IsRowWithin}
+use Rattle.std.proofs.lemmas.List.Sums.{sum_by_push}
+use Rattle.settle_report.specs.Answers.{IsRowWithin, lines_in_row}
 use Rattle.settle_report.proofs.Gathering.{rows_pushed}
 use Rattle.settle_report.proofs.rows.find_all.Goals as goal
 
@@ -12,4 +13,7 @@ loop-number-preserved c = record {
   within =
       subst (All (IsRowWithin c.args.wanted.turns)) (sym c.in_ok-push.ensures.items)
       (All-push (IsRowWithin c.args.wanted.turns) c.loop-number.found.items c.in_ok-of_row.of_row c.loop-number.invariant.within c.in_ok-of_row.ensures.within);
+  lines =
+      rw (c.in_ok-push.ensures.items, sum_by_push lines_in_row c.loop-number.found.items c.in_ok-of_row.of_row)
+      (omega (arith, c.loop-number.invariant.lines, c.in_ok-of_row.ensures.lines));
 }

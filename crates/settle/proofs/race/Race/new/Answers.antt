@@ -5,15 +5,15 @@ use Rattle.edge_clauses.specs.Proofs.{IsProving}
 use Rattle.settle.proofs.Concluding.{start_low}
 use Rattle.settle.proofs.race.Race.new.Goals as goal
 
-pub returns-clause-racing : goal.returns-clause-racing
-returns-clause-racing c = record {
+pub returns-in-Ok-clause-racing : goal.returns-in-Ok-clause-racing
+returns-in-Ok-clause-racing c = record {
   from = c.requires.from;
   to = c.requires.to;
   limits = c.requires.limits;
-  plain = c.in_ok-new.ensures.proving;
-  plain_goal = c.in_ok-new.ensures.goal;
-  turned = subst (λ (n : Net). IsProving n c.in_ok-new-2.field-0) c.requires.negation c.in_ok-new-2.ensures.proving;
-  turned_goal = c.in_ok-new-2.ensures.goal;
+  plain = c.in_ok-plain.ensures.proving;
+  plain_goal = c.in_ok-plain.ensures.goal;
+  turned = subst (λ (n : Net). IsProving n c.in-Ok.turned) c.requires.negation c.in-Ok.ensures.proving;
+  turned_goal = c.in-Ok.ensures.goal;
   best = record {
     found = tt;
     none = start_low c.start_claim-claim.result.value c.args.limits.lowest (far_line c.args.net.now) c.start_claim-claim.ensures c.requires.limits.lowest_is;

@@ -1,7 +1,7 @@
 use Rattle.std.proofs.Common.{◌∙◌, ap, arith}
 use Rattle.trail.specs.Stack.{Stack}
 use Rattle.diff_bounds.proofs.Starting.{ready_next}
-use Rattle.diff_bounds.proofs.settling.settle_all.Goals as goal
+use Rattle.diff_bounds.proofs.settling.settle_by_event.Goals as goal
 
 pub settle_feasible-requires-clause-ready : goal.settle_feasible-requires-clause-ready
 settle_feasible-requires-clause-ready c =

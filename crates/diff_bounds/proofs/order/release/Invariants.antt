@@ -1,6 +1,6 @@
 use Rattle.std.proofs.Common.{◌≡◌, ◌≤◌, length}
 use Rattle.diff_bounds.specs.Step.Guessing.{AreEvents}
-use Rattle.diff_bounds.proofs.guess.release.Given as goal
+use Rattle.diff_bounds.proofs.order.release.Given as goal
 
 abbrev pub invariant-loop-arc : goal.invariant-loop-arc
 invariant-loop-arc l = record {

@@ -2,7 +2,7 @@ use Rattle.std.proofs.Common.{◌≡◌, ◌≤◌, length}
 use Rattle.diff_bounds.specs.Settled.{AreLabelsNear, IsFeasible}
 use Rattle.diff_bounds.specs.Step.Falling.{with_stamps}
 use Rattle.diff_bounds.specs.Step.Poised.{scope_from}
-use Rattle.diff_bounds.proofs.settling.settle_all.Given as goal
+use Rattle.diff_bounds.proofs.settling.settle_by_event.Given as goal
 
 abbrev pub invariant-loop-first : goal.invariant-loop-first
 invariant-loop-first l = record {

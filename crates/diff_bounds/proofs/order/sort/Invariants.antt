@@ -1,6 +1,6 @@
 use Rattle.std.proofs.Common.{◌-◌, ◌≡◌, ◌≤◌, length}
 use Rattle.diff_bounds.specs.Step.Guessing.{AreEvents}
-use Rattle.diff_bounds.proofs.guess.sort.Given as goal
+use Rattle.diff_bounds.proofs.order.sort.Given as goal
 
 abbrev pub invariant-loop-next : goal.invariant-loop-next
 invariant-loop-next l = record {
