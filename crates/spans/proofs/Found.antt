@@ -1,14 +1,25 @@
 -- What was found of a network, as what is found of a drawn network with numbers moved.
-use Rattle.std.proofs.Common.{◌≡◌, ℕ, List, Bool, true, false, not, subst}
+use Rattle.std.proofs.Common.{◌≡◌, ◌≤◌, ℕ, ℤ, List, Bool, true, false, Option, Some, None, sym, subst, ◌∙◌}
 use Rattle.event_graph.specs.Bounds.{IsInconsistent}
 use Rattle.event_graph.specs.Network.{Net}
 use Rattle.drawn.specs.Drawn.{Drawn}
 use Rattle.drawn.specs.declared.row.Row.{Row}
-use Rattle.moves.specs.Networks.{IsNetFound}
+use Rattle.moves.specs.Networks.{IsNetFound, is_net_open}
 use Rattle.moves.specs.Passing.{BreaksRow, NoneBreaks, Passes}
 use Rattle.moves.specs.Step.{IsConsistent, bare_drawn}
 use Rattle.moves.specs.declared.net_found.NetFound.{NetFound}
 use Rattle.moves.specs.declared.net_found.NetFound.TheVariants as nets
+use Rattle.moves.proofs.Thresholds.{excluded}
+use Rattle.probing.specs.declared.probed.Probed.{Probed}
+use Rattle.spans.specs.Step.{IsEnough, IsFrameFound, IsInside, IsProbedAt, IsStop, IsValueFound, IsValueFoundAt, Meets, TellsConsistency, at_value, breaks_for, consistency_of, passes_for}
+use Rattle.spans.specs.declared.framed_range.FrameKind.{FrameKind}
+use Rattle.spans.specs.declared.framed_range.FrameKind.TheVariants as frames
+use Rattle.spans.specs.declared.interval.Interval.{Interval}
+use Rattle.spans.specs.declared.sought.Aim.{Aim}
+use Rattle.spans.specs.declared.sought.Aim.TheVariants as aims
+use Rattle.spans.specs.declared.sought.SpanSought.{SpanSought}
+use Rattle.spans.specs.declared.sought.ValueFound.{ValueFound}
+use Rattle.spans.specs.declared.sought.ValueFound.TheVariants as values
 
 found_bare : (drawn : Drawn) (found : NetFound) → IsNetFound (bare_drawn drawn.net drawn.rows) found → IsNetFound drawn found
 found_bare drawn nets.Passes h = h
@@ -23,18 +34,53 @@ found_at drawn net rows found same_net same_rows h =
     found_bare drawn found
     (subst (λ (n : Net). IsNetFound (bare_drawn n drawn.rows) found) same_net (subst (λ (rs : List Row). IsNetFound (bare_drawn net rs) found) same_rows h))
 
-pub none_not_some : (some none : Bool) → some ≡ not none → none ≡ true → some ≡ true → ⊥
-none_not_some some true e none is = cc
-none_not_some some false e none is = cc
-
--- times that contradict break nothing
-pub none_of_none : (drawn : Drawn) → IsInconsistent drawn.net → NoneBreaks drawn
-none_of_none drawn none = λ times sat. absurd (none times sat)
-
--- times that break a row satisfy the network
-pub some_of_breaks : (drawn : Drawn) (row : ℕ) → BreaksRow drawn row → IsConsistent drawn
-some_of_breaks drawn row breaks = (breaks.0, breaks.1)
-
 -- what was found, by another name
 pub found_as : (drawn : Drawn) (found is : NetFound) → found ≡ is → IsNetFound drawn found → IsNetFound drawn is
 found_as drawn found is same h = subst (IsNetFound drawn) same h
+
+-- rules that contradict each other break nothing, and pass nothing
+pub contradicts_meets : (aim : Aim) (drawn : Drawn) → IsInconsistent drawn.net → Meets aim drawn
+contradicts_meets aims.Passing drawn none = λ times sat. absurd (none times sat)
+contradicts_meets aims.Failing drawn none = λ passes. none passes.0.0 passes.0.1
+
+pub passes_found : (aim : Aim) (drawn : Drawn) → Passes drawn → IsValueFound aim drawn nets.Passes (passes_for aim)
+passes_found aims.Passing drawn passes = passes.1
+passes_found aims.Failing drawn passes = (passes, tt)
+
+pub breaks_found : (aim : Aim) (drawn : Drawn) (row : ℕ) → BreaksRow drawn row → IsValueFound aim drawn (nets.Breaks row) (breaks_for aim row)
+breaks_found aims.Passing drawn row breaks = (breaks, tt)
+breaks_found aims.Failing drawn row breaks = λ passes. excluded drawn row passes.1 breaks
+
+-- what stops what shows that nothing passes
+pub stop_passes : (drawn : Drawn) (found : NetFound) → IsNetFound drawn found → IsStop aims.Failing found → Passes drawn
+stop_passes drawn nets.Passes h stop = h
+stop_passes drawn (nets.Breaks row) h stop = absurd stop
+stop_passes drawn nets.Inconsistent h stop = absurd stop
+stop_passes drawn nets.Open h stop = absurd stop
+stop_passes drawn nets.Spent h stop = absurd stop
+
+module _ (sought : SpanSought) (value : ℤ) where
+  value_by : (aim : Aim) (found : NetFound) (result : ValueFound) → (IsEnough sought → is_net_open found ≡ false) → IsValueFound aim (at_value sought value) found result
+      → IsValueFoundAt sought aim value result
+  value_by aim found values.Shown settles is = is
+  value_by aim found (values.Stops other) settles is = is
+  value_by aim found values.Left settles is = λ enough. absurd (cc (settles enough, is))
+
+  -- what is found of a value, by a probe there
+  pub value_found : (aim : Aim) (probed : Probed) (result : ValueFound) → IsProbedAt sought value probed → IsValueFound aim (at_value sought value) probed.found result
+      → IsValueFoundAt sought aim value result
+  value_found aim probed result is h = value_by aim probed.found result is.settles h
+
+  tells_by : (found : NetFound) → IsNetFound (at_value sought value) found → (IsEnough sought → is_net_open found ≡ false) → TellsConsistency sought value (consistency_of found)
+  tells_by nets.Passes is settles = is.0
+  tells_by (nets.Breaks row) is settles = (is.0, is.1)
+  tells_by nets.Inconsistent is settles = is
+  tells_by nets.Open is settles = is
+  tells_by nets.Spent is settles = λ enough. absurd (cc (settles enough))
+
+  pub tells_found : (probed : Probed) (result : Option Bool) → IsProbedAt sought value probed → result ≡ consistency_of probed.found → TellsConsistency sought value result
+  tells_found probed result is same = subst (TellsConsistency sought value) (sym same) (tells_by probed.found is.found is.settles)
+
+  pub open_left : (probed : Probed) (found : NetFound) → IsProbedAt sought value probed → probed.found ≡ found → is_net_open found ≡ true → IsEnough sought → ⊥
+  open_left probed found is same open_ enough =
+      let closed : is_net_open found ≡ false = subst (λ (f : NetFound). is_net_open f ≡ false) same (is.settles enough) in absurd (cc (closed, open_))

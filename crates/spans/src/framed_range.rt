@@ -1,13 +1,21 @@
-//! Ranges that cover a range with all values of an interval.
+//! Ranges that frame a range with all values of an interval: they hold it with each value, or lie in it with each value.
 
 ghost use Rattle.std.specs.Prelude.{◌≡◌, ◌<◌, ◌+ℤ◌, ◌-ℤ◌, ◌≤ℤ◌, ℤ, All, IfSome, IsSomeAnd, Some, length};
-ghost use Rattle.itv_base.specs.Range.{Allows, IsEnd};
+ghost use Rattle.itv_base.specs.Range.{IsEnd};
 ghost use Rattle.event_graph.specs.Times.{separation};
-ghost use Rattle.moves.specs.Passing.{MeetsKind};
-ghost use Rattle.spans.specs.Step.{IsCountGap, IsCount, IsCountStep, IsInside, IsInterval, IsUnwrapped, IsWithinRange, kind_at, range_at, times_by};
+ghost use Rattle.spans.specs.Step.{IsCountGap, IsCount, IsCountStep, IsFramedKind, IsFramedRange, IsInside, IsInterval, IsUnwrapped, IsWithinRange, kind_at, range_at, times_by, wanting};
 
 use crate::interval::{Interval, greatest_multiple, least_multiple};
 use itv_base::{END_LIMIT, EventId, Range, RowKind};
+
+/// What one network is for all values of an interval.
+#[derive(Clone, Copy)]
+pub enum FrameKind {
+    /// It allows all that is allowed with one of the values, and its rows want no less.
+    Cover,
+    /// It allows only what is allowed with each of the values, and its rows want no more.
+    Core,
+}
 
 /// By how many values an event counts from more than another one.
 pub fn apart(counts: &[i64], from: EventId, to: EventId) -> i64
@@ -29,8 +37,26 @@ fn difference(to: i64, from: i64) -> i64
     to - from
 }
 
-/// A range that allows all that a range allows with each of the values, in counted times.
-pub fn covering_range(range: Range, is_drawn: bool, apart: i64, interval: Interval) -> Option<Range>
+/// A range of a cause of a frame, in counted times.
+pub fn framed_range(
+    range: Range,
+    is_drawn: bool,
+    apart: i64,
+    interval: Interval,
+    kind: FrameKind,
+) -> Option<Range>
+    requires apart { IsCountGap apart }
+    requires interval { IsInterval interval }
+    ensures frames { IfSome result (λ framed. (value : ℤ) → IsInside interval value → IsFramedRange kind (range_at is_drawn apart value range) framed) }
+{
+    match kind {
+        FrameKind::Cover => covering_range(range, is_drawn, apart, interval),
+        FrameKind::Core => tight_range(range, is_drawn, apart, interval),
+    }
+}
+
+// A range that allows all that a range allows with each of the values, in counted times.
+fn covering_range(range: Range, is_drawn: bool, apart: i64, interval: Interval) -> Option<Range>
     requires apart { IsCountGap apart }
     requires interval { IsInterval interval }
     ensures covers { IfSome result (λ wide. (value : ℤ) → IsInside interval value → IsWithinRange (range_at is_drawn apart value range) wide) }
@@ -86,18 +112,34 @@ fn sum_of(end: i64, add: i64) -> i64
     end + add
 }
 
-/// What is wanted of a counted separation so that what is wanted of the separation holds with each of the values.
-pub fn tight_kind(kind: RowKind, is_drawn: bool, apart: i64, interval: Interval) -> Option<RowKind>
+/// What a row of a frame wants of a counted separation.
+pub fn framed_kind(
+    kind: RowKind,
+    is_drawn: bool,
+    apart: i64,
+    interval: Interval,
+    frame: FrameKind,
+) -> Option<RowKind>
     requires apart { IsCountGap apart }
     requires interval { IsInterval interval }
-    ensures tight { IfSome result (λ tight. (value : ℤ) → IsInside interval value → (x : ℤ) → MeetsKind tight x → MeetsKind (kind_at is_drawn apart value kind) x) }
+    ensures frames { IfSome result (λ framed. (value : ℤ) → IsInside interval value → (x : ℤ) → IsFramedKind frame (kind_at is_drawn apart value kind) framed x) }
 {
     match kind {
         RowKind::Ask => Some(RowKind::Ask),
-        RowKind::Req(range) => match tight_range(range, is_drawn, apart, interval) {
+        RowKind::Req(range) => match framed_range(range, is_drawn, apart, interval, wanting(frame)) {
             None => None,
             Some(range) => Some(RowKind::Req(range)),
         },
+    }
+}
+
+// The frame of the ranges of rows: a row wants no less where a cause allows no less.
+fn wanting(kind: FrameKind) -> FrameKind
+    ensures { result ≡ wanting kind }
+{
+    match kind {
+        FrameKind::Cover => FrameKind::Core,
+        FrameKind::Core => FrameKind::Cover,
     }
 }
 
@@ -105,7 +147,7 @@ pub fn tight_kind(kind: RowKind, is_drawn: bool, apart: i64, interval: Interval)
 fn tight_range(range: Range, is_drawn: bool, apart: i64, interval: Interval) -> Option<Range>
     requires apart { IsCountGap apart }
     requires interval { IsInterval interval }
-    ensures tight { IfSome result (λ tight. (value : ℤ) → IsInside interval value → (x : ℤ) → Allows tight x → Allows (range_at is_drawn apart value range) x) }
+    ensures tight { IfSome result (λ tight. (value : ℤ) → IsInside interval value → IsWithinRange tight (range_at is_drawn apart value range)) }
 {
     let times = times_of(is_drawn, apart);
     let low = tight_lower(range.low(), greatest_multiple(interval, times))?;

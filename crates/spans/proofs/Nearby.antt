@@ -1,0 +1,70 @@
+-- Values near the drawn one.
+use Rattle.std.proofs.Common.{◌≡◌, ◌≤◌, ◌⊎◌, inl, inr, ℕ, ℤ, pos, neg_ℤ, ◌+ℤ◌, ◌≤ℤ◌, sym, subst, arith}
+use Rattle.std.proofs.lemmas.Int.{by_lt_z, ints}
+use Rattle.itv_base.specs.declared.limits.TheConstants.{MAX_BUDGET}
+use Rattle.drawn.specs.Drawn.{Drawn}
+use Rattle.moves.specs.Found.{FailsNear}
+use Rattle.moves.specs.Passing.{Passes}
+use Rattle.moves.specs.Step.{lent}
+use Rattle.moves.proofs.Each.{shifted_by_nothing}
+use Rattle.spans.specs.Step.{CanShift, IsFurther, IsNearGoal, IsNearby, IsOn, IsPast, IsReached, IsShownTo, IsSought, IsStart, at_value, farthest, limit_of, outward}
+use Rattle.spans.specs.declared.direction.Direction.{Direction}
+use Rattle.spans.specs.declared.direction.Direction.TheVariants.{Down, Up}
+use Rattle.spans.specs.declared.nearby.Nearby.TheVariants as nearby
+use Rattle.spans.specs.declared.sought.Aim.TheVariants as aims
+use Rattle.spans.specs.declared.sought.SpanSought.{SpanSought}
+use Rattle.spans.proofs.Reaching.{limit_last}
+use Rattle.spans.proofs.Ways.{on_past, within_further}
+
+on_or_past : (d : Direction) (a b : ℤ) → IsOn d a b ⊎ IsPast d b a
+on_or_past Down a b = by_lt_z a b (λ lt. inr lt) (λ le. inl le)
+on_or_past Up a b = by_lt_z b a (λ lt. inr lt) (λ le. inl le)
+
+-- the budget says less than the farthest value
+not_beyond : (d : Direction) (value : ℤ) (budget : ℕ) → budget ≤ MAX_BUDGET → IsPast d (farthest d) value → outward d value ≤ℤ pos budget → ⊥
+not_beyond Down value budget few past near = omega (arith, ints, few, past, near)
+not_beyond Up value budget few past near = omega (arith, ints, few, past, near)
+
+near_none : (d : Direction) (value : ℤ) (count : ℕ) → outward d value ≤ℤ pos count → outward d value ≤ℤ (outward d (pos 0) +ℤ pos count)
+near_none Down value count near = omega (arith, ints, near)
+near_none Up value count near = omega (arith, ints, near)
+
+module _ (sought : SpanSought) (is : IsSought sought) (d : Direction) where
+  -- all values up to the goal were shown
+  pub fails_reached : (goal : ℤ) → IsNearGoal sought d goal → IsShownTo sought aims.Failing d (pos 0) goal goal → IsNearby sought d nearby.Fails
+  fails_reached goal near shown = λ value past few can passes. by_way value past few can passes (on_or_past d value (limit_of d sought.reach).by)
+    where
+      beyond : (value : ℤ) → outward d value ≤ℤ pos sought.effort.budget → CanShift sought.drawn.now (lent sought.numbers.now) value
+          → ((v : ℤ) → IsPast d (limit_of d sought.reach).by v → CanShift sought.drawn.now (lent sought.numbers.now) v → ⊥) ⊎ ((limit_of d sought.reach).by ≡ farthest d)
+          → IsPast d (limit_of d sought.reach).by value → ⊥
+      beyond value few can (inl none) past = none value past can
+      beyond value few can (inr far) past = not_beyond d value sought.effort.budget is.most (subst (λ (v : ℤ). IsPast d v value) far past) few
+
+      by_way : (value : ℤ) → IsPast d (pos 0) value → outward d value ≤ℤ pos sought.effort.budget → CanShift sought.drawn.now (lent sought.numbers.now) value → Passes (at_value sought value)
+          → IsOn d value (limit_of d sought.reach).by ⊎ IsPast d (limit_of d sought.reach).by value → ⊥
+      by_way value past few can passes (inl on) = shown.each value past (near value (on_past d (pos 0) value past) few on) passes
+      by_way value past few can passes (inr beyond_limit) = beyond value few can (limit_last sought is d).beyond beyond_limit
+
+  -- as many values were shown as the budget says
+  pub fails_further : (goal last : ℤ) → IsShownTo sought aims.Failing d (pos 0) goal last → IsFurther d (pos 0) sought.effort.budget last → IsNearby sought d nearby.Fails
+  fails_further goal last shown far = λ value past few can passes.
+      shown.each value past (within_further d (pos 0) last value sought.effort.budget far (near_none d value sought.effort.budget few)) passes
+
+-- a value between the drawn one and one with which a span may be begun
+pub start_between : (d : Direction) (value goal : ℤ) → IsOn d (pos 0) value → IsOn d value goal → IsStart goal → IsStart value
+start_between Down value goal before within start = let least = start.0 in (omega (arith, ints, least, within), omega (arith, ints, before))
+start_between Up value goal before within start = let most = start.1 in (omega (arith, ints, before), omega (arith, ints, most, within))
+
+down_few : (value : ℤ) (count : ℕ) → neg_ℤ (pos count) ≤ℤ value → neg_ℤ value ≤ℤ pos count
+down_few value count low = omega (arith, ints, low)
+
+-- near the drawn value no value passes, nor does the drawn one
+pub fails_near : (sought : SpanSought) → (Passes sought.drawn.now → ⊥) → IsNearby sought Up nearby.Fails → IsNearby sought Down nearby.Fails
+    → FailsNear sought.drawn.now (lent sought.numbers.now) sought.effort.budget
+fails_near sought own above below = λ by low high can passes.
+    by_lt_z by (pos 0) (λ lt. below by lt (down_few by sought.effort.budget low) can passes)
+    (λ le. by_lt_z (pos 0) by (λ lt. above by lt high can passes)
+    (λ ge.
+    let same : by ≡ pos 0 = omega (arith, ints, le, ge) in
+    own
+    (subst Passes (shifted_by_nothing sought.drawn.now (lent sought.numbers.now)) (subst (λ (v : ℤ). Passes (at_value sought v)) same passes))))
