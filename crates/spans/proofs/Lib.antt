@@ -7,4 +7,4 @@ pub mod Reaching
 pub mod Showing
 pub mod Looks
 pub mod Borders
-pub mod Nearby
+pub mod Near

@@ -23,32 +23,32 @@ module _ (sought : SpanSought) (aim : Aim) (d : Direction) where
 
   -- the values up to one are shown, and it is so many values past the first one
   pub record IsStretchTo (from goal done : ℤ) (turn : ℕ) : Type 0 where
-    pub shown : IsShownTo sought aim d from goal done
+    pub shown : IsShownTo sought aim d from done
+    pub within : IsOn d done goal
     pub further : IsFurther d from turn done
 
-  pub stretch_start : (from goal : ℤ) → IsOn d from goal → IsStretchTo from goal from 0
-  stretch_start from goal ahead = record {
-    shown = record { before = on_same d from; within = ahead; each = λ v beyond on. none_past (λ u. Meets aim (at_value sought u)) d from v beyond on };
+  pub stretch_start : (from goal : ℤ) → IsReached sought from → IsOn d from goal → IsStretchTo from goal from 0
+  stretch_start from goal reached ahead = record {
+    shown = record { before = on_same d from; reached = reached; each = λ v beyond on. none_past (λ u. Meets aim (at_value sought u)) d from v beyond on };
+    within = ahead;
     further = further_start d from;
   }
 
-  pub stretch_next : (from goal done : ℤ) (turn : ℕ) (next : ShownStretch) → IsStretchTo from goal done turn → IsStretched sought aim d done goal (stretches.On next)
+  pub stretch_next : (from goal done : ℤ) (turn : ℕ) (next : ShownStretch) → IsReached sought goal → IsStretchTo from goal done turn → IsStretched sought aim d done goal (stretches.On next)
       → IsStretchTo from goal next.done.by (turn + 1)
-  stretch_next from goal done turn next is on = record {
+  stretch_next from goal done turn next last is on = record {
     shown = record {
       before = on_through d from done next.done.by is.shown.before (on_past d done next.done.by on.0);
-      within = on.1;
+      reached = reached_between sought d done next.done.by goal is.shown.reached last (on_past d done next.done.by on.0) on.1;
       each = way_past (λ v. Meets aim (at_value sought v)) d from done next.done.by is.shown.each on.2;
     };
+    within = on.1;
     further = further_more d from done next.done.by turn is.further on.0;
   }
 
-  pub done_reached : (from goal done : ℤ) (turn : ℕ) → IsReached sought from → IsReached sought goal → IsStretchTo from goal done turn → IsReached sought done
-  done_reached from goal done turn first last is = reached_between sought d from done goal first last is.shown.before is.shown.within
-
   -- the goal was reached
   pub stretch_whole : (from goal done : ℤ) (turn : ℕ) → done ≡ goal → IsStretchTo from goal done turn → IsAdvance sought aim d from goal advances.Reached
-  stretch_whole from goal done turn same is = subst (λ (v : ℤ). IsShownTo sought aim d from goal v) same is.shown
+  stretch_whole from goal done turn same is = subst (λ (v : ℤ). IsShownTo sought aim d from v) same is.shown
 
   -- ---- the next value
 
@@ -64,8 +64,8 @@ module _ (sought : SpanSought) (aim : Aim) (d : Direction) where
 -- ---- the way to a border
 
 -- no requirement breaks from the first value to the last one
-pub shown_from : (sought : SpanSought) (d : Direction) (from goal last : ℤ) → NoneBreaks (at_value sought from) → IsShownTo sought aims.Passing d from goal last → IsShown sought d from (Some last)
-shown_from sought d from goal last own is = way_from (λ v. NoneBreaks (at_value sought v)) d from last own is.each
+pub shown_from : (sought : SpanSought) (d : Direction) (from last : ℤ) → NoneBreaks (at_value sought from) → IsShownTo sought aims.Passing d from last → IsShown sought d from (Some last)
+shown_from sought d from last own is = way_from (λ v. NoneBreaks (at_value sought v)) d from last own is.each
 
 -- ---- halves
 

@@ -1,5 +1,5 @@
 -- Ways from value to value in a direction.
-use Rattle.std.proofs.Common.{◌≡◌, ◌<◌, ◌+◌, ℕ, zero, suc, ℤ, pos, negsuc, ◌+ℤ◌, ◌-ℤ◌, ◌≤ℤ◌, ◌<ℤ◌, Some, None, subst, arith}
+use Rattle.std.proofs.Common.{◌≡◌, ◌<◌, ◌+◌, ℕ, zero, suc, ℤ, pos, negsuc, ◌+ℤ◌, ◌-ℤ◌, ◌≤ℤ◌, ◌<ℤ◌, Some, None, refl, sym, subst, arith}
 use Rattle.std.specs.Prelude.{unsigned_abs}
 use Rattle.std.proofs.lemmas.Int.{by_lt_z, ints}
 use Rattle.moves.specs.Step.{IsMoveBy}
@@ -165,3 +165,9 @@ first_on_last Up a first last b e f apart = omega (arith, ints, e, f, apart)
 pub past_to : (d : Direction) (a b c : ℤ) → IsPast d a b → IsOn d b c → IsPast d a c
 past_to Down a b c past on = omega (arith, ints, past, on)
 past_to Up a b c past on = omega (arith, ints, past, on)
+
+-- the value before one, where there are values between it and another one
+pub last_move : (d : Direction) (a last b : ℤ) → IsMoveBy a → IsMoveBy b → b ≡ (last +ℤ on_of d) → IsPast d (a +ℤ on_of d) b → IsMoveBy last
+last_move d a last b first end is apart =
+    let on : IsOn d (a +ℤ on_of d) last = first_on_last d a (a +ℤ on_of d) last b refl is apart in
+    move_between d a last b first end (on_through d a (a +ℤ on_of d) last (on_next d a) on) (subst (λ (v : ℤ). IsOn d last v) (sym is) (on_next d last))

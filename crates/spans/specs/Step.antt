@@ -28,6 +28,8 @@ use Rattle.moves.specs.declared.span.SpanFound.{SpanFound}
 use Rattle.probing.specs.declared.probed.Probed.{Probed}
 use Rattle.spans.specs.declared.advance.Advance.{Advance}
 use Rattle.spans.specs.declared.advance.Advance.TheVariants as advances
+use Rattle.spans.specs.declared.advance.Short.{Short}
+use Rattle.spans.specs.declared.advance.Short.TheVariants as shorts
 use Rattle.spans.specs.declared.advance.Stretched.{Stretched}
 use Rattle.spans.specs.declared.advance.Stretched.TheVariants as stretches
 use Rattle.spans.specs.declared.border.Border.{Border}
@@ -271,23 +273,32 @@ IsStop aim found = ⊥
 abbrev pub IsShown : SpanSought → Direction → ℤ → Option ℤ → Type 0
 IsShown sought direction from last = (value : ℤ) → IsTowards direction from last value → NoneBreaks (at_value sought value)
 
--- the last value that was shown, of a way from a value to a goal; the first value itself is not spoken of
-pub record IsShownTo (sought : SpanSought) (aim : Aim) (direction : Direction) (from goal last : ℤ) : Type 0 where
+-- the values past one up to another one were shown
+pub record IsShownTo (sought : SpanSought) (aim : Aim) (direction : Direction) (from last : ℤ) : Type 0 where
   pub before : IsOn direction from last
-  pub within : IsOn direction last goal
+  pub reached : IsReached sought last
   pub each : (value : ℤ) → IsPast direction from value → IsOn direction value last → Meets aim (at_value sought value)
 
 -- a value is at least so many values past another one
 abbrev pub IsFurther : Direction → ℤ → ℕ → ℤ → Type 0
 IsFurther direction from count value = (outward direction from +ℤ pos count) ≤ℤ outward direction value
 
+-- what is known of a way from a value on that did not come to its goal
+abbrev pub IsShort : SpanSought → Aim → Direction → ℤ → Short → Type 0
+IsShort sought aim direction from (shorts.Stops last found) =
+    IsShownTo sought aim direction from last.by × IsNetFound (at_value sought (last.by +ℤ on_of direction)) found × IsStop aim found
+IsShort sought aim direction from (shorts.Spent last) = IsShownTo sought aim direction from last.by × IsFurther direction from sought.effort.budget last.by
+IsShort sought aim direction from shorts.Left = IsEnough sought → ⊥
+
+-- it stops before the goal
+abbrev pub StopsBefore : Direction → ℤ → Short → Type 0
+StopsBefore direction goal (shorts.Stops last found) = IsPast direction last.by goal
+StopsBefore direction goal short = Unit {0}
+
 -- what is known of the way from a value to a goal
 abbrev pub IsAdvance : SpanSought → Aim → Direction → ℤ → ℤ → Advance → Type 0
-IsAdvance sought aim direction from goal advances.Reached = IsShownTo sought aim direction from goal goal
-IsAdvance sought aim direction from goal (advances.Stops last found) = IsShownTo sought aim direction from goal last.by × IsPast direction last.by goal
-    × IsNetFound (at_value sought (last.by +ℤ on_of direction)) found × IsStop aim found
-IsAdvance sought aim direction from goal (advances.Spent last) = IsShownTo sought aim direction from goal last.by × IsFurther direction from sought.effort.budget last.by
-IsAdvance sought aim direction from goal advances.Left = IsEnough sought → ⊥
+IsAdvance sought aim direction from goal advances.Reached = IsShownTo sought aim direction from goal
+IsAdvance sought aim direction from goal (advances.Short short) = IsShort sought aim direction from short × StopsBefore direction goal short
 
 -- what one more interval shows of the way from a value to a goal
 abbrev pub IsStretched : SpanSought → Aim → Direction → ℤ → ℤ → Stretched → Type 0

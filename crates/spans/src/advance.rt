@@ -17,6 +17,13 @@ const MOST_HALVINGS: u32 = 64;
 pub enum Advance {
     /// Each value up to the goal was shown.
     Reached,
+    /// The goal was not reached.
+    Short(Short),
+}
+
+/// Where values that are shown end before a goal.
+#[derive(Clone, Copy)]
+pub enum Short {
     /// Each value up to this one was shown, and of the next one this was found instead.
     Stops { last: Value, found: NetFound },
     /// As many intervals were shown as the budget says, up to this value.
@@ -70,18 +77,16 @@ pub fn show_to(
         match stretch_on(alloc, sought, aim, stretch, goal, direction)? {
             Stretched::On(next) => stretch = next,
             Stretched::Stops(found) => {
-                return Ok(Advance::Stops {
-                    last: stretch.done,
-                    found,
-                });
+                let last = stretch.done;
+                return Ok(Advance::Short(Short::Stops { last, found }));
             }
-            Stretched::Left => return Ok(Advance::Left),
+            Stretched::Left => return Ok(Advance::Short(Short::Left)),
         }
     }
     if is_same(stretch.done, goal) {
         return Ok(Advance::Reached);
     }
-    Ok(Advance::Spent(stretch.done))
+    Ok(Advance::Short(Short::Spent(stretch.done)))
 }
 
 // One more interval. Where none of several values is shown, the next value is looked at by itself.

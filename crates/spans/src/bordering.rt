@@ -4,9 +4,9 @@ ghost use Rattle.std.specs.Prelude.{◌≡◌, ◌+ℤ◌, IfOk, IfSome, IsSome,
 ghost use Rattle.event_graph.specs.Bounds.{IsInconsistent};
 ghost use Rattle.moves.specs.Passing.{BreaksRow, Passes};
 ghost use Rattle.moves.specs.Step.{IsMoveBy};
-ghost use Rattle.spans.specs.Step.{IsBorderFrom, IsEnough, IsGapIn, IsNarrowerGap, IsOn, IsPast, IsReached, IsShown, IsSought, IsStart, IsStop, at_value, limit_of, on_of};
+ghost use Rattle.spans.specs.Step.{IsBorderFrom, IsEnough, IsGapIn, IsNarrowerGap, IsOn, IsPast, IsReached, IsShort, IsShown, IsSought, IsStart, IsStop, at_value, limit_of, on_of};
 
-use crate::advance::{Advance, show_to};
+use crate::advance::{Advance, Short, show_to};
 use crate::border::Border;
 use crate::direction::{
     Direction, Value, beyond, distance, farthest, is_same, last_before, next_of, step_of, value_on,
@@ -73,11 +73,7 @@ fn border_before(
     let last = last_before(at, direction);
     match show_to(alloc, sought, Aim::Passing, from, last, direction)? {
         Advance::Reached => border_by_row(alloc, sought, from, last, row, direction),
-        Advance::Stops { last, found } => {
-            border_by_row(alloc, sought, from, last, row_of(found), direction)
-        }
-        Advance::Spent(last) => Ok(spent(last)),
-        Advance::Left => Ok(left(from)),
+        Advance::Short(short) => border_short(alloc, sought, from, short, direction),
     }
 }
 
@@ -99,11 +95,7 @@ fn border_in(
 {
     match show_to(alloc, sought, Aim::Passing, from, at, direction)? {
         Advance::Reached => border_by_contradiction(alloc, sought, from, at, direction),
-        Advance::Stops { last, found } => {
-            border_by_row(alloc, sought, from, last, row_of(found), direction)
-        }
-        Advance::Spent(last) => Ok(spent(last)),
-        Advance::Left => Ok(left(from)),
+        Advance::Short(short) => border_short(alloc, sought, from, short, direction),
     }
 }
 
@@ -124,11 +116,30 @@ fn border_at_limit(
 {
     match show_to(alloc, sought, Aim::Passing, from, at, direction)? {
         Advance::Reached => border_beyond(alloc, sought, from, at, direction),
-        Advance::Stops { last, found } => {
+        Advance::Short(short) => border_short(alloc, sought, from, short, direction),
+    }
+}
+
+// The border where what shows that no requirement breaks ends before its goal.
+fn border_short(
+    alloc: Global,
+    sought: &SpanSought<'_>,
+    from: Value,
+    short: Short,
+    direction: Direction,
+) -> Result<Border, NoMemory>
+    requires sought { IsSought sought.now }
+    requires from { IsReached sought.now from.by }
+    requires passes { Passes (at_value sought.now from.by) }
+    requires short { IsShort sought.now Aim.Passing direction from.by short }
+    ensures border { IfOk result (IsBorderFrom sought.now direction from.by) }
+{
+    match short {
+        Short::Stops { last, found } => {
             border_by_row(alloc, sought, from, last, row_of(found), direction)
         }
-        Advance::Spent(last) => Ok(spent(last)),
-        Advance::Left => Ok(left(from)),
+        Short::Spent(last) => Ok(spent(last)),
+        Short::Left => Ok(left(from)),
     }
 }
 
@@ -140,7 +151,8 @@ fn row_of(found: NetFound) -> u32
     match found {
         NetFound::Breaks(row) => row,
         // Nothing else stops what shows that no requirement breaks.
-        NetFound::Passes | NetFound::Inconsistent | NetFound::Open | NetFound::Spent => unreachable!(),
+        NetFound::Passes | NetFound::Inconsistent | NetFound::Open | NetFound::Spent =>
+            unreachable!(),
     }
 }
 

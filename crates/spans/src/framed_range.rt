@@ -126,7 +126,13 @@ pub fn framed_kind(
 {
     match kind {
         RowKind::Ask => Some(RowKind::Ask),
-        RowKind::Req(range) => match framed_range(range, is_drawn, apart, interval, wanting(frame)) {
+        RowKind::Req(range) => match framed_range(
+            range,
+            is_drawn,
+            apart,
+            interval,
+            wanting(frame),
+        ) {
             None => None,
             Some(range) => Some(RowKind::Req(range)),
         },

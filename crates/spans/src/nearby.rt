@@ -1,11 +1,9 @@
 //! Values near the drawn one, of a design that fails as drawn.
 
-ghost use Rattle.std.specs.Prelude.{◌≤◌, IfOk, pos};
-ghost use Rattle.itv_base.specs.declared.limits.TheConstants.{MAX_BUDGET};
-ghost use Rattle.moves.specs.Passing.{Passes};
-ghost use Rattle.spans.specs.Step.{IsNearGoal, IsNearby, IsOn, IsReached, IsSought, IsStart, at_value, limit_of};
+ghost use Rattle.std.specs.Prelude.{◌≤ℤ◌, ℤ, IfOk, pos};
+ghost use Rattle.spans.specs.Step.{IsNearGoal, IsNearby, IsOn, IsReached, IsSought, IsStart, outward};
 
-use crate::advance::{Advance, show_to};
+use crate::advance::{Advance, Short, show_to};
 use crate::direction::{Direction, Value, drawn_value, next_of};
 use crate::reach::limit_of;
 use crate::sought::{Aim, SpanSought};
@@ -34,9 +32,10 @@ pub fn near_in(
 {
     let goal = near_goal(sought, direction);
     match show_to(alloc, sought, Aim::Failing, drawn_value(), goal, direction)? {
-        Advance::Reached | Advance::Spent(_) => Ok(Nearby::Fails),
-        Advance::Stops { last, .. } => Ok(Nearby::Passes(next_of(last, direction))),
-        Advance::Left => Ok(Nearby::Left),
+        Advance::Reached => Ok(Nearby::Fails),
+        Advance::Short(Short::Spent(_)) => Ok(Nearby::Fails),
+        Advance::Short(Short::Stops { last, .. }) => Ok(Nearby::Passes(next_of(last, direction))),
+        Advance::Short(Short::Left) => Ok(Nearby::Left),
     }
 }
 
@@ -49,13 +48,25 @@ fn near_goal(sought: &SpanSought<'_>, direction: Direction) -> Value
     ensures near { IsNearGoal sought.now direction result.by }
 {
     let limit = limit_of(sought.reach, direction);
-    let most = sought.effort.budget as i64;
+    within(limit, sought.effort.budget as i64, direction)
+}
+
+// A value, or the one that is this far from the drawn one in its direction, if it is further.
+fn within(limit: Value, far: i64, direction: Direction) -> Value
+    requires on { IsOn direction (pos 0) limit.by }
+    requires least { pos 0 ≤ℤ far }
+    requires most { far ≤ℤ pos 1000000000 }
+    ensures before { IsOn direction (pos 0) result.by }
+    ensures within { IsOn direction result.by limit.by }
+    ensures start { IsStart result.by }
+    ensures near { (value : ℤ) → outward direction value ≤ℤ far → IsOn direction value limit.by → IsOn direction value result.by }
+{
     match direction {
         Direction::Down => Value {
-            by: limit.by.max(-most),
+            by: limit.by.max(-far),
         },
         Direction::Up => Value {
-            by: limit.by.min(most),
+            by: limit.by.min(far),
         },
     }
 }

@@ -6,7 +6,7 @@ ghost use Rattle.moves.specs.Networks.{IsNetFound};
 ghost use Rattle.moves.specs.Passing.{NoneBreaks, Passes};
 ghost use Rattle.spans.specs.Step.{AreEventCounts, IsFrameFound, IsInside, IsInterval, IsProbedAt, IsReached, IsSought, IsValueFound, IsValueFoundAt, Meets, TellsConsistency, at_value, breaks_for, consistency_of, passes_for};
 
-use crate::direction::Value;
+use crate::direction::{Value, drawn_value, is_same};
 use crate::frame::frame_of;
 use crate::framed_range::FrameKind;
 use crate::interval::Interval;
@@ -57,7 +57,7 @@ impl SpanSought<'_> {
         requires reached { IsReached self.now at.by }
         ensures probed { IfOk result (IsProbedAt self.now at.by) }
     {
-        if at.by == 0 {
+        if is_same(at, drawn_value()) {
             let rows = self.drawn.rows().as_slice();
             return probe(alloc, self.drawn.network(), rows, self.effort);
         }
@@ -142,18 +142,18 @@ impl SpanSought<'_> {
     }
 
     // Whether a core shows that a row breaks with each value of an interval, or a cover that the rules contradict each other with each.
-    fn fails_by(
-        &self,
-        alloc: Global,
-        counts: &[i64],
-        interval: Interval,
-    ) -> Result<bool, NoMemory>
+    fn fails_by(&self, alloc: Global, counts: &[i64], interval: Interval) -> Result<bool, NoMemory>
         requires counts { AreEventCounts self.now.drawn.now.net counts.now }
         requires interval { IsInterval interval }
         requires budget { 1 ≤ self.now.effort.budget }
         ensures fails { IfOk result (λ fails. IsTrue fails → (value : ℤ) → IsInside interval value → Passes (at_value self.now value) → ⊥) }
     {
-        if let Some(NetFound::Breaks(_)) = self.probe_frame(alloc, counts, interval, FrameKind::Core)? {
+        if let Some(NetFound::Breaks(_)) = self.probe_frame(
+            alloc,
+            counts,
+            interval,
+            FrameKind::Core,
+        )? {
             return Ok(true);
         }
         match self.probe_frame(alloc, counts, interval, FrameKind::Cover)? {

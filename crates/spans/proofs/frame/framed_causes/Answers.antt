@@ -22,7 +22,7 @@ loop-k-preserved c =
           (slice_get-get_or c.origins_of-origins.result.now c.loop-k.k _ c.loop-k-test.true) c.any_draws.ensures.any_draws c.apart-apart.ensures.apart refl
           (as_passed (λ a. IsFramedRange c.args.kind (range_at c.any_draws.result a value c.cause_of-cause.result.range) c.in-Some.range) c.apart-apart.result (record { sfits = c.apart-apart.type_inv })
           (c.in-Some.ensures.frames value within)) (c.loop-k.invariant.frames value within) c.in_ok-push-in-Some.ensures.items;
-      events = events_more (causes_at c.args.drawn.now.net c.args.constraint) c.loop-k.k c.cause_of-cause.result wide c.loop-k.causes.items c.push.new.self.items c.cause_of-cause.ensures.cause refl
+      events = events_more (causes_at c.args.drawn.now.net c.args.constraint) c.loop-k.k c.cause_of-cause.result framed c.loop-k.causes.items c.push.new.self.items c.cause_of-cause.ensures.cause refl
           c.loop-k.invariant.events c.in_ok-push-in-Some.ensures.items;
     }
 

@@ -3,7 +3,7 @@ use Rattle.event_graph.specs.Network.{Net}
 use Rattle.event_graph.specs.declared.cause.Cause.{Cause}
 use Rattle.moves.specs.Step.{lent}
 use Rattle.spans.specs.Step.{FramesCauses}
-use Rattle.spans.proofs.Framed.{added_count, added_events, net_more}
+use Rattle.spans.proofs.Framed.{added_count, added_events, net_more, net_whole}
 use Rattle.spans.proofs.frame.framed_net.Goals as goal
 
 pub loop-constraint-preserved : goal.loop-constraint-preserved
@@ -22,3 +22,9 @@ loop-constraint-preserved c =
       count = added_count (slice_get c.args.drawn.now.net.constraints k) c.deref.result.now c.loop-constraint.frame c.push_with.new.grown added
           ∙ ap (λ (n : ℕ). n + 1) c.loop-constraint.invariant.count;
     }
+
+pub returns-clause-frames : goal.returns-clause-frames
+returns-clause-frames c = λ value within.
+    let same = ap (λ (n : Net). length n.constraints) c.network-net.ensures.network in
+    net_whole c.args.kind c.args.counts.now c.args.drawn.now (lent c.args.numbers.now) c.loop-constraint.constraint c.loop-constraint.frame value c.read_drawn.ensures.fit
+    (omega (arith, c.loop-constraint-test.false, c.len-constraint-end.ensures.count, same)) c.loop-constraint.invariant.events (c.loop-constraint.invariant.frames value within)

@@ -1,4 +1,4 @@
-use Rattle.std.proofs.Common.{◌+◌, ℕ, ℤ, All, length, refl, sym, ap, subst, ◌∙◌}
+use Rattle.std.proofs.Common.{◌+◌, ℕ, ℤ, All, List, length, refl, sym, ap, subst, ◌∙◌, arith}
 use Rattle.std.proofs.lemmas.List.{length_push}
 use Rattle.std.proofs.lemmas.List.Elements.{All-push}
 use Rattle.itv_base.specs.Names.{Name}
@@ -7,7 +7,7 @@ use Rattle.drawn.specs.Drawn.{IsRowOf}
 use Rattle.drawn.specs.declared.row.Row.{Row}
 use Rattle.moves.specs.Step.{lent}
 use Rattle.spans.specs.Step.{IsFramedKind, kind_at}
-use Rattle.spans.proofs.Framed.{rows_more}
+use Rattle.spans.proofs.Framed.{rows_more, rows_whole}
 use Rattle.spans.proofs.Multiples.{as_passed}
 use Rattle.spans.proofs.frame.framed_rows.Goals as goal
 
@@ -27,3 +27,9 @@ loop-k-preserved c =
           (All-push (IsRowOf c.args.drawn.now.net) c.loop-k.rows.items framed c.loop-k.invariant.within own);
       count = ap length c.in_ok-push-in-Some.ensures.items ∙ (length_push c.loop-k.rows.items framed ∙ ap (λ (n : ℕ). n + 1) c.loop-k.invariant.count);
     }
+
+pub returns-clause-frames : goal.returns-clause-frames
+returns-clause-frames c = λ value within.
+    let same = ap (λ (rs : List Row). length rs) c.rows-drawn_rows.ensures.rows in
+    rows_whole c.args.frame c.args.counts.now c.args.drawn.now (lent c.args.numbers.now) c.loop-k.k c.loop-k.rows.items value
+    (omega (arith, c.loop-k-test.false, c.len-k-end.ensures.count, same)) (c.loop-k.invariant.frames value within)

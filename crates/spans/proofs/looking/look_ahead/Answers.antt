@@ -1,6 +1,7 @@
 use Rattle.std.proofs.Common.{refl}
 use Rattle.spans.proofs.Looks.{look_next, look_start}
-use Rattle.spans.proofs.Ways.{past_from, past_through}
+use Rattle.spans.proofs.Reaching.{reached_between}
+use Rattle.spans.proofs.Ways.{on_through, past_from, past_through}
 use Rattle.spans.proofs.looking.look_ahead.Goals as goal
 
 pub loop-round-init : goal.loop-round-init
@@ -11,6 +12,12 @@ looked_at-requires-clause-past c =
     past_through c.args.direction c.args.from.by c.loop-round.look.at.by c.value_on-next.result.by c.loop-round.invariant.before
     (past_from c.args.direction c.loop-round.look.at.by c.value_on-next.result.by c.value_on-next.ensures.before
     (λ same. let is = c.is_same.ensures.1 same in absurd (cc (is, c.if-is_same.false))))
+
+pub looked_at-requires-clause-reached : goal.looked_at-requires-clause-reached
+looked_at-requires-clause-reached c =
+    let is = c.loop-round.invariant in
+    reached_between c.args.sought.now c.args.direction c.args.from.by c.value_on-next.result.by c.args.goal.by c.requires.from c.requires.goal
+    (on_through c.args.direction c.args.from.by c.loop-round.look.at.by c.value_on-next.result.by is.before c.value_on-next.ensures.before) c.value_on-next.ensures.within
 
 pub loop-round-preserved : goal.loop-round-preserved
 loop-round-preserved c =

@@ -3,8 +3,8 @@ use Rattle.spans.specs.Step.{IsDrawnGap, steps_between}
 use Rattle.spans.proofs.reach.last_drawn.Given as goal
 
 -- the one value can be drawn, and the other one can't
-abbrev pub invariant-loop-gap : goal.invariant-loop-gap
-invariant-loop-gap l = IsDrawnGap l.drawn (lent l.numbers) l.fn.direction l.gap
+abbrev pub invariant-loop-alloc : goal.invariant-loop-alloc
+invariant-loop-alloc l = IsDrawnGap l.drawn (lent l.numbers) l.fn.direction l.gap
 
-abbrev pub decreases-loop-gap : goal.decreases-loop-gap
-decreases-loop-gap l = steps_between l.gap.has.by l.gap.lacks.by
+abbrev pub decreases-loop-alloc : goal.decreases-loop-alloc
+decreases-loop-alloc l = steps_between l.gap.has.by l.gap.lacks.by
