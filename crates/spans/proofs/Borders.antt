@@ -14,7 +14,7 @@ use Rattle.moves.specs.declared.margin.Margin.{Margin}
 use Rattle.moves.specs.declared.margin.Margin.TheVariants as margins
 use Rattle.moves.proofs.Each.{shifted_by_nothing}
 use Rattle.moves.proofs.Thresholds.{excluded}
-use Rattle.spans.specs.Step.{CanShift, IsBorderFrom, IsEnough, IsFurther, IsLastDrawn, IsOn, IsPast, IsShown, IsStart, TellsConsistency, at_value, farthest, margin_of, on_of}
+use Rattle.spans.specs.Step.{CanShift, IsBorderFrom, IsEnough, IsFurther, IsLastDrawn, IsOn, IsPast, IsShown, IsSpanStart, TellsConsistency, at_value, farthest, margin_of, on_of}
 use Rattle.spans.specs.declared.border.Border.{Border}
 use Rattle.spans.specs.declared.border.Border.TheVariants as borders
 use Rattle.spans.specs.declared.direction.Direction.{Direction}
@@ -71,7 +71,7 @@ beyond_last drawn numbers d last is other can = by_case is.beyond
     by_case (inr far) = other far
 
 -- the farthest value is further from a value with which a span is begun than the budget says
-pub further_far : (d : Direction) (from : ℤ) (budget : ℕ) → IsStart from → budget ≤ MAX_BUDGET → IsFurther d from budget (farthest d)
+pub further_far : (d : Direction) (from : ℤ) (budget : ℕ) → IsSpanStart from → budget ≤ MAX_BUDGET → IsFurther d from budget (farthest d)
 further_far Down from budget start few = let least = start.0 in let most = start.1 in omega (arith, ints, few, least, most)
 further_far Up from budget start few = let least = start.0 in let most = start.1 in omega (arith, ints, few, least, most)
 

@@ -15,12 +15,12 @@ use Rattle.moves.proofs.Covering.{cover_contradicts, cover_holds}
 use Rattle.moves.proofs.Each.{shifted_by_nothing}
 use Rattle.moves.proofs.Thresholds.{excluded}
 use Rattle.probing.specs.declared.probed.Probed.{Probed}
-use Rattle.spans.specs.Step.{Frames, IsEnough, IsFrameFound, IsInside, IsProbedAt, IsStop, IsValueFound, IsValueFoundAt, Meets, TellsConsistency, at_value, breaks_for, consistency_of, passes_for}
+use Rattle.spans.specs.Step.{Frames, IsEnough, IsFrameFound, IsInside, IsProbeOf, IsStop, IsValueFound, IsValueFoundAt, MeetsAim, TellsConsistency, at_value, breaks_for, consistency_of, passes_for}
 use Rattle.spans.specs.declared.framed_range.FrameKind.{FrameKind}
 use Rattle.spans.specs.declared.framed_range.FrameKind.TheVariants as frames
 use Rattle.spans.specs.declared.interval.Interval.{Interval}
-use Rattle.spans.specs.declared.sought.Aim.{Aim}
-use Rattle.spans.specs.declared.sought.Aim.TheVariants as aims
+use Rattle.spans.specs.declared.sought.SpanAim.{SpanAim}
+use Rattle.spans.specs.declared.sought.SpanAim.TheVariants as aims
 use Rattle.spans.specs.declared.sought.SpanSought.{SpanSought}
 use Rattle.spans.specs.declared.sought.ValueFound.{ValueFound}
 use Rattle.spans.specs.declared.sought.ValueFound.TheVariants as values
@@ -43,15 +43,15 @@ pub found_as : (drawn : Drawn) (found is : NetFound) → found ≡ is → IsNetF
 found_as drawn found is same h = subst (IsNetFound drawn) same h
 
 -- rules that contradict each other break nothing, and pass nothing
-pub contradicts_meets : (aim : Aim) (drawn : Drawn) → IsInconsistent drawn.net → Meets aim drawn
+pub contradicts_meets : (aim : SpanAim) (drawn : Drawn) → IsInconsistent drawn.net → MeetsAim aim drawn
 contradicts_meets aims.Passing drawn none = λ times sat. absurd (none times sat)
 contradicts_meets aims.Failing drawn none = λ passes. none passes.0.0 passes.0.1
 
-pub passes_found : (aim : Aim) (drawn : Drawn) → Passes drawn → IsValueFound aim drawn nets.Passes (passes_for aim)
+pub passes_found : (aim : SpanAim) (drawn : Drawn) → Passes drawn → IsValueFound aim drawn nets.Passes (passes_for aim)
 passes_found aims.Passing drawn passes = passes.1
 passes_found aims.Failing drawn passes = (passes, tt)
 
-pub breaks_found : (aim : Aim) (drawn : Drawn) (row : ℕ) → BreaksRow drawn row → IsValueFound aim drawn (nets.Breaks row) (breaks_for aim row)
+pub breaks_found : (aim : SpanAim) (drawn : Drawn) (row : ℕ) → BreaksRow drawn row → IsValueFound aim drawn (nets.Breaks row) (breaks_for aim row)
 breaks_found aims.Passing drawn row breaks = (breaks, tt)
 breaks_found aims.Failing drawn row breaks = λ passes. excluded drawn row passes.1 breaks
 
@@ -64,14 +64,14 @@ stop_passes drawn nets.Open h stop = absurd stop
 stop_passes drawn nets.Spent h stop = absurd stop
 
 module _ (sought : SpanSought) (value : ℤ) where
-  value_by : (aim : Aim) (found : NetFound) (result : ValueFound) → (IsEnough sought → is_net_open found ≡ false) → IsValueFound aim (at_value sought value) found result
+  value_by : (aim : SpanAim) (found : NetFound) (result : ValueFound) → (IsEnough sought → is_net_open found ≡ false) → IsValueFound aim (at_value sought value) found result
       → IsValueFoundAt sought aim value result
   value_by aim found values.Shown settles is = is
   value_by aim found (values.Stops other) settles is = is
   value_by aim found values.Left settles is = λ enough. absurd (cc (settles enough, is))
 
   -- what is found of a value, by a probe there
-  pub value_found : (aim : Aim) (probed : Probed) (result : ValueFound) → IsProbedAt sought value probed → IsValueFound aim (at_value sought value) probed.found result
+  pub value_found : (aim : SpanAim) (probed : Probed) (result : ValueFound) → IsProbeOf sought value probed → IsValueFound aim (at_value sought value) probed.found result
       → IsValueFoundAt sought aim value result
   value_found aim probed result is h = value_by aim probed.found result is.settles h
 
@@ -82,10 +82,10 @@ module _ (sought : SpanSought) (value : ℤ) where
   tells_by nets.Open is settles = is
   tells_by nets.Spent is settles = λ enough. absurd (cc (settles enough))
 
-  pub tells_found : (probed : Probed) (result : Option Bool) → IsProbedAt sought value probed → result ≡ consistency_of probed.found → TellsConsistency sought value result
+  pub tells_found : (probed : Probed) (result : Option Bool) → IsProbeOf sought value probed → result ≡ consistency_of probed.found → TellsConsistency sought value result
   tells_found probed result is same = subst (TellsConsistency sought value) (sym same) (tells_by probed.found is.found is.settles)
 
-  pub open_left : (probed : Probed) (found : NetFound) → IsProbedAt sought value probed → probed.found ≡ found → is_net_open found ≡ true → IsEnough sought → ⊥
+  pub open_left : (probed : Probed) (found : NetFound) → IsProbeOf sought value probed → probed.found ≡ found → is_net_open found ≡ true → IsEnough sought → ⊥
   open_left probed found is same open_ enough =
       let closed : is_net_open found ≡ false = subst (λ (f : NetFound). is_net_open f ≡ false) same (is.settles enough) in absurd (cc (closed, open_))
 
@@ -93,7 +93,7 @@ module _ (sought : SpanSought) (value : ℤ) where
 module _ (sought : SpanSought) (value : ℤ) where
   pub probed_at : {E : Type 0} (net : Net) (rows : List Row) (result : Result Probed E) → net ≡ (at_value sought value).net → rows ≡ (at_value sought value).rows
       → (IsEnough sought → cause_choices net.constraints ≤ sought.effort.budget) → IfOk result (λ (p : Probed). IsNetFound (bare_drawn net rows) p.found)
-      → IfOk result (λ (p : Probed). cause_choices net.constraints ≤ sought.effort.budget → is_net_open p.found ≡ false) → IfOk result (IsProbedAt sought value)
+      → IfOk result (λ (p : Probed). cause_choices net.constraints ≤ sought.effort.budget → is_net_open p.found ≡ false) → IfOk result (IsProbeOf sought value)
   probed_at net rows (Ok p) on_net on_rows enough found settles = record {
     found = found_at (at_value sought value) net rows p.found on_net on_rows found;
     settles = λ is. settles (enough is);
@@ -103,7 +103,7 @@ module _ (sought : SpanSought) (value : ℤ) where
   -- the same of the drawn network
   pub probed_own : {E : Type 0} (net : Net) (rows : List Row) (result : Result Probed E) → value ≡ pos 0 → net ≡ sought.drawn.now.net → rows ≡ sought.drawn.now.rows
       → IfOk result (λ (p : Probed). IsNetFound (bare_drawn net rows) p.found)
-      → IfOk result (λ (p : Probed). cause_choices net.constraints ≤ sought.effort.budget → is_net_open p.found ≡ false) → IfOk result (IsProbedAt sought value)
+      → IfOk result (λ (p : Probed). cause_choices net.constraints ≤ sought.effort.budget → is_net_open p.found ≡ false) → IfOk result (IsProbeOf sought value)
   probed_own net rows result none on_net on_rows found settles =
       let same : at_value sought value ≡ sought.drawn.now =
       ap (λ (v : ℤ). at_value sought v) none ∙ shifted_by_nothing sought.drawn.now (lent sought.numbers.now) in

@@ -7,7 +7,7 @@ use Rattle.drawn.specs.declared.row.Row.{Row}
 use Rattle.numbers.specs.declared.drawn_number.DrawnNumber.{DrawnNumber}
 use Rattle.moves.specs.Step.{AreKindEnds, IsLesserMove, IsMoveBy, lent}
 use Rattle.moves.proofs.Between.{drawable_less}
-use Rattle.spans.specs.Step.{CanShift, IsDrawnGap, IsLastDrawn, IsOn, IsPast, IsReached, IsSought, farthest, limit_of, on_of}
+use Rattle.spans.specs.Step.{CanShift, IsDrawnGap, IsLastDrawn, IsOn, IsPast, IsWithinReach, IsSought, farthest, limit_of, on_of}
 use Rattle.spans.specs.declared.direction.Direction.{Direction}
 use Rattle.spans.specs.declared.direction.Direction.TheVariants.{Down, Up}
 use Rattle.spans.specs.declared.reach.DrawnGap.{DrawnGap}
@@ -112,26 +112,26 @@ module _ (drawn : Drawn) (numbers : List DrawnNumber) (d : Direction) where
 
 module _ (sought : SpanSought) (is : IsSought sought) where
   -- a value within the reach, which is not the drawn one, can be drawn
-  pub can_reached : (value : ℤ) → IsReached sought value → (value ≡ pos 0 → ⊥) → CanShift sought.drawn.now (lent sought.numbers.now) value
+  pub can_reached : (value : ℤ) → IsWithinReach sought value → (value ≡ pos 0 → ⊥) → CanShift sought.drawn.now (lent sought.numbers.now) value
   can_reached value reached other =
       by_lt_z value (pos 0)
       (λ below. is.reach.least.can value below reached.0)
       (λ above. is.reach.most.can value (by_lt_z (pos 0) value (λ lt. lt) (λ le. absurd (other (omega (arith, ints, above, le))))) reached.1)
 
-  pub reached_move : (value : ℤ) → IsReached sought value → IsMoveBy value
+  pub reached_move : (value : ℤ) → IsWithinReach sought value → IsMoveBy value
   reached_move value reached =
       let low = is.reach.least.by.0 in
       let high = is.reach.most.by.1 in
       (omega (arith, ints, low, reached.0), omega (arith, ints, high, reached.1))
 
-  pub own_reached : IsReached sought (pos 0)
+  pub own_reached : IsWithinReach sought (pos 0)
   own_reached = (is.reach.least.on, is.reach.most.on)
 
-  pub limit_reached : (d : Direction) → IsReached sought (limit_of d sought.reach).by
+  pub limit_reached : (d : Direction) → IsWithinReach sought (limit_of d sought.reach).by
   limit_reached Down = (on_same Down sought.reach.least.by, omega (arith, ints, is.reach.least.on, is.reach.most.on))
   limit_reached Up = (omega (arith, ints, is.reach.least.on, is.reach.most.on), on_same Up sought.reach.most.by)
 
-  pub limit_on : (d : Direction) (value : ℤ) → IsReached sought value → IsOn d value (limit_of d sought.reach).by
+  pub limit_on : (d : Direction) (value : ℤ) → IsWithinReach sought value → IsOn d value (limit_of d sought.reach).by
   limit_on Down value reached = reached.0
   limit_on Up value reached = reached.1
 
@@ -140,6 +140,6 @@ module _ (sought : SpanSought) (is : IsSought sought) where
   limit_last Up = is.reach.most
 
 -- a value between two within the reach
-pub reached_between : (sought : SpanSought) (d : Direction) (a v b : ℤ) → IsReached sought a → IsReached sought b → IsOn d a v → IsOn d v b → IsReached sought v
+pub reached_between : (sought : SpanSought) (d : Direction) (a v b : ℤ) → IsWithinReach sought a → IsWithinReach sought b → IsOn d a v → IsOn d v b → IsWithinReach sought v
 reached_between sought Down a v b first last before behind = (omega (arith, ints, last.0, behind), omega (arith, ints, first.1, before))
 reached_between sought Up a v b first last before behind = (omega (arith, ints, first.0, before), omega (arith, ints, last.1, behind))

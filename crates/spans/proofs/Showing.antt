@@ -5,20 +5,20 @@ use Rattle.moves.specs.Networks.{IsNetFound}
 use Rattle.moves.specs.Passing.{NoneBreaks}
 use Rattle.moves.specs.Step.{IsConsistent}
 use Rattle.moves.specs.declared.net_found.NetFound.{NetFound}
-use Rattle.spans.specs.Step.{IsAdvance, IsFurther, IsGapIn, IsNarrowerGap, IsOn, IsPast, IsReached, IsShown, IsShownTo, IsStop, IsStretched, Meets, at_value, on_of, steps_between}
+use Rattle.spans.specs.Step.{IsAdvance, IsFurther, IsGapIn, IsNarrowerGap, IsOn, IsPast, IsWithinReach, IsShown, IsShownTo, IsStop, IsStretched, MeetsAim, at_value, on_of, steps_between}
 use Rattle.spans.specs.declared.advance.Advance.{Advance}
 use Rattle.spans.specs.declared.advance.Advance.TheVariants as advances
 use Rattle.spans.specs.declared.advance.ShownStretch.{ShownStretch}
 use Rattle.spans.specs.declared.advance.Stretched.TheVariants as stretches
 use Rattle.spans.specs.declared.bordering.ValueGap.{ValueGap}
 use Rattle.spans.specs.declared.direction.Direction.{Direction}
-use Rattle.spans.specs.declared.sought.Aim.{Aim}
-use Rattle.spans.specs.declared.sought.Aim.TheVariants as aims
+use Rattle.spans.specs.declared.sought.SpanAim.{SpanAim}
+use Rattle.spans.specs.declared.sought.SpanAim.TheVariants as aims
 use Rattle.spans.specs.declared.sought.SpanSought.{SpanSought}
 use Rattle.spans.proofs.Reaching.{reached_between}
 use Rattle.spans.proofs.Ways.{further_more, further_start, nearer_end, nearer_start, next_on, none_past, on_next, on_past, on_same, on_through, past_by_next, past_from, way_from, way_next, way_past}
 
-module _ (sought : SpanSought) (aim : Aim) (d : Direction) where
+module _ (sought : SpanSought) (aim : SpanAim) (d : Direction) where
   -- ---- a stretch
 
   -- the values up to one are shown, and it is so many values past the first one
@@ -27,20 +27,20 @@ module _ (sought : SpanSought) (aim : Aim) (d : Direction) where
     pub within : IsOn d done goal
     pub further : IsFurther d from turn done
 
-  pub stretch_start : (from goal : ℤ) → IsReached sought from → IsOn d from goal → IsStretchTo from goal from 0
+  pub stretch_start : (from goal : ℤ) → IsWithinReach sought from → IsOn d from goal → IsStretchTo from goal from 0
   stretch_start from goal reached ahead = record {
-    shown = record { before = on_same d from; reached = reached; each = λ v beyond on. none_past (λ u. Meets aim (at_value sought u)) d from v beyond on };
+    shown = record { before = on_same d from; reached = reached; each = λ v beyond on. none_past (λ u. MeetsAim aim (at_value sought u)) d from v beyond on };
     within = ahead;
     further = further_start d from;
   }
 
-  pub stretch_next : (from goal done : ℤ) (turn : ℕ) (next : ShownStretch) → IsReached sought goal → IsStretchTo from goal done turn → IsStretched sought aim d done goal (stretches.On next)
+  pub stretch_next : (from goal done : ℤ) (turn : ℕ) (next : ShownStretch) → IsWithinReach sought goal → IsStretchTo from goal done turn → IsStretched sought aim d done goal (stretches.On next)
       → IsStretchTo from goal next.done.by (turn + 1)
   stretch_next from goal done turn next last is on = record {
     shown = record {
       before = on_through d from done next.done.by is.shown.before (on_past d done next.done.by on.0);
       reached = reached_between sought d done next.done.by goal is.shown.reached last (on_past d done next.done.by on.0) on.1;
-      each = way_past (λ v. Meets aim (at_value sought v)) d from done next.done.by is.shown.each on.2;
+      each = way_past (λ v. MeetsAim aim (at_value sought v)) d from done next.done.by is.shown.each on.2;
     };
     within = on.1;
     further = further_more d from done next.done.by turn is.further on.0;
@@ -52,10 +52,10 @@ module _ (sought : SpanSought) (aim : Aim) (d : Direction) where
 
   -- ---- the next value
 
-  pub stretched_next : (done goal next : ℤ) → next ≡ (done +ℤ on_of d) → IsPast d done goal → Meets aim (at_value sought next)
-      → IsPast d done next × IsOn d next goal × ((v : ℤ) → IsPast d done v → IsOn d v next → Meets aim (at_value sought v))
+  pub stretched_next : (done goal next : ℤ) → next ≡ (done +ℤ on_of d) → IsPast d done goal → MeetsAim aim (at_value sought next)
+      → IsPast d done next × IsOn d next goal × ((v : ℤ) → IsPast d done v → IsOn d v next → MeetsAim aim (at_value sought v))
   stretched_next done goal next same past here =
-      let P : ℤ → Type 0 = λ v. Meets aim (at_value sought v) in (
+      let P : ℤ → Type 0 = λ v. MeetsAim aim (at_value sought v) in (
         past_by_next d done next same,
         subst (λ (b : ℤ). IsOn d b goal) (sym same) (next_on d done goal past),
         λ v beyond on. way_next P d done next same here v beyond on,

@@ -28,8 +28,8 @@ use Rattle.moves.specs.declared.span.SpanFound.{SpanFound}
 use Rattle.probing.specs.declared.probed.Probed.{Probed}
 use Rattle.spans.specs.declared.advance.Advance.{Advance}
 use Rattle.spans.specs.declared.advance.Advance.TheVariants as advances
-use Rattle.spans.specs.declared.advance.Short.{Short}
-use Rattle.spans.specs.declared.advance.Short.TheVariants as shorts
+use Rattle.spans.specs.declared.advance.Shortfall.{Shortfall}
+use Rattle.spans.specs.declared.advance.Shortfall.TheVariants as shorts
 use Rattle.spans.specs.declared.advance.Stretched.{Stretched}
 use Rattle.spans.specs.declared.advance.Stretched.TheVariants as stretches
 use Rattle.spans.specs.declared.border.Border.{Border}
@@ -51,8 +51,8 @@ use Rattle.spans.specs.declared.nearby.Nearby.{Nearby}
 use Rattle.spans.specs.declared.nearby.Nearby.TheVariants as nearby
 use Rattle.spans.specs.declared.reach.DrawnGap.{DrawnGap}
 use Rattle.spans.specs.declared.reach.ShiftReach.{ShiftReach}
-use Rattle.spans.specs.declared.sought.Aim.{Aim}
-use Rattle.spans.specs.declared.sought.Aim.TheVariants as aims
+use Rattle.spans.specs.declared.sought.SpanAim.{SpanAim}
+use Rattle.spans.specs.declared.sought.SpanAim.TheVariants as aims
 use Rattle.spans.specs.declared.sought.SpanSought.{SpanSought}
 use Rattle.spans.specs.declared.sought.ValueFound.{ValueFound}
 use Rattle.spans.specs.declared.sought.ValueFound.TheVariants as values
@@ -200,8 +200,8 @@ farthest Down = neg_ℤ MOVE_LIMIT
 farthest Up = MOVE_LIMIT
 
 -- a value with which a span may be begun
-abbrev pub IsStart : ℤ → Type 0
-IsStart value = (neg_ℤ (pos 30000000000000) ≤ℤ value) × (value ≤ℤ pos 30000000000000)
+abbrev pub IsSpanStart : ℤ → Type 0
+IsSpanStart value = (neg_ℤ (pos 30000000000000) ≤ℤ value) × (value ≤ℤ pos 30000000000000)
 
 -- two values in a direction: the one can be drawn, or is the drawn one, and the other one can't be drawn
 pub record IsDrawnGap (drawn : Drawn) (numbers : List DrawnNumber) (direction : Direction) (gap : DrawnGap) : Type 0 where
@@ -250,21 +250,21 @@ abbrev pub at_value : SpanSought → ℤ → Drawn
 at_value sought value = shifted_at sought.drawn.now (lent sought.numbers.now) value
 
 -- a value that can be drawn, or the drawn one
-abbrev pub IsReached : SpanSought → ℤ → Type 0
-IsReached sought value = (sought.reach.least.by ≤ℤ value) × (value ≤ℤ sought.reach.most.by)
+abbrev pub IsWithinReach : SpanSought → ℤ → Type 0
+IsWithinReach sought value = (sought.reach.least.by ≤ℤ value) × (value ≤ℤ sought.reach.most.by)
 
 -- what a probe at a value found
-pub record IsProbedAt (sought : SpanSought) (value : ℤ) (probed : Probed) : Type 0 where
+pub record IsProbeOf (sought : SpanSought) (value : ℤ) (probed : Probed) : Type 0 where
   pub found : IsNetFound (at_value sought value) probed.found
   pub settles : IsEnough sought → is_net_open probed.found ≡ false
 
 -- what is shown of a value: no requirement breaks, or not every requirement passes
-abbrev pub Meets : Aim → Drawn → Type 0
-Meets aims.Passing drawn = NoneBreaks drawn
-Meets aims.Failing drawn = Passes drawn → ⊥
+abbrev pub MeetsAim : SpanAim → Drawn → Type 0
+MeetsAim aims.Passing drawn = NoneBreaks drawn
+MeetsAim aims.Failing drawn = Passes drawn → ⊥
 
 -- what is found of a value that is not shown
-abbrev pub IsStop : Aim → NetFound → Type 0
+abbrev pub IsStop : SpanAim → NetFound → Type 0
 IsStop aims.Passing (nets.Breaks row) = Unit {0}
 IsStop aims.Failing nets.Passes = Unit {0}
 IsStop aim found = ⊥
@@ -274,44 +274,44 @@ abbrev pub IsShown : SpanSought → Direction → ℤ → Option ℤ → Type 0
 IsShown sought direction from last = (value : ℤ) → IsTowards direction from last value → NoneBreaks (at_value sought value)
 
 -- the values past one up to another one were shown
-pub record IsShownTo (sought : SpanSought) (aim : Aim) (direction : Direction) (from last : ℤ) : Type 0 where
+pub record IsShownTo (sought : SpanSought) (aim : SpanAim) (direction : Direction) (from last : ℤ) : Type 0 where
   pub before : IsOn direction from last
-  pub reached : IsReached sought last
-  pub each : (value : ℤ) → IsPast direction from value → IsOn direction value last → Meets aim (at_value sought value)
+  pub reached : IsWithinReach sought last
+  pub each : (value : ℤ) → IsPast direction from value → IsOn direction value last → MeetsAim aim (at_value sought value)
 
 -- a value is at least so many values past another one
 abbrev pub IsFurther : Direction → ℤ → ℕ → ℤ → Type 0
 IsFurther direction from count value = (outward direction from +ℤ pos count) ≤ℤ outward direction value
 
 -- what is known of a way from a value on that did not come to its goal
-abbrev pub IsShort : SpanSought → Aim → Direction → ℤ → Short → Type 0
+abbrev pub IsShort : SpanSought → SpanAim → Direction → ℤ → Shortfall → Type 0
 IsShort sought aim direction from (shorts.Stops last found) =
     IsShownTo sought aim direction from last.by × IsNetFound (at_value sought (last.by +ℤ on_of direction)) found × IsStop aim found
 IsShort sought aim direction from (shorts.Spent last) = IsShownTo sought aim direction from last.by × IsFurther direction from sought.effort.budget last.by
 IsShort sought aim direction from shorts.Left = IsEnough sought → ⊥
 
 -- it stops before the goal
-abbrev pub StopsBefore : Direction → ℤ → Short → Type 0
+abbrev pub StopsBefore : Direction → ℤ → Shortfall → Type 0
 StopsBefore direction goal (shorts.Stops last found) = IsPast direction last.by goal
 StopsBefore direction goal short = Unit {0}
 
 -- what is known of the way from a value to a goal
-abbrev pub IsAdvance : SpanSought → Aim → Direction → ℤ → ℤ → Advance → Type 0
+abbrev pub IsAdvance : SpanSought → SpanAim → Direction → ℤ → ℤ → Advance → Type 0
 IsAdvance sought aim direction from goal advances.Reached = IsShownTo sought aim direction from goal
-IsAdvance sought aim direction from goal (advances.Short short) = IsShort sought aim direction from short × StopsBefore direction goal short
+IsAdvance sought aim direction from goal (advances.Shortfall short) = IsShort sought aim direction from short × StopsBefore direction goal short
 
 -- what one more interval shows of the way from a value to a goal
-abbrev pub IsStretched : SpanSought → Aim → Direction → ℤ → ℤ → Stretched → Type 0
+abbrev pub IsStretched : SpanSought → SpanAim → Direction → ℤ → ℤ → Stretched → Type 0
 IsStretched sought aim direction done goal (stretches.On next) =
     IsPast direction done next.done.by × IsOn direction next.done.by goal
-    × ((value : ℤ) → IsPast direction done value → IsOn direction value next.done.by → Meets aim (at_value sought value))
+    × ((value : ℤ) → IsPast direction done value → IsOn direction value next.done.by → MeetsAim aim (at_value sought value))
 IsStretched sought aim direction done goal (stretches.Stops found) = IsNetFound (at_value sought (done +ℤ on_of direction)) found × IsStop aim found
 IsStretched sought aim direction done goal stretches.Left = IsEnough sought → ⊥
 
 -- what is known of a value that was found ahead
 abbrev pub IsAhead : SpanSought → Direction → ℤ → Ahead → Type 0
-IsAhead sought direction from (heads.Breaks at row) = IsReached sought at.by × IsPast direction from at.by × BreaksRow (at_value sought at.by) row
-IsAhead sought direction from (heads.Contradicts at) = IsReached sought at.by × IsPast direction from at.by × IsInconsistent (at_value sought at.by).net
+IsAhead sought direction from (heads.Breaks at row) = IsWithinReach sought at.by × IsPast direction from at.by × BreaksRow (at_value sought at.by) row
+IsAhead sought direction from (heads.Contradicts at) = IsWithinReach sought at.by × IsPast direction from at.by × IsInconsistent (at_value sought at.by).net
 IsAhead sought direction from heads.Nothing = Unit {0}
 IsAhead sought direction from heads.Left = IsEnough sought → ⊥
 
@@ -383,8 +383,8 @@ IsTriedValue sought tries.Nothing = Unit {0}
 -- the last value in a direction with which a span may be begun, and that can be drawn
 pub record IsStartGoal (sought : SpanSought) (direction : Direction) (goal : ℤ) : Type 0 where
   pub on : IsOn direction (pos 0) goal
-  pub reached : IsReached sought goal
-  pub start : IsStart goal
+  pub reached : IsWithinReach sought goal
+  pub start : IsSpanStart goal
 
 -- ---- values that fail
 
@@ -394,33 +394,33 @@ IsNearGoal sought direction goal =
     (value : ℤ) → IsOn direction (pos 0) value → outward direction value ≤ℤ pos sought.effort.budget → IsOn direction value (limit_of direction sought.reach).by → IsOn direction value goal
 
 -- what is known of the values near the drawn one in a direction
-abbrev pub IsNearby : SpanSought → Direction → Nearby → Type 0
-IsNearby sought direction nearby.Fails = (value : ℤ) → IsPast direction (pos 0) value → outward direction value ≤ℤ pos sought.effort.budget
+abbrev pub IsNearFound : SpanSought → Direction → Nearby → Type 0
+IsNearFound sought direction nearby.Fails = (value : ℤ) → IsPast direction (pos 0) value → outward direction value ≤ℤ pos sought.effort.budget
     → CanShift sought.drawn.now (lent sought.numbers.now) value → Passes (at_value sought value) → ⊥
-IsNearby sought direction (nearby.Passes at) = IsReached sought at.by × IsStart at.by × Passes (at_value sought at.by)
-IsNearby sought direction nearby.Left = IsEnough sought → ⊥
+IsNearFound sought direction (nearby.Passes at) = IsWithinReach sought at.by × IsSpanStart at.by × Passes (at_value sought at.by)
+IsNearFound sought direction nearby.Left = IsEnough sought → ⊥
 
 -- ---- what a look at a value finds
 
 -- what is known of a value: it is shown, or something else is found, or its search was left open
-abbrev pub IsValueFound : Aim → Drawn → NetFound → ValueFound → Type 0
-IsValueFound aim drawn found values.Shown = Meets aim drawn
+abbrev pub IsValueFound : SpanAim → Drawn → NetFound → ValueFound → Type 0
+IsValueFound aim drawn found values.Shown = MeetsAim aim drawn
 IsValueFound aim drawn found (values.Stops other) = IsNetFound drawn other × IsStop aim other
 IsValueFound aim drawn found values.Left = is_net_open found ≡ true
 
 -- what is found of a value with which every requirement passes
-abbrev pub passes_for : Aim → ValueFound
+abbrev pub passes_for : SpanAim → ValueFound
 passes_for aims.Passing = values.Shown
 passes_for aims.Failing = values.Stops nets.Passes
 
 -- and of one with which a row breaks
-abbrev pub breaks_for : Aim → ℕ → ValueFound
+abbrev pub breaks_for : SpanAim → ℕ → ValueFound
 breaks_for aims.Passing row = values.Stops (nets.Breaks row)
 breaks_for aims.Failing row = values.Shown
 
 -- the same of a value of numbers
-abbrev pub IsValueFoundAt : SpanSought → Aim → ℤ → ValueFound → Type 0
-IsValueFoundAt sought aim value values.Shown = Meets aim (at_value sought value)
+abbrev pub IsValueFoundAt : SpanSought → SpanAim → ℤ → ValueFound → Type 0
+IsValueFoundAt sought aim value values.Shown = MeetsAim aim (at_value sought value)
 IsValueFoundAt sought aim value (values.Stops other) = IsNetFound (at_value sought value) other × IsStop aim other
 IsValueFoundAt sought aim value values.Left = IsEnough sought → ⊥
 

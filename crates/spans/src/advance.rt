@@ -1,10 +1,10 @@
 //! Going on from value to value by frames.
 
 ghost use Rattle.std.specs.Prelude.{IfOk};
-ghost use Rattle.spans.specs.Step.{IsAdvance, IsOn, IsPast, IsReached, IsSought, IsStretched};
+ghost use Rattle.spans.specs.Step.{IsAdvance, IsOn, IsPast, IsWithinReach, IsSought, IsStretched};
 
 use crate::direction::{Direction, Value, between, distance, is_same, next_of, value_on};
-use crate::sought::{Aim, SpanSought, ValueFound};
+use crate::sought::{SpanAim, SpanSought, ValueFound};
 use itv_base::NoMemory;
 use moves::NetFound;
 use std::alloc::Global;
@@ -18,12 +18,12 @@ pub enum Advance {
     /// Each value up to the goal was shown.
     Reached,
     /// The goal was not reached.
-    Short(Short),
+    Shortfall(Shortfall),
 }
 
 /// Where values that are shown end before a goal.
 #[derive(Clone, Copy)]
-pub enum Short {
+pub enum Shortfall {
     /// Each value up to this one was shown, and of the next one this was found instead.
     Stops { last: Value, found: NetFound },
     /// As many intervals were shown as the budget says, up to this value.
@@ -55,14 +55,14 @@ pub enum Stretched {
 pub fn show_to(
     alloc: Global,
     sought: &SpanSought<'_>,
-    aim: Aim,
+    aim: SpanAim,
     from: Value,
     goal: Value,
     direction: Direction,
 ) -> Result<Advance, NoMemory>
     requires sought { IsSought sought.now }
-    requires from { IsReached sought.now from.by }
-    requires goal { IsReached sought.now goal.by }
+    requires from { IsWithinReach sought.now from.by }
+    requires goal { IsWithinReach sought.now goal.by }
     requires ahead { IsOn direction from.by goal.by }
     ensures advance { IfOk result (IsAdvance sought.now aim direction from.by goal.by) }
 {
@@ -78,29 +78,29 @@ pub fn show_to(
             Stretched::On(next) => stretch = next,
             Stretched::Stops(found) => {
                 let last = stretch.done;
-                return Ok(Advance::Short(Short::Stops { last, found }));
+                return Ok(Advance::Shortfall(Shortfall::Stops { last, found }));
             }
-            Stretched::Left => return Ok(Advance::Short(Short::Left)),
+            Stretched::Left => return Ok(Advance::Shortfall(Shortfall::Left)),
         }
     }
     if is_same(stretch.done, goal) {
         return Ok(Advance::Reached);
     }
-    Ok(Advance::Short(Short::Spent(stretch.done)))
+    Ok(Advance::Shortfall(Shortfall::Spent(stretch.done)))
 }
 
 // One more interval. Where none of several values is shown, the next value is looked at by itself.
 fn stretch_on(
     alloc: Global,
     sought: &SpanSought<'_>,
-    aim: Aim,
+    aim: SpanAim,
     stretch: ShownStretch,
     goal: Value,
     direction: Direction,
 ) -> Result<Stretched, NoMemory>
     requires sought { IsSought sought.now }
-    requires done { IsReached sought.now stretch.done.by }
-    requires goal { IsReached sought.now goal.by }
+    requires done { IsWithinReach sought.now stretch.done.by }
+    requires goal { IsWithinReach sought.now goal.by }
     requires past { IsPast direction stretch.done.by goal.by }
     ensures { IfOk result (IsStretched sought.now aim direction stretch.done.by goal.by) }
 {
@@ -126,14 +126,14 @@ fn stretch_on(
 fn one_more(
     alloc: Global,
     sought: &SpanSought<'_>,
-    aim: Aim,
+    aim: SpanAim,
     done: Value,
     goal: Value,
     direction: Direction,
 ) -> Result<Stretched, NoMemory>
     requires sought { IsSought sought.now }
-    requires done { IsReached sought.now done.by }
-    requires goal { IsReached sought.now goal.by }
+    requires done { IsWithinReach sought.now done.by }
+    requires goal { IsWithinReach sought.now goal.by }
     requires past { IsPast direction done.by goal.by }
     ensures { IfOk result (IsStretched sought.now aim direction done.by goal.by) }
 {

@@ -4,16 +4,16 @@ ghost use Rattle.std.specs.Prelude.{◌≡◌, ◌+ℤ◌, IfOk, IfSome, IsSome,
 ghost use Rattle.event_graph.specs.Bounds.{IsInconsistent};
 ghost use Rattle.moves.specs.Passing.{BreaksRow, Passes};
 ghost use Rattle.moves.specs.Step.{IsMoveBy};
-ghost use Rattle.spans.specs.Step.{IsBorderFrom, IsEnough, IsGapIn, IsNarrowerGap, IsOn, IsPast, IsReached, IsShort, IsShown, IsSought, IsStart, IsStop, at_value, limit_of, on_of};
+ghost use Rattle.spans.specs.Step.{IsBorderFrom, IsEnough, IsGapIn, IsNarrowerGap, IsOn, IsPast, IsWithinReach, IsShort, IsShown, IsSought, IsSpanStart, IsStop, at_value, limit_of, on_of};
 
-use crate::advance::{Advance, Short, show_to};
+use crate::advance::{Advance, Shortfall, show_to};
 use crate::border::Border;
 use crate::direction::{
     Direction, Value, beyond, distance, farthest, is_same, last_before, next_of, step_of, value_on,
 };
 use crate::looking::{Ahead, look_ahead};
 use crate::reach::limit_of;
-use crate::sought::{Aim, SpanSought};
+use crate::sought::{SpanAim, SpanSought};
 use itv_base::NoMemory;
 use moves::NetFound;
 use probing::SideChain;
@@ -35,13 +35,13 @@ pub fn border_of(
     direction: Direction,
 ) -> Result<Border, NoMemory>
     requires sought { IsSought sought.now }
-    requires from { IsReached sought.now from.by }
-    requires start { IsStart from.by }
+    requires from { IsWithinReach sought.now from.by }
+    requires start { IsSpanStart from.by }
     requires passes { Passes (at_value sought.now from.by) }
     ensures border { IfOk result (IsBorderFrom sought.now direction from.by) }
 {
     let is_free = sought.room(step_of(direction), sides).is_none();
-    if is_free && sought.is_shown(alloc, Aim::Passing, beyond(from, direction))? {
+    if is_free && sought.is_shown(alloc, SpanAim::Passing, beyond(from, direction))? {
         return Ok(Border::Endless);
     }
     let goal = limit_of(sought.reach, direction);
@@ -63,17 +63,17 @@ fn border_before(
     direction: Direction,
 ) -> Result<Border, NoMemory>
     requires sought { IsSought sought.now }
-    requires from { IsReached sought.now from.by }
+    requires from { IsWithinReach sought.now from.by }
     requires passes { Passes (at_value sought.now from.by) }
-    requires at { IsReached sought.now at.by }
+    requires at { IsWithinReach sought.now at.by }
     requires past { IsPast direction from.by at.by }
     requires breaks { BreaksRow (at_value sought.now at.by) row }
     ensures border { IfOk result (IsBorderFrom sought.now direction from.by) }
 {
     let last = last_before(at, direction);
-    match show_to(alloc, sought, Aim::Passing, from, last, direction)? {
+    match show_to(alloc, sought, SpanAim::Passing, from, last, direction)? {
         Advance::Reached => border_by_row(alloc, sought, from, last, row, direction),
-        Advance::Short(short) => border_short(alloc, sought, from, short, direction),
+        Advance::Shortfall(short) => border_short(alloc, sought, from, short, direction),
     }
 }
 
@@ -86,16 +86,16 @@ fn border_in(
     direction: Direction,
 ) -> Result<Border, NoMemory>
     requires sought { IsSought sought.now }
-    requires from { IsReached sought.now from.by }
+    requires from { IsWithinReach sought.now from.by }
     requires passes { Passes (at_value sought.now from.by) }
-    requires at { IsReached sought.now at.by }
+    requires at { IsWithinReach sought.now at.by }
     requires past { IsPast direction from.by at.by }
     requires contradicts { IsInconsistent (at_value sought.now at.by).net }
     ensures border { IfOk result (IsBorderFrom sought.now direction from.by) }
 {
-    match show_to(alloc, sought, Aim::Passing, from, at, direction)? {
+    match show_to(alloc, sought, SpanAim::Passing, from, at, direction)? {
         Advance::Reached => border_by_contradiction(alloc, sought, from, at, direction),
-        Advance::Short(short) => border_short(alloc, sought, from, short, direction),
+        Advance::Shortfall(short) => border_short(alloc, sought, from, short, direction),
     }
 }
 
@@ -108,15 +108,15 @@ fn border_at_limit(
     direction: Direction,
 ) -> Result<Border, NoMemory>
     requires sought { IsSought sought.now }
-    requires from { IsReached sought.now from.by }
-    requires start { IsStart from.by }
+    requires from { IsWithinReach sought.now from.by }
+    requires start { IsSpanStart from.by }
     requires passes { Passes (at_value sought.now from.by) }
     requires at { at ≡ limit_of direction sought.now.reach }
     ensures border { IfOk result (IsBorderFrom sought.now direction from.by) }
 {
-    match show_to(alloc, sought, Aim::Passing, from, at, direction)? {
+    match show_to(alloc, sought, SpanAim::Passing, from, at, direction)? {
         Advance::Reached => border_beyond(alloc, sought, from, at, direction),
-        Advance::Short(short) => border_short(alloc, sought, from, short, direction),
+        Advance::Shortfall(short) => border_short(alloc, sought, from, short, direction),
     }
 }
 
@@ -125,27 +125,27 @@ fn border_short(
     alloc: Global,
     sought: &SpanSought<'_>,
     from: Value,
-    short: Short,
+    short: Shortfall,
     direction: Direction,
 ) -> Result<Border, NoMemory>
     requires sought { IsSought sought.now }
-    requires from { IsReached sought.now from.by }
+    requires from { IsWithinReach sought.now from.by }
     requires passes { Passes (at_value sought.now from.by) }
-    requires short { IsShort sought.now Aim.Passing direction from.by short }
+    requires short { IsShort sought.now SpanAim.Passing direction from.by short }
     ensures border { IfOk result (IsBorderFrom sought.now direction from.by) }
 {
     match short {
-        Short::Stops { last, found } => {
+        Shortfall::Stops { last, found } => {
             border_by_row(alloc, sought, from, last, row_of(found), direction)
         }
-        Short::Spent(last) => Ok(spent(last)),
-        Short::Left => Ok(left(from)),
+        Shortfall::Spent(last) => Ok(spent(last)),
+        Shortfall::Left => Ok(left(from)),
     }
 }
 
 // The row that was found to break.
 fn row_of(found: NetFound) -> u32
-    requires { IsStop Aim.Passing found }
+    requires { IsStop SpanAim.Passing found }
     ensures { found ≡ NetFound.Breaks result }
 {
     match found {
@@ -165,14 +165,14 @@ fn border_beyond(
     direction: Direction,
 ) -> Result<Border, NoMemory>
     requires sought { IsSought sought.now }
-    requires from { IsReached sought.now from.by }
-    requires start { IsStart from.by }
+    requires from { IsWithinReach sought.now from.by }
+    requires start { IsSpanStart from.by }
     requires passes { Passes (at_value sought.now from.by) }
     requires at { at ≡ limit_of direction sought.now.reach }
     requires shown { IsShown sought.now direction from.by (Some at.by) }
     ensures border { IfOk result (IsBorderFrom sought.now direction from.by) }
 {
-    if sought.is_shown(alloc, Aim::Passing, beyond(at, direction))? {
+    if sought.is_shown(alloc, SpanAim::Passing, beyond(at, direction))? {
         return Ok(Border::Endless);
     }
     if is_same(at, farthest(direction)) {
@@ -195,9 +195,9 @@ fn border_by_row(
     direction: Direction,
 ) -> Result<Border, NoMemory>
     requires sought { IsSought sought.now }
-    requires from { IsReached sought.now from.by }
+    requires from { IsWithinReach sought.now from.by }
     requires passes { Passes (at_value sought.now from.by) }
-    requires last { IsReached sought.now last.by }
+    requires last { IsWithinReach sought.now last.by }
     requires on { IsOn direction from.by last.by }
     requires shown { IsShown sought.now direction from.by (Some last.by) }
     requires breaks { BreaksRow (at_value sought.now (last.by +ℤ on_of direction)) row }
@@ -219,9 +219,9 @@ fn border_by_contradiction(
     direction: Direction,
 ) -> Result<Border, NoMemory>
     requires sought { IsSought sought.now }
-    requires from { IsReached sought.now from.by }
+    requires from { IsWithinReach sought.now from.by }
     requires passes { Passes (at_value sought.now from.by) }
-    requires at { IsReached sought.now at.by }
+    requires at { IsWithinReach sought.now at.by }
     requires on { IsOn direction from.by at.by }
     requires shown { IsShown sought.now direction from.by (Some at.by) }
     requires contradicts { IsInconsistent (at_value sought.now at.by).net }
@@ -248,8 +248,8 @@ fn halved(
     direction: Direction,
 ) -> Result<Option<ValueGap>, NoMemory>
     requires sought { IsSought sought.now }
-    requires has { IsReached sought.now gap.has.by }
-    requires lacks { IsReached sought.now gap.lacks.by }
+    requires has { IsWithinReach sought.now gap.has.by }
+    requires lacks { IsWithinReach sought.now gap.lacks.by }
     requires gap { IsGapIn sought.now direction gap.has.by gap.lacks.by gap }
     requires apart { IsPast direction (gap.has.by +ℤ on_of direction) gap.lacks.by }
     ensures half { IfOk result (λ half. IfSome half (IsGapIn sought.now direction gap.has.by gap.lacks.by)) }

@@ -6,7 +6,7 @@ ghost use Rattle.moves.specs.Found.{IsSpanFound};
 ghost use Rattle.moves.specs.Networks.{IsNetFound, is_net_open};
 ghost use Rattle.moves.specs.Passing.{BreaksRow, Passes};
 ghost use Rattle.moves.specs.Step.{lent};
-ghost use Rattle.spans.specs.Step.{IsNearby, IsReached, IsSought, IsSpanOf, IsStart, IsStartGoal, IsTriedValue, at_value};
+ghost use Rattle.spans.specs.Step.{IsNearFound, IsWithinReach, IsSought, IsSpanOf, IsSpanStart, IsStartGoal, IsTriedValue, at_value};
 
 use crate::border::margin_of;
 use crate::bordering::border_of;
@@ -94,8 +94,8 @@ fn span_around(
     sides: &[SideChain],
 ) -> Result<SpanFound, NoMemory>
     requires sought { IsSought sought.now }
-    requires from { IsReached sought.now from.by }
-    requires start { IsStart from.by }
+    requires from { IsWithinReach sought.now from.by }
+    requires start { IsSpanStart from.by }
     requires passes { Passes (at_value sought.now from.by) }
     requires own { Passes sought.now.drawn.now → from.by ≡ pos 0 }
     ensures found { IfOk result (IsSpanOf sought.now) }
@@ -147,7 +147,7 @@ fn span_near(alloc: Global, sought: &SpanSought<'_>, row: u32) -> Result<SpanFou
 fn span_below(alloc: Global, sought: &SpanSought<'_>, row: u32) -> Result<SpanFound, NoMemory>
     requires sought { IsSought sought.now }
     requires breaks { BreaksRow sought.now.drawn.now row }
-    requires above { IsNearby sought.now Direction.Up Nearby.Fails }
+    requires above { IsNearFound sought.now Direction.Up Nearby.Fails }
     ensures found { IfOk result (IsSpanOf sought.now) }
 {
     match near_in(alloc, sought, Direction::Down)? {
@@ -176,8 +176,8 @@ fn span_at(
 ) -> Result<SpanFound, NoMemory>
     requires sought { IsSought sought.now }
     requires breaks { BreaksRow sought.now.drawn.now row }
-    requires at { IsReached sought.now at.by }
-    requires start { IsStart at.by }
+    requires at { IsWithinReach sought.now at.by }
+    requires start { IsSpanStart at.by }
     requires passes { Passes (at_value sought.now at.by) }
     ensures found { IfOk result (IsSpanOf sought.now) }
 {
@@ -232,8 +232,8 @@ fn try_value(
 ) -> Result<Tried, NoMemory>
     requires sought { IsSought sought.now }
     requires breaks { BreaksRow sought.now.drawn.now row }
-    requires at { IsReached sought.now at.by }
-    requires start { IsStart at.by }
+    requires at { IsWithinReach sought.now at.by }
+    requires start { IsSpanStart at.by }
     ensures { IfOk result (IsTriedValue sought.now) }
 {
     let probed = sought.probe_at(alloc, at)?;

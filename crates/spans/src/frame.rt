@@ -19,7 +19,7 @@ use std::alloc::Global;
 
 /// A network with its rows that is a cover or a core of all values of an interval.
 #[derive(Drop)]
-pub struct Frame {
+pub struct SpanFrame {
     pub net: Network,
     pub rows: Vec<Row>,
 }
@@ -32,7 +32,7 @@ pub fn frame_of(
     counts: &[i64],
     interval: Interval,
     kind: FrameKind,
-) -> Result<Option<Frame>, NoMemory>
+) -> Result<Option<SpanFrame>, NoMemory>
     requires counts { AreEventCounts drawn.now.net counts.now }
     requires interval { IsInterval interval }
     ensures frames { IfOk result (λ frame. IfSome frame (λ frame. (value : ℤ) → IsInside interval value
@@ -46,7 +46,7 @@ pub fn frame_of(
     let Some(net) = framed_net(alloc, drawn, numbers, counts, interval, kind)? else {
         return Ok(None);
     };
-    Ok(Some(Frame { net, rows }))
+    Ok(Some(SpanFrame { net, rows }))
 }
 
 // The network of a frame.

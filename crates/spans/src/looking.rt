@@ -1,7 +1,7 @@
 //! Looking ahead for what ends a span: a guess, which frames have to show.
 
 ghost use Rattle.std.specs.Prelude.{IfOk};
-ghost use Rattle.spans.specs.Step.{IsAhead, IsGlanced, IsOn, IsPast, IsReached, IsSought};
+ghost use Rattle.spans.specs.Step.{IsAhead, IsGlanced, IsOn, IsPast, IsWithinReach, IsSought};
 
 use crate::direction::{Direction, Value, is_same, step_of, value_on};
 use crate::sought::SpanSought;
@@ -56,8 +56,8 @@ pub fn look_ahead(
     direction: Direction,
 ) -> Result<Ahead, NoMemory>
     requires sought { IsSought sought.now }
-    requires from { IsReached sought.now from.by }
-    requires goal { IsReached sought.now goal.by }
+    requires from { IsWithinReach sought.now from.by }
+    requires goal { IsWithinReach sought.now goal.by }
     requires ahead { IsOn direction from.by goal.by }
     ensures ahead { IfOk result (IsAhead sought.now direction from.by) }
 {
@@ -89,7 +89,7 @@ fn looked_at(
     direction: Direction,
 ) -> Result<Glanced, NoMemory>
     requires sought { IsSought sought.now }
-    requires reached { IsReached sought.now next.by }
+    requires reached { IsWithinReach sought.now next.by }
     requires past { IsPast direction from.by next.by }
     ensures { IfOk result (IsGlanced sought.now direction from.by next.by) }
 {

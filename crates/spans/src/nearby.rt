@@ -1,12 +1,12 @@
 //! Values near the drawn one, of a design that fails as drawn.
 
 ghost use Rattle.std.specs.Prelude.{◌≤ℤ◌, ℤ, IfOk, pos};
-ghost use Rattle.spans.specs.Step.{IsNearGoal, IsNearby, IsOn, IsReached, IsSought, IsStart, outward};
+ghost use Rattle.spans.specs.Step.{IsNearGoal, IsNearFound, IsOn, IsWithinReach, IsSought, IsSpanStart, outward};
 
-use crate::advance::{Advance, Short, show_to};
+use crate::advance::{Advance, Shortfall, show_to};
 use crate::direction::{Direction, Value, drawn_value, next_of};
 use crate::reach::limit_of;
-use crate::sought::{Aim, SpanSought};
+use crate::sought::{SpanAim, SpanSought};
 use itv_base::NoMemory;
 use std::alloc::Global;
 
@@ -28,14 +28,23 @@ pub fn near_in(
     direction: Direction,
 ) -> Result<Nearby, NoMemory>
     requires sought { IsSought sought.now }
-    ensures nearby { IfOk result (IsNearby sought.now direction) }
+    ensures nearby { IfOk result (IsNearFound sought.now direction) }
 {
     let goal = near_goal(sought, direction);
-    match show_to(alloc, sought, Aim::Failing, drawn_value(), goal, direction)? {
+    match show_to(
+        alloc,
+        sought,
+        SpanAim::Failing,
+        drawn_value(),
+        goal,
+        direction,
+    )? {
         Advance::Reached => Ok(Nearby::Fails),
-        Advance::Short(Short::Spent(_)) => Ok(Nearby::Fails),
-        Advance::Short(Short::Stops { last, .. }) => Ok(Nearby::Passes(next_of(last, direction))),
-        Advance::Short(Short::Left) => Ok(Nearby::Left),
+        Advance::Shortfall(Shortfall::Spent(_)) => Ok(Nearby::Fails),
+        Advance::Shortfall(Shortfall::Stops { last, .. }) => Ok(Nearby::Passes(next_of(
+            last, direction,
+        ))),
+        Advance::Shortfall(Shortfall::Left) => Ok(Nearby::Left),
     }
 }
 
@@ -43,8 +52,8 @@ pub fn near_in(
 fn near_goal(sought: &SpanSought<'_>, direction: Direction) -> Value
     requires sought { IsSought sought.now }
     ensures on { IsOn direction (pos 0) result.by }
-    ensures reached { IsReached sought.now result.by }
-    ensures start { IsStart result.by }
+    ensures reached { IsWithinReach sought.now result.by }
+    ensures start { IsSpanStart result.by }
     ensures near { IsNearGoal sought.now direction result.by }
 {
     let limit = limit_of(sought.reach, direction);
@@ -58,7 +67,7 @@ fn within(limit: Value, far: i64, direction: Direction) -> Value
     requires most { far ≤ℤ pos 1000000000 }
     ensures before { IsOn direction (pos 0) result.by }
     ensures within { IsOn direction result.by limit.by }
-    ensures start { IsStart result.by }
+    ensures start { IsSpanStart result.by }
     ensures near { (value : ℤ) → outward direction value ≤ℤ far → IsOn direction value limit.by → IsOn direction value result.by }
 {
     match direction {

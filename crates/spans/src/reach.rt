@@ -2,7 +2,7 @@
 
 ghost use Rattle.std.specs.Prelude.{◌≡◌, ◌<◌, ◌↔◌, ◌+ℤ◌, IfOk, IsTrue, length, pos};
 ghost use Rattle.moves.specs.Step.{IsMoveBy, lent};
-ghost use Rattle.spans.specs.Step.{CanShift, IsDrawnGap, IsLastDrawn, IsNarrower, IsOn, IsPast, IsShiftReach, IsStart, limit_of, on_of};
+ghost use Rattle.spans.specs.Step.{CanShift, IsDrawnGap, IsLastDrawn, IsNarrower, IsOn, IsPast, IsShiftReach, IsSpanStart, limit_of, on_of};
 
 use crate::direction::{
     Direction, Value, distance, drawn_value, farthest, is_same, last_before, next_of, value_on,
@@ -46,7 +46,7 @@ pub fn start_limit(limit: Value, direction: Direction) -> Value
     requires on { IsOn direction (pos 0) limit.by }
     ensures before { IsOn direction (pos 0) result.by }
     ensures within { IsOn direction result.by limit.by }
-    ensures start { IsStart result.by }
+    ensures start { IsSpanStart result.by }
 {
     match direction {
         Direction::Down => Value {

@@ -4,7 +4,7 @@ ghost use Rattle.std.specs.Prelude.{◌≡◌, ◌≤◌, ℤ, IfOk, IfSome, IsT
 ghost use Rattle.drawn.specs.Drawn.{Drawn};
 ghost use Rattle.moves.specs.Networks.{IsNetFound};
 ghost use Rattle.moves.specs.Passing.{NoneBreaks, Passes};
-ghost use Rattle.spans.specs.Step.{AreEventCounts, IsFrameFound, IsInside, IsInterval, IsProbedAt, IsReached, IsSought, IsValueFound, IsValueFoundAt, Meets, TellsConsistency, at_value, breaks_for, consistency_of, passes_for};
+ghost use Rattle.spans.specs.Step.{AreEventCounts, IsFrameFound, IsInside, IsInterval, IsProbeOf, IsWithinReach, IsSought, IsValueFound, IsValueFoundAt, MeetsAim, TellsConsistency, at_value, breaks_for, consistency_of, passes_for};
 
 use crate::direction::{Value, drawn_value, is_same};
 use crate::frame::frame_of;
@@ -32,7 +32,7 @@ pub struct SpanSought<'a> {
 
 /// What is to be shown of values.
 #[derive(Clone, Copy)]
-pub enum Aim {
+pub enum SpanAim {
     /// No requirement breaks.
     Passing,
     /// Not every requirement passes.
@@ -54,8 +54,8 @@ impl SpanSought<'_> {
     /// What is found of the network with the numbers moved up by a number of picoseconds.
     pub fn probe_at(&self, alloc: Global, at: Value) -> Result<Probed, NoMemory>
         requires sought { IsSought self.now }
-        requires reached { IsReached self.now at.by }
-        ensures probed { IfOk result (IsProbedAt self.now at.by) }
+        requires reached { IsWithinReach self.now at.by }
+        ensures probed { IfOk result (IsProbeOf self.now at.by) }
     {
         if is_same(at, drawn_value()) {
             let rows = self.drawn.rows().as_slice();
@@ -72,9 +72,9 @@ impl SpanSought<'_> {
     }
 
     /// What is found of a value by itself.
-    pub fn value_at(&self, alloc: Global, aim: Aim, at: Value) -> Result<ValueFound, NoMemory>
+    pub fn value_at(&self, alloc: Global, aim: SpanAim, at: Value) -> Result<ValueFound, NoMemory>
         requires sought { IsSought self.now }
-        requires reached { IsReached self.now at.by }
+        requires reached { IsWithinReach self.now at.by }
         ensures found { IfOk result (IsValueFoundAt self.now aim at.by) }
     {
         let probed = self.probe_at(alloc, at)?;
@@ -84,7 +84,7 @@ impl SpanSought<'_> {
     /// Whether some times satisfy with a value, or `None` where that was left open.
     pub fn consistency_at(&self, alloc: Global, at: Value) -> Result<Option<bool>, NoMemory>
         requires sought { IsSought self.now }
-        requires reached { IsReached self.now at.by }
+        requires reached { IsWithinReach self.now at.by }
         ensures consistency { IfOk result (TellsConsistency self.now at.by) }
     {
         let probed = self.probe_at(alloc, at)?;
@@ -92,10 +92,15 @@ impl SpanSought<'_> {
     }
 
     /// Whether a frame shows all values of an interval: one in which events count from values, or else one in which none does.
-    pub fn is_shown(&self, alloc: Global, aim: Aim, interval: Interval) -> Result<bool, NoMemory>
+    pub fn is_shown(
+        &self,
+        alloc: Global,
+        aim: SpanAim,
+        interval: Interval,
+    ) -> Result<bool, NoMemory>
         requires sought { IsSought self.now }
         requires interval { IsInterval interval }
-        ensures shown { IfOk result (λ shown. IsTrue shown → (value : ℤ) → IsInside interval value → Meets aim (at_value self.now value)) }
+        ensures shown { IfOk result (λ shown. IsTrue shown → (value : ℤ) → IsInside interval value → MeetsAim aim (at_value self.now value)) }
     {
         if self.is_shown_by(alloc, self.counts, aim, interval)? {
             return Ok(true);
@@ -108,17 +113,17 @@ impl SpanSought<'_> {
         &self,
         alloc: Global,
         counts: &[i64],
-        aim: Aim,
+        aim: SpanAim,
         interval: Interval,
     ) -> Result<bool, NoMemory>
         requires counts { AreEventCounts self.now.drawn.now.net counts.now }
         requires interval { IsInterval interval }
         requires budget { 1 ≤ self.now.effort.budget }
-        ensures shown { IfOk result (λ shown. IsTrue shown → (value : ℤ) → IsInside interval value → Meets aim (at_value self.now value)) }
+        ensures shown { IfOk result (λ shown. IsTrue shown → (value : ℤ) → IsInside interval value → MeetsAim aim (at_value self.now value)) }
     {
         match aim {
-            Aim::Passing => self.is_covered_by(alloc, counts, interval),
-            Aim::Failing => self.fails_by(alloc, counts, interval),
+            SpanAim::Passing => self.is_covered_by(alloc, counts, interval),
+            SpanAim::Failing => self.fails_by(alloc, counts, interval),
         }
     }
 
@@ -195,7 +200,7 @@ impl SpanSought<'_> {
 }
 
 // What is found of a value, by what is found of the network there.
-fn value_of(aim: Aim, found: NetFound) -> ValueFound
+fn value_of(aim: SpanAim, found: NetFound) -> ValueFound
     ensures { (drawn : Drawn) → IsNetFound drawn found → IsValueFound aim drawn found result }
 {
     match found {
@@ -207,22 +212,22 @@ fn value_of(aim: Aim, found: NetFound) -> ValueFound
 }
 
 // What is found of a value with which every requirement passes.
-fn passes_for(aim: Aim) -> ValueFound
+fn passes_for(aim: SpanAim) -> ValueFound
     ensures { result ≡ passes_for aim }
 {
     match aim {
-        Aim::Passing => ValueFound::Shown,
-        Aim::Failing => ValueFound::Stops(NetFound::Passes),
+        SpanAim::Passing => ValueFound::Shown,
+        SpanAim::Failing => ValueFound::Stops(NetFound::Passes),
     }
 }
 
 // What is found of a value with which a row breaks.
-fn breaks_for(aim: Aim, row: u32) -> ValueFound
+fn breaks_for(aim: SpanAim, row: u32) -> ValueFound
     ensures { result ≡ breaks_for aim row }
 {
     match aim {
-        Aim::Passing => ValueFound::Stops(NetFound::Breaks(row)),
-        Aim::Failing => ValueFound::Shown,
+        SpanAim::Passing => ValueFound::Stops(NetFound::Breaks(row)),
+        SpanAim::Failing => ValueFound::Shown,
     }
 }
 

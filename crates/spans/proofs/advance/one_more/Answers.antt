@@ -1,6 +1,6 @@
 use Rattle.std.proofs.Common.{ℤ, subst, sym}
 use Rattle.moves.specs.Networks.{IsNetFound}
-use Rattle.spans.specs.Step.{IsReached, at_value}
+use Rattle.spans.specs.Step.{IsWithinReach, at_value}
 use Rattle.spans.proofs.Reaching.{reached_between}
 use Rattle.spans.proofs.Showing.{stretched_next}
 use Rattle.spans.proofs.Ways.{next_on, on_next}
@@ -8,7 +8,7 @@ use Rattle.spans.proofs.advance.one_more.Goals as goal
 
 pub value_at-requires-clause-reached : goal.value_at-requires-clause-reached
 value_at-requires-clause-reached c =
-    subst (IsReached c.args.sought.now) (sym c.next_of-next.ensures.next)
+    subst (IsWithinReach c.args.sought.now) (sym c.next_of-next.ensures.next)
     (reached_between c.args.sought.now c.args.direction c.args.done.by _ c.args.goal.by c.requires.done c.requires.goal (on_next c.args.direction c.args.done.by)
     (next_on c.args.direction c.args.done.by c.args.goal.by c.requires.past))
 

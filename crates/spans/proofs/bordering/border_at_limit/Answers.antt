@@ -1,5 +1,5 @@
 use Rattle.std.proofs.Common.{subst, sym}
-use Rattle.spans.specs.Step.{IsOn, IsReached}
+use Rattle.spans.specs.Step.{IsOn, IsWithinReach}
 use Rattle.spans.specs.declared.direction.Value.{Value}
 use Rattle.spans.proofs.Reaching.{limit_on, limit_reached}
 use Rattle.spans.proofs.Showing.{shown_from}
@@ -7,7 +7,7 @@ use Rattle.spans.proofs.bordering.border_at_limit.Goals as goal
 
 pub show_to-requires-clause-goal : goal.show_to-requires-clause-goal
 show_to-requires-clause-goal c =
-    subst (λ (v : Value). IsReached c.args.sought.now v.by) (sym c.requires.at) (limit_reached c.args.sought.now c.requires.sought c.args.direction)
+    subst (λ (v : Value). IsWithinReach c.args.sought.now v.by) (sym c.requires.at) (limit_reached c.args.sought.now c.requires.sought c.args.direction)
 
 pub show_to-requires-clause-ahead : goal.show_to-requires-clause-ahead
 show_to-requires-clause-ahead c =
@@ -19,4 +19,4 @@ border_beyond-requires-clause-shown c =
     shown_from c.args.sought.now c.args.direction c.args.from.by c.args.at.by c.requires.passes.1 way
 
 pub border_short-requires-clause-short : goal.border_short-requires-clause-short
-border_short-requires-clause-short c = let way = rw c.in-Short.is at c.in_ok-show_to.ensures.advance in way.0
+border_short-requires-clause-short c = let way = rw c.in-Shortfall.is at c.in_ok-show_to.ensures.advance in way.0

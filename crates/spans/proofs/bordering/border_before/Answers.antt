@@ -33,4 +33,4 @@ pub border_by_row-requires-clause-breaks : goal.border_by_row-requires-clause-br
 border_by_row-requires-clause-breaks c = subst (λ (v : ℤ). BreaksRow (at_value c.args.sought.now v) c.args.row) c.last_before-last.ensures.next c.requires.breaks
 
 pub border_short-requires-clause-short : goal.border_short-requires-clause-short
-border_short-requires-clause-short c = let way = rw c.in-Short.is at c.in_ok-show_to.ensures.advance in way.0
+border_short-requires-clause-short c = let way = rw c.in-Shortfall.is at c.in_ok-show_to.ensures.advance in way.0

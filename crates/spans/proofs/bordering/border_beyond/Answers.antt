@@ -1,7 +1,7 @@
 use Rattle.std.proofs.Common.{ℤ, ap, subst, sym, ◌∙◌}
 use Rattle.moves.specs.Passing.{NoneBreaks}
 use Rattle.moves.specs.Step.{lent}
-use Rattle.spans.specs.Step.{IsFurther, IsLastDrawn, IsOn, IsReached, at_value, limit_of}
+use Rattle.spans.specs.Step.{IsFurther, IsLastDrawn, IsOn, IsWithinReach, at_value, limit_of}
 use Rattle.spans.specs.declared.direction.Value.{Value}
 use Rattle.spans.proofs.Borders.{beyond_last, endless, further_far, is_left, is_none_true, is_some_true, left_at, limit_at, spent_at}
 use Rattle.spans.proofs.Reaching.{limit_last, limit_on, limit_reached, reached_move}
@@ -11,7 +11,7 @@ use Rattle.spans.proofs.bordering.border_beyond.Goals as goal
 pub beyond-requires : goal.beyond-requires
 beyond-requires c =
     reached_move c.args.sought.now c.requires.sought c.args.at.by
-    (subst (λ (v : Value). IsReached c.args.sought.now v.by) (sym c.requires.at) (limit_reached c.args.sought.now c.requires.sought c.args.direction))
+    (subst (λ (v : Value). IsWithinReach c.args.sought.now v.by) (sym c.requires.at) (limit_reached c.args.sought.now c.requires.sought c.args.direction))
 
 pub returns-then-branch : goal.returns-then-branch
 returns-then-branch c = record {
@@ -22,7 +22,7 @@ returns-then-branch c = record {
 
 pub returns-then-is_same : goal.returns-then-is_same
 returns-then-is_same c =
-    let reached = subst (λ (v : Value). IsReached c.args.sought.now v.by) (sym c.requires.at) (limit_reached c.args.sought.now c.requires.sought c.args.direction) in
+    let reached = subst (λ (v : Value). IsWithinReach c.args.sought.now v.by) (sym c.requires.at) (limit_reached c.args.sought.now c.requires.sought c.args.direction) in
     let on = subst (λ (v : Value). IsOn c.args.direction c.args.from.by v.by) (sym c.requires.at) (limit_on c.args.sought.now c.requires.sought c.args.direction c.args.from.by c.requires.from) in
     let far = c.is_same.ensures.0 c.if-is_same.true ∙ c.farthest.ensures.farthest in
     record {
@@ -34,7 +34,7 @@ returns-then-is_same c =
 
 pub consistency_at-requires-clause-reached : goal.consistency_at-requires-clause-reached
 consistency_at-requires-clause-reached c =
-    subst (λ (v : Value). IsReached c.args.sought.now v.by) (sym c.requires.at) (limit_reached c.args.sought.now c.requires.sought c.args.direction)
+    subst (λ (v : Value). IsWithinReach c.args.sought.now v.by) (sym c.requires.at) (limit_reached c.args.sought.now c.requires.sought c.args.direction)
 
 pub returns-in-None : goal.returns-in-None
 returns-in-None c = record {
@@ -44,7 +44,7 @@ returns-in-None c = record {
 
 pub returns-in-Some-true : goal.returns-in-Some-true
 returns-in-Some-true c =
-    let reached = subst (λ (v : Value). IsReached c.args.sought.now v.by) (sym c.requires.at) (limit_reached c.args.sought.now c.requires.sought c.args.direction) in
+    let reached = subst (λ (v : Value). IsWithinReach c.args.sought.now v.by) (sym c.requires.at) (limit_reached c.args.sought.now c.requires.sought c.args.direction) in
     let on = subst (λ (v : Value). IsOn c.args.direction c.args.from.by v.by) (sym c.requires.at) (limit_on c.args.sought.now c.requires.sought c.args.direction c.args.from.by c.requires.from) in
     let last = subst (λ (v : Value). IsLastDrawn c.args.sought.now.drawn.now (lent c.args.sought.now.numbers.now) c.args.direction v.by) (sym c.requires.at)
     (limit_last c.args.sought.now c.requires.sought c.args.direction) in
@@ -59,7 +59,7 @@ returns-in-Some-true c =
 
 pub border_by_contradiction-requires-clause-at : goal.border_by_contradiction-requires-clause-at
 border_by_contradiction-requires-clause-at c =
-    subst (λ (v : Value). IsReached c.args.sought.now v.by) (sym c.requires.at) (limit_reached c.args.sought.now c.requires.sought c.args.direction)
+    subst (λ (v : Value). IsWithinReach c.args.sought.now v.by) (sym c.requires.at) (limit_reached c.args.sought.now c.requires.sought c.args.direction)
 
 pub border_by_contradiction-requires-clause-on : goal.border_by_contradiction-requires-clause-on
 border_by_contradiction-requires-clause-on c =

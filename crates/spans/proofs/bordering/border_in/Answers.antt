@@ -14,4 +14,4 @@ border_by_contradiction-requires-clause-shown c =
     shown_from c.args.sought.now c.args.direction c.args.from.by c.args.at.by c.requires.passes.1 way
 
 pub border_short-requires-clause-short : goal.border_short-requires-clause-short
-border_short-requires-clause-short c = let way = rw c.in-Short.is at c.in_ok-show_to.ensures.advance in way.0
+border_short-requires-clause-short c = let way = rw c.in-Shortfall.is at c.in_ok-show_to.ensures.advance in way.0

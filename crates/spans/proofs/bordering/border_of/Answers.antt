@@ -1,6 +1,6 @@
 use Rattle.std.proofs.Common.{ℤ, ap, subst, sym}
 use Rattle.moves.specs.Passing.{NoneBreaks}
-use Rattle.spans.specs.Step.{IsOn, IsReached, at_value, limit_of}
+use Rattle.spans.specs.Step.{IsOn, IsWithinReach, at_value, limit_of}
 use Rattle.spans.specs.declared.direction.Value.{Value}
 use Rattle.spans.proofs.Borders.{endless, left_at, own_shown}
 use Rattle.spans.proofs.Reaching.{limit_on, limit_reached, reached_move}
@@ -20,7 +20,7 @@ returns-then-branch c = record {
 
 pub look_ahead-requires-clause-goal : goal.look_ahead-requires-clause-goal
 look_ahead-requires-clause-goal c =
-    subst (λ (v : Value). IsReached c.args.sought.now v.by) (sym c.limit_of-goal.ensures.limit) (limit_reached c.args.sought.now c.requires.sought c.args.direction)
+    subst (λ (v : Value). IsWithinReach c.args.sought.now v.by) (sym c.limit_of-goal.ensures.limit) (limit_reached c.args.sought.now c.requires.sought c.args.direction)
 
 pub look_ahead-requires-clause-ahead : goal.look_ahead-requires-clause-ahead
 look_ahead-requires-clause-ahead c =

@@ -1,6 +1,6 @@
 use Rattle.std.proofs.Common.{sym, subst}
 use Rattle.moves.specs.declared.span.SpanFound.{SpanFound}
-use Rattle.spans.specs.Step.{IsNearby, IsSpanOf}
+use Rattle.spans.specs.Step.{IsNearFound, IsSpanOf}
 use Rattle.spans.specs.declared.direction.Direction.TheVariants.{Down}
 use Rattle.spans.proofs.Borders.{nothing_found}
 use Rattle.spans.proofs.Near.{fails_near}
