@@ -1,7 +1,7 @@
 #!/usr/bin/env python3
 """Runs job settle on small networks on which a search may run away, each within 5 seconds of the processor and 500 MB.
 
-    bench/hostile.py PROGRAM [NAME ..]            a built `itv`, on designs
+    bench/hostile.py PROGRAM [NAME ..]            a built `itv`, on designs; with --job=JOB it runs this job instead
     bench/hostile.py --lines PROGRAM [NAME ..]    the plain search of bench/settle, on networks as lines
 
 Prints for each network the seconds, the megabytes, what the program says of the pair, and whether the network holds: it does where both bounds are
@@ -198,15 +198,15 @@ def run(command, folder, text):
         return printed.read(), running.returncode, used.ru_utime + used.ru_stime, used.ru_maxrss / 1024
 
 
-def holds(program, net, by_lines):
+def holds(program, job, net, by_lines):
     with tempfile.TemporaryDirectory() as folder:
         if by_lines:
             printed, status, took, room = run([program], folder, net.lines().encode())
         else:
             lay_out(net.files(), folder)
-            printed, status, took, room = run([program, "--job=settle", "main.json"], folder, b"")
+            printed, status, took, room = run([program, f"--job={job}", "main.json"], folder, b"")
     says = bound_lines(printed)
-    settled = bool(says) and not any(" spent" in line for line in says) and (len(says) == 2 or "inconsistent" in says[0])
+    settled = bool(says) and not any(" spent" in line or " within " in line for line in says) and (len(says) == 2 or "inconsistent" in says[0])
     if status == -signal.SIGXCPU:
         says = [f"more than {SECONDS} seconds"]
     elif not says:
@@ -218,13 +218,14 @@ def holds(program, net, by_lines):
 def main():
     words = sys.argv[1:]
     by_lines = "--lines" in words
-    words = [word for word in words if word != "--lines"]
+    job = next((word.removeprefix("--job=") for word in words if word.startswith("--job=")), "settle")
+    words = [word for word in words if word != "--lines" and not word.startswith("--job=")]
     if not words:
         sys.exit(__doc__)
     program, names = os.path.abspath(words[0]), words[1:]
     picked = [net for net in NETWORKS if not names or net.name in names]
-    row(["network", "seconds", "MB", "job settle says", ""])
-    held = sum(holds(program, net, by_lines) for net in picked)
+    row(["network", "seconds", "MB", f"job {job} says", ""])
+    held = sum(holds(program, job, net, by_lines) for net in picked)
     print(f"{held} of {len(picked)} hold")
 
 
