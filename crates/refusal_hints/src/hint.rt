@@ -116,7 +116,7 @@ impl Hint {
         self.push(char::from(mark));
     }
 
-    /// Puts what there are of a thing, in front of so many names, as `the parts are `, or that there are none. `one` is the word for a single thing,
+    /// Puts what there are of a thing, before so many names, as `the parts are `, or that there are none. `one` is the word for a single thing,
     /// and `many` for several.
     pub fn put_what(&mut self, count: u64, one: &str, many: &str) {
         let (front, thing, back) = match count {
@@ -143,7 +143,7 @@ impl Hint {
         }
     }
 
-    // Puts what stands in front of name k of so many, or what ends a list that is cut. Whether the name is to follow.
+    // Puts what stands before name k of so many, or what ends a list that is cut. Whether the name is to follow.
     fn has_joint(&mut self, k: u64, count: u64) -> bool {
         if k == MOST_NAMED {
             self.put(" and more");
@@ -154,7 +154,7 @@ impl Hint {
     }
 }
 
-// What stands in front of name k of a list.
+// What stands before name k of a list.
 fn joint(k: u64, count: u64) -> &'static str {
     if k == 0 {
         ""
