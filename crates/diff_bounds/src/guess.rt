@@ -80,7 +80,7 @@ impl Guess {
         }
         self.draft.copy_from_slice(&self.times);
         let first = join_down(net, out, 0, &self.draft, &mut self.times, pending);
-        // The event that does not join has lowered times. Without it the others get their times back.
+        // An event that could not join has lowered times. Without it the others get their times back.
         if first > 0 {
             join_down(net, out, first, &self.draft, &mut self.times, pending);
         }

@@ -15,7 +15,7 @@ use itv_base::EventId;
 const LATE: i64 = i64::MAX;
 
 /// Lets events join one after another, from the last one down to event `end`. The edges that start at an event count once it has joined, and times fall
-/// until they meet all edges that count. Where the edges of an event close a loop of negative sum, it does not join, and no event joins after it. The
+/// until they meet all edges that count. If the edges of an event close a loop of negative sum, it does not join, and no event joins after it. The
 /// answer is the number of the event that joined last, or the number of events if none did.
 ///
 /// An event joins at the time of the draft if the edges to and from the other events allow it, or else at the nearest time that they allow. Only where
@@ -66,7 +66,7 @@ fn time_to_join(event: EventId, arcs: &[Arc], draft: &[i64], times: &[i64]) -> i
     time.min(times[event.0 as usize])
 }
 
-// Lets times fall from an event on that joins. The event whose time has fallen furthest comes first, so no time falls again after its event was
+// Lets times fall from an event that joins. The event whose time has fallen furthest comes first, so no time falls again after its event was
 // taken. The answer is whether no edge asks the time of the event that joins to fall.
 fn make_way(
     net: &Network,

@@ -13,6 +13,9 @@ use itv_base::EventId;
 // How often the edges of all events are followed, there and back, at most.
 const TURNS: u32 = 32;
 
+// No time falls below this. Where times meet all edges, none comes near it: a path that meets no event twice is shorter.
+const FLOOR: i64 = -(1 << 60);
+
 /// Lets times fall from 0 over the edges of all events, there and back along an order, until no time falls or all turns are used. `waits` is room for
 /// one flag for each event: whether its time has fallen since its edges were followed.
 pub fn fall_in_turns(
@@ -95,7 +98,8 @@ fn fall_over_edge(arc: &Arc, times: &mut [i64]) -> bool
     requires { IsBetween (length times.old) arc.now }
     ensures { length times.new ≡ length times.old }
 {
-    let time = times[arc.edge.from.0 as usize].saturating_add(arc.edge.weight);
+    let sum = times[arc.edge.from.0 as usize].saturating_add(arc.edge.weight);
+    let time = sum.max(FLOOR);
     let to = arc.edge.to.0 as usize;
     if times[to] <= time {
         return false;
