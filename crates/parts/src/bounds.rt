@@ -1,64 +1,59 @@
 //! Greatest separations along always-edges and chosen edges.
 
-ghost use Rattle.std.specs.Prelude.{◌≤◌, IsSome};
+ghost use Rattle.std.specs.Prelude.{◌<◌, ◌≤◌, IsSome};
 ghost use Rattle.diff_bounds.specs.Standing.{Stands};
 
-use crate::unfit::Unfit;
-use crate::writing::put_end;
+use crate::out::Out;
 use certificate::read_line;
 use diff_bounds::{Bounds, Fit};
 use event_graph::{Line, Network};
 use itv_base::{EdgeName, EventId};
 use line_words::short_in;
-use std::alloc::{AllocError, Global};
-use std::fmt::Write;
+use std::alloc::Global;
 
 /// Writes the greatest separations from the event of the first row, or `loop` if no times meet the always-edges. Each other row is an edge that is
 /// chosen, as in `path 1.0u`, or takes the last choice `back`, and the separations are written again. Where no times meet a choice, it is not made.
-pub fn levels(alloc: Global, net: &Network, rows: &str, out: &mut String) -> Result<(), Unfit> {
-    let (from, rows) = rows.split_once('\n').ok_or(())?;
-    let from = short_in(from).ok_or(())?;
-    if net.events() <= from {
-        return Err(Unfit);
+pub fn levels(alloc: Global, net: &Network, rows: &str, out: &mut Out) {
+    match source_of(rows) {
+        Some((from, rows)) if from.0 < net.events() => levels_from(alloc, net, from, rows, out),
+        _ => out.refuse(),
     }
-    let mut bounds = Bounds::new(alloc, net)?;
-    let taken = match bounds.start(net, Some(EventId(from))) {
-        Fit::Loop => put_loop(out),
-        Fit::Fits => take_rows(alloc, net, &mut bounds, rows, out),
-    };
-    drop(bounds);
-    taken
 }
 
-fn put_loop(out: &mut String) -> Result<(), Unfit> {
-    Ok(out.push_str("loop\n")?)
+// The event of the first row, and the other rows.
+fn source_of(rows: &str) -> Option<(EventId, &str)> {
+    let (from, rows) = rows.split_once('\n')?;
+    Some((EventId(short_in(from)?), rows))
 }
 
-fn take_rows(
-    alloc: Global,
-    net: &Network,
-    bounds: &mut Bounds,
-    rows: &str,
-    out: &mut String,
-) -> Result<(), Unfit>
+fn levels_from(alloc: Global, net: &Network, from: EventId, rows: &str, out: &mut Out)
+    requires from { from.0 < net.now.events }
+{
+    match Bounds::new(alloc, net) {
+        Ok(mut bounds) => {
+            match bounds.start(net, Some(from)) {
+                Fit::Loop => out.put("loop\n"),
+                Fit::Fits => take_rows(alloc, net, &mut bounds, rows, out),
+            }
+            drop(bounds);
+        }
+        Err(_) => out.refuse(),
+    }
+}
+
+fn take_rows(alloc: Global, net: &Network, bounds: &mut Bounds, rows: &str, out: &mut Out)
     requires stands { Stands net.now bounds.old }
     requires source { IsSome bounds.old.source }
 {
-    put_uppers(net, bounds, out)?;
+    put_uppers(net, bounds, out);
     for row in rows.lines() {
-        step(alloc, net, bounds, row, out)?;
+        step(alloc, net, bounds, row, out);
+        put_uppers(net, bounds, out);
     }
-    Ok(())
 }
 
-// Makes a choice or takes it back, and writes the separations.
-fn step(
-    alloc: Global,
-    net: &Network,
-    bounds: &mut Bounds,
-    row: &str,
-    out: &mut String,
-) -> Result<(), Unfit>
+// Makes a choice or takes it back.
+fn step(alloc: Global, net: &Network, bounds: &mut Bounds, row: &str, out: &mut Out)
     requires stands { Stands net.now bounds.old }
     requires source { IsSome bounds.old.source }
     ensures stands { Stands net.now bounds.new }
@@ -67,36 +62,34 @@ fn step(
     if row == "back" {
         retreat(net, bounds);
     } else {
-        descend(net, bounds, edge_of(alloc, row)?, out)?;
+        match edge_of(alloc, row) {
+            Some(edge) => descend(net, bounds, edge, out),
+            None => out.refuse(),
+        }
     }
-    Ok(put_uppers(net, bounds, out)?)
 }
 
-fn edge_of(alloc: Global, row: &str) -> Result<EdgeName, Unfit> {
-    match read_line(alloc, row.as_bytes())?.line() {
-        Line::Path(edges) => Ok(edges.first().copied().ok_or(())?),
-        _ => Err(Unfit),
+fn edge_of(alloc: Global, row: &str) -> Option<EdgeName> {
+    match read_line(alloc, row.as_bytes()).ok()?.line() {
+        Line::Path(edges) => edges.first().copied(),
+        _ => None,
     }
 }
 
 // Goes a level down by an edge, if there is room for a level.
-fn descend(
-    net: &Network,
-    bounds: &mut Bounds,
-    choice: EdgeName,
-    out: &mut String,
-) -> Result<(), AllocError>
+fn descend(net: &Network, bounds: &mut Bounds, choice: EdgeName, out: &mut Out)
     requires stands { Stands net.now bounds.old }
     requires source { IsSome bounds.old.source }
     ensures stands { Stands net.now bounds.new }
     ensures source { IsSome bounds.new.source }
 {
     if net.splittable_count() <= bounds.trail().depth() {
-        return out.push_str("no room");
+        out.put("no room");
+        return;
     }
     match bounds.descend(net, choice) {
-        Fit::Loop => out.push_str("loop"),
-        Fit::Fits => Ok(()),
+        Fit::Loop => out.put("loop"),
+        Fit::Fits => {}
     }
 }
 
@@ -113,34 +106,45 @@ fn retreat(net: &Network, bounds: &mut Bounds)
 }
 
 // Writes the greatest separations of all events from the source.
-fn put_uppers(net: &Network, bounds: &Bounds, out: &mut String) -> Result<(), AllocError>
+fn put_uppers(net: &Network, bounds: &Bounds, out: &mut Out)
     requires stands { Stands net.now bounds.now }
     requires source { IsSome bounds.now.source }
 {
     for event in 0..net.events() {
-        out.push_str(" ")?;
-        put_end(bounds.upper(EventId(event)), out)?;
+        out.put(" ");
+        out.put_end(bounds.upper(EventId(event)));
     }
-    out.push_str("\n")
+    out.put("\n");
 }
 
 /// Writes the greatest separation of event 0 from the event of the row, the step from it to that of event 1, and how many events are reached by
 /// as many such steps as their number says.
-pub fn along(alloc: Global, net: &Network, row: &str, out: &mut String) -> Result<(), Unfit> {
-    let from = short_in(row).ok_or(())?;
-    if net.events() <= from || net.events() < 2 {
-        return Err(Unfit);
+pub fn along(alloc: Global, net: &Network, row: &str, out: &mut Out) {
+    match short_in(row) {
+        Some(from) if from < net.events() && 2 <= net.events() => {
+            along_from(alloc, net, EventId(from), out)
+        }
+        _ => out.refuse(),
     }
-    let mut bounds = Bounds::new(alloc, net)?;
-    let put = match bounds.start(net, Some(EventId(from))) {
-        Fit::Loop => out.push_str("loop"),
-        Fit::Fits => put_even(net, &bounds, out),
-    };
-    drop(bounds);
-    Ok(put?)
 }
 
-fn put_even(net: &Network, bounds: &Bounds, out: &mut String) -> Result<(), AllocError>
+fn along_from(alloc: Global, net: &Network, from: EventId, out: &mut Out)
+    requires from { from.0 < net.now.events }
+    requires events { 2 ≤ net.now.events }
+{
+    match Bounds::new(alloc, net) {
+        Ok(mut bounds) => {
+            match bounds.start(net, Some(from)) {
+                Fit::Loop => out.put("loop"),
+                Fit::Fits => put_even(net, &bounds, out),
+            }
+            drop(bounds);
+        }
+        Err(_) => out.refuse(),
+    }
+}
+
+fn put_even(net: &Network, bounds: &Bounds, out: &mut Out)
     requires events { 2 ≤ net.now.events }
     requires stands { Stands net.now bounds.now }
     requires source { IsSome bounds.now.source }
@@ -154,5 +158,10 @@ fn put_even(net: &Network, bounds: &Bounds, out: &mut String) -> Result<(), Allo
             count = count.saturating_add(1);
         }
     }
-    write!(out, "{first}, by steps of {step} to {count} events")
+    out.put_number(first);
+    out.put(", by steps of ");
+    out.put_number(step);
+    out.put(" to ");
+    out.put_count(u64::from(count));
+    out.put(" events");
 }

@@ -1,34 +1,56 @@
 //! Rows of a matrix of path lengths, and closures of networks.
 
 ghost use Rattle.std.specs.Prelude.{IsTrue, All};
+ghost use Rattle.minplus.specs.Matrix.{AreRootBounds};
 ghost use Rattle.minplus.specs.Rows.{IsEntry};
 
-use crate::unfit::Unfit;
-use crate::writing::{numbers_of, put_end, put_numbers};
+use crate::out::Out;
+use crate::writing::{numbers_of, put_numbers};
 use event_graph::Network;
 use itv_base::EventId;
-use minplus::{ABSENT, closure, row_lanes, row_plain};
+use minplus::{ABSENT, Matrix, closure, row_lanes, row_plain};
 use std::alloc::Global;
-use std::fmt::Write;
 
 /// Writes a row that is improved by another row less 20, once one by one and once by lanes. The two rows have a bar between them, and a star is an
 /// absent entry.
-pub fn lanes(alloc: Global, row: &str, out: &mut String) -> Result<(), Unfit> {
-    let (entries, others) = row.split_once('|').ok_or(())?;
-    let others = numbers_of(alloc, others)?;
-    let mut plain = numbers_of(alloc, entries)?;
-    let mut lanes = numbers_of(alloc, entries)?;
-    if plain.len() != others.len() || lanes.len() != others.len() {
-        return Err(Unfit);
+pub fn lanes(alloc: Global, row: &str, out: &mut Out) {
+    let (entries, others) = row.split_once('|').unwrap_or((row, "-"));
+    put_improved(alloc, entries, others, false, out);
+    out.put("|");
+    put_improved(alloc, entries, others, true, out);
+}
+
+// Writes a row that is improved by another.
+fn put_improved(alloc: Global, entries: &str, others: &str, by_lanes: bool, out: &mut Out) {
+    match numbers_of(alloc, entries) {
+        Some(mut entries) => {
+            improve(alloc, &mut entries, others, by_lanes, out);
+            put_numbers(&entries, out);
+            drop(entries);
+        }
+        None => out.refuse(),
     }
-    if !are_entries(&plain) || !are_entries(&lanes) || !are_entries(&others) {
-        return Err(Unfit);
+}
+
+// Improves a row by that of a text.
+fn improve(alloc: Global, entries: &mut [i64], others: &str, by_lanes: bool, out: &mut Out) {
+    match numbers_of(alloc, others) {
+        Some(others) => {
+            improve_by(entries, &others, by_lanes, out);
+            drop(others);
+        }
+        None => out.refuse(),
     }
-    row_plain(&mut plain, &others, -20);
-    row_lanes(&mut lanes, &others, -20);
-    put_numbers(&plain, out)?;
-    out.push_str("|")?;
-    Ok(put_numbers(&lanes, out)?)
+}
+
+fn improve_by(entries: &mut [i64], others: &[i64], by_lanes: bool, out: &mut Out) {
+    if entries.len() != others.len() || !are_entries(entries) || !are_entries(others) {
+        out.refuse();
+    } else if by_lanes {
+        row_lanes(entries, others, -20);
+    } else {
+        row_plain(entries, others, -20);
+    }
 }
 
 fn are_entries(values: &[i64]) -> bool
@@ -45,19 +67,27 @@ fn is_entry(value: i64) -> bool
 }
 
 /// Writes the closure of a network, a line for each of the first eight events, or its fault.
-pub fn matrix(alloc: Global, net: &Network, out: &mut String) -> Result<(), Unfit> {
-    let matrix = match closure(alloc, net) {
-        Ok(matrix) => matrix,
-        Err(fault) => return Ok(write!(out, "{fault}")?),
-    };
+pub fn matrix(alloc: Global, net: &Network, out: &mut Out) {
+    match closure(alloc, net) {
+        Ok(matrix) => {
+            put_matrix(net, &matrix, out);
+            drop(matrix);
+        }
+        Err(fault) => out.put_shown(&fault),
+    }
+}
+
+fn put_matrix(net: &Network, matrix: &Matrix, out: &mut Out)
+    requires { AreRootBounds net.now matrix.now }
+{
     let count = net.events().min(8);
-    write!(out, "{} events", net.events())?;
+    out.put_count(u64::from(net.events()));
+    out.put(" events");
     for from in 0..count {
-        out.push_str("\n")?;
+        out.put("\n");
         for to in 0..count {
-            out.push_str(" ")?;
-            put_end(matrix.at(EventId(from), EventId(to)), out)?;
+            out.put(" ");
+            out.put_end(matrix.at(EventId(from), EventId(to)));
         }
     }
-    Ok(())
 }

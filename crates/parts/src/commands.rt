@@ -1,51 +1,76 @@
 //! Lists of words, and the files of generated designs.
 
-use crate::unfit::Unfit;
+use crate::out::Out;
 use crate::writing::put_bytes;
 use design_gen::make;
 use itv_base::{FILE_LIMIT, Shelf, ShelfMem, Texts};
 use line_words::short_in;
-use std::alloc::{AllocError, Global};
-use std::fmt::Write;
+use std::alloc::Global;
 use words::{CheckJob, Invocation, PlanJob, SearchJob, Task, read_words};
 
 /// Writes what a list of words asks for. In the row each word stands after a comma.
-pub fn words(alloc: Global, row: &str, out: &mut String) -> Result<(), Unfit> {
-    let texts = texts_of(alloc, row)?;
-    let put = put_words(alloc, &texts, out);
-    drop(texts);
-    put
+pub fn words(alloc: Global, row: &str, out: &mut Out) {
+    match texts_of(alloc, row) {
+        Some(texts) => {
+            put_words(alloc, &texts, out);
+            drop(texts);
+        }
+        None => out.refuse(),
+    }
 }
 
-fn put_words(alloc: Global, words: &Texts, out: &mut String) -> Result<(), Unfit> {
-    match read_words(alloc, words)? {
-        Invocation::Task(task) => put_task(task, out)?,
-        Invocation::Help(_) => out.push_str("help")?,
-        Invocation::BadWords => out.push_str("bad words")?,
+fn put_words(alloc: Global, words: &Texts, out: &mut Out) {
+    match read_words(alloc, words) {
+        Ok(Invocation::Task(task)) => put_task(task, out),
+        Ok(Invocation::Help(_)) => out.put("help"),
+        Ok(Invocation::BadWords) => out.put("bad words"),
+        Err(_) => out.refuse(),
     }
-    Ok(())
 }
 
 /// Writes whether the help has this text.
-pub fn help(alloc: Global, row: &str, out: &mut String) -> Result<(), Unfit> {
-    let texts = texts_of(alloc, ",--help")?;
-    match read_words(alloc, &texts)? {
-        Invocation::Help(text) if text.as_str().contains(row) => out.push_str("there")?,
-        _ => out.push_str("missing")?,
+pub fn help(alloc: Global, row: &str, out: &mut Out) {
+    match texts_of(alloc, ",--help") {
+        Some(texts) => {
+            put_help(alloc, &texts, row, out);
+            drop(texts);
+        }
+        None => out.refuse(),
     }
-    Ok(())
 }
 
-fn texts_of(alloc: Global, row: &str) -> Result<Texts, Unfit> {
-    let mut texts = Texts::new(alloc)?;
-    for word in row.split(',').skip(1) {
-        texts.push(alloc, word)?;
+fn put_help(alloc: Global, words: &Texts, text: &str, out: &mut Out) {
+    match read_words(alloc, words) {
+        Ok(Invocation::Help(help)) => out.put(if help.as_str().contains(text) {
+            "there"
+        } else {
+            "missing"
+        }),
+        Ok(_) => out.put("missing"),
+        Err(_) => out.refuse(),
     }
-    Ok(texts)
+}
+
+fn texts_of(alloc: Global, row: &str) -> Option<Texts> {
+    let mut texts = Texts::new(alloc).ok()?;
+    match push_all(alloc, &mut texts, row) {
+        Some(()) => Some(texts),
+        None => {
+            drop(texts);
+            None
+        }
+    }
+}
+
+fn push_all(alloc: Global, texts: &mut Texts, row: &str) -> Option<()> {
+    for word in row.split(',').skip(1) {
+        texts.push(alloc, word).ok()?;
+    }
+    Some(())
 }
 
 // Writes the job, its design and its other file, its budget, and whether it writes proofs or a table, as far as the job has them.
-fn put_task(task: Task<'_>, out: &mut String) -> Result<(), AllocError> {
+fn put_task(task: Task<'_>, out: &mut Out) {
     match task {
         Task::Searched {
             design,
@@ -67,30 +92,58 @@ fn put_task(task: Task<'_>, out: &mut String) -> Result<(), AllocError> {
             design,
             job,
             report,
-        } => write!(out, "{} {design} {report}", check_name(job)),
+        } => {
+            put_named(check_name(job), design, out);
+            put_more(report, out);
+        }
         Task::Fall {
             design,
             budget,
             cert,
         } => put_search("fall", design, budget, Some(cert), out),
-        Task::Matrix { design } => write!(out, "matrix {design}"),
-        Task::Generated { size, budget } => write!(out, "self {size} {budget}"),
+        Task::Matrix { design } => put_named("matrix", design, out),
+        Task::Generated { size, budget } => {
+            out.put("self ");
+            out.put_count(u64::from(size));
+            put_budget(budget, out);
+        }
         Task::Whatif {
             design,
             edits,
             budget,
-        } => write!(out, "whatif {design} {edits} {budget}"),
+        } => {
+            put_named("whatif", design, out);
+            put_more(edits, out);
+            put_budget(budget, out);
+        }
         Task::Margin {
             design,
-            list: None,
+            list,
             budget,
-        } => write!(out, "margin {design} {budget}"),
-        Task::Margin {
-            design,
-            list: Some(list),
-            budget,
-        } => write!(out, "margin {design} {budget} {list}"),
+        } => {
+            put_named("margin", design, out);
+            put_budget(budget, out);
+            if let Some(list) = list {
+                put_more(list, out);
+            }
+        }
     }
+}
+
+// The name of a job and its design.
+fn put_named(name: &str, design: &str, out: &mut Out) {
+    out.put(name);
+    put_more(design, out);
+}
+
+fn put_more(text: &str, out: &mut Out) {
+    out.put(" ");
+    out.put(text);
+}
+
+fn put_budget(budget: u64, out: &mut Out) {
+    out.put(" ");
+    out.put_count(budget);
 }
 
 // The name of a job, and whether it writes proofs.
@@ -112,19 +165,14 @@ fn plan_name(job: PlanJob) -> (&'static str, Option<bool>) {
 }
 
 // The name of a job, its design and its budget, and whether it writes proofs or a table.
-fn put_search(
-    name: &str,
-    design: &str,
-    budget: u64,
-    flag: Option<bool>,
-    out: &mut String,
-) -> Result<(), AllocError> {
-    write!(out, "{name} {design} {budget}")?;
-    out.push_str(match flag {
+fn put_search(name: &str, design: &str, budget: u64, flag: Option<bool>, out: &mut Out) {
+    put_named(name, design, out);
+    put_budget(budget, out);
+    out.put(match flag {
         Some(true) => " true",
         Some(false) => " false",
         None => "",
-    })
+    });
 }
 
 fn check_name(job: CheckJob) -> &'static str {
@@ -135,31 +183,47 @@ fn check_name(job: CheckJob) -> &'static str {
 }
 
 /// Writes the front of a file of the generated design of a size, for a row as in `1 bus.json 80`, or the fault of the size.
-pub fn files(alloc: Global, row: &str, out: &mut String) -> Result<(), Unfit> {
+pub fn files(alloc: Global, row: &str, out: &mut Out) {
+    match wanted_of(row) {
+        Some(wanted) => put_file(alloc, wanted, out),
+        None => out.refuse(),
+    }
+}
+
+// A size, the name of a file, and how many bytes of the file are written.
+#[derive(Clone, Copy)]
+struct Wanted<'a> {
+    size: u32,
+    name: &'a str,
+    count: usize,
+}
+
+fn wanted_of(row: &str) -> Option<Wanted<'_>> {
     let mut words = row.split(' ');
-    let size = short_in(words.next().ok_or(())?).ok_or(())?;
-    let name = words.next().ok_or(())?;
-    let count = words.next().ok_or(())?.parse::<usize>()?;
-    match make(alloc, size) {
+    Some(Wanted {
+        size: short_in(words.next()?)?,
+        name: words.next()?,
+        count: words.next()?.parse::<usize>().ok()?,
+    })
+}
+
+fn put_file(alloc: Global, wanted: Wanted<'_>, out: &mut Out) {
+    match make(alloc, wanted.size) {
         Ok(mut shelf) => {
-            let put = put_front(alloc, &mut shelf, name, count, out);
+            put_front(alloc, &mut shelf, wanted, out);
             drop(shelf);
-            put
         }
-        Err(fault) => Ok(write!(out, "{fault}")?),
+        Err(fault) => out.put_shown(&fault),
     }
 }
 
 // Writes the front of a file.
-fn put_front(
-    alloc: Global,
-    shelf: &mut ShelfMem,
-    name: &str,
-    count: usize,
-    out: &mut String,
-) -> Result<(), Unfit> {
-    match shelf.fetch(alloc, name, FILE_LIMIT) {
-        Ok(bytes) => put_bytes(bytes.as_slice().get(..count).unwrap_or(&bytes), out),
-        Err(fault) => Ok(write!(out, "{fault}")?),
+fn put_front(alloc: Global, shelf: &mut ShelfMem, wanted: Wanted<'_>, out: &mut Out) {
+    match shelf.fetch(alloc, wanted.name, FILE_LIMIT) {
+        Ok(bytes) => {
+            put_bytes(bytes.as_slice().get(..wanted.count).unwrap_or(&bytes), out);
+            drop(bytes);
+        }
+        Err(fault) => out.put_shown(&fault),
     }
 }

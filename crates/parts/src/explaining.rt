@@ -1,7 +1,10 @@
 //! Why a bound is what it is: chains of edges that times meet with equality, and the constraints that lines of a proof name.
 
-use crate::proof_lines::{put_line, take_text};
-use crate::unfit::Unfit;
+ghost use Rattle.std.specs.Prelude.{◌≡◌, ◌<◌, All, length};
+ghost use Rattle.event_graph.specs.Times.{IsTime};
+
+use crate::out::Out;
+use crate::proof_lines::{is_taken, put_line};
 use crate::writing::{are_times, numbers_of, put_flags};
 use chains::{Chains, Marking};
 use event_graph::{Line, Network};
@@ -10,55 +13,84 @@ use line_words::short_in;
 use std::alloc::Global;
 
 /// Writes the chain from an event to another at some times, or that there is none, for a row as in `1 2 -100 0 600`.
-pub fn chain(alloc: Global, net: &Network, row: &str, out: &mut String) -> Result<(), Unfit> {
-    let (from, row) = row.split_once(' ').ok_or(())?;
-    let (to, row) = row.split_once(' ').ok_or(())?;
-    let from = short_in(from).ok_or(())?;
-    let to = short_in(to).ok_or(())?;
-    let times = numbers_of(alloc, row)?;
-    if net.events() <= from || net.events() <= to || times.len() != net.events() as usize {
-        return Err(Unfit);
+pub fn chain(alloc: Global, net: &Network, row: &str, out: &mut Out) {
+    match pair_of(row) {
+        Some((from, to, times)) if from.0 < net.events() && to.0 < net.events() => {
+            chain_of(alloc, net, from, to, times, out)
+        }
+        _ => out.refuse(),
     }
-    if !are_times(&times) {
-        return Err(Unfit);
-    }
-    let mut chains = Chains::new(alloc, net)?;
-    let put = if chains.find(net, &times, EventId(from), EventId(to)) {
-        put_line(alloc, &Line::Path(chains.names()), out)
-    } else {
-        put_none(out)
-    };
-    drop(chains);
-    put
 }
 
-fn put_none(out: &mut String) -> Result<(), Unfit> {
-    Ok(out.push_str("none")?)
+// The two events of a row, and the text of its times.
+fn pair_of(row: &str) -> Option<(EventId, EventId, &str)> {
+    let (from, row) = row.split_once(' ')?;
+    let (to, row) = row.split_once(' ')?;
+    Some((EventId(short_in(from)?), EventId(short_in(to)?), row))
+}
+
+// Writes the chain of a pair at the times of a text.
+fn chain_of(alloc: Global, net: &Network, from: EventId, to: EventId, text: &str, out: &mut Out)
+    requires from { from.0 < net.now.events }
+    requires to { to.0 < net.now.events }
+{
+    match numbers_of(alloc, text) {
+        Some(times) => {
+            if times.len() == net.events() as usize && are_times(&times) {
+                chain_at(alloc, net, from, to, &times, out);
+            } else {
+                out.refuse();
+            }
+            drop(times);
+        }
+        None => out.refuse(),
+    }
+}
+
+// Writes the chain of a pair at some times.
+fn chain_at(alloc: Global, net: &Network, from: EventId, to: EventId, times: &[i64], out: &mut Out)
+    requires from { from.0 < net.now.events }
+    requires to { to.0 < net.now.events }
+    requires count { length times.now ≡ net.now.events }
+    requires times { All IsTime times.now }
+{
+    match Chains::new(alloc, net) {
+        Ok(mut chains) => {
+            if chains.find(net, times, from, to) {
+                put_line(alloc, &Line::Path(chains.names()), out);
+            } else {
+                out.put("none");
+            }
+            drop(chains);
+        }
+        Err(_) => out.refuse(),
+    }
 }
 
 /// Gives the lines of a proof to a scribe that marks the constraints that they name, and writes the marks after each. The row `begin` begins a
 /// proof.
-pub fn marks(alloc: Global, net: &Network, rows: &str, out: &mut String) -> Result<(), Unfit> {
-    let mut marking = Marking::new(alloc, net)?;
-    let put = mark_all(alloc, &mut marking, rows, out);
-    drop(marking);
-    put
+pub fn marks(alloc: Global, net: &Network, rows: &str, out: &mut Out) {
+    match Marking::new(alloc, net) {
+        Ok(mut marking) => {
+            mark_all(alloc, &mut marking, rows, out);
+            drop(marking);
+        }
+        Err(_) => out.refuse(),
+    }
 }
 
-fn mark_all(
-    alloc: Global,
-    marking: &mut Marking,
-    rows: &str,
-    out: &mut String,
-) -> Result<(), Unfit> {
+fn mark_all(alloc: Global, marking: &mut Marking, rows: &str, out: &mut Out) {
     for row in rows.lines() {
-        if row == "begin" {
-            marking.begin();
-        } else {
-            take_text(alloc, row, marking)?;
-        }
-        put_flags(marking.marks(), out)?;
-        out.push_str("\n")?;
+        mark(alloc, marking, row, out);
+        put_flags(marking.marks(), out);
+        out.put("\n");
     }
-    Ok(())
+}
+
+fn mark(alloc: Global, marking: &mut Marking, row: &str, out: &mut Out) {
+    if row == "begin" {
+        marking.begin();
+    } else if !is_taken(alloc, row, marking) {
+        out.refuse();
+    }
 }

@@ -14,6 +14,7 @@ mod explaining;
 mod falls;
 mod labels;
 mod networks;
+mod out;
 mod proof_lines;
 mod reports;
 mod satisfying;
@@ -25,7 +26,9 @@ mod verdicts;
 mod waves;
 mod writing;
 
+use event_graph::Network;
 use networks::network;
+use out::Out;
 use std::alloc::Global;
 use std::io;
 use std::process::ExitCode;
@@ -42,49 +45,52 @@ fn main(rt: HostRuntime) -> ExitCode {
 fn run(rt: &(impl Input + Print + AllocGlobal)) -> Result<(), Unfit> {
     let text = io::read_to_string(rt.alloc(), rt.reader())?;
     for case in text.as_str().split("\n= ").skip(1) {
-        let mut out = String::new(rt.alloc());
-        answer_case(rt.alloc(), case, &mut out)?;
+        let mut out = Out::new(rt.alloc());
+        answer_case(rt.alloc(), case, &mut out);
+        if out.is_unfit() {
+            return Err(Unfit);
+        }
         rt.print(out.as_str())?;
     }
     Ok(())
 }
 
 // Answers a case: its head again, and then its rows.
-fn answer_case(alloc: Global, case: &str, out: &mut String) -> Result<(), Unfit> {
+fn answer_case(alloc: Global, case: &str, out: &mut Out) {
     let (head, body) = case.split_once('\n').unwrap_or((case, ""));
     let verb = head.split(':').next().unwrap_or("");
-    out.push_str("= ")?;
-    out.push_str(head)?;
-    out.push_str("\n")?;
-    let subject = lines_of(alloc, body, true)?;
-    let rows = lines_of(alloc, body, false)?;
-    if let Err(Unfit) = answer(alloc, verb, subject.as_str(), rows.as_str(), out) {
-        out.push_str("unfit\n")?;
+    out.put("= ");
+    out.put(head);
+    out.put("\n");
+    let subject = lines_of(alloc, body, true);
+    let rows = lines_of(alloc, body, false);
+    if subject.is_unfit() || rows.is_unfit() {
+        out.refuse();
     }
-    Ok(())
+    answer(alloc, verb, subject.as_str(), rows.as_str(), out);
+    drop(subject);
+    drop(rows);
+    if out.is_unfit() {
+        out.end_row();
+        out.put("\n");
+    }
 }
 
 // The lines of a case that begin with a bar, without it; or the other lines without the remarks.
-fn lines_of(alloc: Global, body: &str, is_subject: bool) -> Result<String, Unfit> {
-    let mut lines = String::new(alloc);
+fn lines_of(alloc: Global, body: &str, is_subject: bool) -> Out {
+    let mut lines = Out::new(alloc);
     for line in body.lines() {
         let text = line.strip_prefix('|');
         if text.is_some() == is_subject && !line.starts_with('#') {
-            lines.push_str(text.unwrap_or(line))?;
-            lines.push_str("\n")?;
+            lines.put(text.unwrap_or(line));
+            lines.put("\n");
         }
     }
-    Ok(lines)
+    lines
 }
 
 // Answers the rows of a case, together if each row goes on where the row before it ended.
-fn answer(
-    alloc: Global,
-    verb: &str,
-    subject: &str,
-    rows: &str,
-    out: &mut String,
-) -> Result<(), Unfit> {
+fn answer(alloc: Global, verb: &str, subject: &str, rows: &str, out: &mut Out) {
     match verb {
         "trail" => stacks::trail(alloc, rows, out),
         "tree" => proof_lines::tree(alloc, rows, out),
@@ -97,50 +103,30 @@ fn answer(
 }
 
 // Answers the rows of a verb about a network together.
-fn answer_over(
-    alloc: Global,
-    verb: &str,
-    subject: &str,
-    rows: &str,
-    out: &mut String,
-) -> Result<(), Unfit> {
-    let net = network(alloc, subject, out)?;
-    let answered = match verb {
-        "bounds" => bounds::levels(alloc, &net, rows, out),
-        "check" => checking::check(alloc, &net, rows, out),
-        "clauses" => clause_lines::clauses(alloc, &net, rows, out),
-        "fall lines" => falls::lines(alloc, &net, rows, out),
-        _ => explaining::marks(alloc, &net, rows, out),
-    };
-    drop(net);
-    answered
+fn answer_over(alloc: Global, verb: &str, subject: &str, rows: &str, out: &mut Out) {
+    if let Some(net) = network(alloc, subject, out) {
+        match verb {
+            "bounds" => bounds::levels(alloc, &net, rows, out),
+            "check" => checking::check(alloc, &net, rows, out),
+            "clauses" => clause_lines::clauses(alloc, &net, rows, out),
+            "fall lines" => falls::lines(alloc, &net, rows, out),
+            _ => explaining::marks(alloc, &net, rows, out),
+        }
+        drop(net);
+    }
 }
 
 // Answers rows one by one.
-fn answer_each(
-    alloc: Global,
-    verb: &str,
-    subject: &str,
-    rows: &str,
-    out: &mut String,
-) -> Result<(), Unfit> {
+fn answer_each(alloc: Global, verb: &str, subject: &str, rows: &str, out: &mut Out) {
     for row in rows.lines() {
-        if let Err(Unfit) = answer_row(alloc, verb, subject, row, out) {
-            out.push_str("unfit")?;
-        }
-        out.push_str("\n")?;
+        answer_row(alloc, verb, subject, row, out);
+        out.end_row();
+        out.put("\n");
     }
-    Ok(())
 }
 
 // Answers a row of a verb that needs no network of a subject.
-fn answer_row(
-    alloc: Global,
-    verb: &str,
-    subject: &str,
-    row: &str,
-    out: &mut String,
-) -> Result<(), Unfit> {
+fn answer_row(alloc: Global, verb: &str, subject: &str, row: &str, out: &mut Out) {
     match verb {
         "kind" => waves::kind(row, out),
         "join" => waves::join(row, out),
@@ -166,27 +152,15 @@ fn answer_row(
 }
 
 // Answers a row of a verb about a network.
-fn answer_row_over(
-    alloc: Global,
-    verb: &str,
-    subject: &str,
-    row: &str,
-    out: &mut String,
-) -> Result<(), Unfit> {
-    let net = network(alloc, subject, out)?;
-    let answered = answer_of(alloc, &net, verb, row, out);
-    drop(net);
-    answered
+fn answer_row_over(alloc: Global, verb: &str, subject: &str, row: &str, out: &mut Out) {
+    if let Some(net) = network(alloc, subject, out) {
+        answer_of(alloc, &net, verb, row, out);
+        drop(net);
+    }
 }
 
 // The same over the network that was read.
-fn answer_of(
-    alloc: Global,
-    net: &event_graph::Network,
-    verb: &str,
-    row: &str,
-    out: &mut String,
-) -> Result<(), Unfit> {
+fn answer_of(alloc: Global, net: &Network, verb: &str, row: &str, out: &mut Out) {
     match verb {
         "broken" => satisfying::broken(alloc, net, row, out),
         "edge" => satisfying::edge(alloc, net, row, out),
@@ -199,6 +173,6 @@ fn answer_of(
         "extremes" => searches::extremes(alloc, net, row, out),
         "chain" => explaining::chain(alloc, net, row, out),
         "along" => bounds::along(alloc, net, row, out),
-        _ => Err(Unfit),
+        _ => out.refuse(),
     }
 }

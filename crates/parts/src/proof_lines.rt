@@ -5,7 +5,7 @@ ghost use Rattle.itv_base.specs.Outside.{grown};
 ghost use Rattle.event_graph.specs.Proof.{Split};
 ghost use Rattle.certificate.specs.Text.{proof_text};
 
-use crate::unfit::Unfit;
+use crate::out::Out;
 use crate::writing::{bytes_of, put_bytes, put_taken};
 use certificate::{LineFault, SinkScribe, TreeScribe, read_line, write_line};
 use event_graph::{Line, Scribe, ScribeFailed};
@@ -14,90 +14,167 @@ use line_words::{LineBuffer, short_in};
 use std::alloc::Global;
 
 /// Writes a line of a proof again, or that the text is none.
-pub fn line(alloc: Global, row: &str, out: &mut String) -> Result<(), Unfit> {
-    match read_line(alloc, &bytes_of(alloc, row)?) {
-        Ok(line) => put_line(alloc, &line.line(), out),
-        Err(LineFault::BadLine) => Ok(out.push_str("bad line")?),
-        Err(LineFault::NoMemory) => Err(Unfit),
+pub fn line(alloc: Global, row: &str, out: &mut Out) {
+    match bytes_of(alloc, row) {
+        Some(bytes) => {
+            put_again(alloc, &bytes, out);
+            drop(bytes);
+        }
+        None => out.refuse(),
+    }
+}
+
+fn put_again(alloc: Global, bytes: &[u8], out: &mut Out) {
+    match read_line(alloc, bytes) {
+        Ok(line) => {
+            put_line(alloc, &line.line(), out);
+            drop(line);
+        }
+        Err(LineFault::BadLine) => out.put("bad line"),
+        Err(LineFault::NoMemory) => out.refuse(),
     }
 }
 
 /// Writes a line of a proof with its line end.
-pub fn put_line(alloc: Global, line: &Line<'_>, out: &mut String) -> Result<(), Unfit> {
-    let mut sink = SinkMem::new(alloc, 10_000)?;
-    write_line(line, &mut sink)?;
-    put_bytes(sink.bytes(), out)
+pub fn put_line(alloc: Global, line: &Line<'_>, out: &mut Out) {
+    match SinkMem::new(alloc, 10_000) {
+        Ok(mut sink) => {
+            put_through(line, &mut sink, out);
+            drop(sink);
+        }
+        Err(_) => out.refuse(),
+    }
+}
+
+fn put_through(line: &Line<'_>, sink: &mut SinkMem, out: &mut Out) {
+    match write_line(line, sink) {
+        Ok(()) => put_bytes(sink.bytes(), out),
+        Err(_) => out.refuse(),
+    }
 }
 
 /// Writes the lines of the subject by a scribe whose buffer has this room.
-pub fn scribe(alloc: Global, subject: &str, row: &str, out: &mut String) -> Result<(), Unfit> {
-    let mut buffer = LineBuffer::new(alloc, short_in(row).ok_or(())?)?;
-    let mut sink = SinkMem::new(alloc, 200)?;
-    for line in subject.lines() {
-        let scribe = &mut SinkScribe {
-            buffer: &mut buffer,
-            sink: &mut sink,
-        };
-        take_text(alloc, line, scribe)?;
+pub fn scribe(alloc: Global, subject: &str, row: &str, out: &mut Out) {
+    match buffer_of(alloc, row) {
+        Some(mut buffer) => {
+            scribe_by(alloc, subject, &mut buffer, out);
+            drop(buffer);
+        }
+        None => out.refuse(),
     }
-    put_bytes(sink.bytes(), out)
 }
 
-/// Gives the line with this text to a scribe.
-pub fn take_text<S: Scribe>(alloc: Global, text: &str, scribe: &mut S) -> Result<(), Unfit> {
-    match read_line(alloc, text.as_bytes())?.line() {
-        Line::Split(constraint) => scribe.split(constraint)?,
-        Line::Path(edges) => scribe.cut_path(edges)?,
-        Line::Loop(edges) => scribe.cut_loop(edges)?,
+fn buffer_of(alloc: Global, row: &str) -> Option<LineBuffer> {
+    LineBuffer::new(alloc, short_in(row)?).ok()
+}
+
+// Writes lines to a sink by a scribe with this buffer.
+fn scribe_by(alloc: Global, lines: &str, buffer: &mut LineBuffer, out: &mut Out) {
+    match SinkMem::new(alloc, 200) {
+        Ok(mut sink) => {
+            let scribe = &mut SinkScribe {
+                buffer,
+                sink: &mut sink,
+            };
+            give_all(alloc, lines, scribe, out);
+            put_bytes(sink.bytes(), out);
+            drop(sink);
+        }
+        Err(_) => out.refuse(),
     }
-    Ok(())
+}
+
+fn give_all<S: Scribe>(alloc: Global, lines: &str, scribe: &mut S, out: &mut Out) {
+    for line in lines.lines() {
+        if !is_taken(alloc, line, scribe) {
+            out.refuse();
+        }
+    }
+}
+
+/// Gives the line with this text to a scribe. Whether there is such a line, and the scribe takes it.
+pub fn is_taken<S: Scribe>(alloc: Global, text: &str, scribe: &mut S) -> bool {
+    match read_line(alloc, text.as_bytes()) {
+        Ok(line) => {
+            let taken = give(&line.line(), scribe);
+            drop(line);
+            taken.is_ok()
+        }
+        Err(_) => false,
+    }
+}
+
+fn give<S: Scribe>(line: &Line<'_>, scribe: &mut S) -> Result<(), ScribeFailed> {
+    match *line {
+        Line::Split(constraint) => scribe.split(constraint),
+        Line::Path(edges) => scribe.cut_path(edges),
+        Line::Loop(edges) => scribe.cut_loop(edges),
+    }
 }
 
 /// Gives lines to a scribe that keeps four lines and five edges. The row `clear` empties the scribe, and `show` writes what it has.
-pub fn tree(alloc: Global, rows: &str, out: &mut String) -> Result<(), Unfit> {
-    let mut tree = TreeScribe::new(alloc, 4, 5)?;
-    let put = keep_all(alloc, &mut tree, rows, out);
-    drop(tree);
-    put
+pub fn tree(alloc: Global, rows: &str, out: &mut Out) {
+    match TreeScribe::new(alloc, 4, 5) {
+        Ok(mut tree) => {
+            keep_all(alloc, &mut tree, rows, out);
+            drop(tree);
+        }
+        Err(_) => out.refuse(),
+    }
 }
 
-fn keep_all(
-    alloc: Global,
-    tree: &mut TreeScribe,
-    rows: &str,
-    out: &mut String,
-) -> Result<(), Unfit> {
+fn keep_all(alloc: Global, tree: &mut TreeScribe, rows: &str, out: &mut Out) {
     for row in rows.lines() {
         match row {
             "clear" => tree.clear(),
-            "show" => put_tree(alloc, tree, out)?,
-            _ => out.push_str(match take_text(alloc, row, tree) {
-                Ok(()) => "kept\n",
-                Err(Unfit) => "refused\n",
-            })?,
+            "show" => put_tree(alloc, tree, out),
+            _ => out.put(if is_taken(alloc, row, tree) {
+                "kept\n"
+            } else {
+                "refused\n"
+            }),
         }
     }
-    Ok(())
 }
 
 /// Writes the lines that a scribe has kept, and their number.
-pub fn put_tree(alloc: Global, tree: &TreeScribe, out: &mut String) -> Result<(), Unfit> {
+pub fn put_tree(alloc: Global, tree: &TreeScribe, out: &mut Out) {
     for k in 0..tree.len() {
-        put_line(alloc, &tree.line(k), out)?;
+        put_line(alloc, &tree.line(k), out);
     }
-    Ok(())
 }
 
 /// Lends a sink of eight bytes to a scribe for each row, a split, and writes what the sink has then.
-pub fn lent(alloc: Global, rows: &str, out: &mut String) -> Result<(), Unfit> {
-    let mut buffer = LineBuffer::new(alloc, 100)?;
-    let mut sink = SinkMem::new(alloc, 8)?;
-    for row in rows.lines() {
-        let split = split_into(short_in(row).ok_or(())?, &mut buffer, &mut sink);
-        put_taken(split, out)?;
-        put_bytes(sink.bytes(), out)?;
+pub fn lent(alloc: Global, rows: &str, out: &mut Out) {
+    match LineBuffer::new(alloc, 100) {
+        Ok(mut buffer) => {
+            lend_all(alloc, rows, &mut buffer, out);
+            drop(buffer);
+        }
+        Err(_) => out.refuse(),
     }
-    Ok(())
+}
+
+fn lend_all(alloc: Global, rows: &str, buffer: &mut LineBuffer, out: &mut Out) {
+    match SinkMem::new(alloc, 8) {
+        Ok(mut sink) => {
+            for row in rows.lines() {
+                lend(row, buffer, &mut sink, out);
+            }
+            drop(sink);
+        }
+        Err(_) => out.refuse(),
+    }
+}
+
+fn lend(row: &str, buffer: &mut LineBuffer, sink: &mut SinkMem, out: &mut Out) {
+    match short_in(row) {
+        Some(constraint) => {
+            put_taken(split_into(constraint, buffer, sink), out);
+            put_bytes(sink.bytes(), out);
+        }
+        None => out.refuse(),
+    }
 }
 
 // The scribe's contract alone says what the sink has after a search with the scribe.

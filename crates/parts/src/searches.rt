@@ -1,29 +1,77 @@
 //! Greatest separations by searches over choices of causes, whatever the choices, and by both searches.
 
-ghost use Rattle.std.specs.Prelude.{◌<◌};
+ghost use Rattle.std.specs.Prelude.{◌<◌, IsTrue, IfSome};
 ghost use Rattle.branch.specs.Work.{IsMadeFor};
 ghost use Rattle.extremes.specs.Ready.{IsFor};
 
+use crate::out::Out;
 use crate::proof_lines::put_tree;
-use crate::unfit::Unfit;
-use crate::writing::{PairQuestion, asked_of, put_end};
+use crate::writing::{PairQuestion, asked_of};
 use branch::{GreatestAnswer, SearchFinding, Work, find, greatest};
 use certificate::TreeScribe;
 use event_graph::{Line, Network};
 use extremes::{Consistency, Extremes, Greatest};
 use settle::{Settled, Settler};
-use std::alloc::{AllocError, Global};
-use std::fmt::Write;
+use std::alloc::Global;
+
+// Whether both events of a pair are there.
+fn is_within(net: &Network, asked: PairQuestion<'_>) -> bool
+    ensures from { IsTrue result → asked.from.0 < net.now.events }
+    ensures to { IsTrue result → asked.to.0 < net.now.events }
+{
+    asked.from.0 < net.events() && asked.to.0 < net.events()
+}
+
+// A budget of at least 1.
+fn budget_of(number: i64) -> Option<u64>
+    ensures { IfSome result (λ budget. 0 < budget) }
+{
+    match u64::try_from(number) {
+        Ok(budget) if 0 < budget => Some(budget),
+        _ => None,
+    }
+}
 
 /// Searches a pair within a budget of cases, and writes what the word of the row asks for: the `answer`, the number of closed cases as `leaves`, the
 /// constraints that are split as `splits`, or the `proof` that no times satisfy.
-pub fn search(alloc: Global, net: &Network, row: &str, out: &mut String) -> Result<(), Unfit> {
-    let asked = asked_of(row)?;
-    let mut kept = TreeScribe::new(alloc, 1000, 10_000)?;
-    let mut work = Work::new(alloc, net)?;
-    let put = search_pair(alloc, net, &mut work, &mut kept, asked, out);
-    drop(work);
-    put
+pub fn search(alloc: Global, net: &Network, row: &str, out: &mut Out) {
+    match asked_of(row) {
+        Some(asked) if is_within(net, asked) => search_by(alloc, net, asked, out),
+        _ => out.refuse(),
+    }
+}
+
+fn search_by(alloc: Global, net: &Network, asked: PairQuestion<'_>, out: &mut Out)
+    requires from { asked.from.0 < net.now.events }
+    requires to { asked.to.0 < net.now.events }
+{
+    match TreeScribe::new(alloc, 1000, 10_000) {
+        Ok(mut kept) => {
+            search_kept(alloc, net, &mut kept, asked, out);
+            drop(kept);
+        }
+        Err(_) => out.refuse(),
+    }
+}
+
+// The same, with a scribe that keeps the proof.
+fn search_kept(
+    alloc: Global,
+    net: &Network,
+    kept: &mut TreeScribe,
+    asked: PairQuestion<'_>,
+    out: &mut Out,
+)
+    requires from { asked.from.0 < net.now.events }
+    requires to { asked.to.0 < net.now.events }
+{
+    match Work::new(alloc, net) {
+        Ok(mut work) => {
+            search_pair(alloc, net, &mut work, kept, asked, out);
+            drop(work);
+        }
+        Err(_) => out.refuse(),
+    }
 }
 
 fn search_pair(
@@ -32,105 +80,135 @@ fn search_pair(
     work: &mut Work,
     kept: &mut TreeScribe,
     asked: PairQuestion<'_>,
-    out: &mut String,
-) -> Result<(), Unfit>
+    out: &mut Out,
+)
     requires made { IsMadeFor net.now work.old }
+    requires from { asked.from.0 < net.now.events }
+    requires to { asked.to.0 < net.now.events }
 {
-    let PairQuestion {
-        word,
-        from,
-        to,
-        number,
-    } = asked;
-    let most = u64::try_from(number)?;
-    if net.events() <= from.0 || net.events() <= to.0 || most == 0 {
-        return Err(Unfit);
-    }
-    match find(work, net, most, kept)? {
-        SearchFinding::Consistent => {
+    let Some(most) = budget_of(asked.number) else {
+        out.refuse();
+        return;
+    };
+    match find(work, net, most, kept) {
+        Ok(SearchFinding::Consistent) => {
             kept.clear();
-            let answer = greatest(work, net, from, to, most, kept)?;
-            put_asked(word, work, kept, answer, out)?
+            match greatest(work, net, asked.from, asked.to, most, kept) {
+                Ok(answer) => put_asked(asked.word, work, kept, answer, out),
+                Err(_) => out.refuse(),
+            }
         }
-        SearchFinding::Unsettled => out.push_str("unsettled")?,
-        SearchFinding::Inconsistent if word == "proof" => put_tree(alloc, kept, out)?,
-        SearchFinding::Inconsistent => out.push_str("inconsistent")?,
+        Ok(SearchFinding::Unsettled) => out.put("unsettled"),
+        Ok(SearchFinding::Inconsistent) if asked.word == "proof" => put_tree(alloc, kept, out),
+        Ok(SearchFinding::Inconsistent) => out.put("inconsistent"),
+        Err(_) => out.refuse(),
     }
-    Ok(())
 }
 
-fn put_asked(
-    word: &str,
-    work: &Work,
-    kept: &TreeScribe,
-    answer: GreatestAnswer,
-    out: &mut String,
-) -> Result<(), AllocError> {
+fn put_asked(word: &str, work: &Work, kept: &TreeScribe, answer: GreatestAnswer, out: &mut Out) {
     match word {
         "answer" => put_answer(answer, out),
         "splits" => put_splits(kept, out),
-        _ => write!(out, "{}", work.leaves()),
+        _ => out.put_count(work.leaves()),
     }
 }
 
-fn put_answer(answer: GreatestAnswer, out: &mut String) -> Result<(), AllocError> {
+fn put_answer(answer: GreatestAnswer, out: &mut Out) {
     match answer {
-        GreatestAnswer::Closed(value) => write!(out, "closed {value}"),
-        GreatestAnswer::Unbounded => out.push_str("unbounded"),
+        GreatestAnswer::Closed(value) => put_closed(value, out),
+        GreatestAnswer::Unbounded => out.put("unbounded"),
         GreatestAnswer::Enclosed { upper, attained } => {
-            write!(out, "from {attained} to ")?;
-            put_end(upper, out)
+            out.put("from ");
+            out.put_number(attained);
+            out.put(" to ");
+            out.put_end(upper);
         }
     }
 }
 
-fn put_splits(kept: &TreeScribe, out: &mut String) -> Result<(), AllocError> {
+fn put_closed(value: i64, out: &mut Out) {
+    out.put("closed ");
+    out.put_number(value);
+}
+
+fn put_splits(kept: &TreeScribe, out: &mut Out) {
     for k in 0..kept.len() {
         if let Line::Split(constraint) = kept.line(k) {
-            write!(out, " {constraint}")?;
+            out.put(" ");
+            out.put_count(u64::from(constraint));
         }
     }
-    Ok(())
 }
 
 /// Writes the greatest separation of a pair whatever the choices.
-pub fn settle(alloc: Global, net: &Network, row: &str, out: &mut String) -> Result<(), Unfit> {
-    let asked = asked_of(row)?;
-    if net.events() <= asked.from.0 || net.events() <= asked.to.0 {
-        return Err(Unfit);
+pub fn settle(alloc: Global, net: &Network, row: &str, out: &mut Out) {
+    match asked_of(row) {
+        Some(asked) if is_within(net, asked) => settle_pair(alloc, net, asked, out),
+        _ => out.refuse(),
     }
-    let turns = u64::try_from(asked.number)?;
-    let settler = Settler::new(alloc, net)?;
-    let found = settler.greatest(alloc, net, asked.from, asked.to, turns);
-    drop(settler);
-    let found = found?;
-    let answer = found.answer;
-    drop(found);
-    Ok(put_settled(answer, out)?)
 }
 
-fn put_settled(answer: Settled, out: &mut String) -> Result<(), AllocError> {
+fn settle_pair(alloc: Global, net: &Network, asked: PairQuestion<'_>, out: &mut Out)
+    requires from { asked.from.0 < net.now.events }
+    requires to { asked.to.0 < net.now.events }
+{
+    let (Ok(turns), Ok(settler)) = (u64::try_from(asked.number), Settler::new(alloc, net)) else {
+        out.refuse();
+        return;
+    };
+    let found = settler.greatest(alloc, net, asked.from, asked.to, turns);
+    drop(settler);
+    match found {
+        Ok(found) => {
+            let answer = found.answer;
+            drop(found);
+            put_settled(answer, out);
+        }
+        Err(_) => out.refuse(),
+    }
+}
+
+fn put_settled(answer: Settled, out: &mut Out) {
     match answer {
-        Settled::Closed(value) => write!(out, "closed {value}"),
-        Settled::Unbounded => out.push_str("unbounded"),
-        Settled::Inconsistent => out.push_str("inconsistent"),
-        Settled::Spent => out.push_str("spent"),
+        Settled::Closed(value) => put_closed(value, out),
+        Settled::Unbounded => out.put("unbounded"),
+        Settled::Inconsistent => out.put("inconsistent"),
+        Settled::Spent => out.put("spent"),
     }
 }
 
 /// Writes the greatest separation of a pair by both searches. The word of the row is how many cases the first one may close, and its number how many
 /// turns the second one may take.
-pub fn extremes(alloc: Global, net: &Network, row: &str, out: &mut String) -> Result<(), Unfit> {
-    let asked = asked_of(row)?;
-    let budget = asked.word.parse::<u64>()?;
-    let turns = u64::try_from(asked.number)?;
-    if net.events() <= asked.from.0 || net.events() <= asked.to.0 || budget == 0 {
-        return Err(Unfit);
+pub fn extremes(alloc: Global, net: &Network, row: &str, out: &mut Out) {
+    match asked_of(row) {
+        Some(asked) if is_within(net, asked) => extremes_by(alloc, net, asked, out),
+        _ => out.refuse(),
     }
-    let mut extremes = Extremes::new(alloc, net, budget, turns)?;
-    let put = extremes_of(alloc, net, asked, &mut extremes, out);
-    drop(extremes);
-    put
+}
+
+fn extremes_by(alloc: Global, net: &Network, asked: PairQuestion<'_>, out: &mut Out)
+    requires from { asked.from.0 < net.now.events }
+    requires to { asked.to.0 < net.now.events }
+{
+    match extremes_for(alloc, net, asked) {
+        Some(mut extremes) => {
+            extremes_of(alloc, net, asked, &mut extremes, out);
+            drop(extremes);
+        }
+        None => out.refuse(),
+    }
+}
+
+// Both searches, with what the row gives them.
+fn extremes_for(alloc: Global, net: &Network, asked: PairQuestion<'_>) -> Option<Extremes>
+    ensures { IfSome result (IsFor net.now) }
+{
+    let budget = asked.word.parse::<u64>().ok()?;
+    let turns = u64::try_from(asked.number).ok()?;
+    if budget == 0 {
+        return None;
+    }
+    Extremes::new(alloc, net, budget, turns).ok()
 }
 
 fn extremes_of(
@@ -138,27 +216,30 @@ fn extremes_of(
     net: &Network,
     asked: PairQuestion<'_>,
     extremes: &mut Extremes,
-    out: &mut String,
-) -> Result<(), Unfit>
+    out: &mut Out,
+)
     requires made { IsFor net.now extremes.old }
     requires from { asked.from.0 < net.now.events }
     requires to { asked.to.0 < net.now.events }
 {
-    match extremes.find(alloc, net)? {
-        Consistency::Consistent => {
-            let found = extremes.greatest(alloc, net, asked.from, asked.to)?;
-            put_greatest(&found, out)?
-        }
-        Consistency::Inconsistent => out.push_str("inconsistent")?,
-        Consistency::Open => out.push_str("open")?,
+    match extremes.find(alloc, net) {
+        Ok(Consistency::Consistent) => match extremes.greatest(alloc, net, asked.from, asked.to) {
+            Ok(found) => {
+                put_greatest(&found, out);
+                drop(found);
+            }
+            Err(_) => out.refuse(),
+        },
+        Ok(Consistency::Inconsistent) => out.put("inconsistent"),
+        Ok(Consistency::Open) => out.put("open"),
+        Err(_) => out.refuse(),
     }
-    Ok(())
 }
 
-fn put_greatest(found: &Greatest, out: &mut String) -> Result<(), AllocError> {
+fn put_greatest(found: &Greatest, out: &mut Out) {
     match found {
-        Greatest::Closed { value, .. } => write!(out, "closed {value}"),
-        Greatest::Unbounded => out.push_str("unbounded"),
-        Greatest::Open => out.push_str("open"),
+        Greatest::Closed { value, .. } => put_closed(*value, out),
+        Greatest::Unbounded => out.put("unbounded"),
+        Greatest::Open => out.put("open"),
     }
 }

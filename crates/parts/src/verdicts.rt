@@ -1,45 +1,59 @@
 //! Verdicts and slacks by two bounds, and times that are raised past an end.
 
 ghost use Rattle.std.specs.Prelude.{IsTrue};
+ghost use Rattle.event_graph.specs.Times.{IsTime};
 ghost use Rattle.requirements.specs.Bounds.{HasTimes};
 
-use crate::unfit::Unfit;
-use crate::writing::{is_time, put_end, put_numbers, range_of};
-use itv_base::EventId;
+use crate::out::Out;
+use crate::writing::{is_time, put_numbers, range_of};
+use itv_base::{EventId, Range};
 use line_words::{long_in, open_in};
 use requirements::{BothBounds, Bound, Verdict, judge, raise_past, slack};
 
 /// Writes the verdict and the two slacks of a range, a least and a greatest bound, as in `0:250 0 250`.
-pub fn verdict(row: &str, out: &mut String) -> Result<(), Unfit> {
-    let mut words = row.split(' ');
-    let range = range_of(words.next().ok_or(())?)?;
-    let least = bound_of(words.next().ok_or(())?)?;
-    let greatest = bound_of(words.next().ok_or(())?)?;
-    if !has_times(least) || !has_times(greatest) {
-        return Err(Unfit);
+pub fn verdict(row: &str, out: &mut Out) {
+    match judged_of(row) {
+        Some((range, both)) if has_times(both.least) && has_times(both.greatest) => {
+            put_verdict(range, both, out)
+        }
+        _ => out.refuse(),
     }
-    let both = BothBounds { least, greatest };
+}
+
+// The range and the two bounds of a row.
+fn judged_of(row: &str) -> Option<(Range, BothBounds)> {
+    let mut words = row.split(' ');
+    let range = range_of(words.next()?)?;
+    let least = bound_of(words.next()?)?;
+    let greatest = bound_of(words.next()?)?;
+    Some((range, BothBounds { least, greatest }))
+}
+
+fn put_verdict(range: Range, both: BothBounds, out: &mut Out)
+    requires least { HasTimes both.least }
+    requires greatest { HasTimes both.greatest }
+{
     let slack = slack(range, &both);
-    out.push_str(match judge(range, &both) {
+    out.put(match judge(range, &both) {
         Verdict::Pass => "pass ",
         Verdict::FailHigh => "fail high ",
         Verdict::FailLow => "fail low ",
         Verdict::Undecided => "undecided ",
-    })?;
-    put_end(slack.low, out)?;
-    out.push_str(" ")?;
-    Ok(put_end(slack.high, out)?)
+    });
+    out.put_end(slack.low);
+    out.put(" ");
+    out.put_end(slack.high);
 }
 
 // A bound: a number, a star for an unbounded one, or the limit and the attained separation of an open one, as in `251:7`.
-fn bound_of(word: &str) -> Result<Bound, Unfit> {
+fn bound_of(word: &str) -> Option<Bound> {
     match word.split_once(':') {
-        Some((limit, attained)) => Ok(Bound::Within {
-            limit: open_in(limit).ok_or(())?,
-            attained: open_in(attained).ok_or(())?,
+        Some((limit, attained)) => Some(Bound::Within {
+            limit: open_in(limit)?,
+            attained: open_in(attained)?,
         }),
-        None if word == "*" => Ok(Bound::Unbounded),
-        None => Ok(Bound::Closed(long_in(word).ok_or(())?)),
+        None if word == "*" => Some(Bound::Unbounded),
+        None => Some(Bound::Closed(long_in(word)?)),
     }
 }
 
@@ -56,11 +70,16 @@ fn has_times(bound: Bound) -> bool
 }
 
 /// Writes the times 0, 5, 7 and 0 after events 1 and 3 are raised, until event 1 comes past this limit after event 0.
-pub fn raise(row: &str, out: &mut String) -> Result<(), Unfit> {
-    let limit = long_in(row).ok_or(())?;
-    if !is_time(limit) {
-        return Err(Unfit);
+pub fn raise(row: &str, out: &mut Out) {
+    match long_in(row) {
+        Some(limit) if is_time(limit) => put_raised(limit, out),
+        _ => out.refuse(),
     }
+}
+
+fn put_raised(limit: i64, out: &mut Out)
+    requires { IsTime limit }
+{
     let mut times = [0, 5, 7, 0];
     raise_past(
         &mut times,
@@ -69,5 +88,5 @@ pub fn raise(row: &str, out: &mut String) -> Result<(), Unfit> {
         EventId(1),
         limit,
     );
-    Ok(put_numbers(&times, out)?)
+    put_numbers(&times, out);
 }

@@ -3,11 +3,11 @@
 ghost use Rattle.std.specs.Prelude.{IsTrue, All};
 ghost use Rattle.event_graph.specs.Times.{IsTime};
 
-use crate::unfit::Unfit;
+use crate::out::Out;
 use itv_base::{EventId, Range};
 use line_words::{long_in, open_in, short_in};
-use std::alloc::{AllocError, Global};
-use std::fmt::{Display, Write};
+use std::alloc::Global;
+use std::fmt::Display;
 
 /// What a row asks about a pair of events: a word for what to print, the pair, and a budget or another number.
 #[derive(Clone, Copy)]
@@ -19,31 +19,33 @@ pub struct PairQuestion<'a> {
 }
 
 /// Reads a row as in `answer 0 2 100`.
-pub fn asked_of(row: &str) -> Result<PairQuestion<'_>, Unfit> {
+pub fn asked_of(row: &str) -> Option<PairQuestion<'_>> {
     let mut words = row.split(' ');
-    Ok(PairQuestion {
-        word: words.next().ok_or(())?,
-        from: EventId(short_in(words.next().ok_or(())?).ok_or(())?),
-        to: EventId(short_in(words.next().ok_or(())?).ok_or(())?),
-        number: long_in(words.next().ok_or(())?).ok_or(())?,
+    Some(PairQuestion {
+        word: words.next()?,
+        from: EventId(short_in(words.next()?)?),
+        to: EventId(short_in(words.next()?)?),
+        number: long_in(words.next()?)?,
     })
 }
 
 /// The range with two ends as in `-5:*`. A star is an open end.
-pub fn range_of(ends: &str) -> Result<Range, Unfit> {
-    let (low, high) = ends.split_once(':').ok_or(())?;
-    let low = open_in(low).ok_or(())?;
-    let high = open_in(high).ok_or(())?;
-    Ok(Range::new(low, high)?)
+pub fn range_of(ends: &str) -> Option<Range> {
+    let (low, high) = ends.split_once(':')?;
+    Range::new(open_in(low)?, open_in(high)?).ok()
 }
 
 /// Numbers with a space between two. A star is the greatest number of 64 bits.
-pub fn numbers_of(alloc: Global, text: &str) -> Result<Vec<i64>, Unfit> {
+pub fn numbers_of(alloc: Global, text: &str) -> Option<Vec<i64>> {
     let mut numbers = Vec::new(alloc);
     for word in text.split_whitespace() {
-        numbers.push(open_in(word).ok_or(())?.unwrap_or(i64::MAX))?;
+        numbers.push(number_of(word)?).ok()?;
     }
-    Ok(numbers)
+    Some(numbers)
+}
+
+fn number_of(word: &str) -> Option<i64> {
+    Some(open_in(word)?.unwrap_or(i64::MAX))
 }
 
 /// Whether a number is below 2^61 in absolute value.
@@ -63,74 +65,67 @@ pub fn are_times(values: &[i64]) -> bool
 }
 
 /// The bytes of a text. A line end is written `\n`, a carriage return `\r`, a space `\s`, and the byte 255, which is in no text, `\x`.
-pub fn bytes_of(alloc: Global, text: &str) -> Result<Vec<u8>, Unfit> {
+pub fn bytes_of(alloc: Global, text: &str) -> Option<Vec<u8>> {
     let mut bytes = Vec::new(alloc);
     let mut is_escape = false;
     for byte in text.bytes() {
-        let meant = match (is_escape, byte) {
-            (true, b'n') => b'\n',
-            (true, b'r') => b'\r',
-            (true, b's') => b' ',
-            (true, b'x') => 255,
-            _ => byte,
-        };
+        let meant = meant_by(is_escape, byte);
         is_escape = !is_escape && byte == b'\\';
         if !is_escape {
-            bytes.push(meant)?;
+            bytes.push(meant).ok()?;
         }
     }
-    Ok(bytes)
+    Some(bytes)
 }
 
-/// Writes an end of a range, or a star if it is open.
-pub fn put_end(end: Option<i64>, out: &mut String) -> Result<(), AllocError> {
-    match end {
-        Some(value) => write!(out, "{value}"),
-        None => out.push_str("*"),
+// The byte that a byte means, which may stand behind a backslash.
+fn meant_by(is_escape: bool, byte: u8) -> u8 {
+    match (is_escape, byte) {
+        (true, b'n') => b'\n',
+        (true, b'r') => b'\r',
+        (true, b's') => b' ',
+        (true, b'x') => 255,
+        _ => byte,
     }
 }
 
 /// Writes a range as in `[-5,*]`.
-pub fn put_range(range: Range, out: &mut String) -> Result<(), AllocError> {
-    out.push_str("[")?;
-    put_end(range.low(), out)?;
-    out.push_str(",")?;
-    put_end(range.high(), out)?;
-    out.push_str("]")
+pub fn put_range(range: Range, out: &mut Out) {
+    out.put("[");
+    out.put_end(range.low());
+    out.put(",");
+    out.put_end(range.high());
+    out.put("]");
 }
 
 /// Writes numbers with a space between two, and a star for the greatest number of 64 bits.
-pub fn put_numbers(numbers: &[i64], out: &mut String) -> Result<(), AllocError> {
+pub fn put_numbers(numbers: &[i64], out: &mut Out) {
     for (place, &number) in numbers.iter().enumerate() {
-        out.push_str(if place == 0 { "" } else { " " })?;
-        put_end((number != i64::MAX).then_some(number), out)?;
+        out.put(if place == 0 { "" } else { " " });
+        out.put_end((number != i64::MAX).then_some(number));
     }
-    Ok(())
 }
 
 /// Writes a 1 for each flag that is set, and a 0 for each other flag.
-pub fn put_flags(flags: &[bool], out: &mut String) -> Result<(), AllocError> {
+pub fn put_flags(flags: &[bool], out: &mut Out) {
     for &flag in flags {
-        out.push_str(if flag { "1" } else { "0" })?;
+        out.put(if flag { "1" } else { "0" });
     }
-    Ok(())
 }
 
 /// Writes bytes that are text.
-pub fn put_bytes(bytes: &[u8], out: &mut String) -> Result<(), Unfit> {
+pub fn put_bytes(bytes: &[u8], out: &mut Out) {
     match str::from_utf8(bytes) {
-        Ok(text) => Ok(out.push_str(text)?),
-        Err(_) => Err(Unfit),
+        Ok(text) => out.put(text),
+        Err(_) => out.refuse(),
     }
 }
 
 /// Writes a fault, or that a line was taken.
-pub fn put_taken<E: Display + Drop>(
-    taken: Result<(), E>,
-    out: &mut String,
-) -> Result<(), AllocError> {
+pub fn put_taken<E: Display + Drop>(taken: Result<(), E>, out: &mut Out) {
     match taken {
-        Ok(()) => out.push_str("taken\n"),
-        Err(fault) => write!(out, "{fault}\n"),
+        Ok(()) => out.put("taken"),
+        Err(fault) => out.put_shown(&fault),
     }
+    out.put("\n");
 }
