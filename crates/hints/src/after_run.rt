@@ -1,11 +1,12 @@
 //! What is said after a run.
 
-use crate::answered::answered_says;
+use crate::answered::put_answered;
 use crate::budget::budget_says;
-use crate::margin_fault::margin_refusal;
+use crate::margin_fault::put_margin_refusal;
 use itv_base::{NoMemory, Shelf, Texts};
 use refusal_hints::{
-    Looked, NameLook, can_read_again, files_of, refusal_says, said, unread_says, words_fault,
+    Hint, Looked, NameLook, can_read_again, files_of, put_refusal, put_unread, put_words_fault,
+    words_fault,
 };
 use std::alloc::Global;
 use words::{Invocation, PlanJob, Task, read_words};
@@ -24,79 +25,94 @@ pub fn said_after<H: Shelf, L: NameLook>(
     shelf: &mut H,
     look: &L,
 ) -> Result<String, NoMemory> {
-    let says = match status {
-        6 => written_says(alloc, look)?,
-        7 => said(alloc, "there was not enough memory")?,
-        8 => words_says(alloc, words)?,
-        9 => said(
-            alloc,
-            "docs/report.md says under \"Checking a report\" when a line is wrong",
-        )?,
-        10 => said(
-            alloc,
-            "a word is no text in UTF-8, as a file name in Latin-1: rename the file",
-        )?,
-        _ => match read_words(alloc, words) {
-            Ok(Invocation::Task(task)) => task_says(alloc, task, status, shelf, look)?,
-            _ => String::new(alloc),
-        },
-    };
+    let mut hint = Hint::new(alloc);
+    put_after(&mut hint, words, status, shelf, look);
+    let says = hint.end()?;
     if says.is_empty() {
         return Ok(says);
     }
-    let says = says.as_str();
-    Ok(format!(in alloc; "itv: {says}\n")?)
+    let line = line_of(alloc, says.as_str());
+    drop(says);
+    line
+}
+
+// The line of a hint.
+fn line_of(alloc: Global, says: &str) -> Result<String, NoMemory> {
+    let mut line = Hint::new(alloc);
+    line.put("itv: ");
+    line.put(says);
+    line.put("\n");
+    line.end()
+}
+
+// Puts what is said after a run that ended with this status.
+fn put_after<H: Shelf, L: NameLook>(
+    hint: &mut Hint,
+    words: &Texts,
+    status: u8,
+    shelf: &mut H,
+    look: &L,
+) {
+    match status {
+        6 => put_unwritten(hint, look),
+        7 => hint.put("there was not enough memory"),
+        8 => put_words(hint, words),
+        9 => hint.put("docs/report.md says under \"Checking a report\" when a line is wrong"),
+        10 => hint.put("a word is no text in UTF-8, as a file name in Latin-1: rename the file"),
+        _ => {
+            if let Ok(Invocation::Task(task)) = read_words(hint.alloc(), words) {
+                put_task(hint, task, status, shelf, look);
+            }
+        }
+    }
 }
 
 // Of words that are not understood.
-fn words_says(alloc: Global, words: &Texts) -> Result<String, NoMemory> {
-    let usage = "usage: itv [OPTIONS] DESIGN, and itv --help says more";
-    let said = match words_fault(words) {
-        Some(fault) => format!(in alloc; "{fault}; {usage}")?,
-        None => format!(in alloc; "the words are not understood; {usage}")?,
-    };
-    Ok(said)
+fn put_words(hint: &mut Hint, words: &Texts) {
+    match words_fault(words) {
+        Some(fault) => put_words_fault(hint, fault),
+        None => hint.put("the words are not understood"),
+    }
+    hint.put("; usage: itv [OPTIONS] DESIGN, and itv --help says more");
 }
 
 // Of an output that failed. Whoever reads a pipe may close it when it has read enough.
-fn written_says<L: NameLook>(alloc: Global, look: &L) -> Result<String, NoMemory> {
-    match look.look("/dev/stdout") {
-        Looked::Pipe => Ok(String::new(alloc)),
-        _ => said(alloc, "the output could not be written whole"),
+fn put_unwritten<L: NameLook>(hint: &mut Hint, look: &L) {
+    if look.look("/dev/stdout") != Looked::Pipe {
+        hint.put("the output could not be written whole");
     }
 }
 
 // Of a task whose run ended with this status.
-fn task_says<H: Shelf, L: NameLook>(
-    alloc: Global,
+fn put_task<H: Shelf, L: NameLook>(
+    hint: &mut Hint,
     task: Task<'_>,
     status: u8,
     shelf: &mut H,
     look: &L,
-) -> Result<String, NoMemory> {
+) {
     match status {
-        0 | 1 | 2 => design_says(alloc, task, status, shelf, look),
-        3 => said(alloc, budget_says(task)),
-        4 => refused_says(alloc, task, shelf, look),
-        5 => unread_says(alloc, files_of(task), shelf, look),
-        _ => Ok(String::new(alloc)),
+        0 | 1 | 2 => put_design(hint, task, status, shelf, look),
+        3 => hint.put(budget_says(task)),
+        4 => put_refused(hint, task, shelf, look),
+        5 => put_unread(hint, files_of(task), shelf, look),
+        _ => {}
     }
 }
 
 // Of a design that was answered.
-fn design_says<H: Shelf, L: NameLook>(
-    alloc: Global,
+fn put_design<H: Shelf, L: NameLook>(
+    hint: &mut Hint,
     task: Task<'_>,
     status: u8,
     shelf: &mut H,
     look: &L,
-) -> Result<String, NoMemory> {
+) {
     let files = files_of(task);
-    match files.design {
-        Some(design) if is_about_design(task) && can_read_again(alloc, files, shelf, look) => {
-            answered_says(alloc, design, status, shelf)
+    if let Some(design) = files.design {
+        if is_about_design(task) && can_read_again(hint.alloc(), files, shelf, look) {
+            put_answered(hint, design, status, shelf);
         }
-        _ => Ok(String::new(alloc)),
     }
 }
 
@@ -113,37 +129,24 @@ fn is_about_design(task: Task<'_>) -> bool {
 }
 
 // Of a design or a file that was refused.
-fn refused_says<H: Shelf, L: NameLook>(
-    alloc: Global,
-    task: Task<'_>,
-    shelf: &mut H,
-    look: &L,
-) -> Result<String, NoMemory> {
+fn put_refused<H: Shelf, L: NameLook>(hint: &mut Hint, task: Task<'_>, shelf: &mut H, look: &L) {
     let files = files_of(task);
-    let says = match files.design {
-        Some(design) if can_read_again(alloc, files, shelf, look) => match task {
-            Task::Margin { list, .. } => margin_says(alloc, task, list, design, shelf)?,
-            _ => refusal_says(alloc, task, design, shelf)?,
-        },
-        _ => String::new(alloc),
-    };
-    if says.is_empty() {
-        return said(alloc, REFUSED);
+    if let Some(design) = files.design {
+        if can_read_again(hint.alloc(), files, shelf, look) {
+            put_why(hint, task, design, shelf);
+        }
     }
-    Ok(says)
+    if hint.is_empty() {
+        hint.put(REFUSED);
+    }
 }
 
-// Of job margin: why the design is refused, or what the job refuses of it.
-fn margin_says<H: Shelf>(
-    alloc: Global,
-    task: Task<'_>,
-    list: Option<&str>,
-    design: &str,
-    shelf: &mut H,
-) -> Result<String, NoMemory> {
-    let says = refusal_says(alloc, task, design, shelf)?;
-    if says.is_empty() {
-        return margin_refusal(alloc, list, design, shelf);
+// Why a design is refused, or of job margin what the job refuses of it.
+fn put_why<H: Shelf>(hint: &mut Hint, task: Task<'_>, design: &str, shelf: &mut H) {
+    put_refusal(hint, task, design, shelf);
+    if let Task::Margin { list, .. } = task {
+        if hint.is_empty() {
+            put_margin_refusal(hint, list, design, shelf);
+        }
     }
-    Ok(says)
 }

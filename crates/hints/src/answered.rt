@@ -1,70 +1,36 @@
 //! What is said of a design that was answered.
 
-use crate::counted::warnings_said;
-use crate::unbounded::unbounded_says;
+use crate::counted::put_warnings;
+use crate::unbounded::put_unbounded;
 use drawn::DrawnNetwork;
-use itv_base::{NoMemory, Shelf};
+use itv_base::Shelf;
 use plan::Plan;
 use reading::{draw_plan, open_plan};
-use std::alloc::Global;
+use refusal_hints::Hint;
 
 // The status of a run where some requirement is broken.
 const SOME_FAIL: u8 = 1;
 
 /// Of a design whose run ended with this status: an event that nothing bounds, if some requirement is broken, and how many warnings job lint has.
-pub fn answered_says<H: Shelf>(
-    alloc: Global,
-    design: &str,
-    status: u8,
-    shelf: &mut H,
-) -> Result<String, NoMemory> {
-    match open_plan(alloc, design, shelf) {
-        Ok(plan) => {
-            let said = plan_says(alloc, design, status, &plan);
-            drop(plan);
-            said
-        }
-        Err(_) => Ok(String::new(alloc)),
+pub fn put_answered<H: Shelf>(hint: &mut Hint, design: &str, status: u8, shelf: &mut H) {
+    if let Ok(plan) = open_plan(hint.alloc(), design, shelf) {
+        put_plan(hint, design, status, &plan);
+        drop(plan);
     }
 }
 
 // Of a plan that was read.
-fn plan_says(alloc: Global, design: &str, status: u8, plan: &Plan) -> Result<String, NoMemory> {
-    match draw_plan(alloc, plan) {
-        Ok(drawn) => {
-            let said = drawn_says(alloc, design, status, plan, &drawn);
-            drop(drawn);
-            said
-        }
-        Err(_) => Ok(String::new(alloc)),
+fn put_plan(hint: &mut Hint, design: &str, status: u8, plan: &Plan) {
+    if let Ok(drawn) = draw_plan(hint.alloc(), plan) {
+        put_drawn(hint, design, status, plan, &drawn);
+        drop(drawn);
     }
 }
 
 // Of a plan and of the network that it draws.
-fn drawn_says(
-    alloc: Global,
-    design: &str,
-    status: u8,
-    plan: &Plan,
-    drawn: &DrawnNetwork,
-) -> Result<String, NoMemory> {
-    let warnings = warnings_said(alloc, design, plan, drawn)?;
-    if status != SOME_FAIL {
-        return Ok(warnings);
+fn put_drawn(hint: &mut Hint, design: &str, status: u8, plan: &Plan, drawn: &DrawnNetwork) {
+    if status == SOME_FAIL {
+        put_unbounded(hint, drawn);
     }
-    let unbounded = unbounded_says(alloc, drawn)?;
-    both_said(alloc, unbounded, warnings)
-}
-
-// Two things that are said, one after the other. Each may be empty.
-fn both_said(alloc: Global, first: String, other: String) -> Result<String, NoMemory> {
-    if first.is_empty() {
-        return Ok(other);
-    }
-    if other.is_empty() {
-        return Ok(first);
-    }
-    let first = first.as_str();
-    let other = other.as_str();
-    Ok(format!(in alloc; "{first}; {other}")?)
+    put_warnings(hint, design, plan, drawn);
 }

@@ -5,20 +5,16 @@ use crate::lint_count::{LintCount, count_drawn, count_searched};
 use drawn::DrawnNetwork;
 use itv_base::NoMemory;
 use plan::Plan;
-use refusal_hints::Plain;
+use refusal_hints::Hint;
 use std::alloc::Global;
 
 /// How many warnings job lint has of the plan of a design and of the network that it draws, if it has any. Of a large design these are the warnings of
 /// the drawing, and of a very large one nothing is said.
-pub fn warnings_said(
-    alloc: Global,
-    design: &str,
-    plan: &Plan,
-    drawn: &DrawnNetwork,
-) -> Result<String, NoMemory> {
-    match count_all(alloc, plan, drawn)? {
-        Some(count) => count_says(alloc, design, count),
-        None => Ok(String::new(alloc)),
+pub fn put_warnings(hint: &mut Hint, design: &str, plan: &Plan, drawn: &DrawnNetwork) {
+    match count_all(hint.alloc(), plan, drawn) {
+        Ok(Some(count)) => put_count(hint, design, count),
+        Ok(None) => {}
+        Err(NoMemory) => hint.cut(),
     }
 }
 
@@ -39,19 +35,23 @@ fn count_all(
 }
 
 // How many warnings there are, if there are any.
-fn count_says(alloc: Global, design: &str, count: LintCount) -> Result<String, NoMemory> {
-    let name = Plain(design);
-    let more = if count.may_be_more {
-        ", and may have more"
+fn put_count(hint: &mut Hint, design: &str, count: LintCount) {
+    if count.warnings == 0 {
+        return;
+    }
+    hint.put(if hint.is_empty() { "" } else { "; " });
+    hint.put("job lint has ");
+    if count.warnings == 1 {
+        hint.put("a warning of ");
     } else {
-        ""
-    };
-    let said = match count.warnings {
-        0 => String::new(alloc),
-        1 => format!(in alloc; "job lint has a warning of {name}{more}: itv --job lint {name}")?,
-        warnings => format!(in alloc;
-            "job lint has {warnings} warnings of {name}{more}: itv --job lint {name}"
-        )?,
-    };
-    Ok(said)
+        hint.put_number(count.warnings);
+        hint.put(" warnings of ");
+    }
+    hint.put_plain(design);
+    hint.put(if count.may_be_more {
+        ", and may have more: itv --job lint "
+    } else {
+        ": itv --job lint "
+    });
+    hint.put_plain(design);
 }

@@ -6,68 +6,73 @@ use margin_report::{ListFault, read_numbers};
 use moves::numbers_of;
 use plan::Plan;
 use reading::{draw_plan, open_plan};
-use refusal_hints::{Quoted, limit_fault};
-use std::alloc::Global;
-use unroll::{Limit, MAX_NUMBERS, UnrollFault};
+use refusal_hints::{Hint, put_too_many};
+use unroll::{Limit, MAX_NUMBERS};
 
-/// Why job margin refuses the design that is read once more, or its list, or an empty text where the reading does not show it.
-pub fn margin_refusal<H: Shelf>(
-    alloc: Global,
+/// Why job margin refuses the design that is read once more, or its list. Nothing is put where the reading does not show it.
+pub fn put_margin_refusal<H: Shelf>(
+    hint: &mut Hint,
     list: Option<&str>,
     design: &str,
     shelf: &mut H,
-) -> Result<String, NoMemory> {
-    match open_plan(alloc, design, shelf) {
-        Ok(plan) => {
-            let says = plan_refusal(alloc, list, &plan);
-            drop(plan);
-            says
+) {
+    if let Ok(plan) = open_plan(hint.alloc(), design, shelf) {
+        put_plan_refusal(hint, list, &plan);
+        drop(plan);
+    }
+}
+
+fn put_plan_refusal(hint: &mut Hint, list: Option<&str>, plan: &Plan) {
+    if let Ok(drawn) = draw_plan(hint.alloc(), plan) {
+        put_drawn_refusal(hint, list, &drawn);
+        drop(drawn);
+    }
+}
+
+fn put_drawn_refusal(hint: &mut Hint, list: Option<&str>, drawn: &DrawnNetwork) {
+    match count_numbers(hint, drawn) {
+        Some(count) if count > u64::from(MAX_NUMBERS) => {
+            put_too_many(hint, Limit::Numbers, u128::from(count))
         }
-        Err(_) => Ok(String::new(alloc)),
-    }
-}
-
-fn plan_refusal(alloc: Global, list: Option<&str>, plan: &Plan) -> Result<String, NoMemory> {
-    match draw_plan(alloc, plan) {
-        Ok(drawn) => {
-            let says = drawn_refusal(alloc, list, &drawn);
-            drop(drawn);
-            says
+        Some(_) => {
+            if let Some(list) = list {
+                put_list_refusal(hint, list, drawn);
+            }
         }
-        Err(_) => Ok(String::new(alloc)),
+        None => hint.cut(),
     }
 }
 
-fn drawn_refusal(
-    alloc: Global,
-    list: Option<&str>,
-    drawn: &DrawnNetwork,
-) -> Result<String, NoMemory> {
-    let count = u128::from(numbers_of(alloc, drawn)?.len() as u64);
-    if count > u128::from(MAX_NUMBERS) {
-        let limit = Limit::Numbers;
-        return limit_fault(alloc, UnrollFault::TooMany { limit, count });
-    }
-    match list {
-        Some(list) => list_refusal(alloc, list, drawn),
-        None => Ok(String::new(alloc)),
+// How many numbers with a range a network has, if there is memory for a list of them.
+fn count_numbers(hint: &Hint, drawn: &DrawnNetwork) -> Option<u64> {
+    match numbers_of(hint.alloc(), drawn) {
+        Ok(numbers) => {
+            let count = numbers.len() as u64;
+            drop(numbers);
+            Some(count)
+        }
+        Err(NoMemory) => None,
     }
 }
 
-fn list_refusal(alloc: Global, list: &str, drawn: &DrawnNetwork) -> Result<String, NoMemory> {
-    let place = match read_numbers(alloc, drawn, list) {
-        Ok(_) => return Ok(String::new(alloc)),
-        Err(ListFault::NoNumber(place)) => place,
-        Err(ListFault::NoMemory) => return Err(NoMemory),
-    };
+fn put_list_refusal(hint: &mut Hint, list: &str, drawn: &DrawnNetwork) {
+    match read_numbers(hint.alloc(), drawn, list) {
+        Ok(numbers) => drop(numbers),
+        Err(ListFault::NoNumber(place)) => put_name_refusal(hint, list, place),
+        Err(ListFault::NoMemory) => hint.cut(),
+    }
+}
+
+// Why the text at a place of a list is refused.
+fn put_name_refusal(hint: &mut Hint, list: &str, place: u64) {
     let name = name_at(list, place);
-    let why = if stands_before(list, place, name) {
-        "stands twice"
+    hint.put("--together: ");
+    hint.put_quoted(name);
+    hint.put(if stands_before(list, place, name) {
+        " stands twice"
     } else {
-        "is no number of the design: the lines of job margin say what each is called"
-    };
-    let name = Quoted(name);
-    Ok(format!(in alloc; "--together: {name} {why}")?)
+        " is no number of the design: the lines of job margin say what each is called"
+    });
 }
 
 // The text at a place of a list, counted from 0.

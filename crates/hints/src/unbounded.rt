@@ -3,8 +3,7 @@
 use crate::held::{Held, Holder, holders_of};
 use drawn::{DrawnNetwork, Row};
 use itv_base::{EventId, NoMemory, RowKind, Side};
-use refusal_hints::{Plain, ShownMark};
-use std::alloc::Global;
+use refusal_hints::Hint;
 
 // An event that a requirement wants to be bounded on a side, and what bounds it.
 #[derive(Clone, Copy)]
@@ -22,45 +21,45 @@ enum Extent {
 }
 
 /// Of a design some of whose requirements are broken: an event of a requirement that no rule and no net bounds, or else one that none bounds on a side that
-/// the requirement is about. An empty text where there is none.
-pub fn unbounded_says(alloc: Global, drawn: &DrawnNetwork) -> Result<String, NoMemory> {
-    let held = holders_of(alloc, drawn)?;
-    let rows = drawn.rows().as_slice();
-    if let Some(free) = first_free(rows, &held, Extent::BothSides) {
-        return free_says(alloc, drawn, free.event, "", is_ordered(free.held));
-    }
-    match first_free(rows, &held, Extent::OneSide) {
-        Some(free) => {
-            let is_ordered = free.held.on(free.side) == Holder::Order;
-            free_says(alloc, drawn, free.event, side_words(free.side), is_ordered)
+/// the requirement is about. Nothing is put where there is none.
+pub fn put_unbounded(hint: &mut Hint, drawn: &DrawnNetwork) {
+    match holders_of(hint.alloc(), drawn) {
+        Ok(held) => {
+            put_first_free(hint, drawn, held.as_slice());
+            drop(held);
         }
-        None => Ok(String::new(alloc)),
+        Err(NoMemory) => hint.cut(),
+    }
+}
+
+// The same, where this bounds the events.
+fn put_first_free(hint: &mut Hint, drawn: &DrawnNetwork, held: &[Held]) {
+    let rows = drawn.rows().as_slice();
+    if let Some(free) = first_free(rows, held, Extent::BothSides) {
+        put_free(hint, drawn, free.event, "", is_ordered(free.held));
+    } else if let Some(free) = first_free(rows, held, Extent::OneSide) {
+        let is_ordered = free.held.on(free.side) == Holder::Order;
+        put_free(hint, drawn, free.event, side_words(free.side), is_ordered);
     }
 }
 
 // What is said of an event that no rule and no net bounds on these sides; the order of its lane may.
-fn free_says(
-    alloc: Global,
-    drawn: &DrawnNetwork,
-    event: EventId,
-    sides: &str,
-    is_ordered: bool,
-) -> Result<String, NoMemory> {
+fn put_free(hint: &mut Hint, drawn: &DrawnNetwork, event: EventId, sides: &str, is_ordered: bool) {
     if drawn.network().events() <= event.0 {
-        return Ok(String::new(alloc));
+        return;
     }
     let name = drawn.name(event);
-    let part = Plain(name.part);
-    let mark = ShownMark(name.mark);
-    let cycle = name.cycle;
-    let but = if is_ordered {
-        " but the order of its lane"
-    } else {
-        ""
-    };
-    Ok(format!(in alloc;
-        "{part}.{mark}@{cycle} is bounded by nothing{sides}{but}: a net or a rule to it may be missing"
-    )?)
+    hint.put_plain(name.part);
+    hint.put(".");
+    hint.put_mark(name.mark);
+    hint.put("@");
+    hint.put_number(u64::from(name.cycle));
+    hint.put(" is bounded by nothing");
+    hint.put(sides);
+    if is_ordered {
+        hint.put(" but the order of its lane");
+    }
+    hint.put(": a net or a rule to it may be missing");
 }
 
 fn is_ordered(held: Held) -> bool {

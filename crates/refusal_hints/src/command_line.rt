@@ -1,8 +1,7 @@
 //! The first word of a command line that is not understood.
 
-use crate::written::Quoted;
+use crate::hint::Hint;
 use itv_base::{MAX_BUDGET, MAX_SELF_SIZE, Texts};
-use std::fmt;
 
 // The names of the jobs, as a sentence has them.
 const JOBS: &str =
@@ -90,80 +89,76 @@ impl WordsOption {
     }
 }
 
-impl fmt::Display for WordsFault<'_> {
-    fn fmt<W: fmt::Write>(&self, f: &mut fmt::Formatter<W>) -> fmt::Result {
-        match *self {
-            WordsFault::NoOption(word) => write_no_option(f, word),
-            WordsFault::OfLauncher(word) => write_both(f, word, OF_LAUNCHER),
-            WordsFault::NoJob(word) => write_no_job(f, word),
-            WordsFault::NoValue(option) => write_both(f, option.word(), " wants a value behind it"),
-            WordsFault::NoNumber(word, option) => write_no_number(f, word, option),
-            WordsFault::Twice(option) => write_both(f, option.word(), " stands twice"),
-            WordsFault::OneTooMany { first, word } => write_one_too_many(f, first, word),
-            WordsFault::Lacks { job, option } => write_lacks(f, job, option),
-            WordsFault::NoDesign => f.write_str("the DESIGN is missing"),
-        }
+/// Puts what is wrong with words.
+pub fn put_words_fault(hint: &mut Hint, fault: WordsFault<'_>) {
+    match fault {
+        WordsFault::NoOption(word) => put_no_option(hint, word),
+        WordsFault::OfLauncher(word) => put_both(hint, word, OF_LAUNCHER),
+        WordsFault::NoJob(word) => put_no_job(hint, word),
+        WordsFault::NoValue(option) => put_both(hint, option.word(), " wants a value behind it"),
+        WordsFault::NoNumber(word, option) => put_no_number(hint, word, option),
+        WordsFault::Twice(option) => put_both(hint, option.word(), " stands twice"),
+        WordsFault::OneTooMany { first, word } => put_one_too_many(hint, first, word),
+        WordsFault::Lacks { job, option } => put_lacks(hint, job, option),
+        WordsFault::NoDesign => hint.put("the DESIGN is missing"),
     }
 }
 
 const OF_LAUNCHER: &str =
     " is an option of the launcher itv, and stands in front of all other words";
 
-fn write_both<W: fmt::Write>(f: &mut fmt::Formatter<W>, subject: &str, says: &str) -> fmt::Result {
-    f.write_str(subject)?;
-    f.write_str(says)
+fn put_both(hint: &mut Hint, subject: &str, says: &str) {
+    hint.put(subject);
+    hint.put(says);
 }
 
-fn write_no_job<W: fmt::Write>(f: &mut fmt::Formatter<W>, word: &str) -> fmt::Result {
-    let word = Quoted(word);
-    write!(f, "there is no job {word}: the jobs are {JOBS}")
+fn put_no_job(hint: &mut Hint, word: &str) {
+    hint.put("there is no job ");
+    hint.put_quoted(word);
+    hint.put(": the jobs are ");
+    hint.put(JOBS);
 }
 
-fn write_no_number<W: fmt::Write>(
-    f: &mut fmt::Formatter<W>,
-    word: &str,
-    option: WordsOption,
-) -> fmt::Result {
-    let word = Quoted(word);
-    let most = option.most();
-    let option = option.word();
-    write!(f, "{word} is no whole number from 1 to {most} for {option}")
+fn put_no_number(hint: &mut Hint, word: &str, option: WordsOption) {
+    hint.put_quoted(word);
+    hint.put(" is no whole number from 1 to ");
+    hint.put_number(option.most());
+    hint.put(" for ");
+    hint.put(option.word());
 }
 
-fn write_lacks<W: fmt::Write>(
-    f: &mut fmt::Formatter<W>,
-    job: &str,
-    option: WordsOption,
-) -> fmt::Result {
-    let usage = option.usage();
-    write!(f, "job {job} wants {usage}")
+fn put_lacks(hint: &mut Hint, job: &str, option: WordsOption) {
+    hint.put("job ");
+    hint.put(job);
+    hint.put(" wants ");
+    hint.put(option.usage());
 }
 
-fn write_no_option<W: fmt::Write>(f: &mut fmt::Formatter<W>, word: &str) -> fmt::Result {
+fn put_no_option(hint: &mut Hint, word: &str) {
+    hint.put("there is no option ");
+    hint.put_quoted(word);
     let name = word.trim_start_matches('-');
-    write!(f, "there is no option {}", Quoted(word))?;
     if is_job(name) {
-        write!(f, ": job {name} is --job {name}")
-    } else {
-        Ok(())
+        hint.put(": ");
+        put_as_job(hint, name);
     }
 }
 
-fn write_one_too_many<W: fmt::Write>(
-    f: &mut fmt::Formatter<W>,
-    first: &str,
-    word: &str,
-) -> fmt::Result {
-    write!(
-        f,
-        "{} is one word too many: there is one DESIGN",
-        Quoted(word)
-    )?;
+fn put_one_too_many(hint: &mut Hint, first: &str, word: &str) {
+    hint.put_quoted(word);
+    hint.put(" is one word too many: there is one DESIGN");
     if is_job(first) {
-        write!(f, ", and job {first} is --job {first}")
-    } else {
-        Ok(())
+        hint.put(", and ");
+        put_as_job(hint, first);
     }
+}
+
+// How the job of a name is written.
+fn put_as_job(hint: &mut Hint, name: &str) {
+    hint.put("job ");
+    hint.put(name);
+    hint.put(" is --job ");
+    hint.put(name);
 }
 
 fn is_job(name: &str) -> bool {

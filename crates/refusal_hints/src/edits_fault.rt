@@ -1,24 +1,38 @@
 //! Why a file of edits is refused.
 
-use crate::edge::column_of;
-use crate::label_fault::{LabelWhy, Misfit, high_low_end, range_misfit, wide_end};
-use crate::written::{Quoted, said};
+use crate::edge::put_misfit;
+use crate::hint::Hint;
+use crate::label_fault::{Misfit, high_low_end, range_misfit, wide_end};
 use edits::EditsFault;
-use itv_base::{NoMemory, RangeFault};
-use std::alloc::Global;
+use itv_base::RangeFault;
 
 /// Why the bytes of a file of edits are refused.
-pub fn edits_fault(alloc: Global, bytes: &[u8], fault: EditsFault) -> Result<String, NoMemory> {
+pub fn put_edits_fault(hint: &mut Hint, bytes: &[u8], fault: EditsFault) {
     match fault {
-        EditsFault::TooLong => said(alloc, "it has more than 1,048,576 bytes"),
-        EditsFault::TooMany(count) => Ok(format!(in alloc;
-            "it has {count} lines, and 1,000 are the limit"
-        )?),
+        EditsFault::TooLong => hint.put("it has more than 1,048,576 bytes"),
+        EditsFault::TooMany(count) => put_too_many(hint, count),
         EditsFault::Line(n) | EditsFault::Range(n, _) | EditsFault::NoSuch(n) => {
-            let line = String::from_utf8_lossy(alloc, line_at(bytes, n))?;
-            line_fault(alloc, n, line.as_str(), is_last(bytes, n), fault)
+            put_line_fault(hint, n, bytes, fault)
         }
-        EditsFault::NoMemory => Err(NoMemory),
+        EditsFault::NoMemory => hint.cut(),
+    }
+}
+
+fn put_too_many(hint: &mut Hint, count: u64) {
+    hint.put("it has ");
+    hint.put_number(count);
+    hint.put(" lines, and 1,000 are the limit");
+}
+
+// What is wrong with a line of a file.
+fn put_line_fault(hint: &mut Hint, n: u64, bytes: &[u8], fault: EditsFault) {
+    match String::from_utf8_lossy(hint.alloc(), line_at(bytes, n)) {
+        Ok(line) => {
+            put_line(hint, n, line.as_str());
+            put_why_line(hint, line.as_str(), is_last(bytes, n), fault);
+            drop(line);
+        }
+        Err(_) => hint.cut(),
     }
 }
 
@@ -45,23 +59,25 @@ fn is_last(bytes: &[u8], n: u64) -> bool {
     feeds.saturating_add(1) == n
 }
 
-// What is wrong with a line. `is_cut` says that it has no end.
-fn line_fault(
-    alloc: Global,
-    n: u64,
-    line: &str,
-    is_cut: bool,
-    fault: EditsFault,
-) -> Result<String, NoMemory> {
+// A line with its number, counted from 1.
+fn put_line(hint: &mut Hint, n: u64, line: &str) {
+    hint.put("line ");
+    hint.put_number(n);
+    hint.put(" ");
+    hint.put_quoted(line);
+}
+
+// What is wrong with a line, behind its text. `is_cut` says that it has no end.
+fn put_why_line(hint: &mut Hint, line: &str, is_cut: bool, fault: EditsFault) {
     match fault {
-        EditsFault::Range(_, RangeFault::TooWide) => misfit_said(alloc, n, line, wide_end(line)),
+        EditsFault::Range(_, RangeFault::TooWide) => put_range_misfit(hint, line, wide_end(line)),
         EditsFault::Range(_, RangeFault::EmptyRange) => {
-            misfit_said(alloc, n, line, high_low_end(line))
+            put_range_misfit(hint, line, high_low_end(line))
         }
-        EditsFault::NoSuch(_) => about_line(alloc, n, line, missing_in(line)),
-        _ if line.ends_with('\r') => about_line(alloc, n, line, RETURN),
-        _ if is_cut => about_line(alloc, n, line, "the line has no line end"),
-        _ => misfit_said(alloc, n, line, range_misfit(line)),
+        EditsFault::NoSuch(_) => put_after(hint, missing_in(line)),
+        _ if line.ends_with('\r') => put_after(hint, RETURN),
+        _ if is_cut => put_after(hint, "the line has no line end"),
+        _ => put_range_misfit(hint, line, range_misfit(line)),
     }
 }
 
@@ -70,34 +86,18 @@ const RETURN: &str = "the line ends with a carriage return: save the file with l
 const FORM: &str =
     "an edit is set SUBJECT [LOW,HIGH], where SUBJECT is PART edge N, net N, wire N or C.I, as set RAM edge 0 [3000,15000]";
 
-// What is said of a line, counted from 1.
-fn about_line(alloc: Global, n: u64, line: &str, says: &str) -> Result<String, NoMemory> {
-    let line = Quoted(line);
-    Ok(format!(in alloc; "line {n} {line}: {says}")?)
+// What is said behind the text of a line.
+fn put_after(hint: &mut Hint, says: &str) {
+    hint.put(": ");
+    hint.put(says);
 }
 
 // What is wrong with the range of a line, or else that the line is not of the form.
-fn misfit_said(
-    alloc: Global,
-    n: u64,
-    line: &str,
-    misfit: Option<Misfit<'_>>,
-) -> Result<String, NoMemory> {
+fn put_range_misfit(hint: &mut Hint, line: &str, misfit: Option<Misfit<'_>>) {
     match misfit {
-        Some(misfit) => column_said(alloc, n, line, column_of(line, misfit.rest), misfit.why),
-        None => about_line(alloc, n, line, FORM),
+        Some(misfit) => put_misfit(hint, line, misfit),
+        None => put_after(hint, FORM),
     }
-}
-
-fn column_said(
-    alloc: Global,
-    n: u64,
-    line: &str,
-    column: usize,
-    why: LabelWhy<'_>,
-) -> Result<String, NoMemory> {
-    let line = Quoted(line);
-    Ok(format!(in alloc; "line {n} {line}, column {column}: {why}")?)
 }
 
 // What is said of a line that names nothing of the design.

@@ -1,97 +1,88 @@
 //! Why a file of a design is refused.
 
-use crate::edge::no_text;
-use crate::grades_fault::grades_fault;
-use crate::json_fault::json_fault;
-use crate::netlist_fault::netlist_fault;
-use crate::sheet_fault::{RefusedSheet, sheet_fault};
-use crate::tree::about_key;
-use crate::written::{Plain, said};
-use itv_base::{FILE_LIMIT, NoMemory, Shelf};
+use crate::edge::put_no_text;
+use crate::grades_fault::put_grades_fault;
+use crate::hint::Hint;
+use crate::json_fault::put_json_fault;
+use crate::netlist_fault::put_netlist_fault;
+use crate::sheet_fault::{RefusedSheet, put_sheet_fault};
+use crate::tree::put_about_key;
+use itv_base::{FILE_LIMIT, Shelf};
 use netlist::Netlist;
 use reading::Refusal;
 use serde_json::Value;
-use std::alloc::Global;
 use wavejson::DiagramFault;
 
 /// Why the file of a name is refused. `netlist` names it as a sheet, if it is no design.
-pub fn file_fault<H: Shelf>(
-    alloc: Global,
+pub fn put_file_fault<H: Shelf>(
+    hint: &mut Hint,
     name: &str,
     netlist: Option<&Netlist>,
     why: Refusal,
     shelf: &mut H,
-) -> Result<String, NoMemory> {
-    let Ok(bytes) = shelf.fetch(alloc, name, FILE_LIMIT) else {
-        return Ok(String::new(alloc));
-    };
-    let says = match why {
-        Refusal::TooLong => said(alloc, "it has more than 4,194,304 bytes: split the drawing")?,
-        Refusal::NotJson => json_fault(alloc, &bytes)?,
-        _ => bytes_fault(alloc, name, &bytes, netlist, why, shelf)?,
-    };
-    let says = says.as_str();
-    let name = Plain(name);
-    Ok(format!(in alloc; "{name}: {says}")?)
+) {
+    if let Ok(bytes) = shelf.fetch(hint.alloc(), name, FILE_LIMIT) {
+        hint.put_plain(name);
+        hint.put(": ");
+        put_bytes_fault(hint, name, &bytes, netlist, why, shelf);
+        drop(bytes);
+    }
 }
 
-// Why the tree that these bytes of a file have is refused.
-fn bytes_fault<H: Shelf>(
-    alloc: Global,
+// Why these bytes of a file are refused.
+fn put_bytes_fault<H: Shelf>(
+    hint: &mut Hint,
     name: &str,
     bytes: &[u8],
     netlist: Option<&Netlist>,
     why: Refusal,
     shelf: &mut H,
-) -> Result<String, NoMemory> {
-    match Value::from_slice(alloc, bytes) {
-        Ok(tree) => {
-            let sheet = RefusedSheet {
-                name,
-                tree: &tree,
-                netlist,
-            };
-            let says = tree_fault(alloc, sheet, why, shelf);
-            drop(tree);
-            says
+) {
+    match why {
+        Refusal::TooLong => hint.put("it has more than 4,194,304 bytes: split the drawing"),
+        Refusal::NotJson => put_json_fault(hint, bytes),
+        _ => {
+            if let Ok(tree) = Value::from_slice(hint.alloc(), bytes) {
+                let sheet = RefusedSheet {
+                    name,
+                    tree: &tree,
+                    netlist,
+                };
+                put_tree_fault(hint, sheet, why, shelf);
+                drop(tree);
+            }
         }
-        Err(_) => Ok(String::new(alloc)),
     }
 }
 
 // Why the tree of a file is refused.
-fn tree_fault<H: Shelf>(
-    alloc: Global,
-    sheet: RefusedSheet<'_>,
-    why: Refusal,
-    shelf: &mut H,
-) -> Result<String, NoMemory> {
+fn put_tree_fault<H: Shelf>(hint: &mut Hint, sheet: RefusedSheet<'_>, why: Refusal, shelf: &mut H) {
     match why {
-        Refusal::Diagram(fault) => diagram_fault(alloc, sheet.tree, fault),
-        Refusal::Grades(fault) => grades_fault(alloc, sheet.tree, fault),
-        Refusal::Sheet(fault) => sheet_fault(alloc, sheet, fault),
-        Refusal::Netlist(fault) => netlist_fault(alloc, sheet.tree, fault, shelf),
-        _ => Ok(String::new(alloc)),
+        Refusal::Diagram(fault) => put_diagram_fault(hint, sheet.tree, fault),
+        Refusal::Grades(fault) => put_grades_fault(hint, sheet.tree, fault),
+        Refusal::Sheet(fault) => put_sheet_fault(hint, sheet, fault),
+        Refusal::Netlist(fault) => put_netlist_fault(hint, sheet.tree, fault, shelf),
+        _ => {}
     }
 }
 
 // Why a tree is no drawing.
-fn diagram_fault(alloc: Global, tree: &Value, fault: DiagramFault) -> Result<String, NoMemory> {
+fn put_diagram_fault(hint: &mut Hint, tree: &Value, fault: DiagramFault) {
     match fault {
-        DiagramFault::NotObject => said(alloc, "a drawing has to stand in { }"),
-        DiagramFault::NoSignal => about_key(
-            alloc,
+        DiagramFault::NotObject => hint.put("a drawing has to stand in { }"),
+        DiagramFault::NoSignal => put_about_key(
+            hint,
             "signal",
             tree.get("signal"),
             "a list of lanes is wanted",
         ),
-        DiagramFault::EdgesNotList => about_key(
-            alloc,
+        DiagramFault::EdgesNotList => put_about_key(
+            hint,
             "edge",
             tree.get("edge"),
             "a list of texts is wanted, or no key at all",
         ),
-        DiagramFault::EdgeNotText(n) => no_text(alloc, tree, "edge", n),
-        DiagramFault::NoMemory => Err(NoMemory),
+        DiagramFault::EdgeNotText(n) => put_no_text(hint, tree, "edge", n),
+        DiagramFault::NoMemory => hint.cut(),
     }
 }

@@ -1,14 +1,14 @@
 //! Why the speed grades of a sheet are refused, or are not what a part or a label wants.
 
+use crate::edge::put_edge;
+use crate::hint::Hint;
 use crate::label_fault::EMPTY_RANGE;
 use crate::sheet_fault::RefusedSheet;
-use crate::tree::{ends_fault, is_ends, value_text};
-use crate::written::{Quoted, what_there_is};
-use itv_base::{NoMemory, RangeFault, Texts, is_name, split_name};
+use crate::tree::{is_ends, put_ends_fault};
+use itv_base::{RangeFault, is_name, split_name};
 use netlist::{Netlist, Part};
 use serde_json::{Map, Value};
 use sheet::GradesFault;
-use std::alloc::Global;
 
 // The key of the grades.
 const GRADES: &str = "itv_grades";
@@ -17,98 +17,115 @@ const GRADES: &str = "itv_grades";
 const NAME: &str = "a name has 1 to 16 letters, digits or _";
 
 /// Why the speed grades of a tree are refused.
-pub fn grades_fault(alloc: Global, tree: &Value, fault: GradesFault) -> Result<String, NoMemory> {
+pub fn put_grades_fault(hint: &mut Hint, tree: &Value, fault: GradesFault) {
     match fault {
-        GradesFault::Grades => form_fault(alloc, tree),
+        GradesFault::Grades => put_form_fault(hint, tree),
         GradesFault::Limits(grade, parameter, fault) => {
-            limits_fault(alloc, tree, grade as usize, parameter as usize, fault)
+            put_limits_fault(hint, tree, grade as usize, parameter as usize, fault)
         }
-        GradesFault::NoMemory => Err(NoMemory),
+        GradesFault::NoMemory => hint.cut(),
     }
 }
 
 // The first thing of the grades that has not their form.
-fn form_fault(alloc: Global, tree: &Value) -> Result<String, NoMemory> {
-    let Some(grades) = object_of(tree.get(GRADES)) else {
-        return Ok(format!(in alloc; "\"{GRADES}\" is no object from names of grades to objects")?);
-    };
-    for (name, value) in grades.iter() {
-        let says = grade_fault(alloc, name.as_str(), value)?;
-        if !says.is_empty() {
-            return Ok(says);
+fn put_form_fault(hint: &mut Hint, tree: &Value) {
+    match object_of(tree.get(GRADES)) {
+        Some(grades) => put_first_fault(hint, grades),
+        None => {
+            put_key(hint);
+            hint.put(" is no object from names of grades to objects");
         }
     }
-    Ok(String::new(alloc))
 }
 
-// What is wrong with the form of a grade, or an empty text.
-fn grade_fault(alloc: Global, name: &str, value: &Value) -> Result<String, NoMemory> {
+// The key of the grades in quotes.
+fn put_key(hint: &mut Hint) {
+    hint.put("\"");
+    hint.put(GRADES);
+    hint.put("\"");
+}
+
+fn put_first_fault(hint: &mut Hint, grades: &Map<String, Value>) {
+    for (name, value) in grades.iter() {
+        if has_grade_fault(hint, name.as_str(), value) {
+            return;
+        }
+    }
+}
+
+// Puts what is wrong with the form of a grade. Whether anything is.
+fn has_grade_fault(hint: &mut Hint, name: &str, value: &Value) -> bool {
     if !is_name(name) {
-        return about_grade(alloc, name, ": ", NAME);
+        put_about_grade(hint, name, ": ", NAME);
+        return true;
     }
     let Some(parameters) = value.as_object() else {
-        return about_grade(alloc, name, " ", NO_PARAMETERS);
+        put_about_grade(hint, name, " ", NO_PARAMETERS);
+        return true;
     };
-    let says = parameters_fault(alloc, parameters)?;
-    if says.is_empty() {
-        return Ok(says);
-    }
-    about_grade(alloc, name, ": ", says.as_str())
+    let Some((parameter, ends)) = first_misfit(parameters) else {
+        return false;
+    };
+    put_about_grade(hint, name, ": ", "");
+    put_parameter_fault(hint, parameter, ends);
+    true
 }
 
 const NO_PARAMETERS: &str = "is no object from names to lists of two ends";
 
 // What is said of a grade, behind its name and a joint.
-fn about_grade(alloc: Global, name: &str, joint: &str, says: &str) -> Result<String, NoMemory> {
-    let grade = Quoted(name);
-    Ok(format!(in alloc; "grade {grade} of \"{GRADES}\"{joint}{says}")?)
+fn put_about_grade(hint: &mut Hint, name: &str, joint: &str, says: &str) {
+    hint.put("grade ");
+    hint.put_quoted(name);
+    hint.put(" of ");
+    put_key(hint);
+    hint.put(joint);
+    hint.put(says);
 }
 
-// The first thing of parameters that has not their form, or an empty text.
-fn parameters_fault(alloc: Global, parameters: &Map<String, Value>) -> Result<String, NoMemory> {
+// The first of parameters that has not their form.
+fn first_misfit(parameters: &Map<String, Value>) -> Option<(&str, &Value)> {
     for (name, value) in parameters.iter() {
-        let says = parameter_fault(alloc, name.as_str(), value)?;
-        if !says.is_empty() {
-            return Ok(says);
+        if !is_name(name.as_str()) || !is_ends(value) {
+            return Some((name.as_str(), value));
         }
     }
-    Ok(String::new(alloc))
+    None
 }
 
-// What is wrong with the form of a parameter, or an empty text.
-fn parameter_fault(alloc: Global, name: &str, value: &Value) -> Result<String, NoMemory> {
-    let parameter = Quoted(name);
-    if !is_name(name) {
-        return Ok(format!(in alloc; "the name {parameter}: {NAME}")?);
+// What is wrong with the form of a parameter.
+fn put_parameter_fault(hint: &mut Hint, name: &str, value: &Value) {
+    if is_name(name) {
+        hint.put_quoted(name);
+        hint.put(" ");
+        put_ends_fault(hint, value);
+    } else {
+        hint.put("the name ");
+        hint.put_quoted(name);
+        hint.put(": ");
+        hint.put(NAME);
     }
-    if is_ends(value) {
-        return Ok(String::new(alloc));
-    }
-    let says = ends_fault(alloc, value)?;
-    let says = says.as_str();
-    Ok(format!(in alloc; "{parameter} {says}")?)
 }
 
 // The ends of a parameter are no range. Grades and parameters have numbers in the order of their names.
-fn limits_fault(
-    alloc: Global,
+fn put_limits_fault(
+    hint: &mut Hint,
     tree: &Value,
     grade: usize,
     parameter: usize,
     fault: RangeFault,
-) -> Result<String, NoMemory> {
-    let grades = object_of(tree.get(GRADES));
-    let Some((grade, value)) = member_at(grades, grade) else {
-        return Ok(String::new(alloc));
+) {
+    let Some((grade, value)) = member_at(tree.get(GRADES), grade) else {
+        return;
     };
-    let name = match member_at(value.as_object(), parameter) {
+    let name = match member_at(Some(value), parameter) {
         Some((name, _)) => name,
         None => "",
     };
-    let grade = Quoted(grade);
-    let name = Quoted(name);
-    let says = range_says(fault);
-    Ok(format!(in alloc; "grade {grade} of \"{GRADES}\": {name}: {says}")?)
+    put_about_grade(hint, grade, ": ", "");
+    hint.put_quoted(name);
+    hint.put(": ");
+    hint.put(range_says(fault));
 }
 
 /// What is said of two ends of a list that are no range.
@@ -124,8 +141,8 @@ fn object_of(value: Option<&Value>) -> Option<&Map<String, Value>> {
 }
 
 // The member of an object with a number, in the order of the names, if there is such an object.
-fn member_at(map: Option<&Map<String, Value>>, k: usize) -> Option<(&str, &Value)> {
-    for (place, (name, value)) in map?.iter().enumerate() {
+fn member_at(value: Option<&Value>, k: usize) -> Option<(&str, &Value)> {
+    for (place, (name, value)) in object_of(value)?.iter().enumerate() {
         if place == k {
             return Some((name.as_str(), value));
         }
@@ -133,40 +150,44 @@ fn member_at(map: Option<&Map<String, Value>>, k: usize) -> Option<(&str, &Value
     None
 }
 
-// The names of the members of an object.
-fn names_in(alloc: Global, value: Option<&Value>) -> Result<Texts, NoMemory> {
-    let mut names = Texts::new(alloc)?;
-    if let Some(map) = object_of(value) {
-        for (name, _) in map.iter() {
-            names.push(alloc, name.as_str())?;
-        }
+// The names of the members of an object, or that there are none.
+fn put_members(hint: &mut Hint, value: Option<&Value>, one: &str, many: &str) {
+    match object_of(value) {
+        Some(map) => put_names(hint, map, one, many),
+        None => hint.put_what(0, one, many),
     }
-    Ok(names)
+}
+
+fn put_names(hint: &mut Hint, map: &Map<String, Value>, one: &str, many: &str) {
+    let count = map.len() as u64;
+    hint.put_what(count, one, many);
+    for (k, (name, _)) in map.iter().enumerate() {
+        hint.put_name(k as u64, count, name.as_str());
+    }
 }
 
 /// A part on this file names a grade that is not there.
-pub fn grade_missing(
-    alloc: Global,
-    name: &str,
-    tree: &Value,
-    netlist: Option<&Netlist>,
-) -> Result<String, NoMemory> {
-    let grades = tree.get(GRADES);
-    let there = what_there_is(alloc, names_in(alloc, grades)?, "grade", "grades")?;
-    let there = there.as_str();
-    let Some(netlist) = netlist else {
-        return Ok(String::new(alloc));
+pub fn put_grade_missing(hint: &mut Hint, sheet: RefusedSheet<'_>) {
+    let grades = sheet.tree.get(GRADES);
+    let Some(netlist) = sheet.netlist else {
+        return;
     };
     for part in netlist.parts().as_slice() {
-        if part.sheet.as_text() == name && lacks_grade(part, grades) {
-            let part_name = part.name.as_text();
-            let grade = Quoted(grade_of(part));
-            return Ok(format!(in alloc;
-                "part {part_name} names grade {grade}, which this sheet has not; {there}"
-            )?);
+        if part.sheet.as_text() == sheet.name && lacks_grade(part, grades) {
+            put_lacked(hint, part, grades);
+            return;
         }
     }
-    Ok(String::new(alloc))
+}
+
+// A part names a grade that is not among these.
+fn put_lacked(hint: &mut Hint, part: &Part, grades: Option<&Value>) {
+    hint.put("part ");
+    hint.put(part.name.as_text());
+    hint.put(" names grade ");
+    hint.put_quoted(grade_of(part));
+    hint.put(", which this sheet has not; ");
+    put_members(hint, grades, "grade", "grades");
 }
 
 fn grade_of(part: &Part) -> &str {
@@ -178,40 +199,33 @@ fn grade_of(part: &Part) -> &str {
 
 // Whether a part names a grade that is not among these.
 fn lacks_grade(part: &Part, grades: Option<&Value>) -> bool {
-    match &part.grade {
-        Some(grade) => match grades {
-            Some(grades) => grades.get(grade.as_text()).is_none(),
-            None => true,
-        },
-        None => false,
-    }
+    part.grade.is_some() && grade_in(part, grades).is_none()
 }
 
 /// The label of an edge names a parameter that the grade of a part on this file has not.
-pub fn parameter_missing(
-    alloc: Global,
+pub fn put_parameter_missing(
+    hint: &mut Hint,
     sheet: RefusedSheet<'_>,
     n: u64,
     text: &str,
     label: &str,
-) -> Result<String, NoMemory> {
+) {
     let parameter = match label.split_once(" $") {
         Some((_, behind)) => split_name(behind).0,
         None => "",
     };
     let grades = sheet.tree.get(GRADES);
     let Some(netlist) = sheet.netlist else {
-        return Ok(String::new(alloc));
+        return;
     };
     for part in netlist.parts().as_slice() {
         if part.sheet.as_text() == sheet.name && !has_parameter(part, grades, parameter) {
-            let says = lacking(alloc, part, grades, parameter)?;
-            let says = says.as_str();
-            let edge = Quoted(text);
-            return Ok(format!(in alloc; "edge {n} {edge}: {says}")?);
+            put_edge(hint, n, text);
+            hint.put(": ");
+            put_lacking(hint, part, grades, parameter);
+            return;
         }
     }
-    Ok(String::new(alloc))
 }
 
 // Whether the grade of a part has a parameter of a name.
@@ -231,28 +245,28 @@ fn grade_in<'v>(part: &Part, grades: Option<&'v Value>) -> Option<&'v Value> {
 }
 
 // What a part lacks for a parameter.
-fn lacking(
-    alloc: Global,
-    part: &Part,
-    grades: Option<&Value>,
-    parameter: &str,
-) -> Result<String, NoMemory> {
-    let name = part.name.as_text();
-    let parameter = Quoted(parameter);
-    let Some(grade) = &part.grade else {
-        let there = what_there_is(alloc, names_in(alloc, grades)?, "grade", "grades")?;
-        let there = there.as_str();
-        return Ok(format!(in alloc;
-            "part {name} has no grade, which would give {parameter} its ends; {there}"
-        )?);
-    };
-    let there = what_there_is(
-        alloc,
-        names_in(alloc, grade_in(part, grades))?,
-        "name",
-        "names",
-    )?;
-    let there = there.as_str();
-    let grade = Quoted(grade.as_text());
-    Ok(format!(in alloc; "grade {grade} of part {name} has no {parameter}; {there}")?)
+fn put_lacking(hint: &mut Hint, part: &Part, grades: Option<&Value>, parameter: &str) {
+    match &part.grade {
+        Some(grade) => {
+            hint.put("grade ");
+            hint.put_quoted(grade.as_text());
+            hint.put(" of part ");
+            hint.put(part.name.as_text());
+            hint.put(" has no ");
+            hint.put_quoted(parameter);
+            hint.put("; ");
+            put_members(hint, grade_in(part, grades), "name", "names");
+        }
+        None => put_ungraded(hint, part, grades, parameter),
+    }
+}
+
+// A part has no grade that would give a parameter its ends.
+fn put_ungraded(hint: &mut Hint, part: &Part, grades: Option<&Value>, parameter: &str) {
+    hint.put("part ");
+    hint.put(part.name.as_text());
+    hint.put(" has no grade, which would give ");
+    hint.put_quoted(parameter);
+    hint.put(" its ends; ");
+    put_members(hint, grades, "grade", "grades");
 }

@@ -1,38 +1,40 @@
 //! Why a job refuses a design that is drawn, or another file of the job.
 
-use crate::edits_fault::edits_fault;
-use crate::limit::limit_fault;
-use crate::written::{Plain, said};
+use crate::edits_fault::put_edits_fault;
+use crate::hint::Hint;
+use crate::limit::put_too_many;
 use drawn::DrawnNetwork;
-use edits::{MAX_EDITS_BYTES, read_edits};
-use itv_base::{NoMemory, Shelf};
-use std::alloc::Global;
-use unroll::{Limit, MAX_SESSION_ROWS, UnrollFault};
+use edits::{EditsFault, MAX_EDITS_BYTES, read_edits};
+use itv_base::Shelf;
+use unroll::{Limit, MAX_SESSION_ROWS};
 use words::{SearchJob, Task};
 
 /// Why the job of a task is refused, whose design draws this network.
-pub fn job_fault<H: Shelf>(
-    alloc: Global,
+pub fn put_job_fault<H: Shelf>(
+    hint: &mut Hint,
     task: Task<'_>,
     drawn: &DrawnNetwork,
     shelf: &mut H,
-) -> Result<String, NoMemory> {
+) {
     match task {
-        Task::Fall { .. } => said(alloc, MIXED),
+        Task::Fall { .. } => hint.put(MIXED),
         Task::Searched {
             job: SearchJob::Redraw,
             ..
-        } => said(alloc, WIDE),
+        } => hint.put(WIDE),
         Task::Matrix { .. } => {
-            let count = u128::from(drawn.network().events());
-            limit_fault(alloc, too_many(Limit::MatrixEvents, count))
+            put_too_many(
+                hint,
+                Limit::MatrixEvents,
+                u128::from(drawn.network().events()),
+            )
         }
         Task::Checked { report, .. } => {
-            let report = Plain(report);
-            Ok(format!(in alloc; "{report}: the report has more than 67,108,864 bytes")?)
+            hint.put_plain(report);
+            hint.put(": the report has more than 67,108,864 bytes");
         }
-        Task::Whatif { edits, .. } => whatif_fault(alloc, edits, drawn, shelf),
-        _ => Ok(String::new(alloc)),
+        Task::Whatif { edits, .. } => put_whatif_fault(hint, edits, drawn, shelf),
+        _ => {}
     }
 }
 
@@ -42,29 +44,32 @@ const MIXED: &str =
 const WIDE: &str =
     "job redraw draws no requirement with an end of 10,000,000,000,000 ps: an open end is *";
 
-fn too_many(limit: Limit, count: u128) -> UnrollFault {
-    UnrollFault::TooMany { limit, count }
-}
-
 // Why job whatif refuses a design with too many rows, or a file of edits.
-fn whatif_fault<H: Shelf>(
-    alloc: Global,
-    edits: &str,
-    drawn: &DrawnNetwork,
-    shelf: &mut H,
-) -> Result<String, NoMemory> {
+fn put_whatif_fault<H: Shelf>(hint: &mut Hint, edits: &str, drawn: &DrawnNetwork, shelf: &mut H) {
     let rows = drawn.rows().len();
     if rows > u64::from(MAX_SESSION_ROWS) {
-        return limit_fault(alloc, too_many(Limit::SessionRows, u128::from(rows)));
+        put_too_many(hint, Limit::SessionRows, u128::from(rows));
+    } else if let Ok(bytes) = shelf.fetch(hint.alloc(), edits, MAX_EDITS_BYTES as u32 + 1) {
+        put_file_fault(hint, edits, drawn, &bytes);
+        drop(bytes);
     }
-    let Ok(bytes) = shelf.fetch(alloc, edits, MAX_EDITS_BYTES as u32 + 1) else {
-        return Ok(String::new(alloc));
-    };
-    let says = match read_edits(alloc, drawn, &bytes) {
-        Ok(_) => return Ok(String::new(alloc)),
-        Err(fault) => edits_fault(alloc, &bytes, fault)?,
-    };
-    let says = says.as_str();
-    let edits = Plain(edits);
-    Ok(format!(in alloc; "{edits}: {says}")?)
+}
+
+// Why the bytes of a file of edits are refused.
+fn put_file_fault(hint: &mut Hint, name: &str, drawn: &DrawnNetwork, bytes: &[u8]) {
+    if let Some(fault) = fault_of(hint, drawn, bytes) {
+        hint.put_plain(name);
+        hint.put(": ");
+        put_edits_fault(hint, bytes, fault);
+    }
+}
+
+fn fault_of(hint: &Hint, drawn: &DrawnNetwork, bytes: &[u8]) -> Option<EditsFault> {
+    match read_edits(hint.alloc(), drawn, bytes) {
+        Ok(edits) => {
+            drop(edits);
+            None
+        }
+        Err(fault) => Some(fault),
+    }
 }

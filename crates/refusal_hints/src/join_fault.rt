@@ -1,42 +1,28 @@
 //! Why a netlist and its sheets make no design.
 
-use crate::edge::about_edge;
-use crate::lanes::push_mark;
-use crate::part::no_part;
+use crate::edge::{put_about_edge, put_edge};
+use crate::hint::Hint;
+use crate::part::put_no_part;
 use crate::sheet_fault::TOO_MANY_CAUSES;
-use crate::written::{Quoted, Short, ShownMark, listed, what_there_is};
 use compose::{JoinFault, SheetKey};
-use itv_base::{NoMemory, Texts};
+use itv_base::NoMemory;
 use label_grammar::{WireText, read_wire};
 use netlist::{Part, PinText};
 use plan::Plan;
 use sheet::{Mark, Pin, Sheet};
-use std::alloc::Global;
 use wave_string::MarkKind;
 
 /// Why the netlist and the sheets of a plan make no design.
-pub fn join_fault(alloc: Global, plan: &Plan, fault: JoinFault) -> Result<String, NoMemory> {
+pub fn put_join_fault(hint: &mut Hint, plan: &Plan, fault: JoinFault) {
     match fault {
-        JoinFault::NoPart(net, pin) => match pin_at(plan, net, pin) {
-            Some(text) => {
-                let says = no_part(alloc, plan.netlist(), text.part.as_text())?;
-                about_pin(alloc, net, text, says.as_str())
-            }
-            None => Ok(String::new(alloc)),
-        },
-        JoinFault::NoPin(net, pin) => match pin_at(plan, net, pin) {
-            Some(text) => {
-                let says = no_lane(alloc, plan, text)?;
-                about_pin(alloc, net, text, says.as_str())
-            }
-            None => Ok(String::new(alloc)),
-        },
-        JoinFault::MarkCounts(net, pin, _, _) => counts_fault(alloc, plan, net, pin),
-        JoinFault::KindsDiffer(net, pin, mark) => kinds_fault(alloc, plan, net, pin, mark),
-        JoinFault::WireNoPart(n) => wire_part_fault(alloc, plan, n),
-        JoinFault::WireNoMark(n) => wire_mark_fault(alloc, plan, n),
-        JoinFault::TooManyCauses(n) => about_edge(alloc, n, wire_text(plan, n), TOO_MANY_CAUSES),
-        JoinFault::NoMemory => Err(NoMemory),
+        JoinFault::NoPart(net, pin) => put_part_fault(hint, plan, net, pin),
+        JoinFault::NoPin(net, pin) => put_pin_fault(hint, plan, net, pin),
+        JoinFault::MarkCounts(net, pin, _, _) => put_counts_fault(hint, plan, net, pin),
+        JoinFault::KindsDiffer(net, pin, mark) => put_kinds_fault(hint, plan, net, pin, mark),
+        JoinFault::WireNoPart(n) => put_wire_part_fault(hint, plan, n),
+        JoinFault::WireNoMark(n) => put_wire_mark_fault(hint, plan, n),
+        JoinFault::TooManyCauses(n) => put_about_edge(hint, n, wire_text(plan, n), TOO_MANY_CAUSES),
+        JoinFault::NoMemory => hint.cut(),
     }
 }
 
@@ -48,11 +34,40 @@ fn pin_at(plan: &Plan, net: u64, pin: u64) -> Option<&PinText> {
     net.pins().as_slice().get(pin as usize)
 }
 
-// What is said of a pin of a net.
-fn about_pin(alloc: Global, net: u64, text: &PinText, says: &str) -> Result<String, NoMemory> {
-    let part = text.part.as_text();
-    let lane = Short(text.lane.as_text());
-    Ok(format!(in alloc; "net {net}, pin {part}.{lane}: {says}")?)
+// A pin of a net is of a part that is not there.
+fn put_part_fault(hint: &mut Hint, plan: &Plan, net: u64, pin: u64) {
+    if let Some(text) = pin_at(plan, net, pin) {
+        put_pin(hint, net, text);
+        put_no_part(hint, plan.netlist(), text.part.as_text());
+    }
+}
+
+// A pin of a net is no lane with a mark.
+fn put_pin_fault(hint: &mut Hint, plan: &Plan, net: u64, pin: u64) {
+    if let Some(text) = pin_at(plan, net, pin) {
+        put_pin(hint, net, text);
+        put_no_lane(hint, plan, text);
+    }
+}
+
+// A pin of a net, in front of what is said of it.
+fn put_pin(hint: &mut Hint, net: u64, text: &PinText) {
+    put_net(hint, net);
+    hint.put(", pin ");
+    put_lane(hint, text);
+    hint.put(": ");
+}
+
+fn put_net(hint: &mut Hint, net: u64) {
+    hint.put("net ");
+    hint.put_number(net);
+}
+
+// The lane of a part.
+fn put_lane(hint: &mut Hint, text: &PinText) {
+    hint.put(text.part.as_text());
+    hint.put(".");
+    hint.put_short(text.lane.as_text());
 }
 
 // The part of a name.
@@ -61,122 +76,153 @@ fn part_named<'a>(plan: &'a Plan, name: &str) -> Option<&'a Part> {
     parts.iter().find(|part| part.name.as_text() == name)
 }
 
-// The sheet of a part.
-fn sheet_of<'a>(alloc: Global, plan: &'a Plan, part: &Part) -> Result<Option<&'a Sheet>, NoMemory> {
-    let key = SheetKey::of(alloc, part)?;
-    Ok(plan.sheets().get(&key))
-}
-
 // The sheet of the part of a name.
-fn sheet_named<'a>(
-    alloc: Global,
-    plan: &'a Plan,
-    name: &str,
-) -> Result<Option<&'a Sheet>, NoMemory> {
-    match part_named(plan, name) {
-        Some(part) => sheet_of(alloc, plan, part),
-        None => Ok(None),
+fn sheet_named<'a>(hint: &mut Hint, plan: &'a Plan, name: &str) -> Option<&'a Sheet> {
+    let part = part_named(plan, name)?;
+    match SheetKey::of(hint.alloc(), part) {
+        Ok(key) => {
+            let sheet = plan.sheets().get(&key);
+            drop(key);
+            sheet
+        }
+        Err(NoMemory) => {
+            hint.cut();
+            None
+        }
     }
 }
 
 // A part has no lane of a name with a mark.
-fn no_lane(alloc: Global, plan: &Plan, text: &PinText) -> Result<String, NoMemory> {
-    let mut lanes = Texts::new(alloc)?;
-    if let Some(sheet) = sheet_named(alloc, plan, text.part.as_text())? {
-        for pin in sheet.pins().as_slice() {
-            lanes.push(alloc, pin.name.as_text())?;
-        }
-    }
-    let there = what_there_is(alloc, lanes, "lane with a mark", "lanes with marks")?;
-    let there = there.as_str();
+fn put_no_lane(hint: &mut Hint, plan: &Plan, text: &PinText) {
     let part = text.part.as_text();
-    let lane = Quoted(text.lane.as_text());
-    Ok(format!(in alloc; "part {part} has no lane {lane} with a mark; {there}")?)
+    hint.put("part ");
+    hint.put(part);
+    hint.put(" has no lane ");
+    hint.put_quoted(text.lane.as_text());
+    hint.put(" with a mark; ");
+    let pins = match sheet_named(hint, plan, part) {
+        Some(sheet) => sheet.pins().as_slice(),
+        None => &[],
+    };
+    put_pins(hint, pins);
+}
+
+fn put_pins(hint: &mut Hint, pins: &[Pin]) {
+    let count = pins.len() as u64;
+    hint.put_what(count, "lane with a mark", "lanes with marks");
+    for (k, pin) in pins.iter().enumerate() {
+        hint.put_name(k as u64, count, pin.name.as_text());
+    }
+}
+
+// The marks of a lane: those of a sheet whose lane has this number.
+#[derive(Clone, Copy)]
+struct LaneMarks<'a> {
+    marks: &'a [Mark],
+    lane: u64,
+}
+
+impl LaneMarks<'_> {
+    fn count(self) -> u64 {
+        let mut count = 0u64;
+        for mark in self.marks {
+            if mark.lane == self.lane {
+                count = count.saturating_add(1);
+            }
+        }
+        count
+    }
+
+    // Mark k of the lane, counted from 0.
+    fn at(self, k: u64) -> Option<Mark> {
+        let mut number = 0u64;
+        for mark in self.marks {
+            if mark.lane == self.lane {
+                if number == k {
+                    return Some(*mark);
+                }
+                number = number.saturating_add(1);
+            }
+        }
+        None
+    }
 }
 
 // The marks of a pin, in the order in which they are drawn.
-fn marks_of<'a>(alloc: Global, plan: &'a Plan, text: &PinText) -> Result<Vec<Mark>, NoMemory> {
-    let mut marks = Vec::new(alloc);
-    let Some(sheet) = sheet_named(alloc, plan, text.part.as_text())? else {
-        return Ok(marks);
-    };
-    let Some(pin) = lane_named(sheet, text.lane.as_text()) else {
-        return Ok(marks);
-    };
-    for mark in sheet.marks().as_slice() {
-        if mark.lane == pin.lane {
-            marks.push(*mark)?;
-        }
+fn marks_of<'a>(hint: &mut Hint, plan: &'a Plan, text: &PinText) -> LaneMarks<'a> {
+    match sheet_named(hint, plan, text.part.as_text()) {
+        Some(sheet) => LaneMarks {
+            marks: sheet.marks().as_slice(),
+            lane: lane_named(sheet, text.lane.as_text()),
+        },
+        None => LaneMarks {
+            marks: &[],
+            lane: 0,
+        },
     }
-    Ok(marks)
 }
 
-fn lane_named<'a>(sheet: &'a Sheet, name: &str) -> Option<&'a Pin> {
-    let pins = sheet.pins().as_slice();
-    pins.iter().find(|pin| pin.name.as_text() == name)
+// The number of the lane of a name, or one that no lane has.
+fn lane_named(sheet: &Sheet, name: &str) -> u64 {
+    for pin in sheet.pins().as_slice() {
+        if pin.name.as_text() == name {
+            return pin.lane;
+        }
+    }
+    u64::MAX
 }
 
 // Two pins of a net have different numbers of marks.
-fn counts_fault(alloc: Global, plan: &Plan, net: u64, pin: u64) -> Result<String, NoMemory> {
-    let (Some(driver), Some(other)) = (pin_at(plan, net, 0), pin_at(plan, net, pin)) else {
-        return Ok(String::new(alloc));
-    };
-    let first = with_marks(alloc, plan, driver)?;
-    let first = first.as_str();
-    let second = with_marks(alloc, plan, other)?;
-    let second = second.as_str();
-    Ok(format!(in alloc; "net {net}: {first}, and {second}: give both lanes the same events")?)
+fn put_counts_fault(hint: &mut Hint, plan: &Plan, net: u64, pin: u64) {
+    if let (Some(driver), Some(other)) = (pin_at(plan, net, 0), pin_at(plan, net, pin)) {
+        put_net(hint, net);
+        hint.put(": ");
+        put_with_marks(hint, plan, driver);
+        hint.put(", and ");
+        put_with_marks(hint, plan, other);
+        hint.put(": give both lanes the same events");
+    }
 }
 
 // A pin with its marks, as `RAM.DQ has 2 marks, v and w`.
-fn with_marks(alloc: Global, plan: &Plan, text: &PinText) -> Result<String, NoMemory> {
-    let marks = marks_of(alloc, plan, text)?;
-    let mut names = Texts::new(alloc)?;
-    for mark in &marks {
-        push_mark(alloc, &mut names, mark.name)?;
+fn put_with_marks(hint: &mut Hint, plan: &Plan, text: &PinText) {
+    put_lane(hint, text);
+    let marks = marks_of(hint, plan, text);
+    let count = marks.count();
+    hint.put(" has ");
+    hint.put_number(count);
+    hint.put(if count == 1 { " mark, " } else { " marks, " });
+    for k in 0..count {
+        if let Some(mark) = marks.at(k) {
+            hint.put_marked(k, count, mark.name);
+        }
     }
-    let names = listed(alloc, names)?;
-    let names = names.as_str();
-    let count = marks.len();
-    let word = if count == 1 { "mark" } else { "marks" };
-    let part = text.part.as_text();
-    let lane = Short(text.lane.as_text());
-    Ok(format!(in alloc; "{part}.{lane} has {count} {word}, {names}")?)
 }
 
 // Of two marks that a net joins one is a rise and the other a fall.
-fn kinds_fault(
-    alloc: Global,
-    plan: &Plan,
-    net: u64,
-    pin: u64,
-    mark: u32,
-) -> Result<String, NoMemory> {
-    let (Some(driver), Some(other)) = (pin_at(plan, net, 0), pin_at(plan, net, pin)) else {
-        return Ok(String::new(alloc));
-    };
-    let first = turning(alloc, plan, driver, mark)?;
-    let first = first.as_str();
-    let second = turning(alloc, plan, other, mark)?;
-    let second = second.as_str();
-    Ok(format!(in alloc; "net {net}: {first}, and {second}: correct one of the waves")?)
+fn put_kinds_fault(hint: &mut Hint, plan: &Plan, net: u64, pin: u64, mark: u32) {
+    if let (Some(driver), Some(other)) = (pin_at(plan, net, 0), pin_at(plan, net, pin)) {
+        put_net(hint, net);
+        hint.put(": ");
+        put_turning(hint, plan, driver, mark);
+        hint.put(", and ");
+        put_turning(hint, plan, other, mark);
+        hint.put(": correct one of the waves");
+    }
 }
 
 // Which way a mark of a pin turns, as `CPU.CLK c rises`.
-fn turning(alloc: Global, plan: &Plan, text: &PinText, mark: u32) -> Result<String, NoMemory> {
-    let marks = marks_of(alloc, plan, text)?;
-    let Some(mark) = marks.get(mark as usize) else {
-        return Ok(String::new(alloc));
-    };
-    let turns = match mark.kind {
-        MarkKind::Rise => "rises",
-        MarkKind::Fall => "falls",
-        _ => "changes",
-    };
-    let part = text.part.as_text();
-    let lane = Short(text.lane.as_text());
-    let mark = ShownMark(mark.name);
-    Ok(format!(in alloc; "{part}.{lane} {mark} {turns}")?)
+fn put_turning(hint: &mut Hint, plan: &Plan, text: &PinText, mark: u32) {
+    if let Some(mark) = marks_of(hint, plan, text).at(u64::from(mark)) {
+        put_lane(hint, text);
+        hint.put(" ");
+        hint.put_mark(mark.name);
+        hint.put(match mark.kind {
+            MarkKind::Rise => " rises",
+            MarkKind::Fall => " falls",
+            _ => " changes",
+        });
+    }
 }
 
 // ---- edges of the netlist
@@ -189,7 +235,7 @@ fn wire_text(plan: &Plan, n: u64) -> &str {
 }
 
 // An edge of the netlist names a part that is not there.
-fn wire_part_fault(alloc: Global, plan: &Plan, n: u64) -> Result<String, NoMemory> {
+fn put_wire_part_fault(hint: &mut Hint, plan: &Plan, n: u64) {
     let text = wire_text(plan, n);
     let WireText::Timing {
         from_part,
@@ -197,18 +243,19 @@ fn wire_part_fault(alloc: Global, plan: &Plan, n: u64) -> Result<String, NoMemor
         ..
     } = read_wire(text)
     else {
-        return Ok(String::new(alloc));
+        return;
     };
     let part = match part_named(plan, from_part) {
         Some(_) => to_part,
         None => from_part,
     };
-    let says = no_part(alloc, plan.netlist(), part)?;
-    about_edge(alloc, n, text, says.as_str())
+    put_edge(hint, n, text);
+    hint.put(": ");
+    put_no_part(hint, plan.netlist(), part);
 }
 
 // An edge of the netlist names a mark that is not there.
-fn wire_mark_fault(alloc: Global, plan: &Plan, n: u64) -> Result<String, NoMemory> {
+fn put_wire_mark_fault(hint: &mut Hint, plan: &Plan, n: u64) {
     let text = wire_text(plan, n);
     let WireText::Timing {
         from_part,
@@ -218,29 +265,37 @@ fn wire_mark_fault(alloc: Global, plan: &Plan, n: u64) -> Result<String, NoMemor
         ..
     } = read_wire(text)
     else {
-        return Ok(String::new(alloc));
+        return;
     };
-    let mut says = mark_fault(alloc, plan, from_part, from_mark)?;
-    if says.is_empty() {
-        says = mark_fault(alloc, plan, to_part, to_mark)?;
+    put_edge(hint, n, text);
+    hint.put(": ");
+    if !lacks_mark(hint, plan, from_part, from_mark) {
+        lacks_mark(hint, plan, to_part, to_mark);
     }
-    about_edge(alloc, n, text, says.as_str())
 }
 
-// That a part has no mark of a name, and which marks it has; or an empty text if it has one.
-fn mark_fault(alloc: Global, plan: &Plan, part: &str, mark: u8) -> Result<String, NoMemory> {
-    let Some(sheet) = sheet_named(alloc, plan, part)? else {
-        return Ok(String::new(alloc));
+// Puts that a part has no mark of a name, and which marks it has. Whether it has none.
+fn lacks_mark(hint: &mut Hint, plan: &Plan, part: &str, mark: u8) -> bool {
+    let Some(sheet) = sheet_named(hint, plan, part) else {
+        return false;
     };
-    let mut names = Texts::new(alloc)?;
-    for found in sheet.marks().as_slice() {
-        if found.name == mark {
-            return Ok(String::new(alloc));
-        }
-        push_mark(alloc, &mut names, found.name)?;
+    let marks = sheet.marks().as_slice();
+    if marks.iter().any(|found| found.name == mark) {
+        return false;
     }
-    let there = what_there_is(alloc, names, "mark", "marks")?;
-    let there = there.as_str();
-    let mark = ShownMark(mark);
-    Ok(format!(in alloc; "part {part} has no mark {mark}; {there}")?)
+    hint.put("part ");
+    hint.put(part);
+    hint.put(" has no mark ");
+    hint.put_mark(mark);
+    hint.put("; ");
+    put_marks(hint, marks);
+    true
+}
+
+fn put_marks(hint: &mut Hint, marks: &[Mark]) {
+    let count = marks.len() as u64;
+    hint.put_what(count, "mark", "marks");
+    for (k, mark) in marks.iter().enumerate() {
+        hint.put_marked(k as u64, count, mark.name);
+    }
 }

@@ -1,9 +1,7 @@
 //! Why bytes are no strict JSON, and where.
 
-use crate::written::said;
-use itv_base::NoMemory;
+use crate::hint::Hint;
 use serde_json::Value;
-use std::alloc::Global;
 use std::str;
 
 // What turns a relaxed file into a strict one.
@@ -16,25 +14,47 @@ const IN_QUOTES: &str = "texts and keys stand in double quotes";
 const NOT_STRICT: &str = "this is no strict JSON";
 
 /// Why these bytes are no JSON. The column counts characters from 1.
-pub fn json_fault(alloc: Global, bytes: &[u8]) -> Result<String, NoMemory> {
-    if let Some(says) = whole_fault(bytes) {
-        return said(alloc, says);
+pub fn put_json_fault(hint: &mut Hint, bytes: &[u8]) {
+    match whole_fault(bytes) {
+        Some(says) => hint.put(says),
+        None => put_read_fault(hint, bytes),
     }
-    let error = match Value::from_slice(alloc, bytes) {
-        Ok(_) => return said(alloc, "it is no strict JSON"),
-        Err(error) => error,
-    };
-    let line = error.line();
-    let place = place_at(bytes, line, error.column());
-    let column = place.column;
-    let says = if str::from_utf8(bytes).is_err() {
+}
+
+// What a reading of the bytes finds.
+fn put_read_fault(hint: &mut Hint, bytes: &[u8]) {
+    match Value::from_slice(hint.alloc(), bytes) {
+        Ok(tree) => {
+            drop(tree);
+            hint.put("it is no strict JSON");
+        }
+        Err(error) => {
+            let line = error.line();
+            let column = error.column();
+            let is_early = error.is_eof();
+            drop(error);
+            put_fault_at(hint, bytes, line, column, is_early);
+        }
+    }
+}
+
+// What is wrong at a line and at a byte of it, both from 1, or that the bytes end too early.
+fn put_fault_at(hint: &mut Hint, bytes: &[u8], line: usize, column: usize, is_early: bool) {
+    let place = place_at(bytes, line, column);
+    hint.put("line ");
+    hint.put_number(line as u64);
+    hint.put(" column ");
+    hint.put_number(place.column);
+    hint.put(": ");
+    hint.put(if str::from_utf8(bytes).is_err() {
         "a byte is no UTF-8: save the file as UTF-8"
-    } else if error.is_eof() {
+    } else if is_early {
         ENDS_EARLY
     } else {
         place_fault(place)
-    };
-    Ok(format!(in alloc; "line {line} column {column}: {says}; {STRICT}")?)
+    });
+    hint.put("; ");
+    hint.put(STRICT);
 }
 
 // What is wrong with the file as a whole, if its first bytes show it.

@@ -1,123 +1,42 @@
 //! Why a text is no label: where it leaves the form `@kind+K:tag [LOW,HIGH] note`, and what is wrong there.
 
-use crate::written::Quoted;
+use crate::hint::Hint;
 use itv_base::{END_LIMIT, MAX_SHIFT, is_name, split_digits, split_name, strip};
-use std::fmt;
 
-/// The place in a label where its form ends: what is left of the label there, and what is wrong.
+/// The place in a label where its form ends, and what is wrong there.
 #[derive(Clone, Copy)]
 pub struct Misfit<'a> {
+    /// What is left of the label there.
     pub rest: &'a str,
-    pub why: LabelWhy<'a>,
+    // A word of the label that is shown, with what stands in front of it.
+    shown: Option<(&'static str, &'a str)>,
+    says: &'static str,
 }
 
-/// What is wrong at a place of a label.
-#[derive(Clone, Copy)]
-pub enum LabelWhy<'a> {
-    /// Behind `@` stands no word.
-    NoWord,
-    /// Behind `@` stands this word, which is no kind.
-    NoKind(&'a str),
-    /// Behind `+` stands no whole number from 1 to 64.
-    NoShift,
-    /// Behind `:` stands no tag.
-    NoTag,
-    /// `+` stands behind the tag.
-    ShiftBehindTag,
-    /// There is no space behind the kind or its tag.
-    NoSpace,
-    /// There are two spaces in front of the range.
-    TwoSpaces,
-    /// There is no range.
-    NoRange,
-    /// What should be a range does not begin with `[`.
-    NoBracket,
-    /// `$` stands in a label of version 1.
-    NeedsVersion2,
-    /// Behind `$` stands no name.
-    NoName,
-    /// A space stands behind the comma.
-    SpaceBehindComma,
-    /// A space stands elsewhere in the range.
-    SpaceInRange,
-    /// An end is missing.
-    NoEnd,
-    /// An end is this text, with a point or a comma in a number.
-    Fraction(&'a str),
-    /// An end is this number, with a zero or a plus in front.
-    Front(&'a str),
-    /// An end is this text.
-    NoNumber(&'a str),
-    /// The range has one end.
-    OneEnd,
-    /// The range has three ends.
-    ThreeEnds,
-    /// There is no `]`.
-    NotClosed,
-    /// There is no space behind the range.
-    NoSpaceBehindRange,
-    /// More stands behind a range that has to stand alone.
-    BehindRange,
-    /// An end is beyond the limit of finite ends.
-    TooWide,
-    /// The low end is above the high end.
-    EmptyRange,
-}
-
-impl fmt::Display for LabelWhy<'_> {
-    fn fmt<W: fmt::Write>(&self, f: &mut fmt::Formatter<W>) -> fmt::Result {
-        match *self {
-            LabelWhy::NoKind(word) => write!(
-                f,
-                "there is no kind {}: the kinds are lin, late, early, req and ask, in small letters",
-                Quoted(word)
-            ),
-            LabelWhy::Fraction(text) => write!(
-                f,
-                "{} is no whole number: times are whole picoseconds",
-                Quoted(text)
-            ),
-            LabelWhy::Front(text) => write!(
-                f,
-                "{} has a zero or a plus in front: a number has none",
-                Quoted(text)
-            ),
-            LabelWhy::NoNumber(text) => write!(
-                f,
-                "{} is no whole number: an open end is *",
-                Quoted(text)
-            ),
-            _ => f.write_str(self.plain()),
+impl<'a> Misfit<'a> {
+    fn new(rest: &'a str, says: &'static str) -> Misfit<'a> {
+        Misfit {
+            rest,
+            shown: None,
+            says,
         }
     }
-}
 
-impl LabelWhy<'_> {
-    // What is said where nothing of the label is shown.
-    fn plain(&self) -> &'static str {
-        match self {
-            LabelWhy::NoWord => "behind @ a kind is wanted: lin, late, early, req or ask",
-            LabelWhy::NoShift => "behind + a whole number from 1 to 64 is wanted",
-            LabelWhy::NoTag => "behind : a tag of 1 to 16 letters, digits or _ is wanted",
-            LabelWhy::ShiftBehindTag => "+ and its number stand in front of the tag",
-            LabelWhy::NoSpace => "a space is wanted here",
-            LabelWhy::TwoSpaces => "there is a space too many in front of the range",
-            LabelWhy::NoRange => "a range is wanted here, as [0,2000]",
-            LabelWhy::NoBracket => "a range stands in brackets, as [0,2000]",
-            LabelWhy::NeedsVersion2 => "$ needs a netlist with \"itv\": 2",
-            LabelWhy::NoName => "behind $ a name of 1 to 16 letters, digits or _ is wanted",
-            LabelWhy::SpaceBehindComma => "there may be no space behind the comma",
-            LabelWhy::SpaceInRange => "there may be no space within a range",
-            LabelWhy::NoEnd => "an end is missing: an open end is *",
-            LabelWhy::OneEnd => "a range has two ends, as [0,2000]",
-            LabelWhy::ThreeEnds => "a range has two ends and one comma",
-            LabelWhy::NotClosed => "a range ends with ]",
-            LabelWhy::NoSpaceBehindRange => "behind a range a space is wanted in front of a note",
-            LabelWhy::BehindRange => "nothing may stand behind the range",
-            LabelWhy::TooWide => "an end is beyond 10,000,000,000,000 ps: an open end is *",
-            LabelWhy::EmptyRange => EMPTY_RANGE,
-            _ => "the label is not of the form @kind [LOW,HIGH] note",
+    fn shown(rest: &'a str, front: &'static str, word: &'a str, says: &'static str) -> Misfit<'a> {
+        Misfit {
+            rest,
+            shown: Some((front, word)),
+            says,
         }
+    }
+
+    /// Puts what is wrong.
+    pub fn put(self, hint: &mut Hint) {
+        if let Some((front, word)) = self.shown {
+            hint.put(front);
+            hint.put_quoted(word);
+        }
+        hint.put(self.says);
     }
 }
 
@@ -128,19 +47,16 @@ pub const EMPTY_RANGE: &str = "the low end is above the high end";
 pub fn wide_end(text: &str) -> Option<Misfit<'_>> {
     let (low, high) = ends_in(text)?;
     let rest = if is_wide(low) { low } else { high };
-    Some(Misfit {
+    Some(Misfit::new(
         rest,
-        why: LabelWhy::TooWide,
-    })
+        "an end is beyond 10,000,000,000,000 ps: an open end is *",
+    ))
 }
 
 /// The low end of a text with one range whose ends are the wrong way round, or `None` if there is no range.
 pub fn high_low_end(text: &str) -> Option<Misfit<'_>> {
     let (low, _) = ends_in(text)?;
-    Some(Misfit {
-        rest: low,
-        why: LabelWhy::EmptyRange,
-    })
+    Some(Misfit::new(low, EMPTY_RANGE))
 }
 
 /// Where the range of a text leaves the form, or what stands behind it, or `None` if the text has no range or nothing is wrong with it.
@@ -148,10 +64,7 @@ pub fn range_misfit(text: &str) -> Option<Misfit<'_>> {
     let (_, ends) = text.split_once('[')?;
     match behind_ends(ends) {
         Ok("") => None,
-        Ok(rest) => Some(Misfit {
-            rest,
-            why: LabelWhy::BehindRange,
-        }),
+        Ok(rest) => Some(Misfit::new(rest, "nothing may stand behind the range")),
         Err(misfit) => Some(misfit),
     }
 }
@@ -184,22 +97,35 @@ fn walk(label: &str, version: u32) -> Result<&str, Misfit<'_>> {
     let rest = strip(label, "@").unwrap_or(label);
     let (word, behind) = split_name(rest);
     if word.is_empty() {
-        return wrong(rest, LabelWhy::NoWord);
+        return wrong(
+            rest,
+            "behind @ a kind is wanted: lin, late, early, req or ask",
+        );
     }
     if !is_kind(word) {
-        return wrong(rest, LabelWhy::NoKind(word));
+        return Err(Misfit::shown(rest, "there is no kind ", word, KINDS));
     }
     let rest = behind_shift(behind)?;
     let rest = behind_tag(rest)?;
     if word == "ask" {
-        return behind_end(rest, LabelWhy::NoSpace);
+        return behind_end(rest, NO_SPACE);
     }
     let rest = behind_span(rest, version)?;
-    behind_end(rest, LabelWhy::NoSpaceBehindRange)
+    behind_end(rest, "behind a range a space is wanted in front of a note")
 }
 
-fn wrong<'a>(rest: &'a str, why: LabelWhy<'a>) -> Result<&'a str, Misfit<'a>> {
-    Err(Misfit { rest, why })
+const KINDS: &str = ": the kinds are lin, late, early, req and ask, in small letters";
+
+const NO_SPACE: &str = "a space is wanted here";
+
+const NO_RANGE: &str = "a range is wanted here, as [0,2000]";
+
+const SPACE_IN_RANGE: &str = "there may be no space within a range";
+
+const NOT_CLOSED: &str = "a range ends with ]";
+
+fn wrong<'a>(rest: &'a str, says: &'static str) -> Result<&'a str, Misfit<'a>> {
+    Err(Misfit::new(rest, says))
 }
 
 fn is_kind(word: &str) -> bool {
@@ -214,7 +140,7 @@ fn behind_shift(text: &str) -> Result<&str, Misfit<'_>> {
     let (digits, behind) = split_digits(rest);
     match digits.parse::<u32>() {
         Ok(shift) if 1 <= shift && shift <= MAX_SHIFT && !digits.starts_with('0') => Ok(behind),
-        _ => wrong(rest, LabelWhy::NoShift),
+        _ => wrong(rest, "behind + a whole number from 1 to 64 is wanted"),
     }
 }
 
@@ -225,10 +151,13 @@ fn behind_tag(text: &str) -> Result<&str, Misfit<'_>> {
     };
     let (tag, behind) = split_name(rest);
     if !is_name(tag) {
-        return wrong(rest, LabelWhy::NoTag);
+        return wrong(
+            rest,
+            "behind : a tag of 1 to 16 letters, digits or _ is wanted",
+        );
     }
     if behind.starts_with('+') {
-        return wrong(behind, LabelWhy::ShiftBehindTag);
+        return wrong(behind, "+ and its number stand in front of the tag");
     }
     Ok(behind)
 }
@@ -236,70 +165,73 @@ fn behind_tag(text: &str) -> Result<&str, Misfit<'_>> {
 // What is left behind a space and a range or a name.
 fn behind_span(text: &str, version: u32) -> Result<&str, Misfit<'_>> {
     if text.is_empty() {
-        return wrong(text, LabelWhy::NoRange);
+        return wrong(text, NO_RANGE);
     }
     let Some(rest) = strip(text, " ") else {
-        return wrong(text, LabelWhy::NoSpace);
+        return wrong(text, NO_SPACE);
     };
     if rest.starts_with(' ') {
-        return wrong(rest, LabelWhy::TwoSpaces);
+        return wrong(rest, "there is a space too many in front of the range");
     }
     if let Some(name) = strip(rest, "$") {
         return behind_name(rest, name, version);
     }
     match strip(rest, "[") {
         Some(ends) => behind_ends(ends),
-        None if rest.is_empty() => wrong(rest, LabelWhy::NoRange),
-        None => wrong(rest, LabelWhy::NoBracket),
+        None if rest.is_empty() => wrong(rest, NO_RANGE),
+        None => wrong(rest, "a range stands in brackets, as [0,2000]"),
     }
 }
 
 // What is left behind `$` and a name.
 fn behind_name<'a>(text: &'a str, name: &'a str, version: u32) -> Result<&'a str, Misfit<'a>> {
     if version != 2 {
-        return wrong(text, LabelWhy::NeedsVersion2);
+        return wrong(text, "$ needs a netlist with \"itv\": 2");
     }
     let (word, behind) = split_name(name);
     if is_name(word) {
         Ok(behind)
     } else {
-        wrong(name, LabelWhy::NoName)
+        wrong(
+            name,
+            "behind $ a name of 1 to 16 letters, digits or _ is wanted",
+        )
     }
 }
 
 // What is left behind two ends and `]`.
 fn behind_ends(text: &str) -> Result<&str, Misfit<'_>> {
-    let rest = behind_number(text, LabelWhy::SpaceInRange)?;
+    let rest = behind_number(text, SPACE_IN_RANGE)?;
     if rest.starts_with(']') {
-        return wrong(rest, LabelWhy::OneEnd);
+        return wrong(rest, "a range has two ends, as [0,2000]");
     }
     let Some(rest) = strip(rest, ",") else {
-        return wrong(rest, LabelWhy::NotClosed);
+        return wrong(rest, NOT_CLOSED);
     };
-    let rest = behind_number(rest, LabelWhy::SpaceBehindComma)?;
+    let rest = behind_number(rest, "there may be no space behind the comma")?;
     if rest.starts_with(',') {
-        return wrong(rest, LabelWhy::ThreeEnds);
+        return wrong(rest, "a range has two ends and one comma");
     }
     match strip(rest, "]") {
         Some(behind) => Ok(behind),
-        None => wrong(rest, LabelWhy::NotClosed),
+        None => wrong(rest, NOT_CLOSED),
     }
 }
 
 // What is left behind an end. `space` is what is said of a space in front of it.
-fn behind_number<'a>(text: &'a str, space: LabelWhy<'a>) -> Result<&'a str, Misfit<'a>> {
+fn behind_number<'a>(text: &'a str, space: &'static str) -> Result<&'a str, Misfit<'a>> {
     if text.starts_with(' ') {
         return wrong(text, space);
     }
     let (end, rest) = split_end(text);
     if end.is_empty() {
-        return wrong(text, LabelWhy::NoEnd);
+        return wrong(text, "an end is missing: an open end is *");
     }
     if !is_end(end) {
-        return wrong(text, why_no_end(end));
+        return Err(Misfit::shown(text, "", end, why_no_end(end)));
     }
     if rest.starts_with(' ') {
-        return wrong(rest, LabelWhy::SpaceInRange);
+        return wrong(rest, SPACE_IN_RANGE);
     }
     Ok(rest)
 }
@@ -321,15 +253,18 @@ fn is_number(digits: &str, end: &str) -> bool {
     behind.is_empty() && !run.is_empty() && (!run.starts_with('0') || end == "0")
 }
 
-fn why_no_end(end: &str) -> LabelWhy<'_> {
+// What is said behind a text that is no end.
+fn why_no_end(end: &str) -> &'static str {
     let digits = end.trim_start_matches(['-', '+']);
     let (run, behind) = split_digits(digits);
     if behind.is_empty() && !run.is_empty() {
-        return LabelWhy::Front(end);
+        return " has a zero or a plus in front: a number has none";
     }
     match strip(behind, ".") {
-        Some(fraction) if is_digits(fraction) && !fraction.is_empty() => LabelWhy::Fraction(end),
-        _ => LabelWhy::NoNumber(end),
+        Some(fraction) if is_digits(fraction) && !fraction.is_empty() => {
+            " is no whole number: times are whole picoseconds"
+        }
+        _ => " is no whole number: an open end is *",
     }
 }
 
@@ -339,7 +274,7 @@ fn is_digits(text: &str) -> bool {
 }
 
 // Nothing is left, or a space and a note.
-fn behind_end<'a>(text: &'a str, why: LabelWhy<'a>) -> Result<&'a str, Misfit<'a>> {
+fn behind_end<'a>(text: &'a str, why: &'static str) -> Result<&'a str, Misfit<'a>> {
     if text.is_empty() || text.starts_with(' ') {
         Ok("")
     } else {

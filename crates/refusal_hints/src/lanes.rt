@@ -1,7 +1,7 @@
 //! The lanes and the marks of a drawing.
 
-use crate::written::Quoted;
-use itv_base::{NoMemory, Texts, is_mark};
+use crate::hint::Hint;
+use itv_base::is_mark;
 use serde_json::Value;
 use std::alloc::Global;
 use wavejson::{Diagram, LaneText, read_diagram};
@@ -36,48 +36,63 @@ pub fn node_of(lane: &LaneText) -> &str {
     }
 }
 
-/// Lane k, as `lane 2 'DQ'`, or `lane 2` where it has no name.
-pub fn lane_said(alloc: Global, diagram: &Diagram, k: u64) -> Result<String, NoMemory> {
+/// Puts lane k, as `lane 2 'DQ'`, or `lane 2` where it has no name.
+pub fn put_lane(hint: &mut Hint, diagram: &Diagram, k: u64) {
     let name = match lane_at(diagram, k) {
         Some(lane) => name_of(lane),
         None => "",
     };
-    let said = if name.is_empty() {
-        format!(in alloc; "lane {k}")?
-    } else {
-        format!(in alloc; "lane {k} {}", Quoted(name))?
-    };
-    Ok(said)
-}
-
-/// The marks of one lane.
-pub fn marks_of(alloc: Global, lane: &LaneText) -> Result<Texts, NoMemory> {
-    let mut marks = Texts::new(alloc)?;
-    push_marks(alloc, &mut marks, lane)?;
-    Ok(marks)
-}
-
-/// The marks of all lanes.
-pub fn all_marks(alloc: Global, diagram: &Diagram) -> Result<Texts, NoMemory> {
-    let mut marks = Texts::new(alloc)?;
-    for k in 0..diagram.lanes().len() {
-        push_marks(alloc, &mut marks, diagram.lanes().get(k))?;
+    hint.put("lane ");
+    hint.put_number(k);
+    if !name.is_empty() {
+        hint.put(" ");
+        hint.put_quoted(name);
     }
-    Ok(marks)
 }
 
-fn push_marks(alloc: Global, marks: &mut Texts, lane: &LaneText) -> Result<(), NoMemory> {
+/// Puts which marks a lane has.
+pub fn put_marks_of(hint: &mut Hint, lane: &LaneText) {
+    let count = count_marks(lane);
+    hint.put_what(count, "mark", "marks");
+    put_marks(hint, lane, 0, count);
+}
+
+/// Puts which marks a drawing has, lane by lane.
+pub fn put_all_marks(hint: &mut Hint, diagram: &Diagram) {
+    let count = count_all_marks(diagram);
+    hint.put_what(count, "mark", "marks");
+    let mut k = 0;
+    for lane in 0..diagram.lanes().len() {
+        k = put_marks(hint, diagram.lanes().get(lane), k, count);
+    }
+}
+
+fn count_all_marks(diagram: &Diagram) -> u64 {
+    let mut count = 0u64;
+    for lane in 0..diagram.lanes().len() {
+        count = count.saturating_add(count_marks(diagram.lanes().get(lane)));
+    }
+    count
+}
+
+fn count_marks(lane: &LaneText) -> u64 {
+    let mut count = 0u64;
     for byte in node_of(lane).bytes() {
         if is_mark(byte) {
-            push_mark(alloc, marks, byte)?;
+            count = count.saturating_add(1);
         }
     }
-    Ok(())
+    count
 }
 
-/// Puts a mark at the end of names.
-pub fn push_mark(alloc: Global, marks: &mut Texts, mark: u8) -> Result<(), NoMemory> {
-    let mut name = String::new(alloc);
-    name.push(char::from(mark))?;
-    marks.push(alloc, name.as_str())
+// Puts the marks of a lane in a list of so many marks, from mark k of the list on. The number of the mark behind them.
+fn put_marks(hint: &mut Hint, lane: &LaneText, k: u64, count: u64) -> u64 {
+    let mut next = k;
+    for byte in node_of(lane).bytes() {
+        if is_mark(byte) {
+            hint.put_marked(next, count, byte);
+            next = next.saturating_add(1);
+        }
+    }
+    next
 }

@@ -1,58 +1,60 @@
 //! Why a tree is no netlist.
 
-use crate::edge::{about_edge, edge_text, label_refused, no_text};
+use crate::edge::{edge_text, element_at, put_edge, put_label_refused, put_no_text};
 use crate::grades_fault::range_says;
-use crate::part::lane_for_mark;
-use crate::tree::{about_key, ends_fault, is_ends, value_text};
-use crate::written::{Quoted, said};
-use itv_base::{NoMemory, Shelf, is_mark, is_name};
+use crate::hint::Hint;
+use crate::part::put_lane_for_mark;
+use crate::tree::{is_ends, put_about_key, put_ends_fault, put_value};
+use itv_base::{Shelf, is_mark, is_name};
 use json_tree::{list_at, text_at};
 use netlist::NetlistFault;
 use serde_json::Value;
-use std::alloc::Global;
 
 /// Why the tree of a design is no netlist. The marks of a lane are looked for in the file of its sheet.
-pub fn netlist_fault<H: Shelf>(
-    alloc: Global,
+pub fn put_netlist_fault<H: Shelf>(
+    hint: &mut Hint,
     tree: &Value,
     fault: NetlistFault,
     shelf: &mut H,
-) -> Result<String, NoMemory> {
+) {
     match fault {
-        NetlistFault::Part(n) => part_fault(alloc, tree, n),
-        NetlistFault::DoublePart(n) => double_part(alloc, tree, n),
-        NetlistFault::Net(n) => net_fault(alloc, tree, n),
+        NetlistFault::Part(n) => put_part_fault(hint, tree, n),
+        NetlistFault::DoublePart(n) => put_double_part(hint, tree, n),
+        NetlistFault::Net(n) => put_net_fault(hint, tree, n),
         NetlistFault::Delay(n, fault) => {
-            let says = range_says(fault);
-            let says = format!(in alloc; "in its \"delay\" {says}")?;
-            about_net(alloc, tree, n, says.as_str())
+            put_net(hint, tree, n);
+            hint.put("in its \"delay\" ");
+            hint.put(range_says(fault));
         }
-        NetlistFault::Edge(n) => wire_fault(alloc, tree, n, shelf),
+        NetlistFault::Edge(n) => put_wire_fault(hint, tree, n, shelf),
         NetlistFault::Label(n, fault) => {
-            label_refused(alloc, n, edge_text(tree, "edges", n), 2, 1, fault)
+            put_label_refused(hint, n, edge_text(tree, "edges", n), 2, 1, fault)
         }
-        NetlistFault::NoMemory => Err(NoMemory),
-        _ => whole_fault(alloc, tree, fault),
+        NetlistFault::NoMemory => hint.cut(),
+        _ => put_whole_fault(hint, tree, fault),
     }
 }
 
 // Why a netlist as a whole is refused.
-fn whole_fault(alloc: Global, tree: &Value, fault: NetlistFault) -> Result<String, NoMemory> {
+fn put_whole_fault(hint: &mut Hint, tree: &Value, fault: NetlistFault) {
     match fault {
-        NetlistFault::Version => about_key(alloc, "itv", tree.get("itv"), version_wanted(tree)),
-        NetlistFault::Cycles => about_key(
-            alloc,
+        NetlistFault::Version => put_about_key(hint, "itv", tree.get("itv"), version_wanted(tree)),
+        NetlistFault::Cycles => put_about_key(
+            hint,
             "cycles",
             tree.get("cycles"),
             "a whole number from 1 to 256 is wanted",
         ),
-        NetlistFault::TooManyParts(count) => Ok(format!(in alloc;
-            "it has {count} parts, and 256 are the limit"
-        )?),
-        NetlistFault::TooManySheets(count) => Ok(format!(in alloc;
-            "its parts name {count} sheets, and 64 are the limit"
-        )?),
-        _ => said(alloc, plain_fault(fault)),
+        NetlistFault::TooManyParts(count) => {
+            put_too_many(hint, "it has ", count, " parts, and 256 are the limit")
+        }
+        NetlistFault::TooManySheets(count) => put_too_many(
+            hint,
+            "its parts name ",
+            count,
+            " sheets, and 64 are the limit",
+        ),
+        _ => hint.put(plain_fault(fault)),
     }
 }
 
@@ -61,6 +63,12 @@ fn version_wanted(tree: &Value) -> &'static str {
         Some(Value::String(_)) => "the number 1 or 2 is wanted, without quotes",
         _ => "the whole number 1 or 2 is wanted",
     }
+}
+
+fn put_too_many(hint: &mut Hint, front: &str, count: u64, back: &str) {
+    hint.put(front);
+    hint.put_number(count);
+    hint.put(back);
 }
 
 fn plain_fault(fault: NetlistFault) -> &'static str {
@@ -74,33 +82,33 @@ fn plain_fault(fault: NetlistFault) -> &'static str {
     }
 }
 
-// Element n of the list under a key, if it is there.
-fn element<'v>(tree: &'v Value, key: &str, n: u64) -> Option<&'v Value> {
-    list_at(tree, key)?.get(n as usize)
-}
-
 // ---- parts
 
-fn part_fault(alloc: Global, tree: &Value, n: u64) -> Result<String, NoMemory> {
-    let Some(part) = element(tree, "parts", n) else {
-        return Ok(String::new(alloc));
-    };
-    let says = if !part.is_object() {
-        said(alloc, "it is no object with a name and a sheet")?
+fn put_part_fault(hint: &mut Hint, tree: &Value, n: u64) {
+    if let Some(part) = element_at(tree, "parts", n) {
+        hint.put("part ");
+        hint.put_number(n);
+        hint.put(": ");
+        put_in_part(hint, part);
+    }
+}
+
+// What is wrong in a part.
+fn put_in_part(hint: &mut Hint, part: &Value) {
+    if !part.is_object() {
+        hint.put("it is no object with a name and a sheet");
     } else if !has_name(part) {
-        about_key(alloc, "name", part.get("name"), NAME)?
+        put_about_key(hint, "name", part.get("name"), NAME);
     } else if text_at(part, "sheet").is_none() {
-        about_key(
-            alloc,
+        put_about_key(
+            hint,
             "sheet",
             part.get("sheet"),
             "the name of a file is wanted",
-        )?
+        );
     } else {
-        about_key(alloc, "grade", part.get("grade"), NAME)?
-    };
-    let says = says.as_str();
-    Ok(format!(in alloc; "part {n}: {says}")?)
+        put_about_key(hint, "grade", part.get("grade"), NAME);
+    }
 }
 
 fn has_name(part: &Value) -> bool {
@@ -113,41 +121,53 @@ fn has_name(part: &Value) -> bool {
 // What a name is.
 const NAME: &str = "1 to 16 letters, digits or _ are wanted";
 
-fn double_part(alloc: Global, tree: &Value, n: u64) -> Result<String, NoMemory> {
-    let name = element(tree, "parts", n).and_then(|part| text_at(part, "name"));
-    let name = Quoted(name.unwrap_or(""));
-    Ok(format!(in alloc; "part {n} has the name {name} of an earlier part: rename one")?)
+fn put_double_part(hint: &mut Hint, tree: &Value, n: u64) {
+    hint.put("part ");
+    hint.put_number(n);
+    hint.put(" has the name ");
+    hint.put_quoted(name_at(tree, "parts", n).unwrap_or(""));
+    hint.put(" of an earlier part: rename one");
+}
+
+// The name of element n of the list under a key, if it has one.
+fn name_at<'v>(tree: &'v Value, key: &str, n: u64) -> Option<&'v str> {
+    text_at(element_at(tree, key, n)?, "name")
 }
 
 // ---- nets
 
-// What is said of a net, with its name where it has one.
-fn about_net(alloc: Global, tree: &Value, n: u64, says: &str) -> Result<String, NoMemory> {
-    let name = element(tree, "nets", n).and_then(|net| text_at(net, "name"));
-    let said = match name {
-        Some(name) => format!(in alloc; "net {n} {}: {says}", Quoted(name))?,
-        None => format!(in alloc; "net {n}: {says}")?,
-    };
-    Ok(said)
+// A net, with its name where it has one, in front of what is said of it.
+fn put_net(hint: &mut Hint, tree: &Value, n: u64) {
+    hint.put("net ");
+    hint.put_number(n);
+    if let Some(name) = name_at(tree, "nets", n) {
+        hint.put(" ");
+        hint.put_quoted(name);
+    }
+    hint.put(": ");
 }
 
-fn net_fault(alloc: Global, tree: &Value, n: u64) -> Result<String, NoMemory> {
-    let Some(net) = element(tree, "nets", n) else {
-        return Ok(String::new(alloc));
-    };
-    let says = if !net.is_object() {
-        said(alloc, "it is no object with pins")?
+fn put_net_fault(hint: &mut Hint, tree: &Value, n: u64) {
+    if let Some(net) = element_at(tree, "nets", n) {
+        put_net(hint, tree, n);
+        put_in_net(hint, net);
+    }
+}
+
+// What is wrong in a net.
+fn put_in_net(hint: &mut Hint, net: &Value) {
+    if !net.is_object() {
+        hint.put("it is no object with pins");
     } else if !has_pins(net) {
-        about_key(
-            alloc,
+        put_about_key(
+            hint,
             "pins",
             net.get("pins"),
             "a list of texts PART.LANE is wanted",
-        )?
+        );
     } else {
-        pin_or_delay_fault(alloc, net)?
-    };
-    about_net(alloc, tree, n, says.as_str())
+        put_pin_or_delay_fault(hint, net);
+    }
 }
 
 fn has_pins(net: &Value) -> bool {
@@ -158,18 +178,16 @@ fn has_pins(net: &Value) -> bool {
 }
 
 // What is wrong with a pin of a net, or else with its delay.
-fn pin_or_delay_fault(alloc: Global, net: &Value) -> Result<String, NoMemory> {
+fn put_pin_or_delay_fault(hint: &mut Hint, net: &Value) {
     let pins = list_at(net, "pins").unwrap_or(&[]);
     for (k, pin) in pins.iter().enumerate() {
         if !is_pin(pin) {
-            let has = value_text(alloc, pin)?;
-            let has = has.as_str();
-            return Ok(format!(in alloc; "pin {k} is {has}: a text PART.LANE is wanted")?);
+            put_pin_fault(hint, k as u64, pin);
+            return;
         }
     }
-    match net.get("delay") {
-        Some(delay) => delay_fault(alloc, delay),
-        None => Ok(String::new(alloc)),
+    if let Some(delay) = net.get("delay") {
+        put_delay_fault(hint, delay);
     }
 }
 
@@ -180,35 +198,36 @@ fn is_pin(pin: &Value) -> bool {
     }
 }
 
-fn delay_fault(alloc: Global, delay: &Value) -> Result<String, NoMemory> {
-    if is_ends(delay) {
-        return Ok(String::new(alloc));
+fn put_pin_fault(hint: &mut Hint, k: u64, pin: &Value) {
+    hint.put("pin ");
+    hint.put_number(k);
+    hint.put(" is ");
+    put_value(hint, pin);
+    hint.put(": a text PART.LANE is wanted");
+}
+
+fn put_delay_fault(hint: &mut Hint, delay: &Value) {
+    if !is_ends(delay) {
+        hint.put("its \"delay\" ");
+        put_ends_fault(hint, delay);
     }
-    let says = ends_fault(alloc, delay)?;
-    let says = says.as_str();
-    Ok(format!(in alloc; "its \"delay\" {says}")?)
 }
 
 // ---- edges
 
-fn wire_fault<H: Shelf>(
-    alloc: Global,
-    tree: &Value,
-    n: u64,
-    shelf: &mut H,
-) -> Result<String, NoMemory> {
+fn put_wire_fault<H: Shelf>(hint: &mut Hint, tree: &Value, n: u64, shelf: &mut H) {
     let text = edge_text(tree, "edges", n);
     let Some(word) = first_no_mark(text) else {
-        return no_text(alloc, tree, "edges", n);
+        put_no_text(hint, tree, "edges", n);
+        return;
     };
-    let lane = match word.split_once('.') {
-        Some((part, lane)) => lane_for_mark(alloc, tree, part, lane, shelf)?,
-        None => String::new(alloc),
-    };
-    let lane = lane.as_str();
-    let word = Quoted(word);
-    let says = format!(in alloc; "{word} is no PART.MARK{lane}")?;
-    about_edge(alloc, n, text, says.as_str())
+    put_edge(hint, n, text);
+    hint.put(": ");
+    hint.put_quoted(word);
+    hint.put(" is no PART.MARK");
+    if let Some((part, lane)) = word.split_once('.') {
+        put_lane_for_mark(hint, tree, part, lane, shelf);
+    }
 }
 
 // The first of the two words in front of a label that is no mark of a part.

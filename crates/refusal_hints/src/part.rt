@@ -1,8 +1,8 @@
 //! The parts of a netlist, and the files of their sheets.
 
-use crate::lanes::{drawing_of, marks_of, name_of};
-use crate::written::{Quoted, Short, what_there_is};
-use itv_base::{FILE_LIMIT, NoMemory, Shelf, Texts};
+use crate::hint::Hint;
+use crate::lanes::{drawing_of, name_of, put_marks_of};
+use itv_base::{FILE_LIMIT, Shelf};
 use json_tree::{list_at, text_at};
 use netlist::{Netlist, read_netlist};
 use serde_json::Value;
@@ -21,48 +21,45 @@ pub fn netlist_of<H: Shelf>(alloc: Global, name: &str, shelf: &mut H) -> Option<
     read_netlist(alloc, &tree).ok()
 }
 
-/// The names of the parts of a netlist, and that the netlist has no part of another name.
-pub fn no_part(alloc: Global, netlist: &Netlist, name: &str) -> Result<String, NoMemory> {
-    let mut names = Texts::new(alloc)?;
-    for part in netlist.parts().as_slice() {
-        names.push(alloc, part.name.as_text())?;
+/// Puts that a netlist has no part of a name, and which parts it has.
+pub fn put_no_part(hint: &mut Hint, netlist: &Netlist, name: &str) {
+    hint.put("there is no part ");
+    hint.put_quoted(name);
+    hint.put("; ");
+    let parts = netlist.parts().as_slice();
+    let count = parts.len() as u64;
+    hint.put_what(count, "part", "parts");
+    for (k, part) in parts.iter().enumerate() {
+        hint.put_name(k as u64, count, part.name.as_text());
     }
-    let there = what_there_is(alloc, names, "part", "parts")?;
-    let there = there.as_str();
-    let name = Quoted(name);
-    Ok(format!(in alloc; "there is no part {name}; {there}")?)
 }
 
-/// What a lane of a part has where it stands in place of a mark, or an empty text if the part has no such lane.
-pub fn lane_for_mark<H: Shelf>(
-    alloc: Global,
+/// Puts what a lane of a part has where it stands in place of a mark, or nothing if the part has no such lane.
+pub fn put_lane_for_mark<H: Shelf>(
+    hint: &mut Hint,
     tree: &Value,
     part: &str,
     lane: &str,
     shelf: &mut H,
-) -> Result<String, NoMemory> {
-    let Some(sheet) = sheet_name(tree, part) else {
-        return Ok(String::new(alloc));
-    };
-    match tree_of(alloc, sheet, shelf) {
-        Some(tree) => {
-            let says = lane_in(alloc, &tree, lane);
-            drop(tree);
-            says
-        }
-        None => Ok(String::new(alloc)),
+) {
+    if let Some(sheet) = sheet_name(tree, part) {
+        put_lane_of(hint, sheet, lane, shelf);
     }
 }
 
-// The marks of the lane of a name in the drawing of a tree, if there is one.
-fn lane_in(alloc: Global, tree: &Value, name: &str) -> Result<String, NoMemory> {
-    match drawing_of(alloc, tree) {
-        Some(diagram) => {
-            let says = lane_marks(alloc, &diagram, name);
-            drop(diagram);
-            says
-        }
-        None => Ok(String::new(alloc)),
+// Puts the marks of a lane of the sheet of a name.
+fn put_lane_of<H: Shelf>(hint: &mut Hint, sheet: &str, lane: &str, shelf: &mut H) {
+    if let Some(tree) = tree_of(hint.alloc(), sheet, shelf) {
+        put_lane_in(hint, &tree, lane);
+        drop(tree);
+    }
+}
+
+// Puts the marks of the lane of a name in the drawing of a tree, if there is one.
+fn put_lane_in(hint: &mut Hint, tree: &Value, name: &str) {
+    if let Some(diagram) = drawing_of(hint.alloc(), tree) {
+        put_lane_marks(hint, &diagram, name);
+        drop(diagram);
     }
 }
 
@@ -76,17 +73,16 @@ fn sheet_name<'v>(tree: &'v Value, part: &str) -> Option<&'v str> {
     None
 }
 
-// The marks of the lane of a name, if there is one.
-fn lane_marks(alloc: Global, diagram: &Diagram, name: &str) -> Result<String, NoMemory> {
+// Puts the marks of the lane of a name, if there is one.
+fn put_lane_marks(hint: &mut Hint, diagram: &Diagram, name: &str) {
     for k in 0..diagram.lanes().len() {
         let lane = diagram.lanes().get(k);
         if name_of(lane) == name && !name.is_empty() {
-            let marks = marks_of(alloc, lane)?;
-            let marks = what_there_is(alloc, marks, "mark", "marks")?;
-            let marks = marks.as_str();
-            let name = Short(name);
-            return Ok(format!(in alloc; ", since {name} is a lane, and of it {marks}")?);
+            hint.put(", since ");
+            hint.put_short(name);
+            hint.put(" is a lane, and of it ");
+            put_marks_of(hint, lane);
+            return;
         }
     }
-    Ok(String::new(alloc))
 }

@@ -1,30 +1,33 @@
 //! Values of JSON as hints show them, and what is wrong with two ends in a list.
 
-use crate::written::Short;
-use itv_base::NoMemory;
+use crate::hint::Hint;
 use json_tree::{ends_by, list_of};
 use serde_json::Value;
-use std::alloc::Global;
 
-/// The text of a value, on one line.
-pub fn value_text(alloc: Global, value: &Value) -> Result<String, NoMemory> {
-    let text = value.to_string(alloc)?;
-    Ok(format!(in alloc; "{}", Short(text.as_str()))?)
+/// Puts the text of a value, on one line.
+pub fn put_value(hint: &mut Hint, value: &Value) {
+    match value.to_string(hint.alloc()) {
+        Ok(text) => {
+            hint.put_short(text.as_str());
+            drop(text);
+        }
+        Err(_) => hint.cut(),
+    }
 }
 
-/// What a key of a thing should have, and what it has.
-pub fn about_key(
-    alloc: Global,
-    key: &str,
-    value: Option<&Value>,
-    wanted: &str,
-) -> Result<String, NoMemory> {
-    let Some(value) = value else {
-        return Ok(format!(in alloc; "its \"{key}\" is missing: {wanted}")?);
-    };
-    let has = value_text(alloc, value)?;
-    let has = has.as_str();
-    Ok(format!(in alloc; "its \"{key}\" is {has}: {wanted}")?)
+/// Puts what a key of a thing should have, and what it has.
+pub fn put_about_key(hint: &mut Hint, key: &str, value: Option<&Value>, wanted: &str) {
+    hint.put("its \"");
+    hint.put(key);
+    match value {
+        Some(value) => {
+            hint.put("\" is ");
+            put_value(hint, value);
+            hint.put(": ");
+        }
+        None => hint.put("\" is missing: "),
+    }
+    hint.put(wanted);
 }
 
 /// Whether a value is a list of two ends.
@@ -35,20 +38,23 @@ pub fn is_ends(value: &Value) -> bool {
     }
 }
 
-/// What a value is or has that should be a list of two ends, and what is wanted.
-pub fn ends_fault(alloc: Global, value: &Value) -> Result<String, NoMemory> {
-    let Some([low, high]) = list_of(value) else {
-        let has = value_text(alloc, value)?;
-        let has = has.as_str();
-        return Ok(format!(in alloc;
-            "is {has}: a list of two ends is wanted, as [100,300], with null for an open end"
-        )?);
-    };
-    let end = if is_end(low) { high } else { low };
-    let wanted = end_wanted(end);
-    let has = value_text(alloc, end)?;
-    let has = has.as_str();
-    Ok(format!(in alloc; "has the end {has}: {wanted}")?)
+/// Puts what a value is or has that should be a list of two ends, and what is wanted.
+pub fn put_ends_fault(hint: &mut Hint, value: &Value) {
+    match list_of(value) {
+        Some([low, high]) => put_end_fault(hint, if is_end(low) { high } else { low }),
+        _ => {
+            hint.put("is ");
+            put_value(hint, value);
+            hint.put(": a list of two ends is wanted, as [100,300], with null for an open end");
+        }
+    }
+}
+
+fn put_end_fault(hint: &mut Hint, end: &Value) {
+    hint.put("has the end ");
+    put_value(hint, end);
+    hint.put(": ");
+    hint.put(end_wanted(end));
 }
 
 fn is_end(value: &Value) -> bool {

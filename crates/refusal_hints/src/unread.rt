@@ -1,95 +1,95 @@
 //! Which file could not be read, and why.
 
+use crate::hint::Hint;
 use crate::look::{Looked, NameLook};
 use crate::named::NamedFiles;
 use crate::part::netlist_of;
-use crate::written::Plain;
-use itv_base::{NoMemory, Shelf};
+use itv_base::Shelf;
 use netlist::Netlist;
-use std::alloc::Global;
 
 // What stands behind the name of a sheet that is not there.
 const FROM_HERE: &str =
-    "names count from the current folder, and itv -C FOLDER runs in another one";
+    " names: names count from the current folder, and itv -C FOLDER runs in another one";
 
-/// Which of the files of a task could not be read, and why.
-pub fn unread_says<H: Shelf, L: NameLook>(
-    alloc: Global,
+/// Puts which of the files of a task could not be read, and why.
+pub fn put_unread<H: Shelf, L: NameLook>(
+    hint: &mut Hint,
     files: NamedFiles<'_>,
     shelf: &mut H,
     look: &L,
-) -> Result<String, NoMemory> {
-    let Some(design) = files.design else {
-        return Ok(String::new(alloc));
-    };
-    if look.look(design) != Looked::File {
-        return about_file(alloc, design, "", look);
-    }
-    let says = sheet_says(alloc, design, shelf, look)?;
-    if !says.is_empty() {
-        return Ok(says);
-    }
-    match (files.report, files.edits) {
-        (Some(report), _) => about_file(
-            alloc,
-            report,
-            "; it is the report that --report names",
-            look,
-        ),
-        (_, Some(edits)) => about_file(
-            alloc,
-            edits,
-            "; it is the file of edits that --edits names",
-            look,
-        ),
-        _ => about_file(alloc, design, "", look),
+) {
+    if let Some(design) = files.design {
+        put_design(hint, design, files, shelf, look);
     }
 }
 
-// Which sheet of a netlist could not be read, or an empty text.
-fn sheet_says<H: Shelf, L: NameLook>(
-    alloc: Global,
+// The same for the files of a task with a design.
+fn put_design<H: Shelf, L: NameLook>(
+    hint: &mut Hint,
+    design: &str,
+    files: NamedFiles<'_>,
+    shelf: &mut H,
+    look: &L,
+) {
+    if look.look(design) != Looked::File {
+        put_file(hint, design, look);
+    } else if !has_sheet(hint, design, shelf, look) {
+        put_other(hint, design, files, look);
+    }
+}
+
+// Puts what is said of the report or the edits of a task, or else of its design.
+fn put_other<L: NameLook>(hint: &mut Hint, design: &str, files: NamedFiles<'_>, look: &L) {
+    match (files.report, files.edits) {
+        (Some(report), _) => {
+            put_file(hint, report, look);
+            hint.put("; it is the report that --report names");
+        }
+        (_, Some(edits)) => {
+            put_file(hint, edits, look);
+            hint.put("; it is the file of edits that --edits names");
+        }
+        _ => put_file(hint, design, look),
+    }
+}
+
+// Puts which sheet of a netlist could not be read. Whether there is one.
+fn has_sheet<H: Shelf, L: NameLook>(
+    hint: &mut Hint,
     design: &str,
     shelf: &mut H,
     look: &L,
-) -> Result<String, NoMemory> {
-    match netlist_of(alloc, design, shelf) {
+) -> bool {
+    match netlist_of(hint.alloc(), design, shelf) {
         Some(netlist) => {
-            let says = absent_says(alloc, design, &netlist, look);
+            let has_absent = has_absent(hint, design, &netlist, look);
             drop(netlist);
-            says
+            has_absent
         }
-        None => Ok(String::new(alloc)),
+        None => false,
     }
 }
 
-// Which sheet that a netlist names is no file that can be read, or an empty text.
-fn absent_says<L: NameLook>(
-    alloc: Global,
-    design: &str,
-    netlist: &Netlist,
-    look: &L,
-) -> Result<String, NoMemory> {
+// Puts which sheet that a netlist names is no file that can be read. Whether there is one.
+fn has_absent<L: NameLook>(hint: &mut Hint, design: &str, netlist: &Netlist, look: &L) -> bool {
     for name in netlist.sheet_names().as_slice() {
         if look.look(name.as_text()) != Looked::File {
-            let design = Plain(design);
-            let behind = format!(in alloc; ", a sheet that {design} names: {FROM_HERE}")?;
-            return about_file(alloc, name.as_text(), behind.as_str(), look);
+            put_file(hint, name.as_text(), look);
+            hint.put(", a sheet that ");
+            hint.put_plain(design);
+            hint.put(FROM_HERE);
+            return true;
         }
     }
-    Ok(String::new(alloc))
+    false
 }
 
-// Why a file is not read, and a remark behind it.
-fn about_file<L: NameLook>(
-    alloc: Global,
-    name: &str,
-    behind: &str,
-    look: &L,
-) -> Result<String, NoMemory> {
+// Puts why a file is not read.
+fn put_file<L: NameLook>(hint: &mut Hint, name: &str, look: &L) {
     let (front, back) = around(name, look.look(name));
-    let name = Plain(name);
-    Ok(format!(in alloc; "{front}{name}{back}{behind}")?)
+    hint.put(front);
+    hint.put_plain(name);
+    hint.put(back);
 }
 
 // What is said in front of the name of a file, and behind it.
