@@ -39,11 +39,19 @@ impl Desk {
         ensures budget { IfOk result (λ desk. desk.searches.budget ≡ budget) }
     {
         let net = drawn.network();
-        Ok(Desk {
-            chains: Chains::new(alloc, net)?,
-            searches: Searches::new(alloc, net, budget)?,
-            apart: new_apart(alloc, drawn, budget)?,
-        })
+        let chains = Chains::new(alloc, net)?;
+        let searches = Searches::new(alloc, net, budget)?;
+        match new_apart(alloc, drawn, budget) {
+            Ok(apart) => Ok(Desk {
+                searches,
+                chains,
+                apart,
+            }),
+            Err(NoMemory) => {
+                drop(searches);
+                Err(NoMemory)
+            }
+        }
     }
 }
 

@@ -37,7 +37,9 @@ pub fn write_fall<K: Sink>(
 {
     let mut desk = Desk::new(alloc, drawn.network(), view)?;
     let wanted = Wanted { turns, cert };
-    Ok(print_text(drawn, view, wanted, &mut desk, sink)?)
+    let written = print_text(drawn, view, wanted, &mut desk, sink);
+    drop(desk);
+    Ok(written?)
 }
 
 // Searches and writes the whole text.

@@ -29,6 +29,11 @@ pub fn open_planned<H: Shelf>(
     ensures composed { IfOk result (λ p. IsOk (composed_on p.plan.netlist (sheets_on p.plan.sheets p.plan.netlist.parts))) }
 {
     let plan = open_plan(alloc, name, shelf)?;
-    let drawn = draw_plan(alloc, &plan)?;
-    Ok(PlannedNetwork { plan, drawn })
+    match draw_plan(alloc, &plan) {
+        Ok(drawn) => Ok(PlannedNetwork { plan, drawn }),
+        Err(stop) => {
+            drop(plan);
+            Err(stop)
+        }
+    }
 }

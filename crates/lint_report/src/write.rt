@@ -44,9 +44,28 @@ pub fn write_lint<K: Sink>(
     ensures works { JobWrote (AnswersLint plan.now drawn.now budget) (Answered (AnswersLint plan.now drawn.now budget)) (K.state sink.old) (K.state sink.new) result }
 {
     let design = design_of(alloc, plan)?;
-    let lines = find_lines(alloc, plan, &design, drawn, budget)?;
+    let written = write_design(alloc, plan, &design, drawn, budget, sink);
+    drop(design);
+    written
+}
+
+// Writes the lines of a design.
+fn write_design<K: Sink>(
+    alloc: Global,
+    plan: &Plan,
+    design: &Design<'_>,
+    drawn: &DrawnNetwork,
+    budget: u64,
+    sink: &mut K,
+) -> Result<Answer, Unanswered>
+    requires design { composed_on plan.now.netlist (sheets_on plan.now.sheets plan.now.netlist.parts) ≡ Ok design.now }
+    requires least { 1 ≤ budget }
+    requires most { budget ≤ MAX_BUDGET }
+    ensures works { JobWrote (AnswersLint plan.now drawn.now budget) (Answered (AnswersLint plan.now drawn.now budget)) (K.state sink.old) (K.state sink.new) result }
+{
     let mut buffer = LineBuffer::new(alloc, LINE_ROOM)?;
-    Ok(put_found(plan, &design, drawn, &lines, &mut buffer, sink)?)
+    let lines = find_lines(alloc, plan, design, drawn, budget)?;
+    Ok(put_found(plan, design, drawn, &lines, &mut buffer, sink)?)
 }
 
 // All lines, with those that are meant.

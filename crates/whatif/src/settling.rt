@@ -72,7 +72,9 @@ pub fn settle_by(
     ensures places { All (HasPlaces net.now.events) bounds.new }
     ensures room { checker.new.room ≡ checker.old.room }
 {
-    settle(net, &mut work, checker, budget, found, bounds)
+    let change = settle(net, &mut work, checker, budget, found, bounds);
+    drop(work);
+    change
 }
 
 // Whether some times satisfy the network. If so, the times are known afterwards.
