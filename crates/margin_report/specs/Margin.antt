@@ -23,14 +23,14 @@ use Rattle.margin_report.specs.Text.{are_left_open, end_of, margin_text}
 -- what is found of a number: of its ends, and of its values if its range has one value
 pub record IsNumberFound (drawn : Drawn) (budget : ℕ) (seen : NumberSeen) (found : NumberFound) : Type 0 where
   pub ends : AreBothFound drawn budget seen found.ends
-  pub span : IfSome found.span (λ (span : SpanFound). IsSpanFound drawn (seen.number ∷ []) span.down span.up)
+  pub span : IfSome found.span (λ (span : SpanFound). IsSpanFound drawn (seen.number ∷ []) budget span.down span.up)
   pub has_span : is_some found.span ≡ (is_some seen.range.low && option_eq int_eq seen.range.low seen.range.high)
 
 -- what is found of each number by itself, or of the values of those of a list that move as one; nothing is found of the ends of these
 abbrev pub AreNumbersFound : Drawn → ℕ → Option (List NumberSeen) → List NumberFound → Type 0
 AreNumbersFound drawn budget None found = AllZip (IsNumberFound drawn budget) (numbers_of drawn) found
 AreNumbersFound drawn budget (Some seen) found =
-    (span : SpanFound) × IsSpanFound drawn (map (λ (s : NumberSeen). s.number) seen) span.down span.up
+    (span : SpanFound) × IsSpanFound drawn (map (λ (s : NumberSeen). s.number) seen) budget span.down span.up
     × (found ≡ replicate (length seen) (record { ends = record { low = None; high = None }; span = Some span }))
 
 -- what is true of the network as drawn, by the word that it would end with, and what is found of numbers, if every requirement passes or a row breaks

@@ -2,6 +2,7 @@
 use Rattle.std.specs.Prelude.{◌≡◌, ◌≤◌, ◌||◌, ℕ, Bool, true, false, List, [], Option, None, Some, Result, Ok, Err, length, map, replicate, zip}
 use Rattle.std.specs.List.{AllZip, flat_map}
 use Rattle.std.specs.Option.{option_map_or}
+use Rattle.itv_base.specs.declared.limits.TheConstants.{MAX_BUDGET}
 use Rattle.event_graph.specs.Edges.{cause_choices}
 use Rattle.drawn.specs.Drawn.{Drawn}
 use Rattle.notes.specs.NotesKept.{NotesKept}
@@ -30,6 +31,7 @@ pub record IsBaseOf (drawn : Drawn) (budget : ℕ) (base : Probed) : Type 0 wher
   pub settles : cause_choices drawn.net.constraints ≤ budget → is_net_open base.found ≡ false
   pub fits : IsProbed drawn.net.events base
   pub least : 1 ≤ budget
+  pub most : budget ≤ MAX_BUDGET
 
 -- every requirement passes, or a row breaks
 abbrev pub is_decided : NetFound → Bool
@@ -57,7 +59,7 @@ found_of span = record { ends = record { low = None; high = None }; span = Some 
 abbrev pub AreFoundOf : Drawn → ℕ → List NumberSeen → Bool → List NumberFound → Type 0
 AreFoundOf drawn budget seen false found = AllZip (IsNumberFound drawn budget) seen found
 AreFoundOf drawn budget seen true found =
-    (span : SpanFound) × IsSpanFound drawn (numbers_in_seen seen) span.down span.up × (found ≡ replicate (length seen) (found_of span))
+    (span : SpanFound) × IsSpanFound drawn (numbers_in_seen seen) budget span.down span.up × (found ≡ replicate (length seen) (found_of span))
 
 -- the same, if it is looked for
 abbrev pub AreFoundIf : Bool → Drawn → ℕ → List NumberSeen → Bool → List NumberFound → Type 0

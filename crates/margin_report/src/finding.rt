@@ -145,7 +145,7 @@ fn span_of(
 ) -> Result<Option<SpanFound>, NoMemory>
     requires base { IsBaseOf drawn.now effort.budget base.now }
     requires decided { is_decided base.now.found ≡ true }
-    ensures span { IfOk result (λ span. IfSome span (λ s. IsSpanFound drawn.now (seen.now.number ∷ []) s.down s.up)) }
+    ensures span { IfOk result (λ span. IfSome span (λ s. IsSpanFound drawn.now (seen.now.number ∷ []) effort.budget s.down s.up)) }
     ensures has_span { IfOk result (λ span. is_some span ≡ (is_some seen.now.range.low && option_eq int_eq seen.now.range.low seen.now.range.high)) }
 {
     if !is_single(seen.range) {

@@ -1,4 +1,5 @@
--- If no requirement of a cover breaks, none breaks with the value that it covers; and what covers two values covers each value between them.
+-- If no requirement of a cover breaks, or its rules contradict each other, so it is with the value that it covers; and what covers two values covers each value
+-- between them.
 use Rattle.std.proofs.Common.{◌≡◌, ℕ, zero, suc, ℤ, pos, neg_ℤ, ◌+ℤ◌, ◌-ℤ◌, ◌≤ℤ◌, Bool, true, false, List, [], ◌∷◌, length, map, get_or, Option, Some, None, IfSome, option_map, refl, sym, subst, ◌∙◌, arith}
 use Rattle.std.specs.Prelude.{◌<◌, if◌then◌else◌}
 use lib.IntN.{◌*ℤ◌}
@@ -18,8 +19,8 @@ use Rattle.event_graph.specs.Widening.{IsHigherEnd, IsLowerEnd, IsWiderCause, Is
 use Rattle.drawn.specs.Drawn.{Drawn, name_of}
 use Rattle.drawn.specs.declared.row.Row.{Row}
 use Rattle.numbers.specs.declared.drawn_number.DrawnNumber.{DrawnNumber}
-use Rattle.moves.specs.Covers.{IsTighterRow, cause_counted, constraint_counted, times_counted, lag, net_counted, row_counted}
-use Rattle.moves.specs.Laws.{CoverHolds, CoversBetween}
+use Rattle.moves.specs.Covers.{Covers, IsTighterRow, cause_counted, constraint_counted, times_counted, lag, net_counted, row_counted}
+use Rattle.moves.specs.Laws.{CoverContradicts, CoverHolds, CoversBetween}
 use Rattle.moves.specs.Moving.{constraint_moved, any_draws, kind_moved, row_moved, moved_up, shifted_at}
 use Rattle.moves.specs.Passing.{MeetsKind}
 use Rattle.moves.specs.Step.{MeetsRow, cause_moved}
@@ -61,12 +62,21 @@ all_back f R P Q (x ∷ xs) (y ∷ ys) pairs carries all zero d within = carries
 all_back f R P Q (x ∷ xs) (y ∷ ys) pairs carries all (suc k) d within =
     all_back f R P Q xs ys pairs.1 carries (λ j e in'. all (suc j) e (omega (arith, in'))) k d (omega (arith, within))
 
+-- times that satisfy with the value, counted, satisfy the cover
+cover_satisfied : (counts : List ℤ) (drawn : Drawn) (numbers : List DrawnNumber) (cover : Drawn) (value : ℤ) (times : List ℤ) → Covers counts drawn numbers cover value
+    → Satisfies times (shifted_at drawn numbers value).net → Satisfies (times_counted counts value times) cover.net
+cover_satisfied counts drawn numbers cover value times covers sat =
+    wider_keeps_satisfying (net_counted counts value (shifted_at drawn numbers value).net) cover.net (times_counted counts value times) covers.wider
+    (satisfies_counted counts value (shifted_at drawn numbers value).net times covers.count sat)
+
+pub cover_contradicts : CoverContradicts
+cover_contradicts counts drawn numbers cover value covers none times sat =
+    none (times_counted counts value times) (cover_satisfied counts drawn numbers cover value times covers sat)
+
 pub cover_holds : CoverHolds
 cover_holds counts drawn numbers cover value covers none = λ times sat.
     let same : length counts ≡ length times = covers.count ∙ sym sat.count in
-    let counted_sat : Satisfies (times_counted counts value times) cover.net =
-    wider_keeps_satisfying (net_counted counts value (shifted_at drawn numbers value).net) cover.net (times_counted counts value times) covers.wider
-    (satisfies_counted counts value (shifted_at drawn numbers value).net times covers.count sat) in
+    let counted_sat : Satisfies (times_counted counts value times) cover.net = cover_satisfied counts drawn numbers cover value times covers sat in
     all_back (row_counted counts value) IsTighterRow (MeetsRow (times_counted counts value times)) (MeetsRow times) (shifted_at drawn numbers value).rows cover.rows covers.tighter
     (λ row tight tighter h. meets_back counts value times row tight same tighter h) (none (times_counted counts value times) counted_sat)
 

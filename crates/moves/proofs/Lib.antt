@@ -5,6 +5,8 @@ pub mod Each
 pub mod Products
 pub mod Counting
 pub mod Covering
+pub mod Cores
+pub mod Between
 pub mod Drew
 pub mod OtherCauses
 pub mod Moved

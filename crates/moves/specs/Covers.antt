@@ -1,5 +1,5 @@
--- One network for a whole interval of values of some numbers. Each event counts its time from a multiple of the value: in times counted so a period that is
--- moved stays as it is.
+-- One network for a whole interval of values of some numbers: a cover, which allows all that is allowed with one of them, or a core, which allows what is allowed
+-- with each. Each event counts its time from a multiple of the value: in times counted so a period that is moved stays as it is.
 use Rattle.std.specs.Prelude.{◌≡◌, ℤ, neg_ℤ, ◌-ℤ◌, ◌*ℤ◌, List, [], ◌∷◌, length, map}
 use Rattle.std.specs.List.{AllZip}
 use Rattle.itv_base.specs.declared.names.EventId.{EventId}
@@ -52,3 +52,11 @@ pub record Covers (counts : List ℤ) (drawn : Drawn) (numbers : List DrawnNumbe
   pub count : length counts ≡ drawn.net.events
   pub wider : IsWider (net_counted counts value (shifted_at drawn numbers value).net) cover.net
   pub tighter : AllZip IsTighterRow (map (row_counted counts value) (shifted_at drawn numbers value).rows) cover.rows
+
+-- ---- cores
+
+-- a drawn network lies within the one with some numbers moved by a value: in times counted so, it allows no more, and its rows want no more
+pub record IsCoreOf (counts : List ℤ) (drawn : Drawn) (numbers : List DrawnNumber) (core : Drawn) (value : ℤ) : Type 0 where
+  pub count : length counts ≡ drawn.net.events
+  pub narrower : IsWider core.net (net_counted counts value (shifted_at drawn numbers value).net)
+  pub looser : AllZip IsTighterRow core.rows (map (row_counted counts value) (shifted_at drawn numbers value).rows)

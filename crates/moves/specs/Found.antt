@@ -1,5 +1,5 @@
 -- How far numbers of a drawing may be moved before a requirement breaks, and when what is found of it is right.
-use Rattle.std.specs.Prelude.{◌≡◌, ◌≤◌, ℕ, ℤ, pos, neg_ℤ, ◌+ℤ◌, ◌≤ℤ◌, List, [], ◌∷◌}
+use Rattle.std.specs.Prelude.{◌≡◌, ◌≤◌, ◌⊎◌, ℕ, ℤ, pos, neg_ℤ, ◌+ℤ◌, ◌≤ℤ◌, List, [], ◌∷◌}
 use Rattle.itv_base.specs.declared.names.Side.{Side}
 use Rattle.event_graph.specs.Bounds.{IsInconsistent}
 use Rattle.event_graph.specs.Edges.{cause_choices}
@@ -7,7 +7,7 @@ use Rattle.event_graph.specs.Satisfying.{Satisfies}
 use Rattle.drawn.specs.Drawn.{Drawn}
 use Rattle.numbers.specs.declared.drawn_number.DrawnNumber.{DrawnNumber}
 use Rattle.moves.specs.Moving.{moved_at, opened, shifted_at, widened}
-use Rattle.moves.specs.Passing.{BreaksRow, HasDrawableCauses, NoneBreaks, Passes}
+use Rattle.moves.specs.Passing.{BreaksRow, HasDrawableCauses, HasDrawableRanges, NoneBreaks, Passes}
 use Rattle.moves.specs.declared.margin.Margin.{Margin}
 use Rattle.moves.specs.declared.margin.Margin.TheVariants as margins
 
@@ -31,24 +31,34 @@ IsEndMargin drawn budget number side margins.Spent = cause_choices drawn.net.con
 abbrev pub IsWay : (ℤ → Drawn) → ℤ → ℤ → Type 0
 IsWay at from last = (from ≤ℤ last) × ((times : List ℤ) × Satisfies times (at last).net) × ((by : ℤ) → from ≤ℤ by → by ≤ℤ last → NoneBreaks (at by))
 
--- what a margin says of numbers that move as one, from one move on: up to which move no requirement breaks, and what stands beyond
-abbrev pub IsMarginFrom : (ℤ → Drawn) → List DrawnNumber → ℤ → Margin → Type 0
-IsMarginFrom at numbers from margins.Free = (by : ℤ) → from ≤ℤ by → NoneBreaks (at by)
-IsMarginFrom at numbers from (margins.Until by row) = IsWay at from by × BreaksRow (at (by +ℤ pos 1)) row
-IsMarginFrom at numbers from (margins.UntilContradiction by) = IsWay at from by × IsInconsistent (at (by +ℤ pos 1)).net
-IsMarginFrom at numbers from margins.Never = ⊥
-IsMarginFrom at numbers from margins.Limit = (by : ℤ) × IsWay at from by × (HasDrawableCauses (at (by +ℤ pos 1)) numbers → ⊥)
-IsMarginFrom at numbers from margins.Spent = Unit {0}
+-- what a margin says of numbers that move as one, from one move on: up to which move no requirement breaks, and what stands beyond. It was left open only where
+-- none breaks with each of as many further moves as the budget says, or where the budget is less than the number of cause choices.
+abbrev pub IsMarginFrom : (ℤ → Drawn) → List DrawnNumber → ℕ → ℤ → Margin → Type 0
+IsMarginFrom at numbers budget from margins.Free = (by : ℤ) → from ≤ℤ by → NoneBreaks (at by)
+IsMarginFrom at numbers budget from (margins.Until by row) = IsWay at from by × BreaksRow (at (by +ℤ pos 1)) row
+IsMarginFrom at numbers budget from (margins.UntilContradiction by) = IsWay at from by × IsInconsistent (at (by +ℤ pos 1)).net
+IsMarginFrom at numbers budget from margins.Never = ⊥
+IsMarginFrom at numbers budget from margins.Limit = (by : ℤ) × IsWay at from by × (HasDrawableRanges (at (by +ℤ pos 1)) numbers → ⊥)
+IsMarginFrom at numbers budget from margins.Spent =
+    cause_choices (at (pos 0)).net.constraints ≤ budget → (by : ℤ) → from ≤ℤ by → by ≤ℤ (from +ℤ pos budget) → NoneBreaks (at by)
 
 -- the values of numbers around one with which every requirement passes; that is the drawn one, if every requirement passes as drawn
-pub record IsSpan (drawn : Drawn) (numbers : List DrawnNumber) (down up : Margin) : Type 0 where
+pub record IsSpan (drawn : Drawn) (numbers : List DrawnNumber) (budget : ℕ) (down up : Margin) : Type 0 where
   pub from : ℤ
   pub some : Passes (shifted_at drawn numbers from)
   pub own : Passes drawn → from ≡ pos 0
-  pub below : IsMarginFrom (λ by. shifted_at drawn numbers (neg_ℤ by)) numbers (neg_ℤ from) down
-  pub above : IsMarginFrom (shifted_at drawn numbers) numbers from up
+  pub below : IsMarginFrom (λ by. shifted_at drawn numbers (neg_ℤ by)) numbers budget (neg_ℤ from) down
+  pub above : IsMarginFrom (shifted_at drawn numbers) numbers budget from up
 
--- what is found of the values of numbers; or no value was found, and not every requirement passes as drawn
-abbrev pub IsSpanFound : Drawn → List DrawnNumber → Margin → Margin → Type 0
-IsSpanFound drawn numbers margins.Never margins.Never = Passes drawn → ⊥
-IsSpanFound drawn numbers down up = IsSpan drawn numbers down up
+-- With a move that can be drawn, of at most as many picoseconds as the budget says, not every requirement passes.
+abbrev pub FailsNear : Drawn → List DrawnNumber → ℕ → Type 0
+FailsNear drawn numbers budget = (by : ℤ) → neg_ℤ (pos budget) ≤ℤ by → by ≤ℤ pos budget → HasDrawableRanges (shifted_at drawn numbers by) numbers
+    → Passes (shifted_at drawn numbers by) → ⊥
+
+-- what is found of the values of numbers: a span, or that they fail as drawn and with each value near that; or it was left open, where the budget is less
+-- than the number of cause choices
+abbrev pub IsSpanFound : Drawn → List DrawnNumber → ℕ → Margin → Margin → Type 0
+IsSpanFound drawn numbers budget margins.Never margins.Never = (Passes drawn → ⊥) × FailsNear drawn numbers budget
+IsSpanFound drawn numbers budget margins.Spent margins.Spent =
+    IsSpan drawn numbers budget margins.Spent margins.Spent ⊎ (cause_choices drawn.net.constraints ≤ budget → ⊥)
+IsSpanFound drawn numbers budget down up = IsSpan drawn numbers budget down up

@@ -3,13 +3,14 @@ use Rattle.std.specs.Prelude.{◌≡◌, ℕ, ℤ, pos, ◌≤ℤ◌, ◌<ℤ◌
 use Rattle.std.specs.List.{list_any}
 use Rattle.itv_base.specs.Range.{Ends}
 use Rattle.itv_base.specs.declared.names.Side.{Side}
+use Rattle.event_graph.specs.Bounds.{IsInconsistent}
 use Rattle.event_graph.specs.Network.{cause_at}
 use Rattle.event_graph.specs.declared.cause.Cause.{Cause}
 use Rattle.drawn.specs.Drawn.{Drawn}
 use Rattle.numbers.specs.Numbers.{draws_cause}
 use Rattle.numbers.specs.declared.cause_name.CauseName.{CauseName}
 use Rattle.numbers.specs.declared.drawn_number.DrawnNumber.{DrawnNumber}
-use Rattle.moves.specs.Covers.{Covers}
+use Rattle.moves.specs.Covers.{Covers, IsCoreOf}
 use Rattle.moves.specs.Found.{IsEndMargin}
 use Rattle.moves.specs.Moving.{net_moved, shifted_at}
 use Rattle.moves.specs.Passing.{BreaksRow, NoneBreaks}
@@ -51,3 +52,13 @@ CoverHolds = (counts : List ℤ) (drawn : Drawn) (numbers : List DrawnNumber) (c
 abbrev pub CoversBetween : Type 0
 CoversBetween = (counts : List ℤ) (drawn : Drawn) (numbers : List DrawnNumber) (cover : Drawn) (least most value : ℤ) → Covers counts drawn numbers cover least
     → Covers counts drawn numbers cover most → least ≤ℤ value → value ≤ℤ most → Covers counts drawn numbers cover value
+
+-- if the rules of a cover contradict each other, they do with the value that it covers
+abbrev pub CoverContradicts : Type 0
+CoverContradicts = (counts : List ℤ) (drawn : Drawn) (numbers : List DrawnNumber) (cover : Drawn) (value : ℤ) → Covers counts drawn numbers cover value
+    → IsInconsistent cover.net → IsInconsistent (shifted_at drawn numbers value).net
+
+-- if a row of a core breaks, it breaks with the value whose core it is
+abbrev pub CoreBreaks : Type 0
+CoreBreaks = (counts : List ℤ) (drawn : Drawn) (numbers : List DrawnNumber) (core : Drawn) (value : ℤ) (row : ℕ) → IsCoreOf counts drawn numbers core value
+    → BreaksRow core row → BreaksRow (shifted_at drawn numbers value) row

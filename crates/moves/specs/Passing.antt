@@ -44,3 +44,7 @@ IsKindRange (kinds.Req range) = IsRange range
 -- the same of each range of a requirement that one of the numbers draws
 abbrev pub HasDrawableRows : Drawn → List DrawnNumber → Type 0
 HasDrawableRows drawn numbers = All (λ (row : Row). IsTrue (any_draws numbers (name_of drawn row.from).part row.origin) → IsKindRange row.kind) drawn.rows
+
+-- the same of each range that one of the numbers draws
+abbrev pub HasDrawableRanges : Drawn → List DrawnNumber → Type 0
+HasDrawableRanges drawn numbers = HasDrawableCauses drawn numbers × HasDrawableRows drawn numbers

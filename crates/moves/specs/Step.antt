@@ -1,12 +1,14 @@
 -- Words of private contracts.
-use Rattle.std.specs.Prelude.{◌≡◌, ◌<◌, ℕ, ℤ, neg_ℤ, ◌≤ℤ◌, Bool, IsTrue, if◌then◌else◌, List, [], All, map, option_map, slice_get, unwrap_or}
+use Rattle.std.specs.Prelude.{◌≡◌, ◌<◌, ◌⊎◌, ℕ, ℤ, pos, neg_ℤ, ◌≤ℤ◌, Bool, IsTrue, if◌then◌else◌, List, [], All, map, option_map, slice_get, unwrap_or}
 use Rattle.std.specs.Borrow.{Bor}
 use Rattle.std.specs.List.{AllZip}
 use Rattle.itv_base.specs.Range.{Ends, IsRange}
 use Rattle.itv_base.specs.declared.names.Side.{Side}
+use Rattle.itv_base.specs.declared.row_kind.RowKind.{RowKind}
+use Rattle.itv_base.specs.declared.row_kind.RowKind.TheVariants as kinds
 use Rattle.origin.specs.declared.origin.Origin.{Origin}
 use Rattle.event_graph.specs.declared.cause.Cause.{Cause}
-use Rattle.event_graph.specs.Network.{Constraint, Net}
+use Rattle.event_graph.specs.Network.{AreEnds, Constraint, Net}
 use Rattle.event_graph.specs.Satisfying.{Satisfies}
 use Rattle.event_graph.specs.Times.{separation}
 use Rattle.drawn.specs.Drawn.{Drawn}
@@ -37,11 +39,20 @@ IsOpening (moves.Widen side by) = ⊥
 IsOpening (moves.Open side) = Unit {0}
 IsOpening (moves.Shift by) = ⊥
 
+-- numbers are moved no further than by another number of picoseconds in the same direction
+abbrev pub IsLesserMove : ℤ → ℤ → Type 0
+IsLesserMove by far = ((pos 0 ≤ℤ by) × (by ≤ℤ far)) ⊎ ((far ≤ℤ by) × (by ≤ℤ pos 0))
+
 -- what a move makes of a range
 abbrev pub moved_by : Move → Ends → Ends
 moved_by (moves.Widen side by) range = widened side by range
 moved_by (moves.Open side) range = opened side range
 moved_by (moves.Shift by) range = moved_up by range
+
+-- what is wanted has ends within the limit
+abbrev pub AreKindEnds : RowKind → Type 0
+AreKindEnds kinds.Ask = Unit {0}
+AreKindEnds (kinds.Req range) = AreEnds range
 
 -- ---- numbers
 

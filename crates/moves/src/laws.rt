@@ -1,6 +1,6 @@
 //! Laws of moved numbers. Each is the contract of a function that does nothing.
 
-ghost use Rattle.moves.specs.Laws.{CoverHolds, CoversBetween, EachIsMoved, FreeIsForAll, MarginIsThreshold, MovedByNothing, OneMargin};
+ghost use Rattle.moves.specs.Laws.{CoreBreaks, CoverContradicts, CoverHolds, CoversBetween, EachIsMoved, FreeIsForAll, MarginIsThreshold, MovedByNothing, OneMargin};
 
 /// In a moved network each cause that one of the numbers draws has its range moved, and each other cause is as it was. An end that is moved by nothing is
 /// as it was.
@@ -20,8 +20,15 @@ pub fn free_is_for_all()
     ensures law { FreeIsForAll }
 {}
 
-/// If no requirement of a cover breaks, none breaks with a value that it covers. What covers two values covers each value between them.
+/// If no requirement of a cover breaks, none breaks with a value that it covers. If its rules contradict each other, they do with that value. What covers two
+/// values covers each value between them.
 pub fn cover_holds()
     ensures holds { CoverHolds }
+    ensures contradicts { CoverContradicts }
     ensures between { CoversBetween }
+{}
+
+/// If a row of a core breaks, it breaks with each value whose core it is.
+pub fn core_breaks()
+    ensures law { CoreBreaks }
 {}

@@ -12,6 +12,7 @@ mod number_seen;
 mod pushing;
 mod reading;
 mod rows;
+mod shifting;
 mod span;
 
 pub use listing::{all_numbers_of, numbers_of};
@@ -20,6 +21,9 @@ pub use moving::{MOVE_LIMIT, Move, any_draws, moved_network, moved_range};
 pub use net_found::NetFound;
 pub use number_seen::NumberSeen;
 pub use pushing::push_with;
-pub use reading::{cause_of, kind_of, origins_of, part_of_target, read_drawn, target_of};
+pub use reading::{
+    cause_of, kind_of, origins_of, part_of_target, read_drawn, read_rows, target_of,
+};
 pub use rows::moved_rows;
+pub use shifting::can_shift;
 pub use span::SpanFound;

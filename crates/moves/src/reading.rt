@@ -1,15 +1,16 @@
 //! The constraints and causes of a drawn network, and what draws the causes.
 
-ghost use Rattle.std.specs.Prelude.{◌≡◌, ◌<◌, ◌≤◌, Some, length, option_map, slice_get};
+ghost use Rattle.std.specs.Prelude.{◌≡◌, ◌<◌, ◌≤◌, All, Some, length, option_map, slice_get};
 ghost use Rattle.itv_base.specs.declared.limits.TheConstants.{MAX_CAUSES};
 ghost use Rattle.event_graph.specs.Network.{Constraint, IsNet};
 ghost use Rattle.drawn.specs.Drawn.{OriginsFit};
+ghost use Rattle.drawn.specs.declared.row.Row.{Row as DrawnRow};
 ghost use Rattle.numbers.specs.Numbers.{origins_of, part_of_target};
-ghost use Rattle.moves.specs.Step.{causes_at};
+ghost use Rattle.moves.specs.Step.{AreKindEnds, causes_at};
 
 use drawn::DrawnNetwork;
 use event_graph::Cause;
-use itv_base::{EventId, RuleKind};
+use itv_base::{EventId, RowKind, RuleKind};
 use origin::Origin;
 
 /// Reads a drawn network. So contracts know that its network is within the limits, and that each cause has an origin.
@@ -19,6 +20,28 @@ pub fn read_drawn(drawn: &DrawnNetwork)
 {
     drawn.network().events();
     drawn.origins();
+}
+
+/// Reads the rows of a drawn network. So contracts know that the ends of their ranges are within the limit.
+pub fn read_rows(drawn: &DrawnNetwork)
+    ensures ends { All (λ (row : DrawnRow). AreKindEnds row.kind) drawn.now.rows }
+{
+    for k in 0..drawn.rows().len() {
+        read_kind(drawn.rows().get(k).kind);
+    }
+}
+
+// Reads what is wanted.
+fn read_kind(kind: RowKind)
+    ensures { AreKindEnds kind }
+{
+    match kind {
+        RowKind::Ask => {}
+        RowKind::Req(range) => {
+            range.low();
+            range.high();
+        }
+    }
 }
 
 /// The kind of a constraint.

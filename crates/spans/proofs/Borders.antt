@@ -1,29 +1,37 @@
 -- Borders of a span.
-use Rattle.std.proofs.Common.{◌≡◌, ℕ, ℤ, pos, neg_ℤ, ◌+ℤ◌, ◌≤ℤ◌, Bool, true, false, Option, Some, None, List, sym, ap, subst, ◌∙◌, arith}
+use Rattle.std.proofs.Common.{◌≡◌, ◌≤◌, ◌⊎◌, inl, inr, ℕ, ℤ, pos, neg_ℤ, ◌+ℤ◌, ◌≤ℤ◌, Bool, true, false, Option, Some, None, List, refl, sym, ap, subst, ◌∙◌, arith}
 use Rattle.std.proofs.lemmas.Int.{ints}
+use Rattle.itv_base.specs.declared.limits.TheConstants.{MAX_BUDGET}
 use Rattle.event_graph.specs.Bounds.{IsInconsistent}
+use Rattle.event_graph.specs.Edges.{cause_choices}
 use Rattle.drawn.specs.Drawn.{Drawn}
 use Rattle.numbers.specs.declared.drawn_number.DrawnNumber.{DrawnNumber}
 use Rattle.moves.specs.Found.{IsMarginFrom, IsSpan, IsSpanFound, IsWay}
-use Rattle.moves.specs.Passing.{BreaksRow, HasDrawableCauses, NoneBreaks, Passes}
-use Rattle.moves.specs.Step.{IsConsistent, IsMoveBy, lent}
 use Rattle.moves.specs.Moving.{shifted_at}
+use Rattle.moves.specs.Passing.{BreaksRow, NoneBreaks, Passes}
+use Rattle.moves.specs.Step.{IsConsistent, IsMoveBy, lent}
 use Rattle.moves.specs.declared.margin.Margin.{Margin}
 use Rattle.moves.specs.declared.margin.Margin.TheVariants as margins
-use Rattle.spans.specs.Step.{IsBorderFrom, IsOn, IsShown, TellsConsistency, at_value, margin_of, on_of}
+use Rattle.moves.proofs.Each.{shifted_by_nothing}
+use Rattle.moves.proofs.Thresholds.{excluded}
+use Rattle.spans.specs.Step.{CanShift, IsBorderFrom, IsEnough, IsFurther, IsLastDrawn, IsOn, IsPast, IsShown, IsSpanStart, TellsConsistency, at_value, farthest, margin_of, on_of}
 use Rattle.spans.specs.declared.border.Border.{Border}
 use Rattle.spans.specs.declared.border.Border.TheVariants as borders
 use Rattle.spans.specs.declared.direction.Direction.{Direction}
 use Rattle.spans.specs.declared.direction.Direction.TheVariants.{Down, Up}
 use Rattle.spans.specs.declared.sought.SpanSought.{SpanSought}
-use Rattle.moves.proofs.Thresholds.{excluded}
-use Rattle.spans.proofs.Ways.{way_start}
+use Rattle.spans.proofs.Ways.{on_same, past_by_next, way_start, within_further}
 
-pub is_some_true : (drawn : Drawn) (o : Option Bool) (b : Bool) → o ≡ Some b → b ≡ true → TellsConsistency drawn o → IsConsistent drawn
-is_some_true drawn o b is test h = subst (TellsConsistency drawn) (is ∙ ap (λ (x : Bool). Some x) test) h
+-- what was found of the consistency with a value
+module _ (sought : SpanSought) (value : ℤ) where
+  pub is_some_true : (o : Option Bool) (b : Bool) → o ≡ Some b → b ≡ true → TellsConsistency sought value o → IsConsistent (at_value sought value)
+  is_some_true o b is test h = subst (TellsConsistency sought value) (is ∙ ap (λ (x : Bool). Some x) test) h
 
-pub is_none_true : (drawn : Drawn) (o : Option Bool) (b : Bool) → o ≡ Some b → b ≡ false → TellsConsistency drawn o → IsInconsistent drawn.net
-is_none_true drawn o b is test h = subst (TellsConsistency drawn) (is ∙ ap (λ (x : Bool). Some x) test) h
+  pub is_none_true : (o : Option Bool) (b : Bool) → o ≡ Some b → b ≡ false → TellsConsistency sought value o → IsInconsistent (at_value sought value).net
+  is_none_true o b is test h = subst (TellsConsistency sought value) (is ∙ ap (λ (x : Bool). Some x) test) h
+
+  pub is_left : (o : Option Bool) → o ≡ None → TellsConsistency sought value o → IsEnough sought → ⊥
+  is_left o is h = subst (TellsConsistency sought value) is h
 
 module _ (sought : SpanSought) (d : Direction) (from : ℤ) where
   pub own_shown : NoneBreaks (at_value sought from) → IsShown sought d from (Some from)
@@ -32,8 +40,12 @@ module _ (sought : SpanSought) (d : Direction) (from : ℤ) where
   pub endless : IsShown sought d from None → IsBorderFrom sought d from borders.Endless
   endless shown = record { ahead = tt; by = tt; each = shown; stands = tt }
 
-  pub spent_at : (last : ℤ) (border : Border) → border ≡ borders.Spent last → IsOn d from last → IsMoveBy last → IsShown sought d from (Some last) → IsBorderFrom sought d from border
-  spent_at last border is on move shown = subst (IsBorderFrom sought d from) (sym is) (record { ahead = on; by = move; each = shown; stands = tt })
+  pub spent_at : (last : ℤ) (border : Border) → border ≡ borders.Spent last → IsOn d from last → IsMoveBy last → IsShown sought d from (Some last)
+      → IsFurther d from sought.effort.budget last → IsBorderFrom sought d from border
+  spent_at last border is on move shown far = subst (IsBorderFrom sought d from) (sym is) (record { ahead = on; by = move; each = shown; stands = far })
+
+  pub left_at : (border : Border) → border ≡ borders.Left from → IsMoveBy from → NoneBreaks (at_value sought from) → (IsEnough sought → ⊥) → IsBorderFrom sought d from border
+  left_at border is move none less = subst (IsBorderFrom sought d from) (sym is) (record { ahead = on_same d from; by = move; each = own_shown none; stands = less })
 
   pub breaks_at : (last : ℤ) (row : ℕ) (border : Border) → border ≡ borders.Breaks last row → IsOn d from last → IsMoveBy last → IsShown sought d from (Some last)
       → IsConsistent (at_value sought last) → BreaksRow (at_value sought (last +ℤ on_of d)) row → IsBorderFrom sought d from border
@@ -41,8 +53,7 @@ module _ (sought : SpanSought) (d : Direction) (from : ℤ) where
       subst (IsBorderFrom sought d from) (sym is) (record { ahead = on; by = move; each = shown; stands = (some, breaks) })
 
   pub limit_at : (last : ℤ) (border : Border) → border ≡ borders.Limit last → IsOn d from last → IsMoveBy last → IsShown sought d from (Some last) → IsConsistent (at_value sought last)
-      → (HasDrawableCauses (at_value sought (last +ℤ on_of d)) (lent sought.numbers.now) → ⊥)
-      → IsBorderFrom sought d from border
+      → (CanShift sought.drawn.now (lent sought.numbers.now) (last +ℤ on_of d) → ⊥) → IsBorderFrom sought d from border
   limit_at last border is on move shown some beyond =
       subst (IsBorderFrom sought d from) (sym is) (record { ahead = on; by = move; each = shown; stands = (some, beyond) })
 
@@ -50,6 +61,19 @@ module _ (sought : SpanSought) (d : Direction) (from : ℤ) where
       → IsConsistent (at_value sought last) → IsInconsistent (at_value sought (last +ℤ on_of d)).net → IsBorderFrom sought d from border
   contradicts_at last border is on move shown some none =
       subst (IsBorderFrom sought d from) (sym is) (record { ahead = on; by = move; each = shown; stands = (some, none) })
+
+-- the next value after the last one that can be drawn can't be drawn
+pub beyond_last : (drawn : Drawn) (numbers : List DrawnNumber) (d : Direction) (last : ℤ) → IsLastDrawn drawn numbers d last → (last ≡ farthest d → ⊥) → CanShift drawn numbers (last +ℤ on_of d) → ⊥
+beyond_last drawn numbers d last is other can = by_case is.beyond
+  where
+    by_case : ((value : ℤ) → IsPast d last value → CanShift drawn numbers value → ⊥) ⊎ (last ≡ farthest d) → ⊥
+    by_case (inl none) = none (last +ℤ on_of d) (past_by_next d last (last +ℤ on_of d) refl) can
+    by_case (inr far) = other far
+
+-- the farthest value is further from a value with which a span is begun than the budget says
+pub further_far : (d : Direction) (from : ℤ) (budget : ℕ) → IsSpanStart from → budget ≤ MAX_BUDGET → IsFurther d from budget (farthest d)
+further_far Down from budget start few = let least = start.0 in let most = start.1 in omega (arith, ints, few, least, most)
+further_far Up from budget start few = let least = start.0 in let most = start.1 in omega (arith, ints, few, least, most)
 
 -- ---- margins
 
@@ -68,20 +92,31 @@ neg_below a b le = omega (arith, ints, le)
 neg_above : (a b : ℤ) → b ≤ℤ neg_ℤ a → a ≤ℤ neg_ℤ b
 neg_above a b le = omega (arith, ints, le)
 
+neg_far : (by from : ℤ) (count : ℕ) → by ≤ℤ (neg_ℤ from +ℤ pos count) → neg_ℤ (neg_ℤ by) ≤ℤ (neg_ℤ from +ℤ pos count)
+neg_far by from count le = omega (arith, ints, le)
+
+-- the budget is less than the number of cause choices of the network with a value too
+enough_own : (drawn : Drawn) (numbers : List DrawnNumber) (budget : ℕ) → cause_choices (shifted_at drawn numbers (pos 0)).net.constraints ≤ budget → cause_choices drawn.net.constraints ≤ budget
+enough_own drawn numbers budget enough = subst (λ (d : Drawn). cause_choices d.net.constraints ≤ budget) (shifted_by_nothing drawn numbers) enough
+
 module _ (sought : SpanSought) (from : ℤ) where
-  way_up : (last : ℤ) → IsOn Up from last → IsShown sought Up from (Some last) → IsConsistent (at_value sought last) → IsWay (shifted_at sought.drawn.now (lent sought.numbers.now)) from last
+  abbrev numbers_of : List DrawnNumber
+  numbers_of = lent sought.numbers.now
+
+  way_up : (last : ℤ) → IsOn Up from last → IsShown sought Up from (Some last) → IsConsistent (at_value sought last) → IsWay (shifted_at sought.drawn.now numbers_of) from last
   way_up last ahead each some = (ahead, some, λ by low high. each by (low, high))
 
   pub margin_up : (border : Border) → IsBorderFrom sought Up from border
-      → IsMarginFrom (shifted_at sought.drawn.now (lent sought.numbers.now)) (lent sought.numbers.now) from (margin_of Up border)
+      → IsMarginFrom (shifted_at sought.drawn.now numbers_of) numbers_of sought.effort.budget from (margin_of Up border)
   margin_up borders.Endless is = λ by low. is.each by (low, tt)
   margin_up (borders.Breaks last row) is = (way_up last is.ahead is.each is.stands.0, is.stands.1)
   margin_up (borders.Contradicts last) is = (way_up last is.ahead is.each is.stands.0, is.stands.1)
   margin_up (borders.Limit last) is = (last, way_up last is.ahead is.each is.stands.0, is.stands.1)
-  margin_up (borders.Spent last) is = tt
+  margin_up (borders.Spent last) is = λ enough by low high. is.each by (low, within_further Up from last by sought.effort.budget is.stands high)
+  margin_up (borders.Left last) is = λ enough by low high. absurd (is.stands (enough_own sought.drawn.now numbers_of sought.effort.budget enough))
 
   way_down : (last : ℤ) → IsOn Down from last → IsShown sought Down from (Some last) → IsConsistent (at_value sought last)
-      → IsWay (λ by. shifted_at sought.drawn.now (lent sought.numbers.now) (neg_ℤ by)) (neg_ℤ from) (neg_ℤ last)
+      → IsWay (λ by. shifted_at sought.drawn.now numbers_of (neg_ℤ by)) (neg_ℤ from) (neg_ℤ last)
   way_down last ahead each some = (
     neg_le last from ahead,
     subst (λ (v : ℤ). IsConsistent (at_value sought v)) (neg_twice last) some,
@@ -89,7 +124,7 @@ module _ (sought : SpanSought) (from : ℤ) where
   )
 
   pub margin_down : (border : Border) → IsBorderFrom sought Down from border
-      → IsMarginFrom (λ by. shifted_at sought.drawn.now (lent sought.numbers.now) (neg_ℤ by)) (lent sought.numbers.now) (neg_ℤ from) (margin_of Down border)
+      → IsMarginFrom (λ by. shifted_at sought.drawn.now numbers_of (neg_ℤ by)) numbers_of sought.effort.budget (neg_ℤ from) (margin_of Down border)
   margin_down borders.Endless is = λ by low. is.each (neg_ℤ by) (neg_below from by low, tt)
   margin_down (borders.Breaks last row) is = (
     way_down last is.ahead is.each is.stands.0,
@@ -102,33 +137,40 @@ module _ (sought : SpanSought) (from : ℤ) where
   margin_down (borders.Limit last) is = (
     neg_ℤ last,
     way_down last is.ahead is.each is.stands.0,
-    subst (λ (v : ℤ). HasDrawableCauses (at_value sought v) (lent sought.numbers.now) → ⊥) (neg_next last) is.stands.1,
+    subst (λ (v : ℤ). CanShift sought.drawn.now numbers_of v → ⊥) (neg_next last) is.stands.1,
   )
-  margin_down (borders.Spent last) is = tt
+  margin_down (borders.Spent last) is = λ enough by low high. is.each (neg_ℤ by) (
+    neg_below from by low,
+    within_further Down from last (neg_ℤ by) sought.effort.budget is.stands (neg_far by from sought.effort.budget high),
+  )
+  margin_down (borders.Left last) is = λ enough by low high. absurd (is.stands (enough_own sought.drawn.now numbers_of sought.effort.budget enough))
 
 -- ---- spans
 
 -- a span is what was found
-found_span : (drawn : Drawn) (numbers : List DrawnNumber) (down up : Margin) → IsSpan drawn numbers down up → IsSpanFound drawn numbers down up
-found_span drawn numbers margins.Never margins.Never span = absurd span.below
-found_span drawn numbers down up span = span
+found_span : (drawn : Drawn) (numbers : List DrawnNumber) (budget : ℕ) (down up : Margin) → IsSpan drawn numbers budget down up → IsSpanFound drawn numbers budget down up
+found_span drawn numbers budget margins.Never margins.Never span = absurd span.below
+found_span drawn numbers budget margins.Spent margins.Spent span = inl span
+found_span drawn numbers budget down up span = span
 
 -- the span between a border below a value and one above it
 pub span_of : (sought : SpanSought) (from : ℤ) (low high : Border) (down up : Margin) → IsBorderFrom sought Down from low → IsBorderFrom sought Up from high
     → Passes (at_value sought from) → (Passes sought.drawn.now → from ≡ pos 0) → down ≡ margin_of Down low → up ≡ margin_of Up high
-    → IsSpanFound sought.drawn.now (lent sought.numbers.now) down up
+    → IsSpanFound sought.drawn.now (lent sought.numbers.now) sought.effort.budget down up
 span_of sought from low high down up below above passes own is_down is_up =
-    let made : IsSpan sought.drawn.now (lent sought.numbers.now) (margin_of Down low) (margin_of Up high) = record {
+    let drawn = sought.drawn.now in
+    let numbers = lent sought.numbers.now in
+    let budget = sought.effort.budget in
+    let made : IsSpan drawn numbers budget (margin_of Down low) (margin_of Up high) = record {
       from = from;
       some = passes;
       own = own;
       below = margin_down sought from low below;
       above = margin_up sought from high above;
     } in
-    found_span sought.drawn.now (lent sought.numbers.now) down up
-    (subst (λ (m : Margin). IsSpan sought.drawn.now (lent sought.numbers.now) m up) (sym is_down)
-    (subst (λ (m : Margin). IsSpan sought.drawn.now (lent sought.numbers.now) (margin_of Down low) m) (sym is_up) made))
+    found_span drawn numbers budget down up
+    (subst (λ (m : Margin). IsSpan drawn numbers budget m up) (sym is_down) (subst (λ (m : Margin). IsSpan drawn numbers budget (margin_of Down low) m) (sym is_up) made))
 
--- nothing was found, and a row breaks as drawn
+-- a row breaks as drawn
 pub nothing_found : (sought : SpanSought) (row : ℕ) → BreaksRow sought.drawn.now row → Passes sought.drawn.now → ⊥
 nothing_found sought row breaks passes = excluded sought.drawn.now row passes.1 breaks

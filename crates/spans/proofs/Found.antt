@@ -1,14 +1,29 @@
 -- What was found of a network, as what is found of a drawn network with numbers moved.
-use Rattle.std.proofs.Common.{◌≡◌, ℕ, List, Bool, true, false, not, subst}
+use Rattle.std.proofs.Common.{◌≡◌, ◌≤◌, ℕ, ℤ, List, Bool, true, false, IfOk, IsSome, Option, Some, None, Result, Ok, Err, pos, sym, ap, subst, ◌∙◌}
 use Rattle.event_graph.specs.Bounds.{IsInconsistent}
+use Rattle.event_graph.specs.Edges.{cause_choices}
 use Rattle.event_graph.specs.Network.{Net}
 use Rattle.drawn.specs.Drawn.{Drawn}
 use Rattle.drawn.specs.declared.row.Row.{Row}
-use Rattle.moves.specs.Networks.{IsNetFound}
+use Rattle.moves.specs.Networks.{IsNetFound, is_net_open}
 use Rattle.moves.specs.Passing.{BreaksRow, NoneBreaks, Passes}
-use Rattle.moves.specs.Step.{IsConsistent, bare_drawn}
+use Rattle.moves.specs.Step.{IsConsistent, bare_drawn, lent}
 use Rattle.moves.specs.declared.net_found.NetFound.{NetFound}
 use Rattle.moves.specs.declared.net_found.NetFound.TheVariants as nets
+use Rattle.moves.proofs.Cores.{core_breaks}
+use Rattle.moves.proofs.Covering.{cover_contradicts, cover_holds}
+use Rattle.moves.proofs.Each.{shifted_by_nothing}
+use Rattle.moves.proofs.Thresholds.{excluded}
+use Rattle.probing.specs.declared.probed.Probed.{Probed}
+use Rattle.spans.specs.Step.{Frames, IsEnough, IsFrameFound, IsInside, IsProbeOf, IsStop, IsValueFound, IsValueFoundAt, MeetsAim, TellsConsistency, at_value, breaks_for, consistency_of, passes_for}
+use Rattle.spans.specs.declared.framed_range.FrameKind.{FrameKind}
+use Rattle.spans.specs.declared.framed_range.FrameKind.TheVariants as frames
+use Rattle.spans.specs.declared.interval.Interval.{Interval}
+use Rattle.spans.specs.declared.sought.SpanAim.{SpanAim}
+use Rattle.spans.specs.declared.sought.SpanAim.TheVariants as aims
+use Rattle.spans.specs.declared.sought.SpanSought.{SpanSought}
+use Rattle.spans.specs.declared.sought.ValueFound.{ValueFound}
+use Rattle.spans.specs.declared.sought.ValueFound.TheVariants as values
 
 found_bare : (drawn : Drawn) (found : NetFound) → IsNetFound (bare_drawn drawn.net drawn.rows) found → IsNetFound drawn found
 found_bare drawn nets.Passes h = h
@@ -23,18 +38,97 @@ found_at drawn net rows found same_net same_rows h =
     found_bare drawn found
     (subst (λ (n : Net). IsNetFound (bare_drawn n drawn.rows) found) same_net (subst (λ (rs : List Row). IsNetFound (bare_drawn net rs) found) same_rows h))
 
-pub none_not_some : (some none : Bool) → some ≡ not none → none ≡ true → some ≡ true → ⊥
-none_not_some some true e none is = cc
-none_not_some some false e none is = cc
-
--- times that contradict break nothing
-pub none_of_none : (drawn : Drawn) → IsInconsistent drawn.net → NoneBreaks drawn
-none_of_none drawn none = λ times sat. absurd (none times sat)
-
--- times that break a row satisfy the network
-pub some_of_breaks : (drawn : Drawn) (row : ℕ) → BreaksRow drawn row → IsConsistent drawn
-some_of_breaks drawn row breaks = (breaks.0, breaks.1)
-
 -- what was found, by another name
 pub found_as : (drawn : Drawn) (found is : NetFound) → found ≡ is → IsNetFound drawn found → IsNetFound drawn is
 found_as drawn found is same h = subst (IsNetFound drawn) same h
+
+-- rules that contradict each other break nothing, and pass nothing
+pub contradicts_meets : (aim : SpanAim) (drawn : Drawn) → IsInconsistent drawn.net → MeetsAim aim drawn
+contradicts_meets aims.Passing drawn none = λ times sat. absurd (none times sat)
+contradicts_meets aims.Failing drawn none = λ passes. none passes.0.0 passes.0.1
+
+pub passes_found : (aim : SpanAim) (drawn : Drawn) → Passes drawn → IsValueFound aim drawn nets.Passes (passes_for aim)
+passes_found aims.Passing drawn passes = passes.1
+passes_found aims.Failing drawn passes = (passes, tt)
+
+pub breaks_found : (aim : SpanAim) (drawn : Drawn) (row : ℕ) → BreaksRow drawn row → IsValueFound aim drawn (nets.Breaks row) (breaks_for aim row)
+breaks_found aims.Passing drawn row breaks = (breaks, tt)
+breaks_found aims.Failing drawn row breaks = λ passes. excluded drawn row passes.1 breaks
+
+-- what stops what shows that nothing passes
+pub stop_passes : (drawn : Drawn) (found : NetFound) → IsNetFound drawn found → IsStop aims.Failing found → Passes drawn
+stop_passes drawn nets.Passes h stop = h
+stop_passes drawn (nets.Breaks row) h stop = absurd stop
+stop_passes drawn nets.Inconsistent h stop = absurd stop
+stop_passes drawn nets.Open h stop = absurd stop
+stop_passes drawn nets.Spent h stop = absurd stop
+
+module _ (sought : SpanSought) (value : ℤ) where
+  value_by : (aim : SpanAim) (found : NetFound) (result : ValueFound) → (IsEnough sought → is_net_open found ≡ false) → IsValueFound aim (at_value sought value) found result
+      → IsValueFoundAt sought aim value result
+  value_by aim found values.Shown settles is = is
+  value_by aim found (values.Stops other) settles is = is
+  value_by aim found values.Left settles is = λ enough. absurd (cc (settles enough, is))
+
+  -- what is found of a value, by a probe there
+  pub value_found : (aim : SpanAim) (probed : Probed) (result : ValueFound) → IsProbeOf sought value probed → IsValueFound aim (at_value sought value) probed.found result
+      → IsValueFoundAt sought aim value result
+  value_found aim probed result is h = value_by aim probed.found result is.settles h
+
+  tells_by : (found : NetFound) → IsNetFound (at_value sought value) found → (IsEnough sought → is_net_open found ≡ false) → TellsConsistency sought value (consistency_of found)
+  tells_by nets.Passes is settles = is.0
+  tells_by (nets.Breaks row) is settles = (is.0, is.1)
+  tells_by nets.Inconsistent is settles = is
+  tells_by nets.Open is settles = is
+  tells_by nets.Spent is settles = λ enough. absurd (cc (settles enough))
+
+  pub tells_found : (probed : Probed) (result : Option Bool) → IsProbeOf sought value probed → result ≡ consistency_of probed.found → TellsConsistency sought value result
+  tells_found probed result is same = subst (TellsConsistency sought value) (sym same) (tells_by probed.found is.found is.settles)
+
+  pub open_left : (probed : Probed) (found : NetFound) → IsProbeOf sought value probed → probed.found ≡ found → is_net_open found ≡ true → IsEnough sought → ⊥
+  open_left probed found is same open_ enough =
+      let closed : is_net_open found ≡ false = subst (λ (f : NetFound). is_net_open f ≡ false) same (is.settles enough) in absurd (cc (closed, open_))
+
+-- a probe of a network and rows that are those with a value
+module _ (sought : SpanSought) (value : ℤ) where
+  pub probed_at : {E : Type 0} (net : Net) (rows : List Row) (result : Result Probed E) → net ≡ (at_value sought value).net → rows ≡ (at_value sought value).rows
+      → (IsEnough sought → cause_choices net.constraints ≤ sought.effort.budget) → IfOk result (λ (p : Probed). IsNetFound (bare_drawn net rows) p.found)
+      → IfOk result (λ (p : Probed). cause_choices net.constraints ≤ sought.effort.budget → is_net_open p.found ≡ false) → IfOk result (IsProbeOf sought value)
+  probed_at net rows (Ok p) on_net on_rows enough found settles = record {
+    found = found_at (at_value sought value) net rows p.found on_net on_rows found;
+    settles = λ is. settles (enough is);
+  }
+  probed_at net rows (Err e) on_net on_rows enough found settles = tt
+
+  -- the same of the drawn network
+  pub probed_own : {E : Type 0} (net : Net) (rows : List Row) (result : Result Probed E) → value ≡ pos 0 → net ≡ sought.drawn.now.net → rows ≡ sought.drawn.now.rows
+      → IfOk result (λ (p : Probed). IsNetFound (bare_drawn net rows) p.found)
+      → IfOk result (λ (p : Probed). cause_choices net.constraints ≤ sought.effort.budget → is_net_open p.found ≡ false) → IfOk result (IsProbeOf sought value)
+  probed_own net rows result none on_net on_rows found settles =
+      let same : at_value sought value ≡ sought.drawn.now =
+      ap (λ (v : ℤ). at_value sought v) none ∙ shifted_by_nothing sought.drawn.now (lent sought.numbers.now) in
+      probed_at net rows result (on_net ∙ sym (ap (λ (d : Drawn). d.net) same)) (on_rows ∙ sym (ap (λ (d : Drawn). d.rows) same))
+      (λ enough. subst (λ (n : Net). cause_choices n.constraints ≤ sought.effort.budget) (sym on_net) enough) found settles
+
+-- there is none
+pub not_there : {A : Type 0} (o : Option A) → o ≡ None → IsSome o → ⊥
+not_there None is some = cc some
+not_there (Some x) is some = cc is
+
+-- what a probe of a frame found, of the values that it frames
+pub frame_found : (sought : SpanSought) (counts : List ℤ) (interval : Interval) (kind : FrameKind) (net : Net) (rows : List Row) (found : NetFound)
+    → ((value : ℤ) → IsInside interval value → Frames kind counts sought.drawn.now (lent sought.numbers.now) (bare_drawn net rows) value) → IsNetFound (bare_drawn net rows) found
+    → IsFrameFound sought interval kind found
+frame_found sought counts interval frames.Cover net rows nets.Passes framed is = λ value within.
+    cover_holds counts sought.drawn.now (lent sought.numbers.now) (bare_drawn net rows) value (framed value within) is.1
+frame_found sought counts interval frames.Cover net rows nets.Inconsistent framed is = λ value within.
+    cover_contradicts counts sought.drawn.now (lent sought.numbers.now) (bare_drawn net rows) value (framed value within) is
+frame_found sought counts interval frames.Core net rows (nets.Breaks row) framed is = λ value within.
+    core_breaks counts sought.drawn.now (lent sought.numbers.now) (bare_drawn net rows) value row (framed value within) is
+frame_found sought counts interval frames.Cover net rows (nets.Breaks row) framed is = tt
+frame_found sought counts interval frames.Cover net rows nets.Open framed is = tt
+frame_found sought counts interval frames.Cover net rows nets.Spent framed is = tt
+frame_found sought counts interval frames.Core net rows nets.Passes framed is = tt
+frame_found sought counts interval frames.Core net rows nets.Inconsistent framed is = tt
+frame_found sought counts interval frames.Core net rows nets.Open framed is = tt
+frame_found sought counts interval frames.Core net rows nets.Spent framed is = tt

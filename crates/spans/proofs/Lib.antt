@@ -1,8 +1,10 @@
 pub mod Ways
 pub mod Multiples
 pub mod Ends
-pub mod Covered
+pub mod Framed
 pub mod Found
+pub mod Reaching
 pub mod Showing
 pub mod Looks
 pub mod Borders
+pub mod Near

@@ -1,137 +1,149 @@
-//! Going on from value to value by covers.
+//! Going on from value to value by frames.
 
 ghost use Rattle.std.specs.Prelude.{IfOk};
-ghost use Rattle.moves.specs.Passing.{NoneBreaks};
-ghost use Rattle.moves.specs.Step.{IsMoveBy};
-ghost use Rattle.spans.specs.Step.{IsAdvance, IsOn, IsPast, IsSought, IsStretched, at_value};
+ghost use Rattle.spans.specs.Step.{IsAdvance, IsOn, IsPast, IsWithinReach, IsSought, IsStretched};
 
 use crate::direction::{Direction, Value, between, distance, is_same, next_of, value_on};
-use crate::sought::{SpanSought, ValueFound};
+use crate::sought::{SpanAim, SpanSought, ValueFound};
 use itv_base::NoMemory;
+use moves::NetFound;
 use std::alloc::Global;
 
-// Covers that are tried for a border. A border that takes more is left open.
-const MOST_COVERS: u32 = 1_000;
+// How often an interval is halved before the next value is taken by itself.
+const MOST_HALVINGS: u32 = 64;
 
-/// How far a span was shown.
+/// How far values were shown.
 #[derive(Clone, Copy)]
 pub enum Advance {
-    /// No requirement breaks up to the goal.
+    /// Each value up to the goal was shown.
     Reached,
-    /// No requirement breaks up to this value, and with the next one the row with this number does.
-    Breaks { last: Value, row: u32 },
-    /// No requirement breaks up to this value. A search was left open, or too many covers were tried.
-    Spent(Value),
+    /// The goal was not reached.
+    Shortfall(Shortfall),
 }
 
-/// The last value that was shown, and with how many more a cover is tried next.
+/// Where values that are shown end before a goal.
+#[derive(Clone, Copy)]
+pub enum Shortfall {
+    /// Each value up to this one was shown, and of the next one this was found instead.
+    Stops { last: Value, found: NetFound },
+    /// As many intervals were shown as the budget says, up to this value.
+    Spent(Value),
+    /// A search was left open.
+    Left,
+}
+
+/// The last value that was shown, and how many values an interval is tried with next.
 #[derive(Clone, Copy)]
 pub struct ShownStretch {
     pub done: Value,
     pub size: i64,
 }
 
-/// What one more cover came to.
+/// What one more interval came to.
 #[derive(Clone, Copy)]
 pub enum Stretched {
-    /// No requirement breaks up to the value of this stretch.
+    /// Each value up to the value of this stretch was shown.
     On(ShownStretch),
-    /// With the next value the row with this number breaks.
-    Breaks(u32),
-    /// Of the next value nothing is known.
-    Spent,
+    /// Of the next value this was found instead.
+    Stops(NetFound),
+    /// A search was left open.
+    Left,
 }
 
-/// Shows by covers that no requirement breaks with the values from one to a goal, in a direction: half as many at once where a cover does not hold,
-/// and twice as many where it does.
+/// Shows each value past one up to a goal, in a direction, interval after interval: an interval with half as many values where a frame does not show it, and with
+/// twice as many where it does. Each interval that is shown is one turn, and there are as many turns as the budget has cases.
 pub fn show_to(
     alloc: Global,
     sought: &SpanSought<'_>,
+    aim: SpanAim,
     from: Value,
     goal: Value,
     direction: Direction,
 ) -> Result<Advance, NoMemory>
     requires sought { IsSought sought.now }
-    requires from { IsMoveBy from.by }
-    requires goal { IsMoveBy goal.by }
+    requires from { IsWithinReach sought.now from.by }
+    requires goal { IsWithinReach sought.now goal.by }
     requires ahead { IsOn direction from.by goal.by }
-    requires none { NoneBreaks (at_value sought.now from.by) }
-    ensures advance { IfOk result (IsAdvance sought.now direction from.by goal.by) }
+    ensures advance { IfOk result (IsAdvance sought.now aim direction from.by goal.by) }
 {
     let mut stretch = ShownStretch {
         done: from,
         size: distance(from, goal),
     };
-    for _turn in 0..MOST_COVERS {
+    for _turn in 0..sought.effort.budget {
         if is_same(stretch.done, goal) {
             return Ok(Advance::Reached);
         }
-        match stretch_on(alloc, sought, stretch, goal, direction)? {
+        match stretch_on(alloc, sought, aim, stretch, goal, direction)? {
             Stretched::On(next) => stretch = next,
-            Stretched::Breaks(row) => {
-                return Ok(Advance::Breaks {
-                    last: stretch.done,
-                    row,
-                });
+            Stretched::Stops(found) => {
+                let last = stretch.done;
+                return Ok(Advance::Shortfall(Shortfall::Stops { last, found }));
             }
-            Stretched::Spent => return Ok(Advance::Spent(stretch.done)),
+            Stretched::Left => return Ok(Advance::Shortfall(Shortfall::Left)),
         }
     }
-    Ok(Advance::Spent(stretch.done))
+    if is_same(stretch.done, goal) {
+        return Ok(Advance::Reached);
+    }
+    Ok(Advance::Shortfall(Shortfall::Spent(stretch.done)))
 }
 
-// One more cover. Where it is one of the next value alone and does not hold, the value is probed.
+// One more interval. Where none of several values is shown, the next value is looked at by itself.
 fn stretch_on(
     alloc: Global,
     sought: &SpanSought<'_>,
+    aim: SpanAim,
     stretch: ShownStretch,
     goal: Value,
     direction: Direction,
 ) -> Result<Stretched, NoMemory>
     requires sought { IsSought sought.now }
-    requires done { IsMoveBy stretch.done.by }
-    requires goal { IsMoveBy goal.by }
+    requires done { IsWithinReach sought.now stretch.done.by }
+    requires goal { IsWithinReach sought.now goal.by }
     requires past { IsPast direction stretch.done.by goal.by }
-    ensures { IfOk result (IsStretched sought.now direction stretch.done.by goal.by) }
+    ensures { IfOk result (IsStretched sought.now aim direction stretch.done.by goal.by) }
 {
-    let size = stretch.size.min(distance(stretch.done, goal));
-    let end = value_on(stretch.done, size, goal, direction);
-    if sought.is_covered(alloc, between(stretch.done, end, direction))? {
-        return Ok(Stretched::On(ShownStretch {
-            done: end,
-            size: size.saturating_mul(2),
-        }));
+    let first = next_of(stretch.done, direction);
+    let mut more = stretch.size.saturating_sub(1).min(distance(first, goal));
+    for _halving in 0..MOST_HALVINGS {
+        if more < 1 {
+            return one_more(alloc, sought, aim, stretch.done, goal, direction);
+        }
+        let end = value_on(first, more, goal, direction);
+        if sought.is_shown(alloc, aim, between(stretch.done, end, direction))? {
+            return Ok(Stretched::On(ShownStretch {
+                done: end,
+                size: more.saturating_add(1).saturating_mul(2),
+            }));
+        }
+        more /= 2;
     }
-    if size > 1 {
-        return Ok(Stretched::On(ShownStretch {
-            done: stretch.done,
-            size: size / 2,
-        }));
-    }
-    one_more(alloc, sought, stretch.done, goal, direction)
+    one_more(alloc, sought, aim, stretch.done, goal, direction)
 }
 
 // The next value by itself.
 fn one_more(
     alloc: Global,
     sought: &SpanSought<'_>,
+    aim: SpanAim,
     done: Value,
     goal: Value,
     direction: Direction,
 ) -> Result<Stretched, NoMemory>
     requires sought { IsSought sought.now }
-    requires done { IsMoveBy done.by }
-    requires goal { IsMoveBy goal.by }
+    requires done { IsWithinReach sought.now done.by }
+    requires goal { IsWithinReach sought.now goal.by }
     requires past { IsPast direction done.by goal.by }
-    ensures { IfOk result (IsStretched sought.now direction done.by goal.by) }
+    ensures { IfOk result (IsStretched sought.now aim direction done.by goal.by) }
 {
     let next = next_of(done, direction);
-    match sought.value_at(alloc, next)? {
+    match sought.value_at(alloc, aim, next)? {
         ValueFound::Shown => Ok(Stretched::On(ShownStretch {
             done: next,
-            size: 1,
+            size: 2,
         })),
-        ValueFound::Breaks(row) => Ok(Stretched::Breaks(row)),
-        ValueFound::Spent => Ok(Stretched::Spent),
+        ValueFound::Stops(found) => Ok(Stretched::Stops(found)),
+        ValueFound::Left => Ok(Stretched::Left),
     }
 }

@@ -18,8 +18,10 @@ pub enum Border {
     Contradicts(i64),
     /// The next value can't be drawn: an end would be beyond the limit.
     Limit(i64),
-    /// The searches were left open beyond it.
+    /// As many values were shown as the budget says, and of the next one nothing is known.
     Spent(i64),
+    /// A search was left open.
+    Left(i64),
 }
 
 /// How far a border in a direction is from the drawn value.
@@ -37,7 +39,7 @@ pub fn margin_of(border: Border, direction: Direction) -> Margin
             by: outward(by, direction),
         },
         Border::Limit(_) => Margin::Limit,
-        Border::Spent(_) => Margin::Spent,
+        Border::Spent(_) | Border::Left(_) => Margin::Spent,
     }
 }
 

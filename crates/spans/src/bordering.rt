@@ -1,25 +1,23 @@
 //! One border of a span.
 
-ghost use Rattle.std.specs.Prelude.{◌≡◌, ◌+ℤ◌, IfOk, IfSome};
+ghost use Rattle.std.specs.Prelude.{◌≡◌, ◌+ℤ◌, IfOk, IfSome, IsSome, Some};
 ghost use Rattle.event_graph.specs.Bounds.{IsInconsistent};
 ghost use Rattle.moves.specs.Passing.{BreaksRow, Passes};
 ghost use Rattle.moves.specs.Step.{IsMoveBy};
-ghost use Rattle.spans.specs.Step.{IsBorderFrom, IsGapIn, IsOn, IsPast, IsShownTo, IsSought, at_value, on_of};
+ghost use Rattle.spans.specs.Step.{IsBorderFrom, IsEnough, IsGapIn, IsNarrowerGap, IsOn, IsPast, IsWithinReach, IsShort, IsShown, IsSought, IsSpanStart, IsStop, at_value, limit_of, on_of};
 
-use crate::advance::{Advance, show_to};
+use crate::advance::{Advance, Shortfall, show_to};
 use crate::border::Border;
 use crate::direction::{
-    Direction, Value, beyond, distance, is_same, last_before, limit_of, next_of, step_of, value_on,
+    Direction, Value, beyond, distance, farthest, is_same, last_before, next_of, step_of, value_on,
 };
 use crate::looking::{Ahead, look_ahead};
-use crate::shift_reach::ShiftReach;
-use crate::sought::SpanSought;
+use crate::reach::limit_of;
+use crate::sought::{SpanAim, SpanSought};
 use itv_base::NoMemory;
+use moves::NetFound;
 use probing::SideChain;
 use std::alloc::Global;
-
-// Values that are looked at between one that some times satisfy and one that none satisfy. Each halves the rest.
-const MOST_HALVES: u32 = 64;
 
 /// Two values: some times satisfy with the one, and none with the other one.
 #[derive(Clone, Copy)]
@@ -35,23 +33,23 @@ pub fn border_of(
     from: Value,
     sides: &[SideChain],
     direction: Direction,
-    reach: ShiftReach,
 ) -> Result<Border, NoMemory>
     requires sought { IsSought sought.now }
-    requires from { IsMoveBy from.by }
+    requires from { IsWithinReach sought.now from.by }
+    requires start { IsSpanStart from.by }
     requires passes { Passes (at_value sought.now from.by) }
     ensures border { IfOk result (IsBorderFrom sought.now direction from.by) }
 {
     let is_free = sought.room(step_of(direction), sides).is_none();
-    if is_free && sought.is_covered(alloc, beyond(from, direction))? {
+    if is_free && sought.is_shown(alloc, SpanAim::Passing, beyond(from, direction))? {
         return Ok(Border::Endless);
     }
-    let goal = limit_of(from, direction, reach);
+    let goal = limit_of(sought.reach, direction);
     match look_ahead(alloc, sought, from, goal, sides, direction)? {
         Ahead::Breaks { at, row } => border_before(alloc, sought, from, at, row, direction),
         Ahead::Contradicts(at) => border_in(alloc, sought, from, at, direction),
-        Ahead::Limit(at) => border_at_limit(alloc, sought, from, at, direction),
-        Ahead::Spent => Ok(spent(from)),
+        Ahead::Nothing => border_at_limit(alloc, sought, from, goal, direction),
+        Ahead::Left => Ok(left(from)),
     }
 }
 
@@ -65,18 +63,17 @@ fn border_before(
     direction: Direction,
 ) -> Result<Border, NoMemory>
     requires sought { IsSought sought.now }
-    requires from { IsMoveBy from.by }
+    requires from { IsWithinReach sought.now from.by }
     requires passes { Passes (at_value sought.now from.by) }
-    requires at { IsMoveBy at.by }
+    requires at { IsWithinReach sought.now at.by }
     requires past { IsPast direction from.by at.by }
     requires breaks { BreaksRow (at_value sought.now at.by) row }
     ensures border { IfOk result (IsBorderFrom sought.now direction from.by) }
 {
     let last = last_before(at, direction);
-    match show_to(alloc, sought, from, last, direction)? {
+    match show_to(alloc, sought, SpanAim::Passing, from, last, direction)? {
         Advance::Reached => border_by_row(alloc, sought, from, last, row, direction),
-        Advance::Breaks { last, row } => border_by_row(alloc, sought, from, last, row, direction),
-        Advance::Spent(last) => Ok(spent(last)),
+        Advance::Shortfall(short) => border_short(alloc, sought, from, short, direction),
     }
 }
 
@@ -89,21 +86,20 @@ fn border_in(
     direction: Direction,
 ) -> Result<Border, NoMemory>
     requires sought { IsSought sought.now }
-    requires from { IsMoveBy from.by }
+    requires from { IsWithinReach sought.now from.by }
     requires passes { Passes (at_value sought.now from.by) }
-    requires at { IsMoveBy at.by }
+    requires at { IsWithinReach sought.now at.by }
     requires past { IsPast direction from.by at.by }
     requires contradicts { IsInconsistent (at_value sought.now at.by).net }
     ensures border { IfOk result (IsBorderFrom sought.now direction from.by) }
 {
-    match show_to(alloc, sought, from, at, direction)? {
+    match show_to(alloc, sought, SpanAim::Passing, from, at, direction)? {
         Advance::Reached => border_by_contradiction(alloc, sought, from, at, direction),
-        Advance::Breaks { last, row } => border_by_row(alloc, sought, from, last, row, direction),
-        Advance::Spent(last) => Ok(spent(last)),
+        Advance::Shortfall(short) => border_short(alloc, sought, from, short, direction),
     }
 }
 
-// The border where the last value that can be drawn was reached.
+// The border where nothing was found up to the last value that can be drawn.
 fn border_at_limit(
     alloc: Global,
     sought: &SpanSought<'_>,
@@ -112,16 +108,51 @@ fn border_at_limit(
     direction: Direction,
 ) -> Result<Border, NoMemory>
     requires sought { IsSought sought.now }
-    requires from { IsMoveBy from.by }
+    requires from { IsWithinReach sought.now from.by }
+    requires start { IsSpanStart from.by }
     requires passes { Passes (at_value sought.now from.by) }
-    requires at { IsMoveBy at.by }
-    requires on { IsOn direction from.by at.by }
+    requires at { at ≡ limit_of direction sought.now.reach }
     ensures border { IfOk result (IsBorderFrom sought.now direction from.by) }
 {
-    match show_to(alloc, sought, from, at, direction)? {
+    match show_to(alloc, sought, SpanAim::Passing, from, at, direction)? {
         Advance::Reached => border_beyond(alloc, sought, from, at, direction),
-        Advance::Breaks { last, row } => border_by_row(alloc, sought, from, last, row, direction),
-        Advance::Spent(last) => Ok(spent(last)),
+        Advance::Shortfall(short) => border_short(alloc, sought, from, short, direction),
+    }
+}
+
+// The border where what shows that no requirement breaks ends before its goal.
+fn border_short(
+    alloc: Global,
+    sought: &SpanSought<'_>,
+    from: Value,
+    short: Shortfall,
+    direction: Direction,
+) -> Result<Border, NoMemory>
+    requires sought { IsSought sought.now }
+    requires from { IsWithinReach sought.now from.by }
+    requires passes { Passes (at_value sought.now from.by) }
+    requires short { IsShort sought.now SpanAim.Passing direction from.by short }
+    ensures border { IfOk result (IsBorderFrom sought.now direction from.by) }
+{
+    match short {
+        Shortfall::Stops { last, found } => {
+            border_by_row(alloc, sought, from, last, row_of(found), direction)
+        }
+        Shortfall::Spent(last) => Ok(spent(last)),
+        Shortfall::Left => Ok(left(from)),
+    }
+}
+
+// The row that was found to break.
+fn row_of(found: NetFound) -> u32
+    requires { IsStop SpanAim.Passing found }
+    ensures { found ≡ NetFound.Breaks result }
+{
+    match found {
+        NetFound::Breaks(row) => row,
+        // Nothing else stops what shows that no requirement breaks.
+        NetFound::Passes | NetFound::Inconsistent | NetFound::Open | NetFound::Spent =>
+            unreachable!(),
     }
 }
 
@@ -134,20 +165,21 @@ fn border_beyond(
     direction: Direction,
 ) -> Result<Border, NoMemory>
     requires sought { IsSought sought.now }
-    requires from { IsMoveBy from.by }
+    requires from { IsWithinReach sought.now from.by }
+    requires start { IsSpanStart from.by }
     requires passes { Passes (at_value sought.now from.by) }
-    requires at { IsMoveBy at.by }
-    requires shown { IsShownTo sought.now direction from.by at.by at.by }
+    requires at { at ≡ limit_of direction sought.now.reach }
+    requires shown { IsShown sought.now direction from.by (Some at.by) }
     ensures border { IfOk result (IsBorderFrom sought.now direction from.by) }
 {
-    if sought.is_covered(alloc, beyond(at, direction))? {
+    if sought.is_shown(alloc, SpanAim::Passing, beyond(at, direction))? {
         return Ok(Border::Endless);
     }
-    if !sought.is_beyond(alloc, next_of(at, direction))? {
+    if is_same(at, farthest(direction)) {
         return Ok(spent(at));
     }
     match sought.consistency_at(alloc, at)? {
-        None => Ok(spent(at)),
+        None => Ok(left(from)),
         Some(true) => Ok(limit(at)),
         Some(false) => border_by_contradiction(alloc, sought, from, at, direction),
     }
@@ -163,15 +195,16 @@ fn border_by_row(
     direction: Direction,
 ) -> Result<Border, NoMemory>
     requires sought { IsSought sought.now }
-    requires from { IsMoveBy from.by }
+    requires from { IsWithinReach sought.now from.by }
     requires passes { Passes (at_value sought.now from.by) }
-    requires last { IsMoveBy last.by }
-    requires shown { IsShownTo sought.now direction from.by last.by last.by }
+    requires last { IsWithinReach sought.now last.by }
+    requires on { IsOn direction from.by last.by }
+    requires shown { IsShown sought.now direction from.by (Some last.by) }
     requires breaks { BreaksRow (at_value sought.now (last.by +ℤ on_of direction)) row }
     ensures border { IfOk result (IsBorderFrom sought.now direction from.by) }
 {
     match sought.consistency_at(alloc, last)? {
-        None => Ok(spent(last)),
+        None => Ok(left(from)),
         Some(true) => Ok(breaks(last, row)),
         Some(false) => border_by_contradiction(alloc, sought, from, last, direction),
     }
@@ -186,10 +219,11 @@ fn border_by_contradiction(
     direction: Direction,
 ) -> Result<Border, NoMemory>
     requires sought { IsSought sought.now }
-    requires from { IsMoveBy from.by }
+    requires from { IsWithinReach sought.now from.by }
     requires passes { Passes (at_value sought.now from.by) }
-    requires at { IsMoveBy at.by }
-    requires shown { IsShownTo sought.now direction from.by at.by at.by }
+    requires at { IsWithinReach sought.now at.by }
+    requires on { IsOn direction from.by at.by }
+    requires shown { IsShown sought.now direction from.by (Some at.by) }
     requires contradicts { IsInconsistent (at_value sought.now at.by).net }
     ensures border { IfOk result (IsBorderFrom sought.now direction from.by) }
 {
@@ -197,19 +231,16 @@ fn border_by_contradiction(
         has: from,
         lacks: at,
     };
-    for _turn in 0..MOST_HALVES {
-        if is_same(next_of(gap.has, direction), gap.lacks) {
-            return Ok(contradicts(gap.has));
-        }
+    while !is_same(next_of(gap.has, direction), gap.lacks) {
         match halved(alloc, sought, gap, direction)? {
-            None => return Ok(spent(from)),
+            None => return Ok(left(from)),
             Some(half) => gap = half,
         }
     }
-    Ok(spent(from))
+    Ok(contradicts(gap.has))
 }
 
-// One half of what is between two values: some times satisfy with the one, and none with the other one.
+// One half of what is between two values: some times satisfy with the one, and none with the other one. It is `None` where a search was left open.
 fn halved(
     alloc: Global,
     sought: &SpanSought<'_>,
@@ -217,13 +248,17 @@ fn halved(
     direction: Direction,
 ) -> Result<Option<ValueGap>, NoMemory>
     requires sought { IsSought sought.now }
-    requires has { IsMoveBy gap.has.by }
-    requires lacks { IsMoveBy gap.lacks.by }
+    requires has { IsWithinReach sought.now gap.has.by }
+    requires lacks { IsWithinReach sought.now gap.lacks.by }
     requires gap { IsGapIn sought.now direction gap.has.by gap.lacks.by gap }
+    requires apart { IsPast direction (gap.has.by +ℤ on_of direction) gap.lacks.by }
     ensures half { IfOk result (λ half. IfSome half (IsGapIn sought.now direction gap.has.by gap.lacks.by)) }
+    ensures narrower { IfOk result (λ half. IfSome half (IsNarrowerGap gap)) }
+    ensures settles { IfOk result (λ half. IsEnough sought.now → IsSome half) }
 {
-    let far = distance(gap.has, gap.lacks) / 2;
-    let middle = value_on(gap.has, far, gap.lacks, direction);
+    let first = next_of(gap.has, direction);
+    let last = last_before(gap.lacks, direction);
+    let middle = value_on(first, distance(first, last) / 2, last, direction);
     match sought.consistency_at(alloc, middle)? {
         None => Ok(None),
         Some(true) => Ok(Some(ValueGap {
@@ -263,4 +298,11 @@ fn spent(last: Value) -> Border
     ensures { result ≡ Border.Spent last.by }
 {
     Border::Spent(last.by)
+}
+
+fn left(last: Value) -> Border
+    requires { IsMoveBy last.by }
+    ensures { result ≡ Border.Left last.by }
+{
+    Border::Left(last.by)
 }

@@ -2,10 +2,9 @@
 
 ghost use Rattle.std.specs.Prelude.{◌≡◌, ◌↔◌, ◌+ℤ◌, ℤ, IsTrue, pos};
 ghost use Rattle.moves.specs.Step.{IsMoveBy};
-ghost use Rattle.spans.specs.Step.{IsInside, IsInterval, IsOn, IsPast, IsValue, on_of};
+ghost use Rattle.spans.specs.Step.{IsInside, IsInterval, IsOn, IsPast, IsValue, farthest, on_of};
 
 use crate::interval::Interval;
-use crate::shift_reach::ShiftReach;
 use moves::MOVE_LIMIT;
 use probing::Step;
 
@@ -87,19 +86,14 @@ pub fn value_on(from: Value, far: i64, goal: Value, direction: Direction) -> Val
     }
 }
 
-/// The last value that can be drawn in a direction, or this one, where it is past that.
-pub fn limit_of(from: Value, direction: Direction, reach: ShiftReach) -> Value
-    requires { IsMoveBy from.by }
-    ensures on { IsOn direction from.by result.by }
+/// The farthest value by which numbers may be moved in a direction.
+pub fn farthest(direction: Direction) -> Value
+    ensures farthest { result.by ≡ farthest direction }
     ensures by { IsMoveBy result.by }
 {
     match direction {
-        Direction::Down => Value {
-            by: reach.least.clamp(-MOVE_LIMIT, from.by),
-        },
-        Direction::Up => Value {
-            by: reach.most.clamp(from.by, MOVE_LIMIT),
-        },
+        Direction::Down => Value { by: -MOVE_LIMIT },
+        Direction::Up => Value { by: MOVE_LIMIT },
     }
 }
 
@@ -142,7 +136,7 @@ pub fn beyond(from: Value, direction: Direction) -> Interval
     }
 }
 
-/// How far two values are apart. No contract says so: it is by how many values a cover is begun with.
+/// How far two values are apart. No contract says so: by it the next value is guessed, or by how many values a frame is begun with.
 pub fn distance(from: Value, to: Value) -> i64 {
     from.by
         .saturating_sub(to.by)

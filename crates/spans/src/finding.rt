@@ -1,17 +1,19 @@
 //! Finding the span of numbers.
 
 ghost use Rattle.std.specs.Prelude.{◌≡◌, ◌≤◌, pos, false, IfOk, IfSome};
+ghost use Rattle.itv_base.specs.declared.limits.TheConstants.{MAX_BUDGET};
 ghost use Rattle.moves.specs.Found.{IsSpanFound};
 ghost use Rattle.moves.specs.Networks.{IsNetFound, is_net_open};
 ghost use Rattle.moves.specs.Passing.{BreaksRow, Passes};
-ghost use Rattle.moves.specs.Step.{IsMoveBy, lent};
-ghost use Rattle.spans.specs.Step.{IsSought, IsSpanOf, IsTriedValue, at_value};
+ghost use Rattle.moves.specs.Step.{lent};
+ghost use Rattle.spans.specs.Step.{IsNearFound, IsWithinReach, IsSought, IsSpanOf, IsSpanStart, IsStartGoal, IsTriedValue, at_value};
 
 use crate::border::margin_of;
 use crate::bordering::border_of;
 use crate::counts::{counts_of, no_counts};
-use crate::direction::{Direction, Value, drawn_value, limit_of, step_of, value_on};
-use crate::shift_reach::{ShiftReach, shift_reach_of};
+use crate::direction::{Direction, Value, drawn_value, step_of, value_on};
+use crate::nearby::{Nearby, near_in};
+use crate::reach::{limit_of, reach_of, start_limit};
 use crate::sought::SpanSought;
 use drawn::DrawnNetwork;
 use itv_base::NoMemory;
@@ -30,12 +32,13 @@ pub enum Tried {
     Span(SpanFound),
     /// A row breaks. The next value is this far on, if the edges behind its bounds say so.
     On(Option<i64>),
-    /// It is not worth to look further.
+    /// It is not worth to guess further.
     Nothing,
 }
 
 /// Finds how far some numbers may be moved down and up as one before a requirement breaks. The base is what was found of the network as drawn: every requirement
-/// passes, or a row breaks. A margin is left open where a search is, or where it takes too many covers to come to it.
+/// passes, or a row breaks. A margin is left open only where a search is, or where no requirement breaks with as many further values as the budget has cases. Of
+/// a design that fails as drawn some value is found with which every requirement passes, if there is one with no more picoseconds up or down than that.
 pub fn find_span(
     alloc: Global,
     drawn: &DrawnNetwork,
@@ -46,16 +49,19 @@ pub fn find_span(
     requires base { IsNetFound drawn.now base.now.found }
     requires consistent { base.now.found ≡ NetFound.Inconsistent → ⊥ }
     requires decided { is_net_open base.now.found ≡ false }
-    requires budget { 1 ≤ effort.budget }
-    ensures found { IfOk result (λ span. IsSpanFound drawn.now (lent numbers.now) span.down span.up) }
+    requires least { 1 ≤ effort.budget }
+    requires most { effort.budget ≤ MAX_BUDGET }
+    ensures found { IfOk result (λ span. IsSpanFound drawn.now (lent numbers.now) effort.budget span.down span.up) }
 {
     let counts = counts_of(alloc, drawn, numbers)?;
     let zeros = no_counts(alloc, drawn)?;
+    let reach = reach_of(alloc, drawn, numbers)?;
     let sought = SpanSought {
         drawn,
         numbers,
         counts: &counts,
         zeros: &zeros,
+        reach,
         effort,
     };
     span_from(alloc, &sought, base)
@@ -69,10 +75,9 @@ fn span_from(alloc: Global, sought: &SpanSought<'_>, base: &Probed) -> Result<Sp
     requires decided { is_net_open base.now.found ≡ false }
     ensures found { IfOk result (IsSpanOf sought.now) }
 {
-    let reach = shift_reach_of(sought.drawn, sought.numbers);
     match base.found {
-        NetFound::Passes => span_around(alloc, sought, drawn_value(), &base.sides, reach),
-        NetFound::Breaks(row) => span_elsewhere(alloc, sought, row, &base.sides, reach),
+        NetFound::Passes => span_around(alloc, sought, drawn_value(), &base.sides),
+        NetFound::Breaks(row) => span_elsewhere(alloc, sought, row, &base.sides),
         // Some times satisfy the network, and no search was left open.
         NetFound::Inconsistent => unreachable!(),
         NetFound::Open => unreachable!(),
@@ -87,60 +92,112 @@ fn span_around(
     sought: &SpanSought<'_>,
     from: Value,
     sides: &[SideChain],
-    reach: ShiftReach,
 ) -> Result<SpanFound, NoMemory>
     requires sought { IsSought sought.now }
-    requires from { IsMoveBy from.by }
+    requires from { IsWithinReach sought.now from.by }
+    requires start { IsSpanStart from.by }
     requires passes { Passes (at_value sought.now from.by) }
     requires own { Passes sought.now.drawn.now → from.by ≡ pos 0 }
     ensures found { IfOk result (IsSpanOf sought.now) }
 {
-    let low = border_of(alloc, sought, from, sides, Direction::Down, reach)?;
-    let high = border_of(alloc, sought, from, sides, Direction::Up, reach)?;
+    let low = border_of(alloc, sought, from, sides, Direction::Down)?;
+    let high = border_of(alloc, sought, from, sides, Direction::Up)?;
     Ok(SpanFound {
         down: margin_of(low, Direction::Down),
         up: margin_of(high, Direction::Up),
     })
 }
 
-// The span around a value that is found above or below the drawn one, with which a row breaks.
+// ---- a design that fails as drawn
+
+// The span around a value that is found above or below the drawn one, with which a row breaks: first by guesses, and then value after value.
 fn span_elsewhere(
     alloc: Global,
     sought: &SpanSought<'_>,
     row: u32,
     sides: &[SideChain],
-    reach: ShiftReach,
 ) -> Result<SpanFound, NoMemory>
     requires sought { IsSought sought.now }
     requires breaks { BreaksRow sought.now.drawn.now row }
     ensures found { IfOk result (IsSpanOf sought.now) }
 {
-    if let Some(above) = span_towards(alloc, sought, row, sides, Direction::Up, reach)? {
+    if let Some(above) = span_towards(alloc, sought, row, sides, Direction::Up)? {
         return Ok(above);
     }
-    if let Some(below) = span_towards(alloc, sought, row, sides, Direction::Down, reach)? {
+    if let Some(below) = span_towards(alloc, sought, row, sides, Direction::Down)? {
         return Ok(below);
     }
-    Ok(SpanFound {
-        down: Margin::Never,
-        up: Margin::Never,
-    })
+    span_near(alloc, sought, row)
 }
 
-// The span around a value that is found in a direction: each row that breaks says how far the next value is at least.
+// The span around a value near the drawn one, with which a row breaks.
+fn span_near(alloc: Global, sought: &SpanSought<'_>, row: u32) -> Result<SpanFound, NoMemory>
+    requires sought { IsSought sought.now }
+    requires breaks { BreaksRow sought.now.drawn.now row }
+    ensures found { IfOk result (IsSpanOf sought.now) }
+{
+    match near_in(alloc, sought, Direction::Up)? {
+        Nearby::Passes(at) => span_at(alloc, sought, row, at),
+        Nearby::Left => Ok(both(Margin::Spent)),
+        Nearby::Fails => span_below(alloc, sought, row),
+    }
+}
+
+// The span around a value near the drawn one and below it. With no value near it and above it every requirement passes.
+fn span_below(alloc: Global, sought: &SpanSought<'_>, row: u32) -> Result<SpanFound, NoMemory>
+    requires sought { IsSought sought.now }
+    requires breaks { BreaksRow sought.now.drawn.now row }
+    requires above { IsNearFound sought.now Direction.Up Nearby.Fails }
+    ensures found { IfOk result (IsSpanOf sought.now) }
+{
+    match near_in(alloc, sought, Direction::Down)? {
+        Nearby::Passes(at) => span_at(alloc, sought, row, at),
+        Nearby::Left => Ok(both(Margin::Spent)),
+        Nearby::Fails => Ok(both(Margin::Never)),
+    }
+}
+
+// The same margin in both directions.
+fn both(margin: Margin) -> SpanFound
+    ensures { result ≡ record { down = margin; up = margin } }
+{
+    SpanFound {
+        down: margin,
+        up: margin,
+    }
+}
+
+// The span around a value with which every requirement passes. As drawn a row breaks.
+fn span_at(
+    alloc: Global,
+    sought: &SpanSought<'_>,
+    row: u32,
+    at: Value,
+) -> Result<SpanFound, NoMemory>
+    requires sought { IsSought sought.now }
+    requires breaks { BreaksRow sought.now.drawn.now row }
+    requires at { IsWithinReach sought.now at.by }
+    requires start { IsSpanStart at.by }
+    requires passes { Passes (at_value sought.now at.by) }
+    ensures found { IfOk result (IsSpanOf sought.now) }
+{
+    let probed = sought.probe_at(alloc, at)?;
+    span_around(alloc, sought, at, &probed.sides)
+}
+
+// The span around a value that is guessed in a direction: each row that breaks says how far the next value is at least.
 fn span_towards(
     alloc: Global,
     sought: &SpanSought<'_>,
     row: u32,
     sides: &[SideChain],
     direction: Direction,
-    reach: ShiftReach,
 ) -> Result<Option<SpanFound>, NoMemory>
     requires sought { IsSought sought.now }
     requires breaks { BreaksRow sought.now.drawn.now row }
     ensures found { IfOk result (λ found. IfSome found (IsSpanOf sought.now)) }
 {
-    let goal = limit_of(drawn_value(), direction, reach);
+    let goal = last_start(sought, direction);
     let mut at: Value = drawn_value();
     let mut far = sought.excess(step_of(direction), sides);
     for _turn in 0..GUIDED_ROUNDS {
@@ -148,13 +205,21 @@ fn span_towards(
             return Ok(None);
         };
         at = value_on(at, more, goal, direction);
-        match try_value(alloc, sought, row, at, direction, reach)? {
+        match try_value(alloc, sought, row, at, direction)? {
             Tried::Span(span) => return Ok(Some(span)),
             Tried::On(next) => far = next,
             Tried::Nothing => return Ok(None),
         }
     }
     Ok(None)
+}
+
+// The last value in a direction that is guessed.
+fn last_start(sought: &SpanSought<'_>, direction: Direction) -> Value
+    requires sought { IsSought sought.now }
+    ensures goal { IsStartGoal sought.now direction result.by }
+{
+    start_limit(limit_of(sought.reach, direction), direction)
 }
 
 // The span around a value, if every requirement passes there. As drawn a row breaks.
@@ -164,24 +229,20 @@ fn try_value(
     row: u32,
     at: Value,
     direction: Direction,
-    reach: ShiftReach,
 ) -> Result<Tried, NoMemory>
     requires sought { IsSought sought.now }
     requires breaks { BreaksRow sought.now.drawn.now row }
-    requires at { IsMoveBy at.by }
+    requires at { IsWithinReach sought.now at.by }
+    requires start { IsSpanStart at.by }
     ensures { IfOk result (IsTriedValue sought.now) }
 {
-    let Some(probed) = sought.probe_at(alloc, at)? else {
-        return Ok(Tried::Nothing);
-    };
+    let probed = sought.probe_at(alloc, at)?;
     match probed.found {
         NetFound::Passes => {
-            let span = span_around(alloc, sought, at, &probed.sides, reach)?;
+            let span = span_around(alloc, sought, at, &probed.sides)?;
             Ok(Tried::Span(span))
         }
         NetFound::Breaks(_) => Ok(Tried::On(sought.excess(step_of(direction), &probed.sides))),
-        NetFound::Inconsistent => Ok(Tried::Nothing),
-        NetFound::Open => Ok(Tried::Nothing),
-        NetFound::Spent => Ok(Tried::Nothing),
+        NetFound::Inconsistent | NetFound::Open | NetFound::Spent => Ok(Tried::Nothing),
     }
 }

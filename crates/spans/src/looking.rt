@@ -1,8 +1,7 @@
-//! Looking ahead for what ends a span: a guess, which covers have to show.
+//! Looking ahead for what ends a span: a guess, which frames have to show.
 
 ghost use Rattle.std.specs.Prelude.{IfOk};
-ghost use Rattle.moves.specs.Step.{IsMoveBy};
-ghost use Rattle.spans.specs.Step.{IsAhead, IsGlanced, IsOn, IsPast, IsSought};
+ghost use Rattle.spans.specs.Step.{IsAhead, IsGlanced, IsOn, IsPast, IsWithinReach, IsSought};
 
 use crate::direction::{Direction, Value, is_same, step_of, value_on};
 use crate::sought::SpanSought;
@@ -24,10 +23,10 @@ pub enum Ahead {
     Breaks { at: Value, row: u32 },
     /// With this value the rules contradict each other.
     Contradicts(Value),
-    /// The goal was reached.
-    Limit(Value),
+    /// Nothing was found up to the goal.
+    Nothing,
     /// A search was left open.
-    Spent,
+    Left,
 }
 
 /// The last value that was looked at: how far its bounds let the numbers be moved on, and how long the next stride is.
@@ -57,8 +56,8 @@ pub fn look_ahead(
     direction: Direction,
 ) -> Result<Ahead, NoMemory>
     requires sought { IsSought sought.now }
-    requires from { IsMoveBy from.by }
-    requires goal { IsMoveBy goal.by }
+    requires from { IsWithinReach sought.now from.by }
+    requires goal { IsWithinReach sought.now goal.by }
     requires ahead { IsOn direction from.by goal.by }
     ensures ahead { IfOk result (IsAhead sought.now direction from.by) }
 {
@@ -68,19 +67,16 @@ pub fn look_ahead(
         stride: 1,
     };
     for round in 0..MOST_VALUES {
-        if is_same(look.at, goal) {
-            return Ok(Ahead::Limit(look.at));
-        }
         let next = value_on(look.at, far_of(look, round), goal, direction);
         if is_same(next, look.at) {
-            return Ok(Ahead::Spent);
+            return Ok(Ahead::Nothing);
         }
         match looked_at(alloc, sought, from, next, look.stride, direction)? {
             Glanced::On(further) => look = further,
             Glanced::Found(ahead) => return Ok(ahead),
         }
     }
-    Ok(Ahead::Spent)
+    Ok(Ahead::Nothing)
 }
 
 // Looks at a value. The stride to it was this long.
@@ -93,13 +89,11 @@ fn looked_at(
     direction: Direction,
 ) -> Result<Glanced, NoMemory>
     requires sought { IsSought sought.now }
-    requires by { IsMoveBy next.by }
+    requires reached { IsWithinReach sought.now next.by }
     requires past { IsPast direction from.by next.by }
     ensures { IfOk result (IsGlanced sought.now direction from.by next.by) }
 {
-    let Some(probed) = sought.probe_at(alloc, next)? else {
-        return Ok(Glanced::Found(Ahead::Spent));
-    };
+    let probed = sought.probe_at(alloc, next)?;
     match probed.found {
         NetFound::Passes => {
             let room = sought.room(step_of(direction), &probed.sides);
@@ -112,8 +106,7 @@ fn looked_at(
         }
         NetFound::Breaks(row) => Ok(Glanced::Found(Ahead::Breaks { at: next, row })),
         NetFound::Inconsistent => Ok(Glanced::Found(Ahead::Contradicts(next))),
-        NetFound::Open => Ok(Glanced::Found(Ahead::Spent)),
-        NetFound::Spent => Ok(Glanced::Found(Ahead::Spent)),
+        NetFound::Open | NetFound::Spent => Ok(Glanced::Found(Ahead::Left)),
     }
 }
 

@@ -1,106 +1,130 @@
 //! Numbers whose span is sought.
 
-ghost use Rattle.std.specs.Prelude.{◌≤◌, ℤ, IfOk, IfSome, IsTrue};
+ghost use Rattle.std.specs.Prelude.{◌≡◌, ◌≤◌, ℤ, IfOk, IfSome, IsTrue};
 ghost use Rattle.drawn.specs.Drawn.{Drawn};
 ghost use Rattle.moves.specs.Networks.{IsNetFound};
-ghost use Rattle.moves.specs.Passing.{HasDrawableCauses, NoneBreaks};
-ghost use Rattle.moves.specs.Step.{IsMoveBy, lent};
-ghost use Rattle.spans.specs.Step.{AreEventCounts, TellsConsistency, IsInside, IsInterval, IsSought, IsValueFound, at_value};
+ghost use Rattle.moves.specs.Passing.{NoneBreaks, Passes};
+ghost use Rattle.spans.specs.Step.{AreEventCounts, IsFrameFound, IsInside, IsInterval, IsProbeOf, IsWithinReach, IsSought, IsValueFound, IsValueFoundAt, MeetsAim, TellsConsistency, at_value, breaks_for, consistency_of, passes_for};
 
-use crate::cover::cover_of;
-use crate::direction::Value;
+use crate::direction::{Value, drawn_value, is_same};
+use crate::frame::frame_of;
+use crate::framed_range::FrameKind;
 use crate::interval::Interval;
+use crate::reach::ShiftReach;
 use drawn::DrawnNetwork;
 use itv_base::NoMemory;
-use moves::{MOVE_LIMIT, Move, NetFound, moved_network, moved_rows};
+use moves::{Move, NetFound, moved_network, moved_rows};
 use numbers::DrawnNumber;
 use probing::{Effort, Probed, SideChain, Step, excess, probe, room};
 use std::alloc::Global;
 
-/// Numbers whose span is sought, how many values each event counts from, as many zeros, and how long each search may go on.
+/// Numbers whose span is sought, how many values each event counts from, as many zeros, the last values that can be drawn, and how long each search may go
+/// on.
 #[derive(Clone, Copy)]
 pub struct SpanSought<'a> {
     pub drawn: &'a DrawnNetwork,
     pub numbers: &'a [&'a DrawnNumber],
     pub counts: &'a [i64],
     pub zeros: &'a [i64],
+    pub reach: ShiftReach,
     pub effort: Effort,
+}
+
+/// What is to be shown of values.
+#[derive(Clone, Copy)]
+pub enum SpanAim {
+    /// No requirement breaks.
+    Passing,
+    /// Not every requirement passes.
+    Failing,
 }
 
 /// What is found of a value.
 #[derive(Clone, Copy)]
 pub enum ValueFound {
-    /// No requirement breaks.
+    /// It is as was to be shown.
     Shown,
-    /// The row with this number breaks.
-    Breaks(u32),
-    /// The search was left open, or the value can't be drawn.
-    Spent,
+    /// This was found instead.
+    Stops(NetFound),
+    /// The search was left open.
+    Left,
 }
 
 impl SpanSought<'_> {
-    /// What is found of the network with the numbers moved up by a number of picoseconds, or `None` where that can't be drawn.
-    pub fn probe_at(&self, alloc: Global, at: Value) -> Result<Option<Probed>, NoMemory>
+    /// What is found of the network with the numbers moved up by a number of picoseconds.
+    pub fn probe_at(&self, alloc: Global, at: Value) -> Result<Probed, NoMemory>
         requires sought { IsSought self.now }
-        requires by { IsMoveBy at.by }
-        ensures found { IfOk result (λ probed. IfSome probed (λ probed. IsNetFound (at_value self.now at.by) probed.found)) }
+        requires reached { IsWithinReach self.now at.by }
+        ensures probed { IfOk result (IsProbeOf self.now at.by) }
     {
+        if is_same(at, drawn_value()) {
+            let rows = self.drawn.rows().as_slice();
+            return probe(alloc, self.drawn.network(), rows, self.effort);
+        }
         let by = Move::Shift(at.by);
-        let Some(net) = moved_network(alloc, self.drawn, self.numbers, by)? else {
-            return Ok(None);
-        };
-        let Some(rows) = moved_rows(alloc, self.drawn, self.numbers, by)? else {
-            return Ok(None);
-        };
-        Ok(Some(probe(alloc, &net, &rows, self.effort)?))
+        match moved_network(alloc, self.drawn, self.numbers, by)? {
+            None => unreachable!(),
+            Some(net) => match moved_rows(alloc, self.drawn, self.numbers, by)? {
+                None => unreachable!(),
+                Some(rows) => probe(alloc, &net, &rows, self.effort),
+            },
+        }
     }
 
     /// What is found of a value by itself.
-    pub fn value_at(&self, alloc: Global, at: Value) -> Result<ValueFound, NoMemory>
+    pub fn value_at(&self, alloc: Global, aim: SpanAim, at: Value) -> Result<ValueFound, NoMemory>
         requires sought { IsSought self.now }
-        requires by { IsMoveBy at.by }
-        ensures found { IfOk result (IsValueFound (at_value self.now at.by)) }
+        requires reached { IsWithinReach self.now at.by }
+        ensures found { IfOk result (IsValueFoundAt self.now aim at.by) }
     {
-        match self.probe_at(alloc, at)? {
-            None => Ok(ValueFound::Spent),
-            Some(probed) => Ok(value_of(probed.found)),
-        }
+        let probed = self.probe_at(alloc, at)?;
+        Ok(value_of(aim, probed.found))
     }
 
     /// Whether some times satisfy with a value, or `None` where that was left open.
     pub fn consistency_at(&self, alloc: Global, at: Value) -> Result<Option<bool>, NoMemory>
         requires sought { IsSought self.now }
-        requires by { IsMoveBy at.by }
-        ensures consistency { IfOk result (TellsConsistency (at_value self.now at.by)) }
+        requires reached { IsWithinReach self.now at.by }
+        ensures consistency { IfOk result (TellsConsistency self.now at.by) }
     {
-        match self.probe_at(alloc, at)? {
-            None => Ok(None),
-            Some(probed) => Ok(consistency_of(probed.found)),
-        }
+        let probed = self.probe_at(alloc, at)?;
+        Ok(consistency_of(probed.found))
     }
 
-    /// Whether the numbers can't be moved up by a number of picoseconds: a range of a cause would be beyond the limit.
-    pub fn is_beyond(&self, alloc: Global, at: Value) -> Result<bool, NoMemory>
-        ensures beyond { IfOk result (λ beyond. IsTrue beyond → HasDrawableCauses (at_value self.now at.by) (lent self.now.numbers.now) → ⊥) }
-    {
-        if at.by < -MOVE_LIMIT || MOVE_LIMIT < at.by {
-            return Ok(false);
-        }
-        let by = Move::Shift(at.by);
-        Ok(moved_network(alloc, self.drawn, self.numbers, by)?.is_none())
-    }
-
-    /// Whether a cover shows that no requirement breaks with any value of an interval: one in which events count from values, or else one in which none
-    /// does.
-    pub fn is_covered(&self, alloc: Global, interval: Interval) -> Result<bool, NoMemory>
+    /// Whether a frame shows all values of an interval: one in which events count from values, or else one in which none does.
+    pub fn is_shown(
+        &self,
+        alloc: Global,
+        aim: SpanAim,
+        interval: Interval,
+    ) -> Result<bool, NoMemory>
         requires sought { IsSought self.now }
         requires interval { IsInterval interval }
-        ensures covered { IfOk result (λ covered. IsTrue covered → (value : ℤ) → IsInside interval value → NoneBreaks (at_value self.now value)) }
+        ensures shown { IfOk result (λ shown. IsTrue shown → (value : ℤ) → IsInside interval value → MeetsAim aim (at_value self.now value)) }
     {
-        if self.is_covered_by(alloc, self.counts, interval)? {
+        if self.is_shown_by(alloc, self.counts, aim, interval)? {
             return Ok(true);
         }
-        self.is_covered_by(alloc, self.zeros, interval)
+        self.is_shown_by(alloc, self.zeros, aim, interval)
+    }
+
+    // Whether a frame shows all values of an interval, where each event counts from so many values.
+    fn is_shown_by(
+        &self,
+        alloc: Global,
+        counts: &[i64],
+        aim: SpanAim,
+        interval: Interval,
+    ) -> Result<bool, NoMemory>
+        requires counts { AreEventCounts self.now.drawn.now.net counts.now }
+        requires interval { IsInterval interval }
+        requires budget { 1 ≤ self.now.effort.budget }
+        ensures shown { IfOk result (λ shown. IsTrue shown → (value : ℤ) → IsInside interval value → MeetsAim aim (at_value self.now value)) }
+    {
+        match aim {
+            SpanAim::Passing => self.is_covered_by(alloc, counts, interval),
+            SpanAim::Failing => self.fails_by(alloc, counts, interval),
+        }
     }
 
     // Whether a cover shows that no requirement breaks with any value of an interval, where each event counts from so many values.
@@ -115,12 +139,53 @@ impl SpanSought<'_> {
         requires budget { 1 ≤ self.now.effort.budget }
         ensures covered { IfOk result (λ covered. IsTrue covered → (value : ℤ) → IsInside interval value → NoneBreaks (at_value self.now value)) }
     {
-        let covered = cover_of(alloc, self.drawn, self.numbers, counts, interval)?;
-        let Some(cover) = covered else {
-            return Ok(false);
+        match self.probe_frame(alloc, counts, interval, FrameKind::Cover)? {
+            Some(NetFound::Passes) => Ok(true),
+            Some(NetFound::Inconsistent) => Ok(true),
+            _ => Ok(false),
+        }
+    }
+
+    // Whether a core shows that a row breaks with each value of an interval, or a cover that the rules contradict each other with each.
+    fn fails_by(&self, alloc: Global, counts: &[i64], interval: Interval) -> Result<bool, NoMemory>
+        requires counts { AreEventCounts self.now.drawn.now.net counts.now }
+        requires interval { IsInterval interval }
+        requires budget { 1 ≤ self.now.effort.budget }
+        ensures fails { IfOk result (λ fails. IsTrue fails → (value : ℤ) → IsInside interval value → Passes (at_value self.now value) → ⊥) }
+    {
+        if let Some(NetFound::Breaks(_)) = self.probe_frame(
+            alloc,
+            counts,
+            interval,
+            FrameKind::Core,
+        )? {
+            return Ok(true);
+        }
+        match self.probe_frame(alloc, counts, interval, FrameKind::Cover)? {
+            Some(NetFound::Inconsistent) => Ok(true),
+            _ => Ok(false),
+        }
+    }
+
+    // What is found of a frame of an interval, where each event counts from so many values; or `None` where it can't be drawn.
+    fn probe_frame(
+        &self,
+        alloc: Global,
+        counts: &[i64],
+        interval: Interval,
+        kind: FrameKind,
+    ) -> Result<Option<NetFound>, NoMemory>
+        requires counts { AreEventCounts self.now.drawn.now.net counts.now }
+        requires interval { IsInterval interval }
+        requires budget { 1 ≤ self.now.effort.budget }
+        ensures found { IfOk result (λ found. IfSome found (IsFrameFound self.now interval kind)) }
+    {
+        let framed = frame_of(alloc, self.drawn, self.numbers, counts, interval, kind)?;
+        let Some(frame) = framed else {
+            return Ok(None);
         };
-        let probed = probe(alloc, &cover.net, &cover.rows, self.effort)?;
-        Ok(shows(probed.found))
+        let probed = probe(alloc, &frame.net, &frame.rows, self.effort)?;
+        Ok(Some(probed.found))
     }
 
     /// How far the numbers may be moved by the edges behind the bounds: a guess.
@@ -135,40 +200,44 @@ impl SpanSought<'_> {
 }
 
 // What is found of a value, by what is found of the network there.
-fn value_of(found: NetFound) -> ValueFound
-    ensures { (drawn : Drawn) → IsNetFound drawn found → IsValueFound drawn result }
+fn value_of(aim: SpanAim, found: NetFound) -> ValueFound
+    ensures { (drawn : Drawn) → IsNetFound drawn found → IsValueFound aim drawn found result }
 {
     match found {
-        NetFound::Passes => ValueFound::Shown,
-        NetFound::Breaks(row) => ValueFound::Breaks(row),
+        NetFound::Passes => passes_for(aim),
+        NetFound::Breaks(row) => breaks_for(aim, row),
         NetFound::Inconsistent => ValueFound::Shown,
-        NetFound::Open => ValueFound::Spent,
-        NetFound::Spent => ValueFound::Spent,
+        NetFound::Open | NetFound::Spent => ValueFound::Left,
+    }
+}
+
+// What is found of a value with which every requirement passes.
+fn passes_for(aim: SpanAim) -> ValueFound
+    ensures { result ≡ passes_for aim }
+{
+    match aim {
+        SpanAim::Passing => ValueFound::Shown,
+        SpanAim::Failing => ValueFound::Stops(NetFound::Passes),
+    }
+}
+
+// What is found of a value with which a row breaks.
+fn breaks_for(aim: SpanAim, row: u32) -> ValueFound
+    ensures { result ≡ breaks_for aim row }
+{
+    match aim {
+        SpanAim::Passing => ValueFound::Stops(NetFound::Breaks(row)),
+        SpanAim::Failing => ValueFound::Shown,
     }
 }
 
 // Whether some times satisfy a network, by what is found of it; or `None` where that was left open.
 fn consistency_of(found: NetFound) -> Option<bool>
-    ensures { (drawn : Drawn) → IsNetFound drawn found → TellsConsistency drawn result }
+    ensures { result ≡ consistency_of found }
 {
     match found {
-        NetFound::Passes => Some(true),
-        NetFound::Breaks(_) => Some(true),
+        NetFound::Passes | NetFound::Breaks(_) | NetFound::Open => Some(true),
         NetFound::Inconsistent => Some(false),
-        NetFound::Open => Some(true),
         NetFound::Spent => None,
-    }
-}
-
-// Whether no requirement of a network breaks, by what is found of it.
-fn shows(found: NetFound) -> bool
-    ensures { IsTrue result → (drawn : Drawn) → IsNetFound drawn found → NoneBreaks drawn }
-{
-    match found {
-        NetFound::Passes => true,
-        NetFound::Breaks(_) => false,
-        NetFound::Inconsistent => true,
-        NetFound::Open => false,
-        NetFound::Spent => false,
     }
 }

@@ -1,6 +1,6 @@
 use Rattle.spans.proofs.Showing.{IsStretchTo}
 use Rattle.spans.proofs.advance.show_to.Given as goal
 
--- no requirement breaks up to here
+-- the values up to here were shown, at least one in each turn
 abbrev pub invariant-loop-turn : goal.invariant-loop-turn
-invariant-loop-turn l = IsStretchTo l.sought l.fn.direction l.fn.from.by l.fn.goal.by l.stretch.done.by
+invariant-loop-turn l = IsStretchTo l.sought l.fn.aim l.fn.direction l.fn.from.by l.fn.goal.by l.stretch.done.by l._turn

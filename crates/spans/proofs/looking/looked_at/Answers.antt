@@ -4,14 +4,14 @@ use Rattle.spans.proofs.looking.looked_at.Goals as goal
 
 pub returns-in-Breaks : goal.returns-in-Breaks
 returns-in-Breaks c = (
-  c.requires.by,
+  c.requires.reached,
   c.requires.past,
-  found_as (at_value c.args.sought.now c.args.next.by) _ _ c.in-Breaks.is (rw c.in-Some.is at c.in_ok-probed.ensures.found),
+  found_as (at_value c.args.sought.now c.args.next.by) _ _ c.in-Breaks.is c.in_ok-probed.ensures.probed.found,
 )
 
 pub returns-in-Inconsistent : goal.returns-in-Inconsistent
 returns-in-Inconsistent c = (
-  c.requires.by,
+  c.requires.reached,
   c.requires.past,
-  found_as (at_value c.args.sought.now c.args.next.by) _ _ c.in-Inconsistent.is (rw c.in-Some.is at c.in_ok-probed.ensures.found),
+  found_as (at_value c.args.sought.now c.args.next.by) _ _ c.in-Inconsistent.is c.in_ok-probed.ensures.probed.found,
 )

@@ -1,7 +1,7 @@
-use Rattle.spans.specs.Step.{at_value}
+use Rattle.spans.proofs.Found.{tells_found}
 use Rattle.spans.proofs.sought.SpanSought.consistency_at.Goals as goal
 
-pub returns-in-Some : goal.returns-in-Some
-returns-in-Some c = record {
-  consistency = c.consistency_of.ensures (at_value c.args.self.now c.args.at.by) (rw c.in-Some.is at c.in_ok-probe_at.ensures.found);
+pub returns : goal.returns
+returns c = record {
+  consistency = tells_found c.args.self.now c.args.at.by c.in_ok-probed.probed c.consistency_of.result c.in_ok-probed.ensures.probed c.consistency_of.ensures;
 }
