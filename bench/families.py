@@ -1,16 +1,32 @@
 #!/usr/bin/env python3
 """Families of networks as they come up in designs, and formulas: each is made of a size and a seed.
 
-    bench/families.py PROGRAM .. [FAMILY ..]
+    bench/families.py [--built=PROGRAM] [--plain=PROGRAM] [--before=PROGRAM] [--z3] [FAMILY ..]
+    bench/families.py --proofs --built=PROGRAM [FAMILY ..]
 
-Runs plain searches of bench/settle side by side on the hardest row of each network, within 5 seconds of the processor and 500 MB: for each
-PROGRAM (a path) the seconds and the megabytes for both bounds, and what the last one says. `DIFFERENT` says that two programs that ended gave
-different bounds. The last row of a network is the hardest: it goes from the middle to the end where there are two."""
+Runs programs in turn on the hardest row of each network: job settle of a built `itv`, the plain search of bench/settle, job settle of an earlier
+`itv`, and z3. The hardest row goes from the middle to the end where a family has two. Each run has 5 seconds of the processor and 500 MB, and one
+of z3 has 20 seconds and 4 GB. A time is the least of three runs, and of one run where all programs together take more than 2 seconds.
+
+Prints a line for each family and size: the processor seconds of each program for both bounds, for the seeds one after another; the most megabytes
+of the first program; the greatest ratio of a seed's seconds to those of the plain search and of the program before, where both ended. `cut` says
+that a run was ended, and `spent` that a bound is left open. z3 is asked for seed after seed until it is cut once. `DIFFERENT` says that two
+programs that ended gave different bounds.
+
+With `--proofs` the line has the seconds of job settle, of job settle with its proofs, and of job confirm, which has to accept their text. Those of
+a run that only reads and draws the design, and the greatest share of a seed: what job confirm takes beyond that of what job settle takes beyond
+that, where this is a hundredth of a second at least. The last number is the most lines of a text."""
 import os
 import random
+import re
 import sys
+import tempfile
+from dataclasses import dataclass
 
-from networks import Network, dense_linear, few_choices, layered
+from limited import run
+from networks import Network, dense_linear, few_choices, layered, nearby, open_linear
+from solvers import both_of, smt_of_both
+from tables import bound_lines, lay_out, row, seconds_of
 
 
 def named(family, size, seed):
@@ -209,56 +225,186 @@ def from_middle(net):
     return net
 
 
+BOTH_KINDS = ["late", "early"]
 FAMILIES = {
     "ring": ring,
-    "layers": lambda size, seed: from_middle(layered(size, ["late", "early"], seed)),
+    "layers": lambda size, seed: from_middle(layered(size, BOTH_KINDS, seed)),
     "latest": lambda size, seed: from_middle(layered(size, ["late"], seed)),
     "memory": memory,
     "bursts": bursts,
     "clock": clock_tree,
     "pipeline": pipeline,
+    "nearby": lambda size, seed: from_middle(nearby(size, BOTH_KINDS, seed)),
+    "nearby-latest": lambda size, seed: from_middle(nearby(size, ["late"], seed)),
     "few": lambda size, seed: from_middle(few_choices(size, seed)),
+    "few-both": lambda size, seed: from_middle(few_choices(size, seed, BOTH_KINDS)),
     "linear": lambda size, seed: from_middle(dense_linear(size, 4 * size, 1, seed)),
-    "formula": formula,
-    "formula35": lambda size, seed: formula(size, seed, 3.5),
-    "formula50": lambda size, seed: formula(size, seed, 5.0),
+    "linear-open": open_linear,
     "jobs": job_shop,
+    "formula35": lambda size, seed: formula(size, seed, 3.5),
+    "formula": formula,
+    "formula50": lambda size, seed: formula(size, seed, 5.0),
 }
 
 # The sizes of each family that are measured, and how many seeds of each.
 MEASURED = {
     "ring": ((100, 300, 1000), 5), "layers": ((100, 300, 1000), 5), "memory": ((300, 1000), 3), "bursts": ((300, 1000), 3),
-    "clock": ((300, 1000), 3), "pipeline": ((300, 1000), 3), "latest": ((300, 1000), 3), "few": ((3000, 10_000, 16_000), 1),
-    "linear": ((1000, 10_000, 16_000), 1), "jobs": ((5, 6, 7, 8), 1), "formula35": ((50, 100, 150, 200), 2),
-    "formula": ((20, 50, 100, 150), 4), "formula50": ((50, 100, 150), 2),
+    "clock": ((300, 1000), 3), "pipeline": ((300, 1000), 3), "latest": ((300, 1000), 3), "nearby": ((300, 1000), 3), "nearby-latest": ((300, 1000), 3),
+    "few": ((3000, 10_000, 16_000), 1), "few-both": ((3000, 10_000, 16_000), 1), "linear": ((1000, 10_000, 16_000), 1),
+    "linear-open": ((1000, 10_000, 16_000), 1), "jobs": ((5, 6, 7, 8), 1), "formula35": ((50, 100, 150, 200), 2),
+    "formula": ((20, 50, 100, 150, 200), 4), "formula50": ((50, 100, 150, 200), 2),
 }
 
+@dataclass
+class Measured:
+    """The least seconds of a program's runs on a network, its megabytes, and what it says: `cut` if it was ended, `spent` if it gave up."""
 
-def measure(programs, net):
-    from hostile import run
-    from measure import bound_lines, row
+    took: float
+    room: float
+    says: tuple
 
-    net.rows = net.rows[-1:]
-    cells, ended = [], set()
-    for program in programs:
-        printed, status, took, room = run([program], None, net.lines().encode())
-        says = bound_lines(printed)
-        cells.append(f"{took:.2f} ({room:.0f} MB)" + (" cut" if status else ""))
-        if not status and not any("spent" in line for line in says):
-            ended.add(tuple(says))
-    row([net.name] + cells + [", ".join(f"`{line}`" for line in says)] + ["DIFFERENT"] * (len(ended) > 1))
+    def is_settled(self):
+        return self.says not in (("cut",), ("spent",))
+
+    def cell(self):
+        shown = seconds_of(self.took)
+        return shown if self.is_settled() else f"cut at {self.took:.0f}" if self.says == ("cut",) else f"spent after {shown}"
+
+
+class Program:
+    """A program that bounds the row of a network on both sides. Its kind is its word on the command line."""
+
+    HEADINGS = {"built": "job settle", "plain": "Rust", "before": "job settle before", "z3": "z3"}
+
+    def __init__(self, kind, path):
+        self.kind, self.path = kind, path
+
+    def run_on(self, net, folder):
+        if self.kind == "z3":
+            lay_out({"both.smt2": smt_of_both(net)}, folder)
+            done = run([self.path, "both.smt2"], folder, seconds=20, size=4_000_000_000)
+            says = both_of(done.printed)
+        else:
+            command = [self.path] if self.kind == "plain" else [self.path, "--job=settle", "main.json"]
+            done = run(command, folder, net.lines().encode() if self.kind == "plain" else b"", is_quiet=True)
+            says = tuple(bound_lines(done.printed))
+        if not says or done.status < 0 or done.status == 7:
+            says = ("cut",)
+        elif any("spent" in line for line in says):
+            says = ("spent",)
+        # The plain search finds a contradiction once for each bound.
+        return Measured(done.took, done.room, tuple(dict.fromkeys(says)))
+
+
+def measured(programs, net, folder):
+    """What each program takes for a network, by their kinds. They run in turn, so that all meet the same other work of the machine; z3 runs once."""
+    best = {}
+    for turn in range(3):
+        for program in programs:
+            if program.kind == "z3" and turn:
+                continue
+            found = program.run_on(net, folder)
+            least = best.get(program.kind)
+            best[program.kind] = found if least is None or found.took < least.took else least
+        if sum(found.took for kind, found in best.items() if kind != "z3") > 2:
+            break
+    return best
+
+
+def ratio(results, kind, other):
+    """The greatest ratio of a seed's seconds to those of another program, where both ended."""
+    pairs = [(of[kind], of[other]) for of in results if kind in of and other in of]
+    return max((one.took / two.took for one, two in pairs if one.is_settled() and two.is_settled()), default=None)
+
+
+def nets_of(family, size):
+    """The networks of a family and size that are measured, each with its hardest row alone."""
+    for seed in range(1, MEASURED[family][1] + 1):
+        net = FAMILIES[family](size, seed)
+        net.rows = net.rows[-1:]
+        yield net
+
+
+def measure(programs, family, size):
+    asked, results, differs = list(programs), [], False
+    for net in nets_of(family, size):
+        with tempfile.TemporaryDirectory() as folder:
+            lay_out(net.files(), folder)
+            of = measured(asked, net, folder)
+        results.append(of)
+        differs |= len({found.says for found in of.values() if found.is_settled()}) > 1
+        asked = [program for program in asked if program.kind != "z3" or of["z3"].is_settled()]
+    first = programs[0].kind
+    cells = [", ".join(of[program.kind].cell() for of in results if program.kind in of) for program in programs]
+    cells.insert(1, f"{max(of[first].room for of in results):.0f}")
+    for other in ("plain", "before"):
+        if any(program.kind == other for program in programs[1:]):
+            most = ratio(results, first, other)
+            cells.append("" if most is None else f"{most:.2f}")
+    row([named_in(net, family)] + cells + ["DIFFERENT"] * differs)
+
+
+def named_in(net, family):
+    return f"{net.name.split(', seed')[0]} (`{family}`)"
+
+
+def measure_families(programs, names):
+    headings = [Program.HEADINGS[program.kind] for program in programs]
+    headings.insert(1, "MB")
+    headings += [f"{headings[0]} / {Program.HEADINGS[other]}" for other in ("plain", "before") if any(program.kind == other for program in programs[1:])]
+    row(["network"] + headings)
+    for name in names or MEASURED:
+        for size in MEASURED[name][0]:
+            measure(programs, name, size)
+
+
+def proof_of(program, net, folder):
+    """The seconds of job settle, with its proofs, of job confirm, and of reading and drawing alone; the lines of the text. None if a run is cut."""
+    least = None
+    for _ in range(3):
+        search = run([program, "--job=settle", "main.json"], folder, is_quiet=True)
+        proved = run([program, "--job=settle", "--cert", "main.json"], folder, is_quiet=True)
+        if search.status not in (0, 2) or proved.status not in (0, 2):
+            return None
+        lay_out({"text": proved.printed, "other": "no text of job settle\n"}, folder)
+        check = run([program, "--job=confirm", "--report=text", "main.json"], folder, is_quiet=True)
+        drawn = run([program, "--job=confirm", "--report=other", "main.json"], folder, is_quiet=True)
+        if (check.printed, drawn.printed) != (b"report accepted\n", b"report refused at line 1\n"):
+            sys.exit(f"{net.name}: {check.printed[:80]}, {drawn.printed[:80]}")
+        took = [done.took for done in (search, proved, check, drawn)]
+        least = took if least is None else list(map(min, least, took))
+        if sum(took) > 2:
+            break
+    return (*least, proved.printed.count(b"\n"))
+
+
+def measure_proofs(program, names):
+    row(["network", "job settle", "with its proofs", "job confirm", "reading and drawing", "share", "lines"])
+    for name in names or MEASURED:
+        for size in MEASURED[name][0]:
+            found = []
+            for net in nets_of(name, size):
+                with tempfile.TemporaryDirectory() as folder:
+                    lay_out(net.files(), folder)
+                    found.append(proof_of(program, net, folder))
+            ended = [proof for proof in found if proof]
+            columns = [", ".join(seconds_of(proof[at]) if proof else "cut" for proof in found) for at in range(4)]
+            shares = [(check - drawn) / (search - drawn) for search, _, check, drawn, _ in ended if search - drawn >= 0.01]
+            most = max((proof[-1] for proof in ended), default="")
+            row([named_in(net, name)] + columns + [f"{max(shares):.2f}" if shares else "", str(most)])
 
 
 def main():
-    programs = [os.path.abspath(word) for word in sys.argv[1:] if os.sep in word]
-    names = [word for word in sys.argv[1:] if os.sep not in word] or list(MEASURED)
-    if not programs:
+    given = dict(word[2:].split("=", 1) for word in sys.argv[1:] if re.match("--(built|plain|before)=", word))
+    names = [word for word in sys.argv[1:] if not word.startswith("--")]
+    unknown = [word for word in names if word not in MEASURED]
+    if not given or unknown:
         sys.exit(__doc__)
-    for name in names:
-        sizes, seeds = MEASURED[name]
-        for size in sizes:
-            for seed in range(1, seeds + 1):
-                measure(programs, FAMILIES[name](size, seed))
+    if "--proofs" in sys.argv:
+        measure_proofs(os.path.abspath(given["built"]), names)
+        return
+    programs = [Program(kind, os.path.abspath(path)) for kind, path in given.items()]
+    measure_families(programs + [Program("z3", "z3")] * ("--z3" in sys.argv), names)
 
 
 if __name__ == "__main__":

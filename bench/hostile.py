@@ -1,24 +1,27 @@
 #!/usr/bin/env python3
-"""Runs job settle on small networks on which a search may run away, each within 5 seconds of the processor and 500 MB.
+"""Runs jobs on small networks on which a search may run away, each within 5 seconds of the processor and 500 MB.
 
-    bench/hostile.py PROGRAM [NAME ..]            a built `itv`, on designs; with --job=JOB it runs this job instead
-    bench/hostile.py --lines PROGRAM [NAME ..]    the plain search of bench/settle, on networks as lines
+    bench/hostile.py PROGRAM [--z3] [NAME ..]       job settle of a built `itv`, on designs; with --job=JOB another job
+    bench/hostile.py PROGRAM --job=all [NAME ..]    every job that reads a design
+    bench/hostile.py --lines PROGRAM [NAME ..]      the plain search of bench/settle, on networks as lines
 
-Prints for each network the seconds, the megabytes, what the program says of the pair, and whether the network holds: it does where both bounds are
-settled, or the network is inconsistent, within these limits. The last line says how many hold."""
+Prints for each network the processor seconds, the megabytes, what the program says of the pair, and whether the network holds. For job settle it does
+where both bounds are settled, or the network is inconsistent or refused, within these limits. For another job it does where the run ends by itself,
+with an answer. With --z3 it also prints the seconds of z3 for both sides, which has 20 seconds and 4 GB. With --job=all it prints the seconds of each job,
+`late` where a run was ended and `memory` where it found none, the megabytes of the greatest run, and in brackets a run that left something open.
+The last line says how many hold."""
+import functools
 import os
 import random
-import resource
-import signal
-import subprocess
 import sys
 import tempfile
 
-from measure import bound_lines, lay_out, row
+from families import formula, ring
+from limited import SECONDS, run
 from networks import Network, layered
+from solvers import both_of, smt_of_both
+from tables import bound_lines, lay_out, row, seconds_of
 
-SECONDS = 5
-BYTES = 500_000 * 1024
 # The widest end of a range.
 WIDE = 10**13
 
@@ -29,53 +32,37 @@ def named(name, events, rows):
     return net
 
 
-def of_layers(name, events, seed):
-    """Layers of both kinds, from the middle event to the last."""
-    net = layered(events, ["late", "early"], seed)
-    net.name, net.rows = name, [(events // 2, events - 1)]
+def hardest(family, size, seed):
+    """The last row of a network of bench/families.py alone."""
+    net = family(size, seed)
+    net.rows = net.rows[-1:]
     return net
 
 
-def ring(name, size, seed):
-    """A ring of nine self-timed stages with three tokens, cycle after cycle, from its middle. Two stages of three wait for the later of what the stage
-    before offers and what the stage after it has taken. The third one goes on with the earlier of both."""
-    rng = random.Random(seed)
-    stages, tokens, cycles = 9, (0, 3, 6), size // 9
-    net = named(name, 1 + stages * cycles, [])
-
-    def ranges(low, high, width):
-        return [(least, least + rng.randrange(0, width + 1)) for _ in range(stages) for least in [rng.randrange(low, high)]]
-
-    forward, back = ranges(50, 200, 80), ranges(30, 120, 60)
-    at = lambda stage, cycle: 1 + stages * cycle + stage % stages if cycle >= 0 else 0
-    has_token = lambda stage: stage % stages in tokens
-    for cycle in range(cycles):
-        for stage in range(stages):
-            offered = at(stage - 1, cycle - has_token(stage))
-            taken = at(stage + 1, cycle - 1 + has_token(stage + 1))
-            push = net.early if stage % 3 == 1 else net.late
-            push(at(stage, cycle), [(offered, *forward[stage]), (taken, *back[stage])])
-    net.rows.append((at(0, cycles // 2), at(stages - 1, cycles - 1)))
+def of_layers(events, seed, rows=1):
+    """Layers of both kinds, from the middle event to the last, or to events by chance."""
+    net, rng = layered(events, ["late", "early"], seed), random.Random(seed)
+    net.rows = [(events // 2, events - 1 if rows == 1 else rng.randrange(events // 2 + 1, events)) for _ in range(rows)]
     return net
 
 
-def loop_of_ways(name, count=70, events=142):
-    """A loop of sum -1 through the latest of two, again and again. The other cause of each is bounded by the first event alone. The events of the loop
-    are spread over the numbers."""
+def loop_of_ways(count=70, events=142, is_bounded=True):
+    """A loop of sum -1 through the latest of two, again and again. The other cause of each is bounded by the first event alone, or by nothing. The
+    events of the loop are spread over the numbers."""
     step = (events - 2) // (2 * count)
     at = lambda place: 1 + place * step
-    net = named(name, events, [(0, at(0))])
+    net = named("", events, [(0, at(0))])
     for k in range(count):
         net.late(at(k), [(at((k - 1) % count), None, -1 if k == 0 else 0), (at(count + k), None, 0)])
     net.lin(0, events - 1, 0, WIDE)
-    for k in range(count):
+    for k in range(count if is_bounded else 0):
         net.lin(0, at(count + k), 0, 1000 + k)
     return net
 
 
-def loop_of_sides(name, count=70):
+def loop_of_sides(count=70):
     """A loop of sum 1 through the earliest of two, again and again: some event has to come with its other cause."""
-    net = named(name, 1 + 2 * count, [(0, 1)])
+    net = named("", 1 + 2 * count, [(0, 1)])
     for k in range(count):
         net.early(1 + k, [(1 + (k + 1) % count, 1 if k == 0 else 0, None), (1 + count + k, WIDE, None)])
     for k in range(count):
@@ -84,9 +71,9 @@ def loop_of_sides(name, count=70):
     return net
 
 
-def loop_of_both(name, count=70):
+def loop_of_both(count=70):
     """A loop of sum -1 through the latest of two and a side of the earliest of two in turn, again and again."""
-    net = named(name, 2 + 3 * count, [(0, 1)])
+    net = named("", 2 + 3 * count, [(0, 1)])
     latest, side, other, last = (lambda k: 1 + k % count), (lambda k: 1 + count + k % count), (lambda k: 1 + 2 * count + k), 1 + 3 * count
     for k in range(count):
         net.late(latest(k), [(side(k - 1), None, -1 if k == 0 else 0), (other(k), None, 0)])
@@ -97,19 +84,19 @@ def loop_of_both(name, count=70):
     return net
 
 
-def beside_a_wide_end(name):
+def beside_a_wide_end():
     """A loop of sum -1, and elsewhere an end as wide as an end may be."""
-    net = named(name, 5, [(0, 1)])
+    net = named("", 5, [(0, 1)])
     net.late(1, [(2, None, -5), (0, None, 10)])
     net.lin(1, 2, None, 4)
     net.lin(3, 4, 0, WIDE)
     return net
 
 
-def pigeons(name, holes):
+def pigeons(holes):
     """One pigeon more than holes: a latest rule says that a pigeon has some hole, an earliest one that two have not the same."""
     count = holes + 1
-    net = named(name, 2 + count * holes, [(0, 2)])
+    net = named("", 2 + count * holes, [(0, 2)])
     has = lambda pigeon, hole: 2 + pigeon * holes + hole
     net.lin(0, 1, 1, 1)
     for event in range(2, net.events):
@@ -123,33 +110,9 @@ def pigeons(name, holes):
     return net
 
 
-def clauses(name, variables, seed):
-    """Variables that are 0 or 1, each beside its opposite, and 4.26 clauses of three of them for each variable."""
-    rng = random.Random(seed)
-    net = named(name, 2 + 2 * variables, [(0, 1)])
-    one, opposite = 1 + variables, lambda variable: 2 + variables + variable
-    net.lin(0, one, 1, 1)
-    for variable in range(variables):
-        both = [1 + variable, opposite(variable)]
-        net.lin(0, both[0], 0, 1)
-        net.lin(0, both[1], 0, 1)
-        net.late(one, [(event, None, 0) for event in both])
-        net.early(0, [(event, 0, None) for event in both])
-    for _ in range(round(4.26 * variables)):
-        picked = rng.sample(range(variables), 3)
-        flipped = [rng.random() < 0.5 for _ in picked]
-        plain = [opposite(v) if flip else 1 + v for v, flip in zip(picked, flipped)]
-        turned = [1 + v if flip else opposite(v) for v, flip in zip(picked, flipped)]
-        if rng.random() < 0.5:
-            net.late(one, [(event, None, 0) for event in plain])
-        else:
-            net.early(0, [(event, 0, None) for event in turned])
-    return net
-
-
-def diamonds(name, count):
+def diamonds(count):
     """Two ways from event to event, again and again, joined by the latest and by the earliest in turn."""
-    net = named(name, 1 + 3 * count, [(0, 3 * count)])
+    net = named("", 1 + 3 * count, [(0, 3 * count)])
     for k in range(count):
         before, first, second, joined = 3 * k, 3 * k + 1, 3 * k + 2, 3 * k + 3
         net.lin(before, first, 0, 2**k)
@@ -158,9 +121,9 @@ def diamonds(name, count):
     return net
 
 
-def downwards(name, events, steps):
+def downwards(events, steps):
     """Rules that lead to the numbers before, and a loop of sum -1 at the end."""
-    net = named(name, events, [(0, events - 1)])
+    net = named("", events, [(0, events - 1)])
     for k in range(events - 1):
         for step in range(1, steps + 1):
             if k + step < events:
@@ -172,61 +135,176 @@ def downwards(name, events, steps):
     return net
 
 
-NETWORKS = [
-    ring("ring300", 300, 2), ring("ring300_3", 300, 3), ring("ring300_4", 300, 4), ring("ring1000", 1000, 2), ring("ring1000_3", 1000, 3),
-    loop_of_ways("ways"), loop_of_ways("spread", events=14_000), loop_of_sides("literals"), loop_of_both("both"),
-    of_layers("layers300", 300, 1), of_layers("layers1000", 1000, 2),
-    beside_a_wide_end("tiny"), pigeons("pigeon", 8), clauses("sat100", 100, 2), clauses("sat150", 150, 1), diamonds("diamonds", 20),
-    downwards("refused_down", 16_384, 1), downwards("refused_down4", 16_384, 3),
-]
+def wide_loop(count=900, causes=64):
+    """A loop of sum -1 through rules of as many causes as a rule may have. It has more choices than a search may have."""
+    pool, net = 8 * count, named("", 1 + 9 * count, [(0, 1)])
+    for k in range(count):
+        others = [(1 + count + (k * (causes - 1) + cause) % pool, None, 0) for cause in range(causes - 1)]
+        net.late(1 + k, [(1 + (k - 1) % count, None, -1 if k == 0 else 0)] + others)
+    net.lin(0, 1, None, WIDE)
+    return net
 
 
-def limited():
-    resource.setrlimit(resource.RLIMIT_AS, (BYTES, BYTES))
-    resource.setrlimit(resource.RLIMIT_CPU, (SECONDS, SECONDS + 1))
+def pure_loop():
+    """A loop of sum -1 of linear rules alone, whose ends are as wide as an end may be."""
+    net = named("", 3, [(0, 1)])
+    net.lin(0, 1, None, WIDE)
+    net.lin(1, 2, None, -WIDE)
+    net.lin(2, 0, None, -1)
+    return net
 
 
-def run(command, folder, text):
-    """What a program prints, the status of its end, its seconds and its megabytes."""
-    with tempfile.TemporaryFile() as given, tempfile.TemporaryFile() as printed:
-        given.write(text)
-        given.seek(0)
-        running = subprocess.Popen(command, cwd=folder, stdin=given, stdout=printed, stderr=subprocess.DEVNULL, preexec_fn=limited)
-        _, status, used = os.wait4(running.pid, 0)
-        running.returncode = os.waitstatus_to_exitcode(status)
-        printed.seek(0)
-        return printed.read(), running.returncode, used.ru_utime + used.ru_stime, used.ru_maxrss / 1024
+def doubling(events):
+    """Weights that double: the worst order for the queues of Bellman and Ford."""
+    net = named("", events, [(0, events - 1)])
+    for k in range(0, events - 3, 3):
+        net.lin(k, k + 1, None, 0)
+        net.lin(k, k + 2, None, -(2 ** min(40, (events - k) // 3 % 41)))
+        net.lin(k + 1, k + 3, None, 0)
+        net.lin(k + 2, k + 3, None, 0)
+    return net
 
 
-def holds(program, job, net, by_lines):
+def contradicted(events, rules, seed):
+    """So many linear rules for each event around hidden times, and two rules between the first two events that contradict each other."""
+    rng = random.Random(seed)
+    net = named("", events, [(0, events - 1)])
+    at = [rng.randrange(0, 1000 * events) for _ in range(events)]
+    for _ in range(rules * events):
+        a, b = rng.sample(range(events), 2)
+        net.lin(a, b, at[b] - at[a] - rng.randrange(5000), at[b] - at[a] + rng.randrange(5000))
+    net.lin(0, 1, at[1] - at[0], at[1] - at[0])
+    net.lin(0, 1, at[1] - at[0] + 1, None)
+    return net
+
+
+MADE = {
+    "ring300": lambda: hardest(ring, 300, 2), "ring300_3": lambda: hardest(ring, 300, 3), "ring300_4": lambda: hardest(ring, 300, 4),
+    "ring1000": lambda: hardest(ring, 1000, 2), "ring1000_3": lambda: hardest(ring, 1000, 3),
+    "ways": loop_of_ways, "ways_far": lambda: loop_of_ways(is_bounded=False), "spread": lambda: loop_of_ways(events=14_000),
+    "literals": loop_of_sides, "both": loop_of_both, "wide": wide_loop,
+    "layers300": lambda: of_layers(300, 1), "layers1000": lambda: of_layers(1000, 2), "rows": lambda: of_layers(1000, 1, 500),
+    "tiny": beside_a_wide_end, "tiny_pure": pure_loop, "bellman": lambda: doubling(3000),
+    "pigeon": lambda: pigeons(8), "sat100": lambda: hardest(formula, 100, 2), "sat150": lambda: hardest(formula, 150, 1), "diamonds": lambda: diamonds(20),
+    "refused": lambda: contradicted(16_384, 3, 1), "refused_dense": lambda: contradicted(1024, 60, 1),
+    "refused_down": lambda: downwards(16_384, 1), "refused_down4": lambda: downwards(16_384, 3),
+}
+
+
+@functools.cache
+def network(name):
+    net = MADE[name]()
+    net.name = name
+    return net
+
+
+# The drawings of a network: its rows are questions, requirements that pass wherever they are bounded, or requirements that fail.
+DRAWINGS = {"main.json": "@ask", "passes.json": f"@req [{-WIDE},{WIDE}]", "fails.json": f"@req [*,{-WIDE}]"}
+
+# The words of each job. `check` and `confirm` read what the runs with proofs printed.
+JOBS = {
+    "bounds": "main.json", "bounds --cert": "--cert main.json", "check": "--job=check --report=bounds main.json",
+    "settle": "--job=settle main.json", "settle --cert": "--job=settle --cert main.json", "confirm": "--job=confirm --report=settle main.json",
+    "fall": "--job=fall main.json", "matrix": "--job=matrix main.json", "why": "--job=why main.json", "brief": "--job=brief passes.json",
+    "lint": "--job=lint main.json", "whatif": "--job=whatif --edits=edits main.json", "redraw": "--job=redraw fails.json",
+    "margin": "--job=margin passes.json", "margin, fails": "--job=margin fails.json",
+}
+
+# The greatest status of a run that ends by itself: lack of memory and a text that is not accepted are greater.
+REFUSED = 4
+
+
+def draw(net, folder):
+    """Lays out the drawings of a network, and an edit that draws its first range anew."""
+    for drawing, wanted in DRAWINGS.items():
+        files = net.files(wanted)
+        files[drawing] = files.pop("main.json")
+        lay_out(files, folder)
+    first = next(((number, cause, *ends) for number, (_, _, causes) in enumerate(net.constraints)
+                  for cause, (_, *ends) in enumerate(causes) if None not in ends), None)
+    lay_out({"edits": "set {}.{} [{},{}]\n".format(*first) if first else ""}, folder)
+
+
+def runs_of(program, net):
+    """Each job with its run on a network. A job that checks a text is left out if there is none."""
     with tempfile.TemporaryDirectory() as folder:
-        if by_lines:
-            printed, status, took, room = run([program], folder, net.lines().encode())
-        else:
-            lay_out(net.files(), folder)
-            printed, status, took, room = run([program, f"--job={job}", "main.json"], folder, b"")
-    says = bound_lines(printed)
-    settled = bool(says) and not any(" spent" in line or " within " in line for line in says) and (len(says) == 2 or "inconsistent" in says[0])
-    if status == -signal.SIGXCPU:
-        says = [f"more than {SECONDS} seconds"]
-    elif not says:
-        says = [f"status {status}"]
-    row([net.name, f"{took:.2f}", f"{room:.0f}", ", ".join(f"`{line}`" for line in says), "holds" if settled else "does not hold"])
-    return settled
+        draw(net, folder)
+        for job, words in JOBS.items():
+            report = next((word.removeprefix("--report=") for word in words.split() if word.startswith("--report=")), None)
+            if report and not os.path.exists(os.path.join(folder, report)):
+                continue
+            done = run([program, *words.split()], folder)
+            if job.endswith(" --cert") and has_ended(done):
+                lay_out({job.split(" ")[0]: done.printed}, folder)
+            yield job, done
+
+
+def has_ended(done):
+    return 0 <= done.status <= REFUSED
+
+
+def is_settled(done):
+    """Whether job settle, or the plain search, left no bound open. A refused design has none."""
+    says = bound_lines(done.printed)
+    return done.status == REFUSED or has_ended(done) and bool(says) and done.status != 3 and not any(" spent" in line for line in says)
+
+
+def cell(done):
+    """The seconds of a run, or how it was ended."""
+    if has_ended(done):
+        return f"({seconds_of(done.took)})" if done.status == 3 else seconds_of(done.took)
+    return "late" if done.is_late() else "memory"
+
+
+def measure_all(program, names):
+    """A line for each network with the seconds of every job. How many runs there were, and how many of them ended by themselves."""
+    row(["network", "MB", *JOBS])
+    ended = []
+    for name in names:
+        done = dict(runs_of(program, network(name)))
+        ended += map(has_ended, done.values())
+        row([name, f"{max(one.room for one in done.values()):.0f}", *(cell(done[job]) if job in done else "" for job in JOBS)])
+    return len(ended), sum(ended)
+
+
+def measure_one(program, job, names, by_lines, with_z3):
+    """A line for each network with what one job, or the plain search, says of its first row. How many networks there are, and how many hold."""
+    row(["network", "events", "seconds", "MB", f"job {job} says", ""] + ["z3"] * with_z3)
+    holding = 0
+    for name in names:
+        net = network(name)
+        with tempfile.TemporaryDirectory() as folder:
+            draw(net, folder)
+            done = run([program], folder, net.lines().encode()) if by_lines else run([program, *JOBS[job].split()], folder)
+            says = bound_lines(done.printed)[:2] or done.printed.decode().splitlines()[:1] * has_ended(done)
+            says = ", ".join(f"`{line}`" for line in says)
+            holds = is_settled(done) if job == "settle" else has_ended(done)
+            holding += holds
+            cells = [name, str(net.events), cell(done), f"{done.room:.0f}", says, "holds" if holds else "does not hold"]
+            row(cells + [z3_cell(net, folder)] * with_z3)
+    return len(names), holding
+
+
+def z3_cell(net, folder):
+    """The seconds of z3 for both sides of the first row."""
+    lay_out({"both.smt2": smt_of_both(net)}, folder)
+    done = run(["z3", "both.smt2"], folder, seconds=20, size=4_000_000_000)
+    return seconds_of(done.took) if both_of(done.printed) else "more than 20"
 
 
 def main():
-    words = sys.argv[1:]
-    by_lines = "--lines" in words
-    job = next((word.removeprefix("--job=") for word in words if word.startswith("--job=")), "settle")
-    words = [word for word in words if word != "--lines" and not word.startswith("--job=")]
-    if not words:
+    words = [word for word in sys.argv[1:] if not word.startswith("--")]
+    job = next((word.removeprefix("--job=") for word in sys.argv[1:] if word.startswith("--job=")), "settle")
+    names = words[1:] or list(MADE)
+    if not words or not set(names) <= set(MADE) or job not in ("all", *JOBS):
         sys.exit(__doc__)
-    program, names = os.path.abspath(words[0]), words[1:]
-    picked = [net for net in NETWORKS if not names or net.name in names]
-    row(["network", "seconds", "MB", f"job {job} says", ""])
-    held = sum(holds(program, job, net, by_lines) for net in picked)
-    print(f"{held} of {len(picked)} hold")
+    program = os.path.abspath(words[0])
+    if job == "all":
+        count, held = measure_all(program, names)
+        print(f"{held} of {count} runs end by themselves within {SECONDS} seconds and 500 MB")
+    else:
+        count, held = measure_one(program, job, names, "--lines" in sys.argv, "--z3" in sys.argv)
+        print(f"{held} of {count} hold")
 
 
 if __name__ == "__main__":

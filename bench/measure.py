@@ -1,13 +1,13 @@
 #!/usr/bin/env python3
 """Measures `itv` beside an unproved Rust program of the same rule, and beside z3, cbc and glpsol where they are installed.
 
-    bench/measure.py PATH_OF_THE_BUILT_PROGRAM [searches|falls|settles|bounds|readings|edits|margins|all]
+    bench/measure.py PATH_OF_THE_BUILT_PROGRAM [searches|falls|settles|proofs|bounds|readings|edits|margins|all]
 
 Builds bench/peer with the machine's cargo. Each time is the least of three runs of the whole program, in seconds; a run of more
 than 5 seconds is made once. The line of a network is a row of a table of docs/speed.md: its name, the seconds of `itv`, those of the
 Rust program, their ratio, what became of the two answers, and for searches the seconds of the solvers. For falls it has the seconds of
-job bounds, of job fall and of z3, and what both jobs say; for settles those of job settle, of the same search as a plain Rust program, of job bounds
-and of z3, and what job settle says. That of a design that is read alone has the seconds of job matrix, which
+job bounds, of job fall and of z3, and what both jobs say. For settles and proofs a row is one of a family of networks and of a size, as
+bench/families.py prints it. That of a design that is read alone has the seconds of job matrix, which
 reads and draws it and then refuses it for its number of events, and those of a report without a row. For edits it has the seconds of job
 whatif from scratch on the network that 100 edits lead to, and with these edits, of one edit beyond reading and the first state, the ratio of that
 to the run from scratch, and how many bounds the edits kept and searched anew. For margins it has the ends of the numbers of a design,
@@ -24,7 +24,10 @@ import sys
 import tempfile
 import time
 
+import families
 import networks
+from solvers import SOLVERS, smt_rules
+from tables import bound_lines, lay_out, row
 
 HERE = os.path.dirname(os.path.abspath(__file__))
 TOP = os.path.dirname(HERE)
@@ -49,81 +52,6 @@ def seconds(command, folder, stdin=None, runs=3, limit=BOTH):
         if took > 5:
             break
     return best, out
-
-
-def bound_lines(text):
-    return [line for line in text.decode().splitlines() if line.startswith(("max ", "min ", "finding incons"))]
-
-
-def lp(net, sign):
-    """One mixed-integer program for the greatest separation of the first row (sign 1) or the least (-1)."""
-    a, b = net.rows[0]
-    if sign < 0:
-        a, b = b, a
-    # No way from event to event is longer than this, so that times within it attain each separation; `big` is more than any side can lack.
-    reach = 1 + 2 * sum(max(abs(end) for _, low, high in causes for end in (low, high) if end is not None) for _, _, causes in net.constraints)
-    big = 3 * reach
-    out, binaries = [f"Maximize\n obj: t{b} - t{a}\nSubject To"], []
-    out.append(f" zero: t{a} = 0")
-    for n, (kind, target, causes) in enumerate(net.constraints):
-        choice = []
-        for c, (event, low, high) in enumerate(causes):
-            always_low = kind == "lin" or kind == "late" or len(causes) == 1
-            always_high = kind == "lin" or kind == "early" or len(causes) == 1
-            x = f"x{n}_{c}"
-            if low is not None:
-                if always_low:
-                    out.append(f" t{target} - t{event} >= {low}")
-                else:
-                    out.append(f" t{target} - t{event} - {big} {x} >= {low - big}")
-                    choice.append(x)
-            if high is not None:
-                if always_high:
-                    out.append(f" t{target} - t{event} <= {high}")
-                else:
-                    out.append(f" t{target} - t{event} + {big} {x} <= {high + big}")
-                    choice.append(x)
-        if choice and len(causes) > 1:
-            out.append(" " + " + ".join(choice) + " >= 1")
-            binaries += choice
-    out.append("Bounds")
-    out += [f" -{reach} <= t{e} <= {reach}" for e in range(net.events) if e != a]
-    if binaries:
-        out.append("Binaries\n " + " ".join(binaries))
-    out.append("End")
-    return "\n".join(out) + "\n"
-
-
-def smt_rules(net, zero):
-    """The rules of a network, with an event at 0."""
-    out = [f"(declare-const t{e} Int)" for e in range(net.events)] + [f"(assert (= t{zero} 0))"]
-    part = lambda event, target, low, high: [f"(>= (- t{target} t{event}) {low if low >= 0 else f'(- {-low})'})" if low is not None else "true",
-                                             f"(<= (- t{target} t{event}) {high if high >= 0 else f'(- {-high})'})" if high is not None else "true"]
-    for kind, target, causes in net.constraints:
-        sides = [part(event, target, low, high) for event, low, high in causes]
-        if kind == "lin":
-            out += [f"(assert {side})" for side in sides[0]]
-        else:
-            every, some = (0, 1) if kind == "late" else (1, 0)
-            out += [f"(assert {side[every]})" for side in sides]
-            out.append(f"(assert (or {' '.join(side[some] for side in sides)}))")
-    return out
-
-
-def smt(net, sign):
-    a, b = net.rows[0]
-    if sign < 0:
-        a, b = b, a
-    out = smt_rules(net, a)
-    out += [f"(maximize (- t{b} t{a}))", "(check-sat)", "(get-objectives)"]
-    return "\n".join(out) + "\n"
-
-
-SOLVERS = (
-    ("z3", "smt2", smt, lambda path: ["z3", path], r"\(objectives\s+\(.* (\(- \d+\)|\d+)\)\s*\)"),
-    ("cbc", "lp", lp, lambda path: ["cbc", path, "solve"], r"Objective value:\s+(\S+)"),
-    ("glpsol", "lp", lp, lambda path: ["glpsol", "--lp", path, "-o", "/dev/stdout"], r"Objective:\s+obj = (\S+)"),
-)
 
 
 def there(solvers):
@@ -152,18 +80,8 @@ def solver_cells(net, folder, printed, solvers=SOLVERS):
     return cells
 
 
-def lay_out(files, folder):
-    for name, text in files.items():
-        with open(os.path.join(folder, name), "w") as file:
-            file.write(text)
-
-
 def show(took, limit=BOTH):
     return f"more than {limit}" if took is None else f"{took:.3f}"
-
-
-def row(cells):
-    print("| " + " | ".join(cells) + " |", flush=True)
 
 
 def outcome(report, printed):
@@ -194,16 +112,6 @@ def measure_fall(program, net):
         took_fall, fallen = seconds([program, "--job=fall", f"--budget={FALL_BUDGET}", "main.json"], folder)
         printed = [", ".join(f"`{line}`" for line in bound_lines(text)) for text in (report, fallen)]
         row([net.name, show(took), show(took_fall)] + solver_cells(net, folder, bound_lines(fallen), SOLVERS[:1]) + [printed[0], "the same" if printed[0] == printed[1] else printed[1]])
-
-
-def measure_settle(program, peer, net):
-    with tempfile.TemporaryDirectory() as folder:
-        lay_out(net.files(), folder)
-        took, settled = seconds([program, "--job=settle", "main.json"], folder)
-        took_peer, printed = seconds([peer], folder, net.lines().encode())
-        took_search, _ = seconds([program, "main.json"], folder)
-        says = ", ".join(f"`{line}`" for line in bound_lines(settled)) + ("" if bound_lines(settled) == bound_lines(printed) else " DIFFERENT")
-        row([net.name, show(took), show(took_peer), show(took_search)] + solver_cells(net, folder, bound_lines(settled), SOLVERS[:1]) + [says])
 
 
 def measure_reading(program, name, files):
@@ -392,9 +300,11 @@ def main():
     if which in ("settles", "all"):
         subprocess.run([os.path.join(HERE, "settle", "port.py")], check=True)
         subprocess.run(["cargo", "build", "--release", "--offline", "--quiet"], cwd=os.path.join(HERE, "settle"), check=True)
-        row(["network", "job settle", "Rust", "job bounds"] + [name for name, *_ in there(SOLVERS[:1])] + ["job settle says"])
-        for net in networks.settles():
-            measure_settle(program, os.path.join(HERE, "settle", "target", "release", "settle"), net)
+        plain = os.path.join(HERE, "settle", "target", "release", "settle")
+        programs = [families.Program("built", program), families.Program("plain", plain)]
+        families.measure_families(programs + [families.Program("z3", "z3") for _ in there(SOLVERS[:1])], [])
+    if which in ("proofs", "all"):
+        families.measure_proofs(program, [])
     if which in ("bounds", "all"):
         row(["network", "itv", "Rust", "itv / Rust", "bounds"])
         for net in networks.bounds():

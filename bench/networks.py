@@ -36,8 +36,8 @@ class Network:
         out += [f"row {a} {b}" for a, b in self.rows]
         return "\n".join(out) + "\n"
 
-    def files(self):
-        """A netlist whose parts have up to 64 marks and no rules of their own: all rules are wires."""
+    def files(self, wanted="@ask"):
+        """A netlist whose parts have up to 64 marks and no rules of their own: all rules are wires. `wanted` is the kind of its rows, with a range."""
         files, parts, name = {}, [], []
         for first in range(0, self.events, len(MARKS)):
             marks = MARKS[: min(len(MARKS), self.events - first)]
@@ -51,7 +51,7 @@ class Network:
         for number, (kind, target, causes) in enumerate(self.constraints):
             tag = "" if kind == "lin" else ":t" + letters(number)
             wires += [f"{name[a]} {name[target]} @{kind}{tag} [{end(low)},{end(high)}]" for a, low, high in causes]
-        wires += [f"{name[a]} {name[b]} @ask" for a, b in self.rows]
+        wires += [f"{name[a]} {name[b]} {wanted}" for a, b in self.rows]
         files["main.json"] = json.dumps({"itv": 1, "cycles": 1, "parts": parts, "nets": [], "edges": wires})
         return files
 
@@ -111,10 +111,10 @@ def chain(events, way, rows):
     return net
 
 
-def few_choices(events, seed):
-    """Layers of ten events, each after one of the layer before, and some the latest of three: as many as the cells of a search allow."""
+def few_choices(events, seed, kinds=("late",)):
+    """Layers of ten events, each after one of the layer before, and some the latest or the earliest of three: as many as the cells of a search allow."""
     rng = random.Random(seed)
-    net = Network(f"layers, few choices, {events} events", events)
+    net = Network(f"layers, few choices{' of both kinds' if len(kinds) > 1 else ''}, {events} events", events)
     most = 2_097_152 // events - 1
     every = (events - 10) // most + 1
     for k in range(1, 10):
@@ -123,8 +123,34 @@ def few_choices(events, seed):
         layer = (k // 10 - 1) * 10
         count = 3 if (k - 10) % every == 0 else 1
         causes = [(layer + c, low, low + rng.randrange(1, 900)) for c in rng.sample(range(10), count) for low in [rng.randrange(0, 500)]]
-        net.late(k, causes)
+        getattr(net, kinds[0] if len(kinds) == 1 or rng.random() < 0.5 else kinds[1])(k, causes)
     net.rows.append((0, events - 1))
+    return net
+
+
+def nearby(events, kinds, seed):
+    """Each event is the latest or the earliest of two of the eight before it."""
+    rng = random.Random(seed)
+    net = Network(f"nearby causes, {'both kinds' if len(kinds) > 1 else 'latest'}, {events} events", events)
+    for k in range(1, events):
+        own = [rng.randrange(max(0, k - 8), k) for _ in range(2)]
+        causes = [(cause, low, low + rng.randrange(0, 60)) for cause in own for low in [rng.randrange(0, 50)]]
+        getattr(net, rng.choice(kinds))(k, causes)
+    net.rows.append((0, events - 1))
+    return net
+
+
+def open_linear(events, seed):
+    """Four linear rules for each event, around hidden times, some with an open end."""
+    rng = random.Random(seed)
+    net = Network(f"linear, some ends open, {events} events", events)
+    at = [rng.randrange(0, 1000 * events) for _ in range(events)]
+    for _ in range(4 * events):
+        a, b = rng.sample(range(events), 2)
+        low = None if rng.random() < 0.1 else at[b] - at[a] - rng.randrange(0, 5000)
+        high = None if rng.random() < 0.1 else at[b] - at[a] + rng.randrange(0, 5000)
+        net.lin(a, b, low, high)
+    net.rows = [(0, events - 1), (events // 2, events // 3)]
     return net
 
 
@@ -298,39 +324,6 @@ def searches():
 def falls():
     """Those of the searches whose choices are all latest, but for the buses, one of 1,000 events more, and one of 16,000."""
     return [latest_pairs(n) for n in (25, 93, 1000)] + [layered(n, ["late"], n) for n in (40, 100, 300, 1000)] + [few_choices(16_000, 16_000)]
-
-
-def formula(variables, seed):
-    """Variables that are 0 or 1, and clauses of three: a latest rule where not all are 0, an earliest one where not all are 1."""
-    rng = random.Random(seed)
-    clauses = round(4.2 * variables)
-    net = Network(f"clauses over {variables} variables, seed {seed}", 1 + variables + clauses)
-    for variable in range(1, variables + 1):
-        net.lin(0, variable, 0, 1)
-    for event in range(1 + variables, net.events):
-        picked = rng.sample(range(1, variables + 1), 3)
-        if rng.random() < 0.5:
-            net.lin(0, event, 1, 1)
-            net.late(event, [(variable, None, 0) for variable in picked])
-        else:
-            net.lin(0, event, 0, 0)
-            net.early(event, [(variable, 0, None) for variable in picked])
-    net.rows = [(0, 1)]
-    return net
-
-
-def settles():
-    """Layers from the first event and from the middle one, of latest events and of both kinds, with three seeds each, and formulas."""
-    nets = []
-    for events in (40, 100, 300, 1000):
-        for kinds in (["late"], ["late", "early"]):
-            for first in (0, events // 2):
-                for seed in (1, 2, 3):
-                    net = layered(events, kinds, seed)
-                    net.name += f", from {first}, seed {seed}"
-                    net.rows = [(first, events - 1)]
-                    nets.append(net)
-    return nets + [formula(variables, seed) for variables in (20, 40, 60) for seed in (1, 2)]
 
 
 def bounds():
