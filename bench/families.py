@@ -6,12 +6,12 @@
 
 Runs programs in turn on the hardest row of each network: job settle of a built `itv`, the plain search of bench/settle, job settle of an earlier
 `itv`, and z3. The hardest row goes from the middle to the end where a family has two. Each run has 5 seconds of the processor and 500 MB, and one
-of z3 has 20 seconds and 4 GB. A time is the least of three runs, and of one run where all programs together take more than 2 seconds.
+of z3 has 20 seconds and 4 GB. A time is the least of up to five runs: no turn begins after 2 seconds. z3 runs once.
 
 Prints a line for each family and size: the processor seconds of each program for both bounds, for the seeds one after another; the most megabytes
 of the first program; the greatest ratio of a seed's seconds to those of the plain search and of the program before, where both ended. `cut` says
-that a run was ended, and `spent` that a bound is left open. z3 is asked for seed after seed until it is cut once. `DIFFERENT` says that two
-programs that ended gave different bounds.
+that a run was ended, `memory` that it found none, and `spent` that a bound is left open. z3 is asked for seed after seed until it is cut once.
+`DIFFERENT` says that two programs that ended gave different bounds.
 
 With `--proofs` the line has the seconds of job settle, of job settle with its proofs, and of job confirm, which has to accept their text. Those of
 a run that only reads and draws the design, and the greatest share of a seed: what job confirm takes beyond that of what job settle takes beyond
@@ -255,20 +255,24 @@ MEASURED = {
     "formula": ((20, 50, 100, 150, 200), 4), "formula50": ((50, 100, 150, 200), 2),
 }
 
+# The turns that programs take in running: a turn after the second second is the last one.
+MOST_TURNS, LAST_TURN = 5, 2.0
+
+
 @dataclass
 class Measured:
-    """The least seconds of a program's runs on a network, its megabytes, and what it says: `cut` if it was ended, `spent` if it gave up."""
+    """The least seconds of a program's runs on a network, its megabytes, and what it says, if it settled both bounds; else how it ended."""
 
     took: float
     room: float
     says: tuple
+    end: str
 
     def is_settled(self):
-        return self.says not in (("cut",), ("spent",))
+        return not self.end
 
     def cell(self):
-        shown = seconds_of(self.took)
-        return shown if self.is_settled() else f"cut at {self.took:.0f}" if self.says == ("cut",) else f"spent after {shown}"
+        return seconds_of(self.took) if self.is_settled() else f"{self.end} after {seconds_of(self.took)}"
 
 
 class Program:
@@ -288,25 +292,28 @@ class Program:
             command = [self.path] if self.kind == "plain" else [self.path, "--job=settle", "main.json"]
             done = run(command, folder, net.lines().encode() if self.kind == "plain" else b"", is_quiet=True)
             says = tuple(bound_lines(done.printed))
-        if not says or done.status < 0 or done.status == 7:
-            says = ("cut",)
-        elif any("spent" in line for line in says):
-            says = ("spent",)
+        if done.is_late():
+            end = "cut"
+        elif not says or done.status < 0 or done.status > 4:
+            end = "memory"
+        else:
+            end = "spent" if any("spent" in line for line in says) else ""
         # The plain search finds a contradiction once for each bound.
-        return Measured(done.took, done.room, tuple(dict.fromkeys(says)))
+        return Measured(done.took, done.room, tuple(dict.fromkeys(says)), end)
 
 
 def measured(programs, net, folder):
     """What each program takes for a network, by their kinds. They run in turn, so that all meet the same other work of the machine; z3 runs once."""
-    best = {}
-    for turn in range(3):
+    best, so_far = {}, 0.0
+    for turn in range(MOST_TURNS):
         for program in programs:
             if program.kind == "z3" and turn:
                 continue
             found = program.run_on(net, folder)
+            so_far += found.took * (program.kind != "z3")
             least = best.get(program.kind)
             best[program.kind] = found if least is None or found.took < least.took else least
-        if sum(found.took for kind, found in best.items() if kind != "z3") > 2:
+        if so_far > LAST_TURN:
             break
     return best
 
@@ -360,8 +367,8 @@ def measure_families(programs, names):
 
 def proof_of(program, net, folder):
     """The seconds of job settle, with its proofs, of job confirm, and of reading and drawing alone; the lines of the text. None if a run is cut."""
-    least = None
-    for _ in range(3):
+    least, so_far = None, 0.0
+    for _ in range(MOST_TURNS):
         search = run([program, "--job=settle", "main.json"], folder, is_quiet=True)
         proved = run([program, "--job=settle", "--cert", "main.json"], folder, is_quiet=True)
         if search.status not in (0, 2) or proved.status not in (0, 2):
@@ -373,7 +380,8 @@ def proof_of(program, net, folder):
             sys.exit(f"{net.name}: {check.printed[:80]}, {drawn.printed[:80]}")
         took = [done.took for done in (search, proved, check, drawn)]
         least = took if least is None else list(map(min, least, took))
-        if sum(took) > 2:
+        so_far += sum(took)
+        if so_far > LAST_TURN:
             break
     return (*least, proved.printed.count(b"\n"))
 
