@@ -73,19 +73,19 @@ fn put_label(label: &Label2<'_>, out: &mut Out) {
     out.put(" tag ");
     put_text(label.tag, out);
     out.put(" span ");
-    put_span(label.span, out);
+    put_span(&label.span, out);
     out.put(" note ");
     put_text(label.note, out);
 }
 
-fn put_span(span: Option<Span<'_>>, out: &mut Out) {
+fn put_span(span: &Option<Span<'_>>, out: &mut Out) {
     match span {
         None => out.put("-"),
         Some(Span::Named(name)) => {
             out.put("$");
             out.put(name);
         }
-        Some(Span::Fixed(range)) => put_range(range, out),
+        Some(Span::Fixed(range)) => put_range(*range, out),
     }
 }
 

@@ -17,8 +17,8 @@ use std::alloc::Global;
 
 // Whether both events of a pair are there.
 fn is_within(net: &Network, asked: PairQuestion<'_>) -> bool
-    ensures from { IsTrue result → asked.from.0 < net.now.events }
-    ensures to { IsTrue result → asked.to.0 < net.now.events }
+    ensures from { IsTrue result → asked.entry.from.0 < net.now.events }
+    ensures to { IsTrue result → asked.entry.to.0 < net.now.events }
 {
     asked.from.0 < net.events() && asked.to.0 < net.events()
 }
