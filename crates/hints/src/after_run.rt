@@ -1,7 +1,7 @@
 //! What is said after a run.
 
 use crate::answered::put_answered;
-use crate::budget::budget_says;
+use crate::budget::put_open;
 use crate::margin_fault::put_margin_refusal;
 use itv_base::{NoMemory, Shelf, Texts};
 use refusal_hints::{
@@ -93,7 +93,7 @@ fn put_task<H: Shelf, L: NameLook>(
 ) {
     match status {
         0 | 1 | 2 => put_design(hint, task, status, shelf, look),
-        3 => hint.put(budget_says(task)),
+        3 => put_open(hint, task),
         4 => put_refused(hint, task, shelf, look),
         5 => put_unread(hint, files_of(task), shelf, look),
         _ => {}

@@ -1,9 +1,16 @@
-//! What settles a run whose budget ended a search.
+//! What is said of a run whose budget ended a search.
 
+use refusal_hints::Hint;
 use words::{SearchJob, Task};
 
-/// What may settle a task that is left undecided.
-pub fn budget_says(task: Task<'_>) -> &'static str {
+/// Puts that the budget left an answer open, be it to a question or to a requirement, and what may settle the answer.
+pub fn put_open(hint: &mut Hint, task: Task<'_>) {
+    hint.put("the budget left an answer open: ");
+    hint.put(settles(task));
+}
+
+// What may settle an answer that a task left open.
+fn settles(task: Task<'_>) -> &'static str {
     match task {
         Task::Fall { .. } => "a larger --budget may settle it, and so may --job settle",
         Task::Searched {

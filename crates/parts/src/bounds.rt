@@ -70,7 +70,18 @@ fn step(alloc: Global, net: &Network, bounds: &mut Bounds, row: &str, out: &mut 
 }
 
 fn edge_of(alloc: Global, row: &str) -> Option<EdgeName> {
-    match read_line(alloc, row.as_bytes()).ok()?.line() {
+    match read_line(alloc, row.as_bytes()) {
+        Ok(line) => {
+            let edge = first_edge(&line.line());
+            drop(line);
+            edge
+        }
+        Err(_) => None,
+    }
+}
+
+fn first_edge(line: &Line<'_>) -> Option<EdgeName> {
+    match *line {
         Line::Path(edges) => edges.first().copied(),
         _ => None,
     }

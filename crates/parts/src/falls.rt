@@ -1,8 +1,9 @@
 //! Greatest separations by falling values, and the check of their lines.
 
-ghost use Rattle.std.specs.Prelude.{◌<◌, IfSome};
+ghost use Rattle.std.specs.Prelude.{◌<◌};
 ghost use Rattle.falling.specs.Checking.{IsBegun};
 ghost use Rattle.falling.specs.Solving.{IsMadeFor};
+ghost use Rattle.falling.specs.View.{IsViewOf};
 
 use crate::out::Out;
 use crate::writing::{PairQuestion, asked_of, put_flags, put_numbers, put_taken};
@@ -37,19 +38,24 @@ fn fall_by(alloc: Global, net: &Network, asked: PairQuestion<'_>, out: &mut Out)
     requires from { asked.from.0 < net.now.events }
     requires to { asked.to.0 < net.now.events }
 {
-    match falling_of(alloc, net) {
-        Some(mut falling) => {
-            fall_pair(net, &mut falling, asked, out);
-            drop(falling);
-        }
-        None => out.refuse(),
+    match View::of(net) {
+        Ok(view) => fall_in(alloc, net, view, asked, out),
+        Err(_) => out.refuse(),
     }
 }
 
-fn falling_of(alloc: Global, net: &Network) -> Option<Falling>
-    ensures { IfSome result (IsMadeFor net.now) }
+fn fall_in(alloc: Global, net: &Network, view: View, asked: PairQuestion<'_>, out: &mut Out)
+    requires view { IsViewOf net.now view }
+    requires from { asked.from.0 < net.now.events }
+    requires to { asked.to.0 < net.now.events }
 {
-    Falling::new(alloc, net, View::of(net).ok()?).ok()
+    match Falling::new(alloc, net, view) {
+        Ok(mut falling) => {
+            fall_pair(net, &mut falling, asked, out);
+            drop(falling);
+        }
+        Err(_) => out.refuse(),
+    }
 }
 
 fn fall_pair(net: &Network, falling: &mut Falling, asked: PairQuestion<'_>, out: &mut Out)

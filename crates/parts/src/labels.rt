@@ -73,19 +73,19 @@ fn put_label(label: &Label2<'_>, out: &mut Out) {
     out.put(" tag ");
     put_text(label.tag, out);
     out.put(" span ");
-    put_span(label.span, out);
+    put_span(&label.span, out);
     out.put(" note ");
     put_text(label.note, out);
 }
 
-fn put_span(span: Option<Span<'_>>, out: &mut Out) {
+fn put_span(span: &Option<Span<'_>>, out: &mut Out) {
     match span {
         None => out.put("-"),
         Some(Span::Named(name)) => {
             out.put("$");
             out.put(name);
         }
-        Some(Span::Fixed(range)) => put_range(range, out),
+        Some(Span::Fixed(range)) => put_range(*range, out),
     }
 }
 
@@ -103,8 +103,15 @@ fn put_text(text: Option<&str>, out: &mut Out) {
 
 /// Writes a label to a sink with this room, for a row as in `12 @lin [0,250]`: what the sink has then, and whether the label is whole.
 pub fn written(alloc: Global, row: &str, out: &mut Out) {
-    match sink_of(alloc, row) {
-        Some((mut sink, text)) => {
+    match row.split_once(' ') {
+        Some((room, text)) => write_within(alloc, room, text, out),
+        None => out.refuse(),
+    }
+}
+
+fn write_within(alloc: Global, room: &str, text: &str, out: &mut Out) {
+    match sink_of(alloc, room) {
+        Some(mut sink) => {
             put_written(text, &mut sink, out);
             drop(sink);
         }
@@ -112,11 +119,8 @@ pub fn written(alloc: Global, row: &str, out: &mut Out) {
     }
 }
 
-// The sink of a row, and the label.
-fn sink_of(alloc: Global, row: &str) -> Option<(SinkMem, &str)> {
-    let (room, text) = row.split_once(' ')?;
-    let room = room.parse::<u32>().ok()?;
-    Some((SinkMem::new(alloc, room).ok()?, text))
+fn sink_of(alloc: Global, room: &str) -> Option<SinkMem> {
+    SinkMem::new(alloc, room.parse::<u32>().ok()?).ok()
 }
 
 fn put_written(text: &str, sink: &mut SinkMem, out: &mut Out) {

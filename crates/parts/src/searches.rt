@@ -11,13 +11,14 @@ use branch::{GreatestAnswer, SearchFinding, Work, find, greatest};
 use certificate::TreeScribe;
 use event_graph::{Line, Network};
 use extremes::{Consistency, Extremes, Greatest};
-use settle::{Settled, Settler};
+use itv_base::NoMemory;
+use settle::{Settled, Settler, ShownAnswer};
 use std::alloc::Global;
 
 // Whether both events of a pair are there.
 fn is_within(net: &Network, asked: PairQuestion<'_>) -> bool
-    ensures from { IsTrue result → asked.from.0 < net.now.events }
-    ensures to { IsTrue result → asked.to.0 < net.now.events }
+    ensures from { IsTrue result → asked.entry.from.0 < net.now.events }
+    ensures to { IsTrue result → asked.entry.to.0 < net.now.events }
 {
     asked.from.0 < net.events() && asked.to.0 < net.events()
 }
@@ -152,17 +153,25 @@ fn settle_pair(alloc: Global, net: &Network, asked: PairQuestion<'_>, out: &mut 
     requires from { asked.from.0 < net.now.events }
     requires to { asked.to.0 < net.now.events }
 {
-    let (Ok(turns), Ok(settler)) = (u64::try_from(asked.number), Settler::new(alloc, net)) else {
+    let Ok(turns) = u64::try_from(asked.number) else {
         out.refuse();
         return;
     };
-    let found = settler.greatest(alloc, net, asked.from, asked.to, turns);
-    drop(settler);
+    match Settler::new(alloc, net) {
+        Ok(settler) => {
+            let found = settler.greatest(alloc, net, asked.from, asked.to, turns);
+            drop(settler);
+            put_found(found, out);
+        }
+        Err(_) => out.refuse(),
+    }
+}
+
+fn put_found(found: Result<ShownAnswer, NoMemory>, out: &mut Out) {
     match found {
         Ok(found) => {
-            let answer = found.answer;
+            put_settled(found.answer, out);
             drop(found);
-            put_settled(answer, out);
         }
         Err(_) => out.refuse(),
     }
@@ -190,25 +199,37 @@ fn extremes_by(alloc: Global, net: &Network, asked: PairQuestion<'_>, out: &mut 
     requires from { asked.from.0 < net.now.events }
     requires to { asked.to.0 < net.now.events }
 {
-    match extremes_for(alloc, net, asked) {
-        Some(mut extremes) => {
-            extremes_of(alloc, net, asked, &mut extremes, out);
-            drop(extremes);
-        }
-        None => out.refuse(),
+    match asked.word.parse::<i64>() {
+        Ok(number) => match budget_of(number) {
+            Some(budget) => extremes_within(alloc, net, asked, budget, out),
+            None => out.refuse(),
+        },
+        Err(_) => out.refuse(),
     }
 }
 
-// Both searches, with what the row gives them.
-fn extremes_for(alloc: Global, net: &Network, asked: PairQuestion<'_>) -> Option<Extremes>
-    ensures { IfSome result (IsFor net.now) }
+fn extremes_within(
+    alloc: Global,
+    net: &Network,
+    asked: PairQuestion<'_>,
+    budget: u64,
+    out: &mut Out,
+)
+    requires from { asked.from.0 < net.now.events }
+    requires to { asked.to.0 < net.now.events }
+    requires budget { 0 < budget }
 {
-    let budget = asked.word.parse::<u64>().ok()?;
-    let turns = u64::try_from(asked.number).ok()?;
-    if budget == 0 {
-        return None;
+    let Ok(turns) = u64::try_from(asked.number) else {
+        out.refuse();
+        return;
+    };
+    match Extremes::new(alloc, net, budget, turns) {
+        Ok(mut extremes) => {
+            extremes_of(alloc, net, asked, &mut extremes, out);
+            drop(extremes);
+        }
+        Err(_) => out.refuse(),
     }
-    Extremes::new(alloc, net, budget, turns).ok()
 }
 
 fn extremes_of(

@@ -14,8 +14,8 @@ returns-in-Ok-unrolled c = record {
       (drawn_ready state c.netlist.result.now c.sheets.result.now c.in-Ok.design c.in-Ok.ensures.answer c.in-Ok-unrolled.drawn c.in-Ok-unrolled.ensures.answer, refl);
 }
 
-pub returns : goal.returns
-returns c = record {
+pub returns-in-Err-unrolled : goal.returns-in-Err-unrolled
+returns-in-Err-unrolled c = record {
   draws = λ state. drawn_same state c.netlist.result.now c.args.plan.now.netlist c.sheets.result.now.entries c.args.plan.now.sheets (Err c.limit_stop.result) c.netlist.ensures.netlist c.sheets.ensures.sheets
       (rw c.limit_stop.ensures (limits_refused state c.netlist.result.now c.sheets.result.now c.in-Ok.design c.in-Ok.ensures.answer c.in-Err-unrolled.fault c.in-Err-unrolled.ensures.answer));
 }
