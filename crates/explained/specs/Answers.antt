@@ -8,12 +8,12 @@ use Rattle.itv_base.specs.declared.row_kind.RowKind.TheVariants as kinds
 use Rattle.event_graph.specs.Bounds.{IsRay}
 use Rattle.event_graph.specs.Edges.{cause_choices}
 use Rattle.event_graph.specs.Network.{IsNet, Net}
-use Rattle.event_graph.specs.Proof.{ProofLine}
+use Rattle.event_graph.specs.Proof.{IsStoppedProof, ProofLine}
 use Rattle.event_graph.specs.RootBound.{MeetsAlways}
 use Rattle.event_graph.specs.Satisfying.{Satisfies}
 use Rattle.event_graph.specs.Times.{separation}
 use Rattle.chains.specs.Chain.{IsChain}
-use Rattle.chains.specs.Named.{IsRefuting}
+use Rattle.extremes.specs.Found.{IsContradictionFound, IsFindingOpen}
 use Rattle.requirements.specs.Bounds.{HasTimes, IsGreatestBound, IsLeastBound}
 use Rattle.requirements.specs.Verdicts.{verdict_of}
 use Rattle.requirements.specs.declared.bound.BothBounds.{BothBounds}
@@ -24,8 +24,8 @@ use Rattle.requirements.specs.declared.verdict.Verdict.TheVariants as verdicts
 use Rattle.slack_report.specs.declared.words.FindingWord.{FindingWord}
 use Rattle.slack_report.specs.declared.words.FindingWord.TheVariants as findings
 use Rattle.right_report.specs.Right.ReportState.{NextBound, greatest, least_by}
-use Rattle.right_report.specs.Right.LineClaims.{IsBoundOf, IsFinding}
-use Rattle.right_report.specs.Shown.{ShowsBound, ShowsFinding}
+use Rattle.right_report.specs.Right.LineClaims.{IsBoundOf}
+use Rattle.right_report.specs.Shown.{goal_of}
 use Rattle.drawn.specs.Drawn.{Drawn}
 use Rattle.drawn.specs.declared.row.Row.{Row}
 use Rattle.explained.specs.Apart.{net_apart}
@@ -37,26 +37,17 @@ use Rattle.explained.specs.declared.row.RowFound.{RowFound}
 
 -- ---- the finding
 
--- some times satisfy; or a proof shows that none do, and the set has just the constraints that it names, so they contradict each other by themselves;
--- or, unsettled, some times meet all always-edges
-abbrev pub FindingHolds : Net → Finding → Type 0
-FindingHolds net Consistent = (times : List ℤ) × Satisfies times net
-FindingHolds net (Inconsistent set) = (length set.items ≡ length net.constraints) × IsRefuting net set.items
-FindingHolds net Unsettled = (times : List ℤ) × MeetsAlways times net
-
 abbrev pub word_of : Finding → FindingWord
 word_of Consistent = findings.Consistent
 word_of (Inconsistent set) = findings.Inconsistent
 word_of Unsettled = findings.Unsettled
 
--- the lines of some search show a finding within a budget, as in job bounds: an unsettled one has a stopped proof that used the budget up
-abbrev pub IsFindingShown : Net → ℕ → FindingWord → Type 0
-IsFindingShown net budget word = (lines : List ProofLine) × ShowsFinding net budget lines word
-
--- a finding is right, and a search within the budget makes it
-pub record IsFindingFound (net : Net) (budget : ℕ) (finding : Finding) : Type 0 where
-  pub holds : FindingHolds net finding
-  pub shown : IsFindingShown net budget (word_of finding)
+-- A finding is right. Some times satisfy; or the constraints of the set contradict each other by themselves; or it was left open, and some times meet all
+-- always-edges. It is open only where a stopped proof used the budget up.
+abbrev pub IsFindingFound : Net → ℕ → Finding → Type 0
+IsFindingFound net budget Consistent = (times : List ℤ) × Satisfies times net
+IsFindingFound net budget (Inconsistent set) = IsContradictionFound net budget set.items
+IsFindingFound net budget Unsettled = IsFindingOpen net budget
 
 -- ---- a bound
 
@@ -91,12 +82,14 @@ abbrev pub BoundHolds : Net → Row → NextBound → Bound → Type 0
 BoundHolds net row greatest value = IsGreatestBound net row.from row.to value
 BoundHolds net row (least_by most) value = IsLeastBound net row.from row.to value
 
--- the lines of some search show a bound of a row within a budget, as in job bounds: one that was left open with an attained number has a stopped proof
--- that used the budget up; there are no lines after an unsettled finding
+-- a bound of a row that was left open with an attained number has a stopped proof of this number that used the budget up; other bounds need no lines
 abbrev pub IsBoundShown : Net → ℕ → Row → NextBound → Bound → Type 0
-IsBoundShown net budget row side bound = (lines : List ProofLine) × ShowsBound net budget lines row side bound
+IsBoundShown net budget row side (bounds.Closed value) = Unit {0}
+IsBoundShown net budget row side bounds.Unbounded = Unit {0}
+IsBoundShown net budget row side (bounds.Within limit None) = Unit {0}
+IsBoundShown net budget row side (bounds.Within limit (Some attained)) = (lines : List ProofLine) × IsStoppedProof net (goal_of row side attained) lines budget
 
--- a bound is right, by itself and after a finding, what stands behind it is so too, and a search within the budget makes it
+-- a bound is right, by itself and after a finding, what stands behind it is so too, and it is open only where a search used the budget up
 pub record IsBoundFound (net : Net) (budget : ℕ) (word : FindingWord) (row : Row) (side : NextBound) (found : BoundFound) : Type 0 where
   pub holds : BoundHolds net row side (bound_of found)
   pub right : IsBoundOf net word row side (bound_of found)
@@ -115,19 +108,20 @@ verdict_in range found = verdict_of range (bound_of found.least) (bound_of found
 abbrev pub verdict_by : Ends → BothBounds → Verdict
 verdict_by range both = verdict_of range both.least both.greatest
 
--- What the searches find of whether times satisfy the network apart, according to the finding of the drawn network. After a consistent one
--- a search of its own within the budget makes the finding. After an unsettled one nothing is searched, and the network apart is unsettled too.
-abbrev pub IsShownApart : Net → ℕ → FindingWord → FindingWord → Type 0
-IsShownApart apart budget findings.Consistent word = IsFindingShown apart budget word
-IsShownApart apart budget findings.Inconsistent word = ⊥
-IsShownApart apart budget findings.Unsettled word = word ≡ findings.Unsettled
+-- what a search finds of whether times satisfy a network, where it is not inconsistent
+abbrev pub IsWordFound : Net → ℕ → FindingWord → Type 0
+IsWordFound net budget findings.Consistent = (times : List ℤ) × Satisfies times net
+IsWordFound net budget findings.Inconsistent = ⊥
+IsWordFound net budget findings.Unsettled = IsFindingOpen net budget
 
--- the one finding of the network apart after a finding of the drawn network
-pub record IsFindingApart (apart : Net) (budget : ℕ) (word word_apart : FindingWord) : Type 0 where
-  pub holds : IsFinding apart word_apart
-  pub shown : IsShownApart apart budget word word_apart
+-- The one finding of the network apart after a finding of the drawn network. After a consistent one a search of its own makes it. After an unsettled one
+-- nothing is searched, and the network apart is unsettled too.
+abbrev pub IsFindingApart : Net → ℕ → FindingWord → FindingWord → Type 0
+IsFindingApart apart budget findings.Consistent word = IsWordFound apart budget word
+IsFindingApart apart budget findings.Inconsistent word = ⊥
+IsFindingApart apart budget findings.Unsettled word = (word ≡ findings.Unsettled) × ((times : List ℤ) × MeetsAlways times apart)
 
--- both bounds of a row are right in a network, by themselves and after a finding, and searches within the budget make them
+-- both bounds of a row are right in a network, by themselves and after a finding, and they are open only where searches used the budget up
 pub record AreRowBounds (net : Net) (budget : ℕ) (word : FindingWord) (row : Row) (both : BothBounds) : Type 0 where
   pub holds : IsGreatestBound net row.from row.to both.greatest × IsLeastBound net row.from row.to both.least
   pub greatest_shown : IsBoundShown net budget row greatest both.greatest
