@@ -46,7 +46,7 @@ ContradictsByOrder network by =
 -- equality; or from some satisfying times the second event can be put off without end; or nothing is known.
 abbrev pub IsPairSeen : Net → EventId → EventId → PairSeen → Type 0
 IsPairSeen net from to (seen.Closed value chain) = IsGreatest net from to value × Explains net from to value chain.items
-IsPairSeen net from to seen.Unbounded = IsWithoutEnd net from to
+IsPairSeen net from to seen.Unbounded = (set : List Bool) × IsWithoutEnd net from to set
 IsPairSeen net from to seen.Open = Unit {0}
 
 -- some satisfying times are out of a range

@@ -1,5 +1,5 @@
 -- What is found of ends of requirements, of ranges and of rows.
-use Rattle.std.proofs.Common.{◌≡◌, ◌^◌, ℤ, pos, neg_ℤ, ◌≤ℤ◌, ◌<ℤ◌, List, Option, Some, None, refl, sym, subst, arith, rules, to_z, of_z, w64}
+use Rattle.std.proofs.Common.{◌≡◌, ◌^◌, ℤ, pos, neg_ℤ, ◌≤ℤ◌, ◌<ℤ◌, Bool, List, Option, Some, None, refl, sym, subst, arith, rules, to_z, of_z, w64}
 use Rattle.std.specs.Prelude.{IfSome, IsSomeAnd}
 use Rattle.std.proofs.lemmas.Int.{ints, to_z-of_z}
 use mir.Val.{SFits}
@@ -25,8 +25,8 @@ closed_within net from to value limit greatest le = λ times sat.
 pub closed_past : (net : Net) (from to : EventId) (value limit : ℤ) (times : List ℤ) → IsAttainedBy net from to value times → limit <ℤ value → IsLimitFound net from to limit Exceeds
 closed_past net from to value limit times attained less = (times, attained.satisfies, subst (λ (z : ℤ). limit <ℤ z) (sym attained.attains) less)
 
-pub unbounded_past : (net : Net) (from to : EventId) (limit : ℤ) → IsWithoutEnd net from to → IsLimitFound net from to limit Exceeds
-unbounded_past net from to limit found = ray_is_unbounded net from to found.times found.set found.raises limit
+pub unbounded_past : (net : Net) (from to : EventId) (limit : ℤ) (set : List Bool) → IsWithoutEnd net from to set → IsLimitFound net from to limit Exceeds
+unbounded_past net from to limit set found = ray_is_unbounded net from to found.times set found.raises limit
 
 pub high_by : (net : Net) (from to : EventId) (high : ℤ) (found : SideFound) → IsLimitFound net from to high found → IsHighFound net from to (Some high) found
 high_by net from to high found h = h
