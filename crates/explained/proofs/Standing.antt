@@ -1,10 +1,14 @@
 -- Findings, of a drawn network and of its network apart from the order of lanes.
-use Rattle.std.proofs.Common.{◌≡◌, ℕ, Option, Some, None, refl, sym, subst}
+use Rattle.std.proofs.Common.{◌≡◌, ℕ, Bool, List, Option, Some, None, refl, sym, subst}
 use Rattle.std.specs.Prelude.{IfSome}
 use Rattle.itv_base.specs.Range.{Ends}
 use Rattle.itv_base.specs.declared.row_kind.RowKind.{RowKind}
 use Rattle.itv_base.specs.declared.row_kind.RowKind.TheVariants as kinds
+use Rattle.event_graph.proofs.EdgesMet.{All-found}
+use Rattle.event_graph.specs.Bounds.{IsInconsistent}
 use Rattle.event_graph.specs.Network.{Net}
+use Rattle.event_graph.specs.Satisfying.{Holds}
+use Rattle.extremes.specs.Found.{IsContradictionFound}
 use Rattle.extremes.specs.declared.extremes.Extremes.{Extremes}
 use Rattle.requirements.specs.declared.bound.BothBounds.{BothBounds}
 use Rattle.requirements.specs.declared.verdict.Verdict.TheVariants as verdicts
@@ -19,6 +23,11 @@ use Rattle.explained.specs.declared.searches.Searches.{Searches}
 use Rattle.explained.specs.Step.Resting.{AreBoundsApart}
 use Rattle.explained.specs.Step.Standing.{FindingAllows, HasFound, HasSameBudget, IsFresh, IsSearchable, IsSearchableAfter, IsSettledApart, net_in, word_in}
 use Rattle.explained.proofs.Wider.{always_is_wider, apart_is_wider}
+
+-- where some constraints contradict each other no times satisfy
+pub contradiction_is_inconsistent : (net : Net) (budget : ℕ) (set : List Bool) → IsContradictionFound net budget set → IsInconsistent net
+contradiction_is_inconsistent net budget set is times sat =
+    is.contradicts times (record { count = sat.count; each = λ number c is_in at. All-found (Holds times) net.constraints number c at sat.each })
 
 -- after a finding that is not inconsistent bounds can be found
 pub found_searchable : (net : Net) (word : FindingWord) (extremes : Extremes) → HasFound net word extremes → (word ≡ findings.Inconsistent → ⊥) → IsSearchableAfter net word extremes
