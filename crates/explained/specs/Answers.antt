@@ -8,13 +8,13 @@ use Rattle.itv_base.specs.declared.row_kind.RowKind.TheVariants as kinds
 use Rattle.event_graph.specs.Bounds.{IsRay}
 use Rattle.event_graph.specs.Edges.{cause_choices}
 use Rattle.event_graph.specs.Network.{IsNet, Net}
-use Rattle.event_graph.specs.Proof.{IsStoppedProof, ProofLine}
+use Rattle.event_graph.specs.Proof.{ProofLine}
 use Rattle.event_graph.specs.RootBound.{MeetsAlways}
 use Rattle.event_graph.specs.Satisfying.{Satisfies}
 use Rattle.event_graph.specs.Times.{separation}
 use Rattle.chains.specs.Chain.{IsChain}
-use Rattle.extremes.specs.Found.{IsContradictionFound, IsFindingOpen}
-use Rattle.requirements.specs.Bounds.{HasTimes, IsGreatestBound, IsLeastBound}
+use Rattle.extremes.specs.Found.{CanRise, IsContradictionFound, IsFindingOpen}
+use Rattle.requirements.specs.Bounds.{HasTimes, IsAttained, IsGreatestBound, IsLeastBound}
 use Rattle.requirements.specs.Verdicts.{verdict_of}
 use Rattle.requirements.specs.declared.bound.BothBounds.{BothBounds}
 use Rattle.requirements.specs.declared.bound.Bound.{Bound}
@@ -23,9 +23,9 @@ use Rattle.requirements.specs.declared.verdict.Verdict.{Verdict}
 use Rattle.requirements.specs.declared.verdict.Verdict.TheVariants as verdicts
 use Rattle.slack_report.specs.declared.words.FindingWord.{FindingWord}
 use Rattle.slack_report.specs.declared.words.FindingWord.TheVariants as findings
-use Rattle.right_report.specs.Right.ReportState.{NextBound, greatest, least_by}
+use Rattle.right_report.specs.Right.ReportState.{NextBound, greatest, is_within, least_by}
 use Rattle.right_report.specs.Right.LineClaims.{IsBoundOf}
-use Rattle.right_report.specs.Shown.{goal_of}
+use Rattle.right_report.specs.Shown.{ShowsBound}
 use Rattle.drawn.specs.Drawn.{Drawn}
 use Rattle.drawn.specs.declared.row.Row.{Row}
 use Rattle.explained.specs.Apart.{net_apart}
@@ -59,17 +59,14 @@ pub record Explains (net : Net) (from to : EventId) (value : ℤ) (names : List 
   pub attained : separation times from to ≡ value
   pub chain : IsChain net times from to names
 
--- the events of a set can be raised by any number from satisfying times
-abbrev pub CanRise : Net → EventId → EventId → List Bool → Type 0
-CanRise net from to set = (times : List ℤ) × Satisfies times net × IsRay net from to times set
-
--- what stands behind a bound; for a least separation this is what stands behind the greatest one of the reversed pair, which is minus it
+-- What stands behind a bound; for a least separation this is what stands behind the greatest one of the reversed pair, which is minus it. Behind a bound
+-- that was left open stand times that attain the attained number, if there is one.
 abbrev pub IsBehind : Net → Row → NextBound → BoundFound → Type 0
 IsBehind net row greatest (Closed value chain) = Explains net row.from row.to value chain.items
 IsBehind net row (least_by most) (Closed value chain) = Explains net row.to row.from (neg_ℤ value) chain.items
 IsBehind net row greatest (Unbounded set) = CanRise net row.from row.to set.items
 IsBehind net row (least_by most) (Unbounded set) = CanRise net row.to row.from set.items
-IsBehind net row side (Within limit attained) = Unit {0}
+IsBehind net row side (Within limit attained) = IfSome attained (IsAttained net row.from row.to)
 
 -- the bound alone, without its reason
 abbrev pub bound_of : BoundFound → Bound
@@ -77,21 +74,12 @@ bound_of (Closed value chain) = bounds.Closed value
 bound_of (Unbounded set) = bounds.Unbounded
 bound_of (Within limit attained) = bounds.Within limit attained
 
--- a bound of a row on one side is right
-abbrev pub BoundHolds : Net → Row → NextBound → Bound → Type 0
-BoundHolds net row greatest value = IsGreatestBound net row.from row.to value
-BoundHolds net row (least_by most) value = IsLeastBound net row.from row.to value
-
--- a bound of a row that was left open with an attained number has a stopped proof of this number that used the budget up; other bounds need no lines
+-- the lines of some search show a bound of a row that was left open: a stopped proof of the attained number used the budget up
 abbrev pub IsBoundShown : Net → ℕ → Row → NextBound → Bound → Type 0
-IsBoundShown net budget row side (bounds.Closed value) = Unit {0}
-IsBoundShown net budget row side bounds.Unbounded = Unit {0}
-IsBoundShown net budget row side (bounds.Within limit None) = Unit {0}
-IsBoundShown net budget row side (bounds.Within limit (Some attained)) = (lines : List ProofLine) × IsStoppedProof net (goal_of row side attained) lines budget
+IsBoundShown net budget row side bound = is_within bound ≡ true → (lines : List ProofLine) × ShowsBound net budget lines row side bound
 
--- a bound is right, by itself and after a finding, what stands behind it is so too, and it is open only where a search used the budget up
+-- a bound is right after a finding, what stands behind it is so too, and it is open only where a search used the budget up
 pub record IsBoundFound (net : Net) (budget : ℕ) (word : FindingWord) (row : Row) (side : NextBound) (found : BoundFound) : Type 0 where
-  pub holds : BoundHolds net row side (bound_of found)
   pub right : IsBoundOf net word row side (bound_of found)
   pub behind : IsBehind net row side found
   pub shown : IsBoundShown net budget row side (bound_of found)
@@ -108,18 +96,12 @@ verdict_in range found = verdict_of range (bound_of found.least) (bound_of found
 abbrev pub verdict_by : Ends → BothBounds → Verdict
 verdict_by range both = verdict_of range both.least both.greatest
 
--- what a search finds of whether times satisfy a network, where it is not inconsistent
-abbrev pub IsWordFound : Net → ℕ → FindingWord → Type 0
-IsWordFound net budget findings.Consistent = (times : List ℤ) × Satisfies times net
-IsWordFound net budget findings.Inconsistent = ⊥
-IsWordFound net budget findings.Unsettled = IsFindingOpen net budget
-
--- The one finding of the network apart after a finding of the drawn network. After a consistent one a search of its own makes it. After an unsettled one
--- nothing is searched, and the network apart is unsettled too.
+-- The one finding of the network apart after a finding of the drawn network. After a consistent one a search of its own makes it, and it is open only
+-- where that search used the budget up. After an unsettled one nothing is searched, and the network apart is unsettled too.
 abbrev pub IsFindingApart : Net → ℕ → FindingWord → FindingWord → Type 0
-IsFindingApart apart budget findings.Consistent word = IsWordFound apart budget word
-IsFindingApart apart budget findings.Inconsistent word = ⊥
-IsFindingApart apart budget findings.Unsettled word = (word ≡ findings.Unsettled) × ((times : List ℤ) × MeetsAlways times apart)
+IsFindingApart apart budget word findings.Consistent = word ≡ findings.Consistent
+IsFindingApart apart budget word findings.Inconsistent = ⊥
+IsFindingApart apart budget word findings.Unsettled = word ≡ findings.Consistent → IsFindingOpen apart budget
 
 -- both bounds of a row are right in a network, by themselves and after a finding, and they are open only where searches used the budget up
 pub record AreRowBounds (net : Net) (budget : ℕ) (word : FindingWord) (row : Row) (both : BothBounds) : Type 0 where

@@ -17,7 +17,7 @@ use Rattle.branch.specs.Answers.{Evidence, IsClosedAt, IsEnclosedBy, IsShownUnbo
 use Rattle.branch.specs.Work.{IsClose}
 use Rattle.settle.specs.ShownAnswer.{IsSettledAt, IsSettledUnbounded}
 use Rattle.edge_clauses.specs.declared.line.StoredLine.{StoredLine}
-use Rattle.extremes.specs.Found.{IsAttainedBy, IsLeftOpen, IsWithoutEnd}
+use Rattle.extremes.specs.Found.{CanRise, IsAttainedBy, IsLeftOpen}
 use Rattle.extremes.specs.declared.found.Greatest.{Greatest}
 use Rattle.extremes.specs.declared.found.Greatest.TheVariants.{Closed, Unbounded, Open}
 use Rattle.extremes.specs.Step.{IsFoundBy, IsSettledBy}
@@ -86,7 +86,7 @@ closed_found search value left times same closed sat close = record {
 pub unbounded_found : (search : PairSearch) (left : Evidence) (set : Vec Bool) → set.items ≡ left.ray → IsShownUnbounded search left → Satisfies left.times search.net
     → IsFoundBy search.net search.budget search.from search.to (Unbounded set)
 unbounded_found search left set same shown sat = record {
-  right = subst (IsWithoutEnd search.net search.from search.to) (sym same) (record { times = left.times; satisfies = sat; raises = shown.raised });
+  right = subst (CanRise search.net search.from search.to) (sym same) (left.times, sat, shown.raised);
   open_shown = tt;
   settles = λ enough. refl;
 }
@@ -123,7 +123,7 @@ closed_by_clauses net from to value view lines times settled = record {
 
 pub unbounded_by_clauses : (net : Net) (from to : EventId) (times : List ℤ) (set : Vec Bool) → IsSettledUnbounded net from to times set.items → IsSettledBy net from to (Unbounded set)
 unbounded_by_clauses net from to times set settled = record {
-  right = record { times = times; satisfies = settled.satisfies; raises = settled.raised };
+  right = (times, settled.satisfies, settled.raised);
   settled = refl;
 }
 

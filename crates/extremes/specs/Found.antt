@@ -45,16 +45,14 @@ pub record IsAttainedBy (net : Net) (from to : EventId) (value : ℤ) (times : L
   pub within : All IsTime times
   pub value_within : IsTime value
 
--- from some satisfying times the events of the set can be put off without end: the to-event is one of them, and the from-event is not
-pub record IsWithoutEnd (net : Net) (from to : EventId) (set : List Bool) : Type 0 where
-  pub times : List ℤ
-  pub satisfies : Satisfies times net
-  pub raises : IsRay net from to times set
+-- the events of a set can be raised by any number from satisfying times; the to-event is one of them, and the from-event is not
+abbrev pub CanRise : Net → EventId → EventId → List Bool → Type 0
+CanRise net from to set = (times : List ℤ) × Satisfies times net × IsRay net from to times set
 
 -- what is found of the greatest separation of a pair; where it was left open this says nothing
 abbrev pub IsGreatestFound : Net → EventId → EventId → Greatest → Type 0
 IsGreatestFound net from to (greatest.Closed value times) = IsAttainedBy net from to value times.items
-IsGreatestFound net from to (greatest.Unbounded set) = IsWithoutEnd net from to set.items
+IsGreatestFound net from to (greatest.Unbounded set) = CanRise net from to set.items
 IsGreatestFound net from to (greatest.Open limit attained) = Unit {0}
 
 -- A search by cases left the greatest separation open. The limit is the root bound, some satisfying times attain the other number, and a stopped proof

@@ -32,12 +32,12 @@ use Rattle.lint_report.specs.Step.Keeping.{IsExtent, KeepsBelow, KeepsRange, ext
 -- what is found of a greatest separation is right
 pub extent_found : (net : Net) (from to : EventId) (found : Greatest) → IsGreatestFound net from to found → IsExtent net from to (extent_by found)
 extent_found net from to (greatest.Closed value times) is = is.greatest
-extent_found net from to (greatest.Unbounded set) is = ray_is_unbounded net from to is.times set.items is.raises
+extent_found net from to (greatest.Unbounded set) is = ray_is_unbounded net from to is.0 set.items is.2
 extent_found net from to (greatest.Open limit attained) is = tt
 
 pub extent_seen : (net : Net) (from to : EventId) (found : PairSeen) → IsPairSeen net from to found → IsExtent net from to (extent_of found)
 extent_seen net from to (seen.Closed value chain) is = is.0
-extent_seen net from to seen.Unbounded is = ray_is_unbounded net from to is.1.times is.0 is.1.raises
+extent_seen net from to seen.Unbounded is = ray_is_unbounded net from to is.1.0 is.0 is.1.2
 extent_seen net from to seen.Open is = tt
 
 pub extent_settles : (found : Greatest) → is_open found ≡ false → extent_by found ≡ extent.Open → ⊥

@@ -11,7 +11,7 @@ use Rattle.event_graph.specs.Network.{Net}
 use Rattle.event_graph.specs.Satisfying.{Satisfies}
 use Rattle.event_graph.specs.Times.{IsTime, separation, time_of}
 use Rattle.event_graph.proofs.Rays.{ray_is_unbounded}
-use Rattle.extremes.specs.Found.{IsAttainedBy, IsGreatestFound, IsWithoutEnd}
+use Rattle.extremes.specs.Found.{CanRise, IsAttainedBy, IsGreatestFound}
 use Rattle.extremes.specs.declared.found.Greatest.{Greatest}
 use Rattle.extremes.specs.declared.found.Greatest.TheVariants.{Closed, Unbounded}
 use Rattle.narrow.specs.declared.end.EndFound.{EndFound}
@@ -26,9 +26,9 @@ closed_reached net e weight value greatest le =
     (greatest.attained.0, greatest.attained.1, subst (λ (z : ℤ). weight ≤ℤ z) (sym at) le)
 
 -- separations without end reach each number
-pub unbounded_reached : (net : Net) (e : Edge) (weight : ℤ) (set : List Bool) → IsWithoutEnd net e.from e.to set → IsAttainable net weight e
+pub unbounded_reached : (net : Net) (e : Edge) (weight : ℤ) (set : List Bool) → CanRise net e.from e.to set → IsAttainable net weight e
 unbounded_reached net e weight set found =
-    let beyond = ray_is_unbounded net e.from e.to found.times set found.raises weight in
+    let beyond = ray_is_unbounded net e.from e.to found.0 set found.2 weight in
     let less : weight <ℤ separation beyond.0 e.from e.to = beyond.2 in
     (beyond.0, beyond.1, omega (arith, ints, less))
 
@@ -82,7 +82,7 @@ closed_found net e weight passed value so_far greatest times next last same_weig
 pub unbounded_found : (net : Net) (e : Edge) (weight : ℤ) (so_far : Option ℤ) (greatest : Greatest) (set : Vec Bool) (last : EndFound) → greatest ≡ Unbounded set → last ≡ Wide
     → IsGreatestFound net e.from e.to greatest → IsSearched net e weight so_far last
 unbounded_found net e weight so_far greatest set last is same found =
-    let without_end : IsWithoutEnd net e.from e.to set.items = subst (IsGreatestFound net e.from e.to) is found in
+    let without_end : CanRise net e.from e.to set.items = subst (IsGreatestFound net e.from e.to) is found in
     subst (IsSearched net e weight so_far) (sym same) (unbounded_reached net e weight set.items without_end)
 
 pub open_found : (net : Net) (e : Edge) (weight : ℤ) (so_far : Option ℤ) (last : EndFound) → last ≡ Open → IsSearched net e weight so_far last
