@@ -1,5 +1,5 @@
 -- What the searches for times find.
-use Rattle.std.proofs.Common.{◌≡◌, ◌≤◌, ℕ, ℤ, Bool, true, false, List, length, replicate, get_or, Option, Some, None, Result, Ok, Err, refl, sym, ◌∙◌, subst, arith, inl, inr}
+use Rattle.std.proofs.Common.{◌≡◌, ◌≤◌, ℕ, ℤ, Bool, false, List, length, replicate, Option, Some, None, Result, Ok, refl, sym, ◌∙◌, subst, arith, inl, inr}
 use Rattle.std.specs.Prelude.{◌↔◌, IfSome, IsSome, IsSomeAnd}
 use Rattle.std.proofs.lemmas.Bool.{cases_lt, false≢true}
 use Rattle.std.proofs.lemmas.List.{get_or-replicate, get_or_past, length-replicate}
@@ -92,7 +92,7 @@ finding_refutes net budget leaves lines known founds.Inconsistent count old new 
 pub marked_count : (net : Net) (lines : List ProofLine) (first old new : List Bool) → length first ≡ length net.constraints → old ≡ replicate (length first) false → HasMarked old lines new
     → length new ≡ length net.constraints
 marked_count net lines first old new count fresh marked =
-    let e : length old ≡ length first = subst (λ xs. length xs ≡ length first) (sym fresh) (length-replicate {A = Bool}) in
+    let e : length old ≡ length first = subst (λ xs. length xs ≡ length first) (sym fresh) (length-replicate (length first) false) in
     marked.count ∙ (e ∙ count)
 
 -- the constraints that a proof by cases names contradict each other

@@ -1,4 +1,4 @@
 mod Finding
 mod Separating
-mod Starting
-mod Confirming
+mod Spans
+mod Parts

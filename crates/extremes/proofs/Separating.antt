@@ -1,10 +1,10 @@
 -- What the searches for greatest separations find.
-use Rattle.std.proofs.Common.{◌≡◌, ◌≤◌, ◌-ℤ◌, ℕ, zero, suc, ℤ, pos, Bool, List, [], ◌∷◌, All, get_or, length, Option, Some, None, refl, sym, subst, arith}
+use Rattle.std.proofs.Common.{◌≡◌, ◌^◌, ◌≤ℤ◌, ◌-ℤ◌, ℕ, zero, suc, ℤ, pos, neg_ℤ, Bool, List, [], ◌∷◌, All, get_or, Option, Some, None, refl, sym, subst, arith, rules, to_z, of_z, w64}
 use Rattle.std.specs.Prelude.{IfSome}
 use Rattle.std.specs.Global.{Vec}
-use Rattle.std.proofs.lemmas.Int.{ints}
+use Rattle.std.proofs.lemmas.Int.{ints, to_z-of_z}
+use mir.Val.{SFits}
 use Rattle.itv_base.specs.declared.names.EventId.{EventId}
-use Rattle.event_graph.specs.Edges.{cause_choices}
 use Rattle.event_graph.specs.Limits.{IsReach}
 use Rattle.event_graph.specs.Network.{Net}
 use Rattle.event_graph.specs.Proof.{IsStoppedProof}
@@ -62,6 +62,14 @@ pub limit_time : (limit : Option ℤ) → IfSome limit IsReach → IfSome limit 
 limit_time None h = tt
 limit_time (Some sum) h = reach_time sum h
 
+-- a time has 64 bits
+time_kept : (time : ℤ) → IsTime time → time ≡ to_z w64 (of_z w64 time)
+time_kept time h =
+    let low : neg_ℤ (pos (2 ^ 62)) ≤ℤ time = omega (arith, ints, h.0, h.1) in
+    let high : time ≤ℤ pos (2 ^ 62) = omega (arith, ints, h.0, h.1) in
+    let fits : SFits w64 time = search rules in
+    sym (to_z-of_z w64 time fits)
+
 -- ---- by cases
 
 closed_by_cases : (search : PairSearch) (value : ℤ) (left : Evidence) → IsClosedAt search value left → Satisfies left.times search.net → All IsClose left.times
@@ -76,12 +84,11 @@ closed_by_cases search value left closed sat close = record {
 }
 
 pub closed_found : (search : PairSearch) (value : ℤ) (left : Evidence) (times : Vec ℤ) → times.items ≡ left.times → IsClosedAt search value left → Satisfies left.times search.net
-    → All IsClose left.times → IsFoundBy search.net search.budget search.from search.to (Closed value times)
-closed_found search value left times same closed sat close = record {
-  right = subst (IsAttainedBy search.net search.from search.to value) (sym same) (closed_by_cases search value left closed sat close);
-  open_shown = tt;
-  settles = λ enough. refl;
-}
+    → All IsClose left.times → IsFoundBy search.net search.budget search.from search.to (Closed (to_z w64 (of_z w64 value)) times)
+closed_found search value left times same closed sat close =
+    let is : IsAttainedBy search.net search.from search.to value left.times = closed_by_cases search value left closed sat close in
+    subst (λ (z : ℤ). IsFoundBy search.net search.budget search.from search.to (Closed z times)) (time_kept value is.value_within)
+    (record { right = subst (IsAttainedBy search.net search.from search.to value) (sym same) is; open_shown = tt; settles = λ enough. refl })
 
 pub unbounded_found : (search : PairSearch) (left : Evidence) (set : Vec Bool) → set.items ≡ left.ray → IsShownUnbounded search left → Satisfies left.times search.net
     → IsFoundBy search.net search.budget search.from search.to (Unbounded set)
@@ -92,18 +99,19 @@ unbounded_found search left set same shown sat = record {
 }
 
 pub open_found : (search : PairSearch) (limit : Option ℤ) (attained : ℤ) (left : Evidence) → IsEnclosedBy search limit attained left → Satisfies left.times search.net → All IsClose left.times
-    → IsFoundBy search.net search.budget search.from search.to (Open limit attained)
-open_found search limit attained left enclosed sat close = record {
-  right = tt;
-  open_shown = record {
-    root = enclosed.root;
-    attains = (left.times, sat, enclosed.attains);
-    stopped = (left.lines, subst (λ n. IsStoppedProof search.net (BoundGoal search.from search.to attained) left.lines n) enclosed.used enclosed.stopped);
-    limit_within = limit_time limit enclosed.within;
-    within = subst IsTime enclosed.attains (close_separation left.times search.from search.to close);
-  };
-  settles = λ enough. absurd (omega (arith, enough, enclosed.below_choices));
-}
+    → IsFoundBy search.net search.budget search.from search.to (Open limit (to_z w64 (of_z w64 attained)))
+open_found search limit attained left enclosed sat close =
+    let within : IsTime attained = subst IsTime enclosed.attains (close_separation left.times search.from search.to close) in
+    let stopped = subst (λ n. IsStoppedProof search.net (BoundGoal search.from search.to attained) left.lines n) enclosed.used enclosed.stopped in
+    let shown : IsLeftOpen search.net search.budget search.from search.to limit attained = record {
+      root = enclosed.root;
+      attains = (left.times, sat, enclosed.attains);
+      stopped = (left.lines, stopped);
+      limit_within = limit_time limit enclosed.within;
+      within = within;
+    } in
+    subst (λ (z : ℤ). IsFoundBy search.net search.budget search.from search.to (Open limit z)) (time_kept attained within)
+    (record { right = tt; open_shown = shown; settles = λ enough. absurd (omega (arith, enough, enclosed.below_choices)) })
 
 -- ---- by clauses
 

@@ -1,6 +1,6 @@
 //! Searches by clauses.
 
-ghost use Rattle.std.specs.Prelude.{◌≡◌, ◌<◌, ◌+◌, ℤ, List, All, IfOk, IfSome, IsTrue};
+ghost use Rattle.std.specs.Prelude.{◌≡◌, ◌<◌, ◌+◌, ℕ, ℤ, List, All, IfOk, IfSome, IsTrue};
 ghost use Rattle.event_graph.specs.Bounds.{IsInconsistent};
 ghost use Rattle.event_graph.specs.Satisfying.{Satisfies};
 ghost use Rattle.falling.specs.Cap.{IsNearValue};
@@ -13,7 +13,8 @@ use crate::naming::named_by;
 use crate::starting::start_of;
 use event_graph::Network;
 use itv_base::{EventId, NoMemory};
-use settle::{RunTurns, Settled, Settler, ShownAnswer};
+use crate::run_turns::RunTurns;
+use settle::{Settled, Settler, ShownAnswer};
 use std::alloc::Global;
 
 /// Whether some times satisfy a network, as a search by clauses finds it.
@@ -133,7 +134,7 @@ fn settled(
     requires to { to.0 < net.now.events }
     ensures turns { AreTurnsOf left.old left.new }
     ensures took { IfOk result (λ found. left.new.left + found.turns ≡ left.old.left) }
-    ensures found { IfOk result (IsFound net.now from to left.old.each) }
+    ensures found { IfOk result (λ found. (turns : ℕ) × IsFound net.now from to turns found) }
 {
     let found = settler.greatest(alloc, net, from, to, left.next())?;
     left.take(found.turns);

@@ -1,6 +1,6 @@
 //! Whether some constraints contradict each other by themselves.
 
-ghost use Rattle.std.specs.Prelude.{◌≡◌, ℤ, List, IfOk, IsTrue, length};
+ghost use Rattle.std.specs.Prelude.{◌≡◌, ℤ, true, List, IfOk, IsTrue, length, replicate};
 ghost use Rattle.event_graph.specs.Bounds.{IsInconsistent};
 ghost use Rattle.chains.specs.Named.{IsContradiction, IsIn};
 ghost use Rattle.extremes.specs.Ready.{AreTurnsOf};
@@ -9,7 +9,8 @@ ghost use Rattle.extremes.specs.Step.{IsWider};
 use crate::by_clauses::is_contradiction;
 use event_graph::Network;
 use itv_base::NoMemory;
-use settle::{RunTurns, Settler};
+use crate::run_turns::RunTurns;
+use settle::Settler;
 use std::alloc::Global;
 
 /// Constraints of a network that no times satisfy, as flags: those of a guess, if a search by clauses finds that they contradict each other by
@@ -29,8 +30,15 @@ pub fn confirmed(
     if contradict(alloc, net, guess, left)? {
         Ok(Vec::from_slice(alloc, guess)?)
     } else {
-        Ok(Vec::from_elem(alloc, true, guess.len())?)
+        all_of(alloc, net)
     }
+}
+
+// All constraints of a network.
+fn all_of(alloc: Global, net: &Network) -> Result<Vec<bool>, NoMemory>
+    ensures { IfOk result (λ set. set.items ≡ replicate (length net.now.constraints) true) }
+{
+    Ok(Vec::from_elem(alloc, true, net.len() as usize)?)
 }
 
 // Whether a search by clauses finds that the constraints of a set contradict each other by themselves.

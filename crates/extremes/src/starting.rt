@@ -1,10 +1,10 @@
 //! Times from which a search by cases can start.
 
-ghost use Rattle.std.specs.Prelude.{◌<◌, ◌≤◌, All, IfSome, IsTrue, length};
+ghost use Rattle.std.specs.Prelude.{◌≡◌, ◌<◌, ◌≤◌, All, IfSome, IsTrue, length};
 ghost use Rattle.itv_base.specs.declared.limits.TheConstants.{MAX_EVENTS as EVENT_LIMIT};
 ghost use Rattle.event_graph.specs.Network.{IsNet, Net};
 ghost use Rattle.event_graph.specs.Satisfying.{Satisfies};
-ghost use Rattle.event_graph.specs.Times.{IsTime};
+ghost use Rattle.event_graph.specs.Times.{IsTime, moved};
 ghost use Rattle.extremes.specs.Ready.{AreStart, IsStartTime};
 
 use branch::MAX_START;
@@ -13,19 +13,29 @@ use itv_base::EventId;
 
 /// Satisfying times, moved so that the earliest one is 0. The answer is `None` where the latest one is past the greatest separation that a search may
 /// start from. The times are in picoseconds, each below 2^61 in absolute value.
-pub fn start_of(mut times: Vec<i64>) -> Option<Vec<i64>>
+pub fn start_of(times: Vec<i64>) -> Option<Vec<i64>>
     requires some { 0 < length times.items }
     requires few { length times.items ≤ EVENT_LIMIT }
     requires times { All IsTime times.items }
     ensures start { (net : Net) → IsNet net → Satisfies times.items net → IfSome result (λ start. AreStart net start.items) }
 {
     let origin = earliest(&times);
-    move_all(&mut times, origin);
-    if !are_start(&times) {
-        drop(times);
+    let start = moved(times, origin);
+    if !are_start(&start) {
+        drop(start);
         return None;
     }
-    Some(times)
+    Some(start)
+}
+
+// All times less the time of an event.
+fn moved(mut times: Vec<i64>, origin: EventId) -> Vec<i64>
+    requires event { origin.0 < length times.items }
+    requires times { All IsTime times.items }
+    ensures moved { result.items ≡ moved origin times.items }
+{
+    move_all(&mut times, origin);
+    times
 }
 
 // An event with the least time.

@@ -14,6 +14,7 @@ mod put_bounds;
 mod put_rows;
 mod row;
 mod rows;
+mod run_turns;
 mod times;
 mod wanted;
 mod write;

@@ -1,4 +1,4 @@
-use Rattle.extremes.proofs.Confirming.{ArePart}
+use Rattle.extremes.proofs.Parts.{ArePart}
 use Rattle.extremes.proofs.confirming.part_of.Given as goal
 
 -- the constraints of the set so far
