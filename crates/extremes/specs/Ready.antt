@@ -8,7 +8,7 @@ use Rattle.branch.specs.Work.{IsMadeFor}
 use Rattle.branch.specs.declared.work.TheConstants.{MAX_START}
 use Rattle.chains.specs.Named.{IsRefuting}
 use Rattle.settle.specs.ShownAnswer.{IsMadeFor as IsSettlerFor}
-use Rattle.extremes.specs.declared.run_turns.RunTurns.{RunTurns}
+use Rattle.settle.specs.declared.run_turns.RunTurns.{RunTurns}
 use Rattle.extremes.specs.Found.{IsFindingOpen}
 use Rattle.extremes.specs.declared.extremes.Extremes.{Extremes}
 

@@ -13,8 +13,7 @@ use crate::naming::named_by;
 use crate::starting::start_of;
 use event_graph::Network;
 use itv_base::{EventId, NoMemory};
-use crate::run_turns::RunTurns;
-use settle::{Settled, Settler, ShownAnswer};
+use settle::{RunTurns, Settled, Settler, ShownAnswer};
 use std::alloc::Global;
 
 /// Whether some times satisfy a network, as a search by clauses finds it.

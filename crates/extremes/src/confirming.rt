@@ -9,8 +9,7 @@ ghost use Rattle.extremes.specs.Step.{IsWider};
 use crate::by_clauses::is_contradiction;
 use event_graph::Network;
 use itv_base::NoMemory;
-use crate::run_turns::RunTurns;
-use settle::Settler;
+use settle::{RunTurns, Settler};
 use std::alloc::Global;
 
 /// Constraints of a network that no times satisfy, as flags: those of a guess, if a search by clauses finds that they contradict each other by

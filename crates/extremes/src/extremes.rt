@@ -17,8 +17,7 @@ use branch::{Quiet, Root, ScribeFailed, SearchFinding, Work, find, root_bound};
 use chains::Marking;
 use event_graph::Network;
 use itv_base::{EventId, NoMemory};
-use crate::run_turns::RunTurns;
-use settle::Settler;
+use settle::{RunTurns, Settler};
 use std::alloc::Global;
 
 /// The memory for both searches of a network, how many cases a search may close, and how many turns searches by clauses may take. Every call needs the

@@ -9,11 +9,10 @@ mod confirming;
 mod extremes;
 mod found;
 mod naming;
-mod run_turns;
 mod starting;
 mod turns;
 
 pub use extremes::Extremes;
 pub use found::{Consistency, Greatest};
-pub use run_turns::RunTurns;
+pub use settle::RunTurns;
 pub use turns::turns_of;
