@@ -9,12 +9,12 @@ use Rattle.event_graph.specs.Bounds.{IsInconsistent}
 use Rattle.event_graph.specs.Network.{Constraint, Net, with_constraint}
 use Rattle.event_graph.specs.Satisfying.{Holds, Satisfies}
 use Rattle.chains.specs.Named.{IsContradiction, IsIn}
-use Rattle.extremes.specs.Step.{IsWider}
+use Rattle.extremes.specs.Step.{AllowsAll}
 
 -- the constraints of a set among the first ones, in a network of their own
 pub record ArePart (net : Net) (set : List Bool) (count : ℕ) (part : Net) : Type 0 where
   pub events : part.events ≡ net.events
-  pub wider : IsWider net set part
+  pub wider : AllowsAll net set part
   pub few : length part.constraints ≤ count
 
 pub no_part : (net : Net) (set : List Bool) (part : Net) → part ≡ record { events = net.events; constraints = [] } → ArePart net set 0 part
@@ -24,8 +24,8 @@ no_part net set part is = record {
   few = rw is (omega arith);
 }
 
-pushed : (net : Net) (set : List Bool) (number : ℕ) (part after : Net) (o : Option Constraint) → slice_get net.constraints number ≡ o → IsIn set number → IsWider net set part
-    → IsSomeAnd o (λ c. after ≡ with_constraint part c) → IsWider net set after
+pushed : (net : Net) (set : List Bool) (number : ℕ) (part after : Net) (o : Option Constraint) → slice_get net.constraints number ≡ o → IsIn set number → AllowsAll net set part
+    → IsSomeAnd o (λ c. after ≡ with_constraint part c) → AllowsAll net set after
 pushed net set number part after None at is_in wider added = absurd added
 pushed net set number part after (Some c) at is_in wider added = λ times sat.
     let before : Satisfies times part = wider times sat in
@@ -59,7 +59,7 @@ part_left net set number part after same are =
     subst (ArePart net set (number + 1)) (sym same) (record { events = are.events; wider = are.wider; few = omega (arith, are.few) })
 
 -- where no times satisfy the network of a set, its constraints contradict each other
-pub part_contradicts : (net part : Net) (set : List Bool) → IsWider net set part → IsInconsistent part → IsContradiction net set
+pub part_contradicts : (net part : Net) (set : List Bool) → AllowsAll net set part → IsInconsistent part → IsContradiction net set
 part_contradicts net part set wider none = λ times sat. none times (wider times sat)
 
 -- all constraints of a network that no times satisfy contradict each other

@@ -40,5 +40,5 @@ pub record IsFoundBy (net : Net) (budget : ℕ) (from to : EventId) (found : Gre
   pub settles : cause_choices net.constraints ≤ budget → is_open found ≡ false
 
 -- times that satisfy the constraints of a set satisfy the network
-abbrev pub IsWider : Net → List Bool → Net → Type 0
-IsWider net set part = (times : List ℤ) → SatisfiesOf set times net → Satisfies times part
+abbrev pub AllowsAll : Net → List Bool → Net → Type 0
+AllowsAll net set part = (times : List ℤ) → SatisfiesOf set times net → Satisfies times part

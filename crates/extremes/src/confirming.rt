@@ -4,7 +4,7 @@ ghost use Rattle.std.specs.Prelude.{◌≡◌, ℤ, true, List, IfOk, IsTrue, le
 ghost use Rattle.event_graph.specs.Bounds.{IsInconsistent};
 ghost use Rattle.chains.specs.Named.{IsContradiction, IsIn};
 ghost use Rattle.extremes.specs.Ready.{AreTurnsOf};
-ghost use Rattle.extremes.specs.Step.{IsWider};
+ghost use Rattle.extremes.specs.Step.{AllowsAll};
 
 use crate::by_clauses::is_contradiction;
 use event_graph::Network;
@@ -67,7 +67,7 @@ fn contradict(
 
 // The network with the constraints of a set alone.
 fn part_of(alloc: Global, net: &Network, set: &[bool]) -> Result<Network, NoMemory>
-    ensures wider { IfOk result (IsWider net.now set.now) }
+    ensures wider { IfOk result (AllowsAll net.now set.now) }
 {
     let mut part = Network::new(alloc, net.events())?;
     for number in 0..net.len() {
