@@ -10,7 +10,7 @@ use crate::writing::{PairQuestion, asked_of};
 use branch::{GreatestAnswer, SearchFinding, Work, find, greatest};
 use certificate::TreeScribe;
 use event_graph::{Line, Network};
-use extremes::{Consistency, Extremes, Greatest};
+use extremes::{Consistency, Extremes, Greatest, RunTurns};
 use itv_base::NoMemory;
 use settle::{Settled, Settler, ShownAnswer};
 use std::alloc::Global;
@@ -223,7 +223,7 @@ fn extremes_within(
         out.refuse();
         return;
     };
-    match Extremes::new(alloc, net, budget, turns) {
+    match Extremes::new(alloc, net, budget, RunTurns::of(turns)) {
         Ok(mut extremes) => {
             extremes_of(alloc, net, asked, &mut extremes, out);
             drop(extremes);
@@ -260,7 +260,7 @@ fn extremes_of(
 fn put_greatest(found: &Greatest, out: &mut Out) {
     match found {
         Greatest::Closed { value, .. } => put_closed(*value, out),
-        Greatest::Unbounded => out.put("unbounded"),
-        Greatest::Open => out.put("open"),
+        Greatest::Unbounded { .. } => out.put("unbounded"),
+        Greatest::Open { .. } => out.put("open"),
     }
 }

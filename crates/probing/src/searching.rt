@@ -16,7 +16,7 @@ use crate::probed::Probed;
 use crate::side::{SideFound, both_of};
 use drawn::Row;
 use event_graph::Network;
-use extremes::{Consistency, Extremes};
+use extremes::{Consistency, Extremes, RunTurns};
 use itv_base::{NoMemory, Range, RowKind};
 use moves::NetFound;
 use std::alloc::Global;
@@ -82,7 +82,7 @@ fn probe_within(
     ensures settles { IfOk result (λ probed. cause_choices net.now.constraints ≤ effort.budget → is_net_open probed.found ≡ false) }
     ensures fits { IfOk result (IsProbed net.now.events) }
 {
-    let mut extremes = Extremes::new(alloc, net, effort.budget, effort.turns)?;
+    let mut extremes = Extremes::new(alloc, net, effort.budget, RunTurns::of(effort.turns))?;
     let probed = probe_with(alloc, net, rows, &mut extremes);
     drop(extremes);
     probed

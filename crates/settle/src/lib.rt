@@ -22,6 +22,7 @@ mod prover;
 mod race;
 mod refuting;
 mod rounds;
+mod run_turns;
 mod settler;
 mod shown_answer;
 mod side_table;
@@ -30,5 +31,6 @@ mod sweep;
 mod trail;
 
 pub use edge_clauses::StoredLine;
+pub use run_turns::RunTurns;
 pub use settler::Settler;
 pub use shown_answer::{Settled, ShownAnswer};

@@ -9,7 +9,7 @@ use Rattle.slack_report.specs.declared.words.Which.TheVariants.{Max, Min}
 use Rattle.drawn.specs.declared.row.Row.{Row}
 use Rattle.settle_report.specs.declared.bound.SettledBound.{SettledBound}
 use Rattle.settle_report.specs.declared.bound.SettledBound.TheVariants as settled
-use Rattle.settle_report.specs.declared.run_turns.RunTurns.{RunTurns}
+use Rattle.settle.specs.declared.run_turns.RunTurns.{RunTurns}
 use Rattle.settle_report.specs.Answers.{ArePrintedTimes, IsBound}
 
 -- the pair whose greatest separation is searched for a bound of a row; for a least bound it is the reversed pair

@@ -11,13 +11,12 @@ ghost use Rattle.settle_report.specs.Step.{HasNearby, Took, shown_by, source, ta
 use crate::bound::SettledBound;
 use crate::pair::{source, target};
 use crate::proof::proof_of;
-use crate::run_turns::RunTurns;
 use crate::times::moved;
 use crate::wanted::Wanted;
 use drawn::Row;
 use event_graph::Network;
 use itv_base::NoMemory;
-use settle::{Settled, Settler, ShownAnswer};
+use settle::{RunTurns, Settled, Settler, ShownAnswer};
 use slack_report::Which;
 use std::alloc::Global;
 
@@ -35,13 +34,15 @@ pub fn find_bound(
     requires made { IsMadeFor net.now settler.now }
     requires consistent { (times : List ℤ) × Satisfies times net.now }
     requires row { IsRowOf net.now row.now }
+    requires each { left.old.each ≡ wanted.turns }
+    ensures each { left.new.each ≡ wanted.turns }
     ensures bound { IfOk result (IsBound wanted.cert net.now which row.now) }
     ensures nearby { IfOk result HasNearby }
     ensures took { IfOk result (λ bound. Took wanted.turns (bound_lines bound) left.old left.new) }
 {
     let from = source(which, row);
     let to = target(which, row);
-    let turns = left.next(wanted.turns);
+    let turns = left.next();
     if turns == 0 {
         return Ok(SettledBound::Spent);
     }

@@ -1,17 +1,16 @@
 //! What is found of a network.
 
-ghost use Rattle.std.specs.Prelude.{◌<◌, ◌≤◌, ℕ, IfOk, length};
+ghost use Rattle.std.specs.Prelude.{◌≡◌, ◌<◌, ◌≤◌, ℕ, IfOk, length};
 ghost use Rattle.settle.specs.ShownAnswer.{IsFound, IsMadeFor};
 ghost use Rattle.settle_report.specs.Answers.{IsFinding, first_event, finding_lines};
 ghost use Rattle.settle_report.specs.Step.{Took};
 
 use crate::proof::{Proof, proof_of};
-use crate::run_turns::RunTurns;
 use crate::times::moved;
 use crate::wanted::Wanted;
 use event_graph::Network;
 use itv_base::{EventId, NoMemory};
-use settle::{Settled, Settler, ShownAnswer};
+use settle::{RunTurns, Settled, Settler, ShownAnswer};
 use std::alloc::Global;
 
 /// What is found of a network.
@@ -35,6 +34,8 @@ pub fn find(
     left: &mut RunTurns,
 ) -> Result<Finding, NoMemory>
     requires made { IsMadeFor net.now settler.now }
+    requires each { left.old.each ≡ wanted.turns }
+    ensures each { left.new.each ≡ wanted.turns }
     ensures finding { IfOk result (IsFinding wanted.cert net.now) }
     ensures took { IfOk result (λ finding. Took wanted.turns (finding_lines finding) left.old left.new) }
 {
@@ -42,7 +43,7 @@ pub fn find(
         return Ok(Finding::Consistent(Vec::new(alloc)));
     }
     let first = EventId(0);
-    let turns = left.next(wanted.turns);
+    let turns = left.next();
     let found = settler.greatest(alloc, net, first, first, turns)?;
     left.take(found.turns);
     Ok(finding_of(alloc, net, found, wanted.cert))

@@ -14,7 +14,6 @@ mod put_bounds;
 mod put_rows;
 mod row;
 mod rows;
-mod run_turns;
 mod times;
 mod wanted;
 mod write;

@@ -1,6 +1,6 @@
 //! Finding what the rows ask for.
 
-ghost use Rattle.std.specs.Prelude.{◌+◌, ◌≤◌, ℤ, List, All, IfOk};
+ghost use Rattle.std.specs.Prelude.{◌≡◌, ◌+◌, ◌≤◌, ℤ, List, All, IfOk};
 ghost use Rattle.std.specs.List.{sum_by};
 ghost use Rattle.event_graph.specs.Satisfying.{Satisfies};
 ghost use Rattle.drawn.specs.Drawn.{IsRowOf};
@@ -11,13 +11,12 @@ use crate::bounding::find_bound;
 use crate::finding::Finding;
 use crate::past::past_of;
 use crate::row::RowFound;
-use crate::run_turns::RunTurns;
 use crate::wanted::Wanted;
 use drawn::{DrawnNetwork, Row};
 use event_graph::Network;
 use itv_base::NoMemory;
 use jobs::row_at;
-use settle::Settler;
+use settle::{RunTurns, Settler};
 use slack_report::Which;
 use std::alloc::Global;
 
@@ -32,6 +31,7 @@ pub fn find_rows(
 ) -> Result<Vec<RowFound>, NoMemory>
     requires made { IsMadeFor drawn.now.net settler.now }
     requires finding { IsFinding wanted.cert drawn.now.net finding.now }
+    requires each { left.old.each ≡ wanted.turns }
     ensures found { IfOk result (λ found. AreFound wanted.cert drawn.now.net drawn.now.rows finding.now found.items) }
     ensures within { IfOk result (λ found. All (IsRowWithin wanted.turns) found.items) }
     ensures lines { IfOk result (λ found. sum_by lines_in_row found.items + left.new.left ≤ left.old.left) }
@@ -52,6 +52,7 @@ fn find_all(
 ) -> Result<Vec<RowFound>, NoMemory>
     requires made { IsMadeFor drawn.now.net settler.now }
     requires consistent { (times : List ℤ) × Satisfies times drawn.now.net }
+    requires each { left.old.each ≡ wanted.turns }
     ensures found { IfOk result (λ found. AreRowsFound wanted.cert drawn.now.net drawn.now.rows found.items) }
     ensures within { IfOk result (λ found. All (IsRowWithin wanted.turns) found.items) }
     ensures lines { IfOk result (λ found. sum_by lines_in_row found.items + left.new.left ≤ left.old.left) }
@@ -77,6 +78,8 @@ fn find_row(
     requires made { IsMadeFor net.now settler.now }
     requires consistent { (times : List ℤ) × Satisfies times net.now }
     requires row { IsRowOf net.now row.now }
+    requires each { left.old.each ≡ wanted.turns }
+    ensures each { left.new.each ≡ wanted.turns }
     ensures found { IfOk result (IsRowFound wanted.cert net.now row.now) }
     ensures within { IfOk result (IsRowWithin wanted.turns) }
     ensures lines { IfOk result (λ found. lines_in_row found + left.new.left ≤ left.old.left) }

@@ -13,13 +13,12 @@ use crate::put_bounds::put_finding;
 use crate::put_rows::put_behind;
 use crate::row::RowFound;
 use crate::rows::find_rows;
-use crate::run_turns::RunTurns;
 use crate::wanted::Wanted;
 use drawn::DrawnNetwork;
 use itv_base::{NoMemory, PutFailed, Sink};
 use jobs::{Answer, Unanswered, answer_of, put_events};
 use line_words::LineBuffer;
-use settle::Settler;
+use settle::{RunTurns, Settler};
 use slack_report::{EndWord, Item, LINE_ROOM, write_item};
 use std::alloc::Global;
 

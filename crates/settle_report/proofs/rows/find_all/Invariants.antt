@@ -1,4 +1,4 @@
-use Rattle.std.proofs.Common.{◌+◌, ◌≤◌, All, take}
+use Rattle.std.proofs.Common.{◌≡◌, ◌+◌, ◌≤◌, All, take}
 use Rattle.std.specs.List.{sum_by}
 use Rattle.settle_report.specs.Answers.{AreRowsFound, IsRowWithin, lines_in_row}
 use Rattle.settle_report.proofs.rows.find_all.Given as goal
@@ -8,5 +8,6 @@ abbrev pub invariant-loop-number : goal.invariant-loop-number
 invariant-loop-number l = record {
   found : AreRowsFound l.wanted.cert l.drawn.net (take l.number l.drawn.rows) l.found.items;
   within : All (IsRowWithin l.wanted.turns) l.found.items;
+  each : l.left.each ≡ l.wanted.turns;
   lines : sum_by lines_in_row l.found.items + l.left.left ≤ l.fn.left.left;
 }
