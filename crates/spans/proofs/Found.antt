@@ -15,7 +15,7 @@ use Rattle.moves.proofs.Covering.{cover_contradicts, cover_holds}
 use Rattle.moves.proofs.Each.{shifted_by_nothing}
 use Rattle.moves.proofs.Thresholds.{excluded}
 use Rattle.probing.specs.declared.probed.Probed.{Probed}
-use Rattle.spans.specs.Step.{Frames, IsEnough, IsFrameFound, IsInside, IsProbeOf, IsStop, IsValueFound, IsValueFoundAt, MeetsAim, TellsConsistency, at_value, breaks_for, consistency_of, passes_for}
+use Rattle.spans.specs.Step.{IsEnough, IsFrameFound, IsFrameOf, IsInside, IsProbeOf, IsStop, IsValueFound, IsValueFoundAt, MeetsAim, TellsConsistency, at_value, breaks_for, consistency_of, passes_for}
 use Rattle.spans.specs.declared.framed_range.FrameKind.{FrameKind}
 use Rattle.spans.specs.declared.framed_range.FrameKind.TheVariants as frames
 use Rattle.spans.specs.declared.interval.Interval.{Interval}
@@ -117,7 +117,7 @@ not_there (Some x) is some = cc is
 
 -- what a probe of a frame found, of the values that it frames
 pub frame_found : (sought : SpanSought) (counts : List ℤ) (interval : Interval) (kind : FrameKind) (net : Net) (rows : List Row) (found : NetFound)
-    → ((value : ℤ) → IsInside interval value → Frames kind counts sought.drawn.now (lent sought.numbers.now) (bare_drawn net rows) value) → IsNetFound (bare_drawn net rows) found
+    → ((value : ℤ) → IsInside interval value → IsFrameOf kind counts sought.drawn.now (lent sought.numbers.now) (bare_drawn net rows) value) → IsNetFound (bare_drawn net rows) found
     → IsFrameFound sought interval kind found
 frame_found sought counts interval frames.Cover net rows nets.Passes framed is = λ value within.
     cover_holds counts sought.drawn.now (lent sought.numbers.now) (bare_drawn net rows) value (framed value within) is.1

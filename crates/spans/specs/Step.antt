@@ -145,9 +145,9 @@ FramesRows frames.Cover counts drawn numbers rows value = AllZip IsTighterRow (m
 FramesRows frames.Core counts drawn numbers rows value = AllZip IsTighterRow rows (map (row_counted counts value) (shifted_at drawn numbers value).rows)
 
 -- a drawn network is a cover or a core of the one with some numbers moved by a value
-abbrev pub Frames : FrameKind → List ℤ → Drawn → List DrawnNumber → Drawn → ℤ → Type 0
-Frames frames.Cover counts drawn numbers frame value = Covers counts drawn numbers frame value
-Frames frames.Core counts drawn numbers frame value = IsCoreOf counts drawn numbers frame value
+abbrev pub IsFrameOf : FrameKind → List ℤ → Drawn → List DrawnNumber → Drawn → ℤ → Type 0
+IsFrameOf frames.Cover counts drawn numbers frame value = Covers counts drawn numbers frame value
+IsFrameOf frames.Core counts drawn numbers frame value = IsCoreOf counts drawn numbers frame value
 
 -- a number that is far from wrapping
 abbrev pub IsUnwrapped : ℤ → Type 0
