@@ -116,8 +116,8 @@ pub fn look(
 {
     match extremes.greatest(alloc, net, limit.from, limit.to)? {
         Greatest::Closed { value, times } => note(alloc, net, limit, value, times, noted),
-        Greatest::Unbounded => Ok(SideFound::Exceeds),
-        Greatest::Open => Ok(SideFound::Open),
+        Greatest::Unbounded { .. } => Ok(SideFound::Exceeds),
+        Greatest::Open { .. } => Ok(SideFound::Open),
     }
 }
 

@@ -8,6 +8,7 @@ use crate::sought::SpanSought;
 use itv_base::NoMemory;
 use moves::NetFound;
 use probing::SideChain;
+use settle::RunTurns;
 use std::alloc::Global;
 
 // Values that are looked at. They are guessed by the edges behind bounds, and after the first few of them, or without such an edge, the strides grow, so that no way
@@ -54,6 +55,7 @@ pub fn look_ahead(
     goal: Value,
     sides: &[SideChain],
     direction: Direction,
+    turns: &mut RunTurns,
 ) -> Result<Ahead, NoMemory>
     requires sought { IsSought sought.now }
     requires from { IsWithinReach sought.now from.by }
@@ -71,7 +73,7 @@ pub fn look_ahead(
         if is_same(next, look.at) {
             return Ok(Ahead::Nothing);
         }
-        match looked_at(alloc, sought, from, next, look.stride, direction)? {
+        match looked_at(alloc, sought, from, next, look.stride, direction, turns)? {
             Glanced::On(further) => look = further,
             Glanced::Found(ahead) => return Ok(ahead),
         }
@@ -87,13 +89,14 @@ fn looked_at(
     next: Value,
     stride: i64,
     direction: Direction,
+    turns: &mut RunTurns,
 ) -> Result<Glanced, NoMemory>
     requires sought { IsSought sought.now }
     requires reached { IsWithinReach sought.now next.by }
     requires past { IsPast direction from.by next.by }
     ensures { IfOk result (IsGlanced sought.now direction from.by next.by) }
 {
-    let probed = sought.probe_at(alloc, next)?;
+    let probed = sought.probe_at(alloc, next, turns)?;
     match probed.found {
         NetFound::Passes => {
             let room = sought.room(step_of(direction), &probed.sides);

@@ -28,8 +28,8 @@ returns-then-is_same c =
     record {
       border = spent_at c.args.sought.now c.args.direction c.args.from.by c.args.at.by c.spent.result c.spent.ensures on (reached_move c.args.sought.now c.requires.sought c.args.at.by reached)
           c.requires.shown
-          (subst (λ (v : ℤ). IsFurther c.args.direction c.args.from.by c.args.sought.now.effort.budget v) (sym far)
-          (further_far c.args.direction c.args.from.by c.args.sought.now.effort.budget c.requires.start c.requires.sought.most));
+          (subst (λ (v : ℤ). IsFurther c.args.direction c.args.from.by c.args.sought.now.budget v) (sym far)
+          (further_far c.args.direction c.args.from.by c.args.sought.now.budget c.requires.start c.requires.sought.most));
     }
 
 pub consistency_at-requires-clause-reached : goal.consistency_at-requires-clause-reached
