@@ -6,8 +6,8 @@ use Rattle.event_graph.specs.Network.{Net}
 use Rattle.drawn.specs.Drawn.{Drawn}
 use Rattle.drawn.specs.declared.row.Row.{Row}
 use Rattle.moves.specs.Networks.{IsNetFound, is_net_open}
-use Rattle.moves.specs.Passing.{BreaksRow, NoneBreaks, Passes}
-use Rattle.moves.specs.Step.{IsConsistent, bare_drawn, lent}
+use Rattle.moves.specs.Passing.{BreaksRow, Passes}
+use Rattle.moves.specs.Step.{bare_drawn, lent}
 use Rattle.moves.specs.declared.net_found.NetFound.{NetFound}
 use Rattle.moves.specs.declared.net_found.NetFound.TheVariants as nets
 use Rattle.moves.proofs.Cores.{core_breaks}

@@ -2,7 +2,6 @@
 use Rattle.std.proofs.Common.{◌≡◌, ◌≤◌, ◌⊎◌, inl, inr, ℕ, ℤ, pos, neg_ℤ, ◌+ℤ◌, ◌≤ℤ◌, sym, subst, arith}
 use Rattle.std.proofs.lemmas.Int.{by_lt_z, ints}
 use Rattle.itv_base.specs.declared.limits.TheConstants.{MAX_BUDGET}
-use Rattle.drawn.specs.Drawn.{Drawn}
 use Rattle.moves.specs.Found.{FailsNear}
 use Rattle.moves.specs.Passing.{Passes}
 use Rattle.moves.specs.Step.{lent}

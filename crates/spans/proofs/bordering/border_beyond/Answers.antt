@@ -1,7 +1,7 @@
-use Rattle.std.proofs.Common.{ℤ, ap, subst, sym, ◌∙◌}
+use Rattle.std.proofs.Common.{ℤ, subst, sym, ◌∙◌}
 use Rattle.moves.specs.Passing.{NoneBreaks}
 use Rattle.moves.specs.Step.{lent}
-use Rattle.spans.specs.Step.{IsFurther, IsLastDrawn, IsOn, IsWithinReach, at_value, limit_of}
+use Rattle.spans.specs.Step.{IsFurther, IsLastDrawn, IsOn, IsWithinReach, at_value}
 use Rattle.spans.specs.declared.direction.Value.{Value}
 use Rattle.spans.proofs.Borders.{beyond_last, endless, further_far, is_left, is_none_true, is_some_true, left_at, limit_at, spent_at}
 use Rattle.spans.proofs.Reaching.{limit_last, limit_on, limit_reached, reached_move}

@@ -1,5 +1,4 @@
 use Rattle.std.proofs.Common.{◌≤◌, IfOk, subst, sym, ◌∙◌}
-use Rattle.event_graph.specs.Edges.{cause_choices}
 use Rattle.moves.specs.Passing.{HasDrawableCauses, HasDrawableRows}
 use Rattle.moves.specs.Step.{lent}
 use Rattle.spans.specs.Step.{IsProbeOf, at_value}
