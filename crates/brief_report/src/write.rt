@@ -27,7 +27,7 @@ use why_report::finding_word;
 /// Writes the rows of a drawn network, each on one line, and rows of one cycle after another that say the same on one line together: broken
 /// requirements first, then requirements that are left undecided, then requirements that pass, and then questions. Within each of these the worst
 /// slack stands first. The lines are words, or if `csv` is set the lines of a table of comma-separated values. Each search closes at most `budget`
-/// cases. All is found before the first put.
+/// cases. Where that is not enough, a search by clauses takes at most a thousand turns for each. All is found before the first put.
 pub fn write_brief<N: Notes, K: Sink>(
     alloc: Global,
     notes: &N,

@@ -7,7 +7,6 @@ use Rattle.itv_base.specs.declared.row_kind.RowKind.TheVariants as kinds
 use Rattle.event_graph.specs.Bounds.{IsInconsistent}
 use Rattle.event_graph.specs.Edges.{cause_choices}
 use Rattle.event_graph.specs.Network.{Net}
-use Rattle.event_graph.proofs.SoundProofs.{proof_of_nothing}
 use Rattle.itv_base.specs.Outside.{Files, grown}
 use Rattle.drawn.specs.Drawn.{Drawn}
 use Rattle.drawn.specs.declared.row.Row.{Row}
@@ -29,6 +28,7 @@ use Rattle.explained.specs.declared.finding.Finding.{Finding}
 use Rattle.explained.specs.declared.finding.Finding.TheVariants.{Consistent, Inconsistent, Unsettled}
 use Rattle.explained.specs.declared.row.RowFound.{RowFound}
 use Rattle.explained.specs.Answers.{IsBoundSettled, IsFindingFound, IsRowSettled, both_of, bound_of}
+use Rattle.explained.proofs.Standing.{contradiction_is_inconsistent}
 use Rattle.why_report.specs.Text.{ending_of}
 use Rattle.why_report.specs.Why.{AnswersWhy}
 use Rattle.brief_report.specs.Brief.{AnswersBrief}
@@ -99,7 +99,7 @@ no_end word rows found other e =
 none_found : (net : Net) (budget : ℕ) (rows : List Row) (finding : Finding) (found : List RowFound) → IsFindingFound net budget finding → answers.Inconsistent ≡ answer_of (ending_of rows finding found)
     → IsInconsistent net
 none_found net budget rows Consistent found is e = absurd (no_end findings.Consistent rows found (λ same. cc same) e)
-none_found net budget rows (Inconsistent set) found is e = proof_of_nothing net is.holds.1.lines is.holds.1.proof
+none_found net budget rows (Inconsistent set) found is e = contradiction_is_inconsistent net budget set.items is
 none_found net budget rows Unsettled found is e = absurd (no_end findings.Unsettled rows found (λ same. cc same) e)
 
 -- where the bounds of rows are settled, none is within

@@ -1,23 +1,17 @@
 -- What stands behind a bound.
-use Rattle.std.proofs.Common.{◌≡◌, ◌≤ℤ◌, ◌-ℤ◌, ℕ, zero, suc, ℤ, pos, neg_ℤ, Bool, List, [], ◌∷◌, get_or, All, Option, Some, None, option_map, refl, sym, subst, ap, ◌∙◌, arith}
+use Rattle.std.proofs.Common.{◌≡◌, ◌≤ℤ◌, ℕ, ℤ, neg_ℤ, Bool, List, Option, Some, None, option_map, refl, sym, subst, ap, ◌∙◌}
 use Rattle.std.specs.Prelude.{IfSome}
-use Rattle.std.proofs.lemmas.Int.{ints}
+use Rattle.std.specs.Global.{Vec}
+use Rattle.itv_base.specs.declared.names.EdgeName.{EdgeName}
 use Rattle.itv_base.specs.declared.names.EventId.{EventId}
 use Rattle.event_graph.specs.Bounds.{IsGreatest}
-use Rattle.event_graph.specs.Limits.{IsReach}
 use Rattle.event_graph.specs.Network.{Net}
 use Rattle.event_graph.specs.RootBound.{IsRootBound}
-use Rattle.event_graph.specs.Satisfying.{Satisfies}
-use Rattle.event_graph.specs.Times.{IsTime, separation, time_of}
+use Rattle.event_graph.specs.Times.{IsTime, separation}
 use Rattle.event_graph.proofs.Rays.{ray_is_unbounded}
 use Rattle.event_graph.proofs.Reversing.{least_is_reversed_greatest}
-use Rattle.branch.specs.AnswerBound.{greatest_bound}
-use Rattle.branch.specs.Answers.{IsGreatestAnswer, Evidence, PairSearch}
-use Rattle.branch.specs.Work.{IsClose}
-use Rattle.branch.specs.declared.answer.GreatestAnswer.{GreatestAnswer}
-use Rattle.branch.specs.declared.answer.GreatestAnswer.TheVariants as answers
-use Rattle.chains.specs.Chain.{AreBest}
-use Rattle.requirements.specs.Bounds.{HasTimes, IsGreatestBound, IsLeastBound, reversed}
+use Rattle.chains.specs.Chain.{AreBest, IsChain}
+use Rattle.requirements.specs.Bounds.{IsGreatestBound, IsLeastBound, reversed}
 use Rattle.requirements.proofs.Judging.{reversed_greatest_is_least}
 use Rattle.requirements.specs.declared.bound.Bound.{Bound}
 use Rattle.requirements.specs.declared.bound.Bound.TheVariants as bounds
@@ -26,66 +20,81 @@ use Rattle.slack_report.specs.declared.words.FindingWord.TheVariants as findings
 use Rattle.right_report.specs.Right.ReportState.{greatest, least_by}
 use Rattle.right_report.specs.Right.LineClaims.{HasAttained, IsBoundOf}
 use Rattle.drawn.specs.declared.row.Row.{Row}
+use Rattle.extremes.specs.Found.{IsAttainedBy, IsGreatestFound, IsLeftOpen, IsOpenShown, IsWithoutEnd}
+use Rattle.extremes.specs.declared.found.Greatest.{Greatest}
+use Rattle.extremes.specs.declared.found.Greatest.TheVariants as separations
 use Rattle.explained.specs.Answers.{AreRowBounds, Explains, IsBehind, IsBoundFound, IsBoundShown, bound_of}
 use Rattle.explained.specs.declared.bound.BoundFound.{BoundFound}
 use Rattle.explained.specs.declared.bound.BoundFound.TheVariants.{Closed, Unbounded, Within}
 use Rattle.explained.specs.declared.pair.Pair.{Pair}
-use Rattle.explained.specs.Step.Bounding.{IsClosedBy, IsExplained, IsGreatestBy, IsGreatestShown, reversed_found}
+use Rattle.explained.specs.declared.pair_found.PairFound.{PairFound}
+use Rattle.explained.specs.declared.pair_found.PairFound.TheVariants.{Searched, Limited}
+use Rattle.explained.specs.Step.Bounding.{IsBehindPair, IsExplained, IsGreatestBy, IsGreatestFoundBy, IsPairFound, greatest_bound, pair_bound, reversed_found}
 use Rattle.explained.proofs.Numbers.{neg_neg, no_neg}
 use Rattle.explained.proofs.Shown.{greatest_shown, least_shown}
 
--- ---- numbers
+-- ---- what is found of a pair
 
-time_close : (time : ℤ) → IsClose time → IsTime time
-time_close time h = (omega (arith, ints, h.0, h.1), omega (arith, ints, h.0, h.1))
-
-times_close : (times : List ℤ) → All IsClose times → All IsTime times
-times_close times close = λ k d within. time_close (get_or times k d) (close k d within)
-
-close_at : (times : List ℤ) (k : ℕ) → All IsClose times → IsClose (get_or times k (pos 0))
-close_at [] k close = (omega (arith, ints), omega (arith, ints))
-close_at (time ∷ times) zero close = close 0 (pos 0) (omega arith)
-close_at (time ∷ times) (suc k) close = close_at times k (λ j d within. close (suc j) d (omega arith))
-
-separation_time : (times : List ℤ) (from to : EventId) → All IsClose times → IsTime (separation times from to)
-separation_time times from to close = between (time_of times from) (time_of times to) (close_at times from.0 close) (close_at times to.0 close)
-  where
-    between : (a b : ℤ) → IsClose a → IsClose b → IsTime (b -ℤ a)
-    between a b h k = (omega (arith, ints, h.0, h.1, k.0, k.1), omega (arith, ints, h.0, h.1, k.0, k.1))
-
-reach_time : (sum : ℤ) → IsReach sum → IsTime sum
-reach_time sum h = (omega (arith, ints, h.0, h.1), omega (arith, ints, h.0, h.1))
-
-pub limit_time : (limit : Option ℤ) → IfSome limit IsReach → IfSome limit IsTime
-limit_time None h = tt
-limit_time (Some sum) h = reach_time sum h
-
--- ---- what a search answers
-
-pub answered : (search : PairSearch) (left : Evidence) (answer : GreatestAnswer) → IsGreatestAnswer search left answer → Satisfies left.times search.net → All IsClose left.times
-    → IsGreatestBy search.net findings.Consistent (record { from = search.from; to = search.to }) (greatest_bound answer) left.times left.ray
-answered search left (answers.Closed value) a sat close = record {
-  found = refl;
-  greatest = a.greatest;
-  satisfied = sat;
-  attained = a.attained;
-  within = times_close left.times close;
+-- what a search finds is a bound after a consistent finding
+searched_bound : (net : Net) (budget : ℕ) (pair : Pair) (found : Greatest) → IsGreatestFound net pair.from pair.to found → IsOpenShown net budget pair.from pair.to found
+    → IsGreatestFoundBy net budget findings.Consistent pair (greatest_bound found)
+searched_bound net budget pair (separations.Closed value times) right shown = record { bound = (refl, right.greatest); shown = tt; times = right.value_within }
+searched_bound net budget pair (separations.Unbounded set) right shown =
+    record { bound = (refl, ray_is_unbounded net pair.from pair.to right.times set.items right.raises); shown = tt; times = tt }
+searched_bound net budget pair (separations.Open limit attained) right shown = record {
+  bound = record { root = shown.root; rests = refl; attained = shown.attains };
+  shown = shown.stopped;
+  times = (shown.limit_within, shown.within);
 }
-answered search left answers.Unbounded a sat close = record { found = refl; satisfied = sat; ray = a.raised }
-answered search left (answers.Enclosed upper found) a sat close = record { root = a.root; rests = refl; attained = (left.times, sat, a.attains) }
 
-pub answer_times : (search : PairSearch) (left : Evidence) (answer : GreatestAnswer) → IsGreatestAnswer search left answer → All IsClose left.times → HasTimes (greatest_bound answer)
-answer_times search left (answers.Closed value) a close = subst IsTime a.attained (separation_time left.times search.from search.to close)
-answer_times search left answers.Unbounded a close = tt
-answer_times search left (answers.Enclosed upper found) a close =
-    (limit_time upper a.within, subst IsTime a.attains (separation_time left.times search.from search.to close))
+-- the root bound is a bound after an unsettled finding
+limited_bound : (net : Net) (budget : ℕ) (pair : Pair) (limit : Option ℤ) → IsRootBound net pair.from pair.to limit → IfSome limit IsTime
+    → IsGreatestFoundBy net budget findings.Unsettled pair (bounds.Within limit None)
+limited_bound net budget pair limit root within = record { bound = record { root = root; rests = refl; attained = tt }; shown = tt; times = (within, tt) }
+
+-- so the bound of what is found of a pair is right
+pub pair_right : (net : Net) (budget : ℕ) (word : FindingWord) (pair : Pair) (found : PairFound) → IsPairFound net budget word pair found
+    → IsGreatestFoundBy net budget word pair (pair_bound found)
+pair_right net budget word pair (Searched found) is =
+    subst (λ (w : FindingWord). IsGreatestFoundBy net budget w pair (greatest_bound found)) (sym is.0) (searched_bound net budget pair found is.1 is.2)
+pair_right net budget word pair (Limited limit) is =
+    subst (λ (w : FindingWord). IsGreatestFoundBy net budget w pair (bounds.Within limit None)) (sym is.0) (limited_bound net budget pair limit is.1 is.2)
+
+-- ---- with the reason
 
 -- times that attain the greatest separation are the best
-pub are_best : (net : Net) (word : FindingWord) (pair : Pair) (value : ℤ) (times : List ℤ) → IsClosedBy net word pair value times → AreBest net times pair.from pair.to
-are_best net word pair value times is = record {
-  satisfies = is.satisfied;
-  most = λ others sat. subst (λ z. separation others pair.from pair.to ≤ℤ z) (sym is.attained) (is.greatest.most others sat);
+pub are_best : (net : Net) (from to : EventId) (value : ℤ) (times : List ℤ) → IsAttainedBy net from to value times → AreBest net times from to
+are_best net from to value times is = record {
+  satisfies = is.satisfies;
+  most = λ others sat. subst (λ z. separation others from to ≤ℤ z) (sym is.attains) (is.greatest.most others sat);
 }
+
+pub closed_explained : (net : Net) (budget : ℕ) (pair : Pair) (value : ℤ) (times : List ℤ) (names : List EdgeName) (chain : Vec EdgeName) → chain.items ≡ names
+    → IsAttainedBy net pair.from pair.to value times → IsChain net times pair.from pair.to names → IsExplained net budget findings.Consistent pair (Closed value chain)
+closed_explained net budget pair value times names chain same is leads = record {
+  bound = record { bound = (refl, is.greatest); shown = tt; times = is.value_within };
+  behind = record { times = times; satisfied = is.satisfies; attained = is.attains; chain = subst (IsChain net times pair.from pair.to) (sym same) leads };
+}
+
+pub unbounded_explained : (net : Net) (budget : ℕ) (pair : Pair) (set : Vec Bool) → IsWithoutEnd net pair.from pair.to set.items
+    → IsExplained net budget findings.Consistent pair (Unbounded set)
+unbounded_explained net budget pair set is = record {
+  bound = searched_bound net budget pair (separations.Unbounded set) is tt;
+  behind = (is.times, is.satisfies, is.raises);
+}
+
+pub open_explained : (net : Net) (budget : ℕ) (pair : Pair) (limit : Option ℤ) (attained : ℤ) → IsLeftOpen net budget pair.from pair.to limit attained
+    → IsExplained net budget findings.Consistent pair (Within limit (Some attained))
+open_explained net budget pair limit attained is = record { bound = searched_bound net budget pair (separations.Open limit attained) tt is; behind = tt }
+
+pub limited_explained : (net : Net) (budget : ℕ) (word : FindingWord) (pair : Pair) (limit : Option ℤ) → IsPairFound net budget word pair (Limited limit)
+    → IsExplained net budget word pair (Within limit None)
+limited_explained net budget word pair limit is = record { bound = pair_right net budget word pair (Limited limit) is; behind = tt }
+
+-- what holds after a consistent finding holds after one with this word
+pub explained_after : (net : Net) (budget : ℕ) (word : FindingWord) (pair : Pair) (found : BoundFound) → word ≡ findings.Consistent → IsExplained net budget findings.Consistent pair found
+    → IsExplained net budget word pair found
+explained_after net budget word pair found is explained = subst (λ (w : FindingWord). IsExplained net budget w pair found) (sym is) explained
 
 -- ---- the other way round
 
@@ -97,110 +106,86 @@ attained_turned findings.Unsettled None h = h
 attained_turned findings.Unsettled (Some value) h = absurd (cc h)
 
 -- a greatest bound is right
-holds_by : (net : Net) (word : FindingWord) (from to : EventId) (value : Bound) (times : List ℤ) (set : List Bool) → IsGreatestBy net word (record { from = from; to = to }) value times set
-    → IsGreatestBound net from to value
-holds_by net word from to (bounds.Closed value) times set is = is.greatest
-holds_by net word from to bounds.Unbounded times set is = ray_is_unbounded net from to times set is.ray
-holds_by net word from to (bounds.Within limit attained) times set is = (is.root, is.attained)
-
--- a greatest bound with what stands behind it is right
-explained_holds : (net : Net) (word : FindingWord) (from to : EventId) (found : BoundFound) → IsExplained net word (record { from = from; to = to }) found
-    → IsGreatestBound net from to (bound_of found)
-explained_holds net word from to (Closed value chain) is = is.1
-explained_holds net word from to (Unbounded set) is = ray_is_unbounded net from to is.1.0 set.items is.1.2
-explained_holds net word from to (Within limit attained) is = (is.root, is.attained)
+holds_by : (net : Net) (word : FindingWord) (from to : EventId) (value : Bound) → IsGreatestBy net word (record { from = from; to = to }) value → IsGreatestBound net from to value
+holds_by net word from to (bounds.Closed value) is = is.1
+holds_by net word from to bounds.Unbounded is = is.1
+holds_by net word from to (bounds.Within limit attained) is = (is.root, is.attained)
 
 -- minus the greatest bound of the reversed pair is the least one
-least_holds : (net : Net) (word : FindingWord) (from to : EventId) (found : BoundFound) → IsExplained net word (record { from = to; to = from }) found
-    → IsLeastBound net from to (reversed (bound_of found))
-least_holds net word from to found is = (reversed_greatest_is_least net from to (bound_of found)).0 (explained_holds net word to from found is)
+least_holds : (net : Net) (word : FindingWord) (from to : EventId) (value : Bound) → IsGreatestBy net word (record { from = to; to = from }) value → IsLeastBound net from to (reversed value)
+least_holds net word from to value is = (reversed_greatest_is_least net from to value).0 (holds_by net word to from value is)
 
 -- a greatest bound of a row
-pub greatest_of : (net : Net) (word : FindingWord) (row : Row) (value : Bound) (times : List ℤ) (set : List Bool)
-    → IsGreatestBy net word (record { from = row.from; to = row.to }) value times set → IsBoundOf net word row greatest value
-greatest_of net word row (bounds.Closed value) times set is = (is.found, is.greatest)
-greatest_of net word row bounds.Unbounded times set is = is.found
-greatest_of net word row (bounds.Within limit attained) times set is = (is.root, is.rests)
+greatest_of : (net : Net) (word : FindingWord) (row : Row) (value : Bound) → IsGreatestBy net word (record { from = row.from; to = row.to }) value → IsBoundOf net word row greatest value
+greatest_of net word row (bounds.Closed value) is = is
+greatest_of net word row bounds.Unbounded is = is.0
+greatest_of net word row (bounds.Within limit attained) is = (is.root, is.rests)
 
 -- a least bound of a row, from the reversed pair
-pub least_of : (net : Net) (word : FindingWord) (row : Row) (most value : Bound) (times : List ℤ) (set : List Bool)
-    → IsGreatestBy net word (record { from = row.to; to = row.from }) value times set → IsBoundOf net word row (least_by most) (reversed value)
-least_of net word row most (bounds.Closed value) times set is =
-    (is.found, (least_is_reversed_greatest net row.from row.to (neg_ℤ value)).1 (subst (IsGreatest net row.to row.from) (sym (neg_neg value)) is.greatest))
-least_of net word row most bounds.Unbounded times set is = is.found
-least_of net word row most (bounds.Within limit attained) times set is =
-    (subst (IsRootBound net row.to row.from) (no_neg limit) is.root, attained_turned word attained is.rests)
+least_of : (net : Net) (word : FindingWord) (row : Row) (most value : Bound) → IsGreatestBy net word (record { from = row.to; to = row.from }) value
+    → IsBoundOf net word row (least_by most) (reversed value)
+least_of net word row most (bounds.Closed value) is =
+    (is.0, (least_is_reversed_greatest net row.from row.to (neg_ℤ value)).1 (subst (IsGreatest net row.to row.from) (sym (neg_neg value)) is.1))
+least_of net word row most bounds.Unbounded is = is.0
+least_of net word row most (bounds.Within limit attained) is = (subst (IsRootBound net row.to row.from) (no_neg limit) is.root, attained_turned word attained is.rests)
 
 -- what stands behind a greatest bound of a row
-greatest_right : (net : Net) (word : FindingWord) (row : Row) (found : BoundFound) → IsExplained net word (record { from = row.from; to = row.to }) found
-    → IsBoundOf net word row greatest (bound_of found) × IsBehind net row greatest found
-greatest_right net word row (Closed value chain) is = ((is.0, is.1), is.2)
-greatest_right net word row (Unbounded set) is = (is.0, is.1)
-greatest_right net word row (Within limit attained) is = ((is.root, is.rests), tt)
+behind_greatest : (net : Net) (row : Row) (found : BoundFound) → IsBehindPair net (record { from = row.from; to = row.to }) found → IsBehind net row greatest found
+behind_greatest net row (Closed value chain) is = is
+behind_greatest net row (Unbounded set) is = is
+behind_greatest net row (Within limit attained) is = is
 
--- and by the reversed pair for a least bound
-least_right : (net : Net) (word : FindingWord) (row : Row) (most : Bound) (found : BoundFound) → IsExplained net word (record { from = row.to; to = row.from }) found
-    → IsBoundOf net word row (least_by most) (bound_of (reversed_found found)) × IsBehind net row (least_by most) (reversed_found found)
-least_right net word row most (Closed value chain) is = (
-  (is.0, (least_is_reversed_greatest net row.from row.to (neg_ℤ value)).1 (subst (IsGreatest net row.to row.from) (sym (neg_neg value)) is.1)),
-  subst (λ z. Explains net row.to row.from z chain.items) (sym (neg_neg value)) is.2,
-)
-least_right net word row most (Unbounded set) is = (is.0, is.1)
-least_right net word row most (Within limit attained) is = ((subst (IsRootBound net row.to row.from) (no_neg limit) is.root, attained_turned word attained is.rests), tt)
+-- and by the reversed pair behind a least bound
+behind_least : (net : Net) (row : Row) (most : Bound) (found : BoundFound) → IsBehindPair net (record { from = row.to; to = row.from }) found
+    → IsBehind net row (least_by most) (reversed_found found)
+behind_least net row most (Closed value chain) is = subst (λ z. Explains net row.to row.from z chain.items) (sym (neg_neg value)) is
+behind_least net row most (Unbounded set) is = is
+behind_least net row most (Within limit attained) is = is
 
 turned_bound : (found : BoundFound) → bound_of (reversed_found found) ≡ reversed (bound_of found)
 turned_bound (Closed value chain) = refl
 turned_bound (Unbounded set) = refl
 turned_bound (Within limit attained) = refl
 
--- both with what stands behind them and with the lines that show them
-pub greatest_found : (net : Net) (budget : ℕ) (word : FindingWord) (row : Row) (found : BoundFound) → IsExplained net word (record { from = row.from; to = row.to }) found
-    → IsGreatestShown net budget (record { from = row.from; to = row.to }) (bound_of found) → IsBoundFound net budget word row greatest found
-greatest_found net budget word row found is shown =
-    let stands = greatest_right net word row found is in
-    record { holds = explained_holds net word row.from row.to found is; right = stands.0; behind = stands.1; shown = greatest_shown net budget row (bound_of found) shown }
+-- ---- bounds of a row
 
-pub least_found : (net : Net) (budget : ℕ) (word : FindingWord) (row : Row) (most : Bound) (found : BoundFound) → IsExplained net word (record { from = row.to; to = row.from }) found
-    → IsGreatestShown net budget (record { from = row.to; to = row.from }) (bound_of found) → IsBoundFound net budget word row (least_by most) (reversed_found found)
-least_found net budget word row most found is shown =
-    let stands = least_right net word row most found is in
+pub greatest_found : (net : Net) (budget : ℕ) (word : FindingWord) (row : Row) (found : BoundFound) → IsExplained net budget word (record { from = row.from; to = row.to }) found
+    → IsBoundFound net budget word row greatest found
+greatest_found net budget word row found is = record {
+  holds = holds_by net word row.from row.to (bound_of found) is.bound.bound;
+  right = greatest_of net word row (bound_of found) is.bound.bound;
+  behind = behind_greatest net row found is.behind;
+  shown = greatest_shown net budget row (bound_of found) is.bound.shown;
+}
+
+pub least_found : (net : Net) (budget : ℕ) (word : FindingWord) (row : Row) (most : Bound) (found : BoundFound) → IsExplained net budget word (record { from = row.to; to = row.from }) found
+    → IsBoundFound net budget word row (least_by most) (reversed_found found)
+least_found net budget word row most found is =
     let e : reversed (bound_of found) ≡ bound_of (reversed_found found) = sym (turned_bound found) in
     record {
-      holds = subst (IsLeastBound net row.from row.to) e (least_holds net word row.from row.to found is);
-      right = stands.0;
-      behind = stands.1;
-      shown = subst (IsBoundShown net budget row (least_by most)) e (least_shown net budget row most (bound_of found) shown);
+      holds = subst (IsLeastBound net row.from row.to) e (least_holds net word row.from row.to (bound_of found) is.bound.bound);
+      right = subst (λ (b : Bound). IsBoundOf net word row (least_by most) b) e (least_of net word row most (bound_of found) is.bound.bound);
+      behind = behind_least net row most found is.behind;
+      shown = subst (IsBoundShown net budget row (least_by most)) e (least_shown net budget row most (bound_of found) is.bound.shown);
     }
-
--- ---- both
 
 pair_of : (row : Row) (pair : Pair) → row.from ≡ pair.from → row.to ≡ pair.to → pair ≡ record { from = row.from; to = row.to }
 pair_of row pair f t = rw (f, t) refl
 
--- a greatest bound of a pair by a search of it
-pub record IsSearched (net : Net) (budget : ℕ) (word : FindingWord) (pair : Pair) (value : Bound) (times : List ℤ) (set : List Bool) : Type 0 where
-  pub bound : IsGreatestBy net word pair value times set
-  pub shown : IsGreatestShown net budget pair value
-
--- both bounds of a row, each by the search of a pair
-pub both_of : (net : Net) (budget : ℕ) (word : FindingWord) (pair turned : Pair) (row : Row) (most fewest least : Bound) (times others : List ℤ) (set flags : List Bool)
-    → turned ≡ record { from = pair.to; to = pair.from } → least ≡ reversed fewest → row.from ≡ pair.from → row.to ≡ pair.to
-    → IsSearched net budget word pair most times set → IsSearched net budget word turned fewest others flags
+-- both bounds of a row, each by what is found of a pair
+pub both_of : (net : Net) (budget : ℕ) (word : FindingWord) (pair turned : Pair) (row : Row) (most fewest least : Bound) → turned ≡ record { from = pair.to; to = pair.from }
+    → least ≡ reversed fewest → row.from ≡ pair.from → row.to ≡ pair.to → IsGreatestFoundBy net budget word pair most → IsGreatestFoundBy net budget word turned fewest
     → AreRowBounds net budget word row (record { least = least; greatest = most })
-both_of net budget word pair turned row most fewest least times others set flags same_turned same_least f t first second =
+both_of net budget word pair turned row most fewest least same_turned same_least f t first second =
     let same : pair ≡ record { from = row.from; to = row.to } = pair_of row pair f t in
     let other : turned ≡ record { from = row.to; to = row.from } = same_turned ∙ ap (λ (p : Pair). record { from = p.to; to = p.from }) same in
-    let one : IsSearched net budget word (record { from = row.from; to = row.to }) most times set = subst (λ (p : Pair). IsSearched net budget word p most times set) same first in
-    let two : IsSearched net budget word (record { from = row.to; to = row.from }) fewest others flags =
-    subst (λ (p : Pair). IsSearched net budget word p fewest others flags) other second in
+    let one : IsGreatestFoundBy net budget word (record { from = row.from; to = row.to }) most = subst (λ (p : Pair). IsGreatestFoundBy net budget word p most) same first in
+    let two : IsGreatestFoundBy net budget word (record { from = row.to; to = row.from }) fewest = subst (λ (p : Pair). IsGreatestFoundBy net budget word p fewest) other second in
     let turn : reversed fewest ≡ least = sym same_least in
     record {
-      holds = (
-        holds_by net word row.from row.to most times set one.bound,
-        subst (IsLeastBound net row.from row.to) turn ((reversed_greatest_is_least net row.from row.to fewest).0 (holds_by net word row.to row.from fewest others flags two.bound)),
-      );
-      greatest = greatest_of net word row most times set one.bound;
-      least = subst (λ (b : Bound). IsBoundOf net word row (least_by most) b) turn (least_of net word row most fewest others flags two.bound);
+      holds = (holds_by net word row.from row.to most one.bound, subst (IsLeastBound net row.from row.to) turn (least_holds net word row.from row.to fewest two.bound));
+      greatest = greatest_of net word row most one.bound;
+      least = subst (λ (b : Bound). IsBoundOf net word row (least_by most) b) turn (least_of net word row most fewest two.bound);
       greatest_shown = greatest_shown net budget row most one.shown;
       least_shown = subst (IsBoundShown net budget row (least_by most)) turn (least_shown net budget row most fewest two.shown);
     }

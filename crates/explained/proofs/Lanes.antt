@@ -16,7 +16,7 @@ use Rattle.explained.specs.declared.bound.BoundFound.{BoundFound}
 use Rattle.explained.specs.declared.desk.Desk.{Desk}
 use Rattle.explained.specs.declared.pair.Pair.{Pair}
 use Rattle.explained.specs.declared.row.RowFound.{RowFound}
-use Rattle.explained.specs.Step.Bounding.{IsExplained, IsGreatestShown, reversed_found}
+use Rattle.explained.specs.Step.Bounding.{IsExplained, reversed_found}
 use Rattle.explained.specs.declared.searches.Searches.{Searches}
 use Rattle.explained.specs.Step.Standing.{IsReady, KeepsFinding, KeepsFindings, word_apart, word_in}
 use Rattle.explained.specs.Step.Resting.{AreBoundsApart}
@@ -39,28 +39,23 @@ both_found net budget word row most fewest first second = record {
   least_shown = second.shown;
 }
 
--- what the search of a pair finds, with its reason and the lines that show it
-pub record IsFoundBy (net : Net) (budget : ℕ) (word : FindingWord) (pair : Pair) (found : BoundFound) : Type 0 where
-  pub explained : IsExplained net word pair found
-  pub shown : IsGreatestShown net budget pair (bound_of found)
-
 -- what is found of a row: by the searches of its pair and of the reversed one, and by its bounds in the network apart
 pub row_found : (drawn : Drawn) (net apart : Net) (budget : ℕ) (word there : FindingWord) (row : Row) (turned : Pair) (most searched fewest : BoundFound) (both : BothBounds) (rests : Option BothBounds)
     → net ≡ drawn.net → apart ≡ net_apart drawn → turned ≡ record { from = row.to; to = row.from } → fewest ≡ reversed_found searched
     → both ≡ record { least = bound_of fewest; greatest = bound_of most }
-    → IsFoundBy net budget word (record { from = row.from; to = row.to }) most → IsFoundBy net budget word turned searched
+    → IsExplained net budget word (record { from = row.from; to = row.to }) most → IsExplained net budget word turned searched
     → (AreRowBounds drawn.net budget word row both → AreBoundsApart apart budget there row row.kind both rests)
     → IsRowFound drawn budget word there row (record { greatest = most; least = fewest; apart = rests })
 row_found drawn net apart budget word there row turned most searched fewest both rests same_net same_apart same_turned same_fewest same_both first second tells =
     let straight : Pair = record { from = row.from; to = row.to } in
     let back : Pair = record { from = row.to; to = row.from } in
-    let one_by : IsFoundBy drawn.net budget word straight most = subst (λ (n : Net). IsFoundBy n budget word straight most) same_net first in
-    let two_by : IsFoundBy drawn.net budget word back searched =
-    subst (λ (n : Net). IsFoundBy n budget word back searched) same_net (subst (λ (p : Pair). IsFoundBy net budget word p searched) same_turned second) in
-    let one : IsBoundFound drawn.net budget word row greatest most = greatest_found drawn.net budget word row most one_by.explained one_by.shown in
+    let one_by : IsExplained drawn.net budget word straight most = subst (λ (n : Net). IsExplained n budget word straight most) same_net first in
+    let two_by : IsExplained drawn.net budget word back searched =
+    subst (λ (n : Net). IsExplained n budget word back searched) same_net (subst (λ (p : Pair). IsExplained net budget word p searched) same_turned second) in
+    let one : IsBoundFound drawn.net budget word row greatest most = greatest_found drawn.net budget word row most one_by in
     let two : IsBoundFound drawn.net budget word row (least_by (bound_of most)) fewest =
     subst (λ (f : BoundFound). IsBoundFound drawn.net budget word row (least_by (bound_of most)) f) (sym same_fewest)
-    (least_found drawn.net budget word row (bound_of most) searched two_by.explained two_by.shown) in
+    (least_found drawn.net budget word row (bound_of most) searched two_by) in
     let bounds : AreRowBounds drawn.net budget word row both = subst (λ (b : BothBounds). AreRowBounds drawn.net budget word row b) (sym same_both) (both_found drawn.net budget word row most fewest one two) in
     let is_told : AreBoundsApart (net_apart drawn) budget there row row.kind (record { least = bound_of fewest; greatest = bound_of most }) rests =
     subst (λ (n : Net). AreBoundsApart n budget there row row.kind (record { least = bound_of fewest; greatest = bound_of most }) rests) same_apart
@@ -77,10 +72,10 @@ rows_more drawn budget word there (r ∷ rows) (f ∷ found) row last before is 
 
 -- what a desk finds of a row, and of rows
 abbrev pub FindsRow : Drawn → Desk → Row → RowFound → Type 0
-FindsRow drawn desk row found = IsRowFound drawn desk.searches.budget desk.searches.word (word_apart desk) row found
+FindsRow drawn desk row found = IsRowFound drawn desk.searches.extremes.budget desk.searches.word (word_apart desk) row found
 
 abbrev pub FindsRows : Drawn → Desk → List Row → List RowFound → Type 0
-FindsRows drawn desk rows found = AreRowsFound drawn desk.searches.budget desk.searches.word (word_apart desk) rows found
+FindsRows drawn desk rows found = AreRowsFound drawn desk.searches.extremes.budget desk.searches.word (word_apart desk) rows found
 
 -- the first `count` rows are found; the desk keeps the findings and the budget of the first one
 pub record AreSoFar (drawn : Drawn) (first : Desk) (count : ℕ) (rows : List Row) (found : List RowFound) (desk : Desk) : Type 0 where
@@ -93,8 +88,8 @@ pub record AreSoFar (drawn : Drawn) (first : Desk) (count : ℕ) (rows : List Ro
 by_first : (drawn : Drawn) (first desk : Desk) (row : Row) (last : RowFound) → KeepsFindings first desk → FindsRow drawn desk row last → FindsRow drawn first row last
 by_first drawn first desk row last kept is =
     subst (λ b. IsRowFound drawn b first.searches.word (word_apart first) row last) kept.whole.budget
-    (subst (λ (w : FindingWord). IsRowFound drawn desk.searches.budget w (word_apart first) row last) kept.whole.word
-    (subst (λ (w : FindingWord). IsRowFound drawn desk.searches.budget desk.searches.word w row last) kept.apart is))
+    (subst (λ (w : FindingWord). IsRowFound drawn desk.searches.extremes.budget w (word_apart first) row last) kept.whole.word
+    (subst (λ (w : FindingWord). IsRowFound drawn desk.searches.extremes.budget desk.searches.word w row last) kept.apart is))
 
 kept_twice : (first desk after : Desk) → KeepsFindings first desk → KeepsFindings desk after → KeepsFindings first after
 kept_twice first desk after one two = record {
@@ -109,7 +104,7 @@ one_more drawn first count rows found more desk after row last within at so_far 
     let next : take (count + 1) rows ≡ take count rows ++ row ∷ [] = take_more rows count row within ∙ ap (λ (r : Row). take count rows ++ r ∷ []) (sym at) in
     let here : FindsRow drawn first row last = by_first drawn first desk row last so_far.kept is in
     let both : FindsRows drawn first (take count rows ++ row ∷ []) (found ++ last ∷ []) =
-    rows_more drawn first.searches.budget first.searches.word (word_apart first) (take count rows) found row last so_far.are here in
+    rows_more drawn first.searches.extremes.budget first.searches.word (word_apart first) (take count rows) found row last so_far.are here in
     record {
       ready = ready;
       kept = kept_twice first desk after so_far.kept kept;

@@ -21,10 +21,11 @@ use Rattle.slack_report.specs.declared.words.FindingWord.TheVariants as findings
 use Rattle.right_report.specs.Right.ReportState.{NextBound, greatest, least_by}
 use Rattle.right_report.specs.Right.LineClaims.{HasAttained, IsBoundOf}
 use Rattle.right_report.specs.Shown.{goal_of}
+use Rattle.extremes.specs.Found.{IsFindingOpen}
 use Rattle.origin.specs.declared.origin.Origin.{Origin}
 use Rattle.drawn.specs.Drawn.{Drawn}
 use Rattle.drawn.specs.declared.row.Row.{Row}
-use Rattle.explained.specs.Answers.{AreFound, AreRowsFound, AreSettledApart, FoundSettles, IsApart, IsApartOf, IsBoundSettled, IsBoundShown, IsFindingFound, IsFindingShown, IsRowFound, IsRowSettled, RestsOnOrder, SettlesWithin, bound_of, verdict_in}
+use Rattle.explained.specs.Answers.{AreFound, AreRowsFound, AreSettledApart, FoundSettles, IsApart, IsApartOf, IsBoundSettled, IsBoundShown, IsFindingFound, IsRowFound, IsRowSettled, IsWordFound, RestsOnOrder, SettlesWithin, bound_of, verdict_in}
 use Rattle.explained.specs.Apart.{constraints_apart, keeps_order, net_apart}
 use Rattle.explained.specs.declared.finding.Finding.{Finding}
 use Rattle.explained.specs.declared.finding.Finding.TheVariants.{Consistent, Inconsistent, Unsettled}
@@ -34,9 +35,9 @@ use Rattle.explained.proofs.Wider.{is_net_apart}
 
 -- ---- one search
 
--- after an unsettled finding the budget was used up
-unsettled_below : (net : Net) (budget : ℕ) → IsNet net → IsFindingShown net budget findings.Unsettled → budget < cause_choices net.constraints
-unsettled_below net budget is_net shown = stopped_proof_is_below_choices net Nothing shown.0 budget is_net shown.1
+-- where a finding is open the budget was used up
+unsettled_below : (net : Net) (budget : ℕ) → IsNet net → IsFindingOpen net budget → budget < cause_choices net.constraints
+unsettled_below net budget is_net found = stopped_proof_is_below_choices net Nothing found.stopped.0 budget is_net found.stopped.1
 
 -- a bound without an attained number stands only after an unsettled finding
 unsettled_by : (word : FindingWord) → HasAttained word None → word ≡ findings.Unsettled
@@ -81,11 +82,11 @@ suffices_apart drawn budget is_net enough =
     omega (arith, fewer, enough)
 
 -- so a finding that is searched there is settled
-apart_settles : (drawn : Drawn) (budget : ℕ) (word : FindingWord) → IsNet drawn.net → cause_choices drawn.net.constraints ≤ budget → IsFindingShown (net_apart drawn) budget word
+apart_settles : (drawn : Drawn) (budget : ℕ) (word : FindingWord) → IsNet drawn.net → cause_choices drawn.net.constraints ≤ budget → IsWordFound (net_apart drawn) budget word
     → word ≡ findings.Unsettled → ⊥
-apart_settles drawn budget word is_net enough shown unsettled =
+apart_settles drawn budget word is_net enough found unsettled =
     let below : budget < cause_choices (net_apart drawn).constraints =
-    unsettled_below (net_apart drawn) budget (is_net_apart drawn is_net) (subst (IsFindingShown (net_apart drawn) budget) unsettled shown) in
+    unsettled_below (net_apart drawn) budget (is_net_apart drawn is_net) (subst (IsWordFound (net_apart drawn) budget) unsettled found) in
     let fewer = suffices_apart drawn budget is_net enough in
     omega (arith, below, fewer)
 
@@ -132,11 +133,11 @@ module _ (drawn : Drawn) (budget : ℕ) (word word_apart : FindingWord) (is_net 
 
 pub found_settles : FoundSettles
 found_settles drawn budget Consistent found is_net finding are enough =
-    let settled_apart : are.word_apart ≡ findings.Unsettled → ⊥ = apart_settles drawn budget are.word_apart is_net enough are.finding_apart.shown in
+    let settled_apart : are.word_apart ≡ findings.Unsettled → ⊥ = apart_settles drawn budget are.word_apart is_net enough are.finding_apart in
     ((λ e. cc e), rows_settled drawn budget findings.Consistent are.word_apart is_net enough (λ e. cc e) settled_apart drawn.rows found are.rows)
 found_settles drawn budget (Inconsistent set) found is_net finding are enough = ((λ e. cc e), subst (All IsRowSettled) (sym are) (λ k d within. absurd (omega arith)))
 found_settles drawn budget Unsettled found is_net finding are enough =
-    let below : budget < cause_choices drawn.net.constraints = unsettled_below drawn.net budget is_net finding.shown in
+    let below : budget < cause_choices drawn.net.constraints = unsettled_below drawn.net budget is_net finding in
     absurd (omega (arith, below, enough))
 
 -- so it is with what a network gives, if memory lasts

@@ -1,68 +1,51 @@
 -- Findings, of a drawn network and of its network apart from the order of lanes.
-use Rattle.std.proofs.Common.{◌≡◌, ℕ, ℤ, Bool, false, List, length, get_or, replicate, Option, Some, None, refl, sym, subst, ◌∙◌, arith}
-use Rattle.std.proofs.Common.{inl, inr}
-use Rattle.std.proofs.lemmas.Bool.{cases_lt, false≢true}
-use Rattle.std.proofs.lemmas.List.{get_or-replicate, get_or_past, length-replicate}
-use Rattle.std.specs.Prelude.{IfSome, IsSomeAnd}
-use Rattle.event_graph.specs.Network.{Net}
-use Rattle.event_graph.specs.Satisfying.{Satisfies}
-use Rattle.slack_report.specs.declared.words.FindingWord.{FindingWord}
-use Rattle.slack_report.specs.declared.words.FindingWord.TheVariants as findings
-use Rattle.right_report.specs.Right.LineClaims.{IsFinding}
-use Rattle.branch.specs.Answers.{Finds}
-use Rattle.branch.specs.declared.answer.SearchFinding.{SearchFinding}
-use Rattle.branch.specs.declared.answer.SearchFinding.TheVariants as founds
-use Rattle.event_graph.specs.Proof.{ProofLine}
-use Rattle.chains.specs.Named.{HasMarked, IsIn, IsRefuting}
-use Rattle.drawn.specs.Drawn.{Drawn}
-use Rattle.requirements.specs.declared.bound.BothBounds.{BothBounds}
-use Rattle.requirements.specs.declared.verdict.Verdict.TheVariants as verdicts
+use Rattle.std.proofs.Common.{◌≡◌, ℕ, Bool, List, Option, Some, None, refl, sym, subst}
+use Rattle.std.specs.Prelude.{IfSome}
 use Rattle.itv_base.specs.Range.{Ends}
 use Rattle.itv_base.specs.declared.row_kind.RowKind.{RowKind}
 use Rattle.itv_base.specs.declared.row_kind.RowKind.TheVariants as kinds
+use Rattle.event_graph.proofs.EdgesMet.{All-found}
+use Rattle.event_graph.specs.Bounds.{IsInconsistent}
+use Rattle.event_graph.specs.Network.{Net}
+use Rattle.event_graph.specs.Satisfying.{Holds}
+use Rattle.extremes.specs.Found.{IsContradictionFound}
+use Rattle.extremes.specs.declared.extremes.Extremes.{Extremes}
+use Rattle.requirements.specs.declared.bound.BothBounds.{BothBounds}
+use Rattle.requirements.specs.declared.verdict.Verdict.TheVariants as verdicts
+use Rattle.slack_report.specs.declared.words.FindingWord.{FindingWord}
+use Rattle.slack_report.specs.declared.words.FindingWord.TheVariants as findings
+use Rattle.drawn.specs.Drawn.{Drawn}
 use Rattle.drawn.specs.declared.row.Row.{Row}
-use Rattle.explained.specs.Answers.{FindingHolds, IsFindingApart, IsFindingFound, IsFindingShown, IsShownApart, RestsOnOrder, verdict_by, word_of}
-use Rattle.explained.specs.declared.finding.Finding.{Finding}
+use Rattle.explained.specs.Answers.{IsFindingApart, IsWordFound, RestsOnOrder, verdict_by}
 use Rattle.explained.specs.Apart.{net_apart}
 use Rattle.explained.specs.declared.desk.Apart.{Apart}
+use Rattle.explained.specs.declared.searches.Searches.{Searches}
 use Rattle.explained.specs.Step.Resting.{AreBoundsApart}
-use Rattle.jobs.specs.Found.{found_word}
-use Rattle.explained.specs.Step.Standing.{FindingAllows, HasFound, HasSameBudget, IsSettledApart, net_in, word_in}
+use Rattle.explained.specs.Step.Standing.{FindingAllows, HasFound, HasSameBudget, IsFresh, IsSearchable, IsSearchableAfter, IsSettledApart, net_in, word_in}
 use Rattle.explained.proofs.Wider.{always_is_wider, apart_is_wider}
 
--- what the search for times finds
-pub has_found : (net : Net) (budget leaves : ℕ) (lines : List ProofLine) (known : Option (List ℤ)) (found : SearchFinding) → Finds net budget lines leaves known found
-    → HasFound net (found_word found) known
-has_found net budget leaves lines known founds.Consistent f = f.satisfies
-has_found net budget leaves lines known founds.Inconsistent f = f.none
-has_found net budget leaves lines known founds.Unsettled f = f.always
+-- where some constraints contradict each other no times satisfy
+pub contradiction_is_inconsistent : (net : Net) (budget : ℕ) (set : List Bool) → IsContradictionFound net budget set → IsInconsistent net
+contradiction_is_inconsistent net budget set is times sat =
+    is.contradicts times (record { count = sat.count; each = λ number c is_in at. All-found (Holds times) net.constraints number c at sat.each })
 
-known_allows : (net : Net) (known : Option (List ℤ)) → IsSomeAnd known (λ times. Satisfies times net) → FindingAllows net findings.Consistent
-known_allows net None sat = absurd sat
-known_allows net (Some times) sat = (times, sat)
+-- after a finding that is not inconsistent bounds can be found
+pub found_searchable : (net : Net) (word : FindingWord) (extremes : Extremes) → HasFound net word extremes → (word ≡ findings.Inconsistent → ⊥) → IsSearchableAfter net word extremes
+found_searchable net findings.Consistent extremes found settled = found
+found_searchable net findings.Inconsistent extremes found settled = settled refl
+found_searchable net findings.Unsettled extremes found settled = (found.0, found.1.always)
 
--- a finding that is not inconsistent allows times
-pub found_allows : (net : Net) (word : FindingWord) (known : Option (List ℤ)) → HasFound net word known → (word ≡ findings.Inconsistent → ⊥) → FindingAllows net word
-found_allows net findings.Consistent known found settled = known_allows net known found
-found_allows net findings.Inconsistent known found settled = settled refl
-found_allows net findings.Unsettled known found settled = found
+-- and it allows times
+pub found_allows : (net : Net) (word : FindingWord) (extremes : Extremes) → HasFound net word extremes → (word ≡ findings.Inconsistent → ⊥) → FindingAllows net word
+found_allows net findings.Consistent extremes found settled = found.consistent
+found_allows net findings.Inconsistent extremes found settled = settled refl
+found_allows net findings.Unsettled extremes found settled = found.1.always
 
 -- where times satisfy, a finding is not inconsistent
-pub not_inconsistent : (net : Net) (word : FindingWord) (known : Option (List ℤ)) → FindingAllows net findings.Consistent → HasFound net word known → FindingAllows net word
-not_inconsistent net findings.Consistent known allows found = allows
-not_inconsistent net findings.Inconsistent known allows found = found allows.0 allows.1
-not_inconsistent net findings.Unsettled known allows found = found
-
--- what a finding of a report says
-pub is_finding : (net : Net) (word : FindingWord) → FindingAllows net word → IsFinding net word
-is_finding net findings.Consistent allows = tt
-is_finding net findings.Inconsistent allows = absurd allows
-is_finding net findings.Unsettled allows = allows
-
--- a finding that is right and shown is found
-pub finding_found : (net : Net) (budget : ℕ) (word : FindingWord) (finding : Finding) → word ≡ word_of finding → FindingHolds net finding → IsFindingShown net budget word
-    → IsFindingFound net budget finding
-finding_found net budget word finding is holds shown = record { holds = holds; shown = subst (IsFindingShown net budget) is shown }
+pub not_inconsistent : (net : Net) (word : FindingWord) (extremes : Extremes) → FindingAllows net findings.Consistent → HasFound net word extremes → word ≡ findings.Inconsistent → ⊥
+not_inconsistent net findings.Consistent extremes allows found is = cc is
+not_inconsistent net findings.Inconsistent extremes allows found is = found.none allows.0 allows.1
+not_inconsistent net findings.Unsettled extremes allows found is = cc is
 
 -- ---- apart
 
@@ -87,63 +70,47 @@ rests_within net spent budget word row range rests same is = subst (λ (b : ℕ)
 
 -- a requirement that passes in the drawn network has the bounds apart by which it rests on the order, or not
 pub judged_apart : (apart : Apart) (there : Option Apart) (row : Row) (kind : RowKind) (range : Ends) (both : BothBounds) (rests : Option BothBounds)
-    → there ≡ Some apart → kind ≡ kinds.Req range → verdict_by range both ≡ verdicts.Pass → RestsOnOrder apart.net apart.searches.budget apart.searches.word row range rests
+    → there ≡ Some apart → kind ≡ kinds.Req range → verdict_by range both ≡ verdicts.Pass → RestsOnOrder apart.net apart.searches.extremes.budget apart.searches.word row range rests
     → (net : Net) (budget : ℕ) (word : FindingWord) → HasSameBudget budget there → AreBoundsApart (net_in net there) budget (word_in word there) row kind both rests
 judged_apart apart there row kind range both rests same_there same_kind passes is net budget word has =
-    let same : apart.searches.budget ≡ budget = subst (HasSameBudget budget) same_there has in
-    rw (same_there, same_kind, passes) (rests_within apart.net apart.searches.budget budget apart.searches.word row range rests same is)
+    let same : apart.searches.extremes.budget ≡ budget = subst (HasSameBudget budget) same_there has in
+    rw (same_there, same_kind, passes) (rests_within apart.net apart.searches.extremes.budget budget apart.searches.word row range rests same is)
 
 -- ---- the finding of the network apart
 
--- after a consistent finding of the drawn network it is searched
-pub searched_apart : (net : Net) (spent budget : ℕ) (there : FindingWord) (known : Option (List ℤ)) → FindingAllows net findings.Consistent → HasFound net there known
-    → IsFindingShown net spent there → spent ≡ budget → IsFindingApart net budget findings.Consistent there
-searched_apart net spent budget there known allows found shown same = record {
-  holds = is_finding net there (not_inconsistent net there known allows found);
-  shown = subst (λ (b : ℕ). IsFindingShown net b there) same shown;
-}
+-- what a search finds of a network that is not inconsistent
+word_found : (net : Net) (word : FindingWord) (extremes : Extremes) → HasFound net word extremes → (word ≡ findings.Inconsistent → ⊥) → IsWordFound net extremes.budget word
+word_found net findings.Consistent extremes found settled = found.consistent
+word_found net findings.Inconsistent extremes found settled = settled refl
+word_found net findings.Unsettled extremes found settled = found.1
+
+-- after a consistent finding of the drawn network the network apart is searched
+pub searched_apart : (net : Net) (budget : ℕ) (there : FindingWord) (extremes : Extremes) → FindingAllows net findings.Consistent → HasFound net there extremes → extremes.budget ≡ budget
+    → IsFindingApart net budget findings.Consistent there
+searched_apart net budget there extremes allows found same =
+    subst (λ (b : ℕ). IsWordFound net b there) same (word_found net there extremes found (not_inconsistent net there extremes allows found))
+
+-- so bounds can be found there
+pub searchable_apart : (net : Net) (there : FindingWord) (extremes : Extremes) → FindingAllows net findings.Consistent → HasFound net there extremes → IsSearchableAfter net there extremes
+searchable_apart net there extremes allows found = found_searchable net there extremes found (not_inconsistent net there extremes allows found)
 
 -- after an unsettled one it is not
 pub unsettled_apart : (net : Net) (budget : ℕ) (there : FindingWord) → FindingAllows net findings.Unsettled → there ≡ findings.Unsettled
     → IsFindingApart net budget findings.Unsettled there
-unsettled_apart net budget there allows same = record { holds = subst (IsFinding net) (sym same) (is_finding net findings.Unsettled allows); shown = same }
+unsettled_apart net budget there allows same = (same, allows)
 
--- after a finding that is not inconsistent a network apart that is the drawn one has this finding too
-whole_shown : (net : Net) (budget : ℕ) (word : FindingWord) → FindingAllows net word → IsFindingShown net budget word → IsShownApart net budget word word
-whole_shown net budget findings.Consistent allows shown = shown
-whole_shown net budget findings.Inconsistent allows shown = allows
-whole_shown net budget findings.Unsettled allows shown = refl
+-- and bounds can be found as limits
+pub unsettled_searchable : (net : Net) (searches : Searches) → FindingAllows net findings.Unsettled → IsFresh net searches → IsSearchable net searches
+unsettled_searchable net searches allows fresh = subst (λ (w : FindingWord). IsSearchableAfter net w searches.extremes) (sym fresh.unsettled) (fresh.made, allows)
 
-pub finding_apart : (drawn : Drawn) (budget : ℕ) (word : FindingWord) (apart : Option Apart) → net_in drawn.net apart ≡ net_apart drawn → FindingAllows drawn.net word
-    → IsFindingShown drawn.net budget word → IsSettledApart budget word apart → IsFindingApart (net_apart drawn) budget word (word_in word apart)
-finding_apart drawn budget word None is allows shown settled =
-    subst (λ (n : Net). IsFindingApart n budget word word) is (record { holds = is_finding drawn.net word allows; shown = whole_shown drawn.net budget word allows shown })
-finding_apart drawn budget word (Some a) is allows shown settled = subst (λ (n : Net). IsFindingApart n budget word a.searches.word) is settled
+-- a network apart that is the drawn one has its finding
+whole_apart : (net : Net) (word : FindingWord) (extremes : Extremes) → HasFound net word extremes → (word ≡ findings.Inconsistent → ⊥) → IsFindingApart net extremes.budget word word
+whole_apart net findings.Consistent extremes found settled = found.consistent
+whole_apart net findings.Inconsistent extremes found settled = settled refl
+whole_apart net findings.Unsettled extremes found settled = (refl, found.1.always)
 
--- ---- marks
-
-not_word : (found : SearchFinding) → found_word found ≡ findings.Inconsistent → found ≡ founds.Inconsistent
-not_word founds.Consistent is = absurd (cc is)
-not_word founds.Inconsistent is = refl
-not_word founds.Unsettled is = absurd (cc is)
-
--- no flag of a marking that begins is set
-none_in : (count number : ℕ) → IsIn (replicate count false) number → ⊥
-none_in count number is_in = elim (cases_lt number count) [
-  | inl below ↦ false≢true (sym (get_or-replicate count number false false below) ∙ is_in)
-  | inr past ↦ false≢true (sym (get_or_past (replicate count false) number false (omega (arith, length-replicate {A = Bool}))) ∙ is_in)
-]
-
--- where a search found no times, the constraints that its lines name refute the network
-pub marks_refute : (net : Net) (budget leaves : ℕ) (lines : List ProofLine) (known : Option (List ℤ)) (found : SearchFinding) (word : FindingWord) (old new : List Bool)
-    → word ≡ found_word found → Finds net budget lines leaves known found → old ≡ replicate (length net.constraints) false → HasMarked old lines new
-    → word ≡ findings.Inconsistent → IsRefuting net new
-marks_refute net budget leaves lines known found word old new is finds fresh marked none =
-    let found_none : found ≡ founds.Inconsistent = not_word found (sym is ∙ none) in
-    let f : Finds net budget lines leaves known founds.Inconsistent = subst (λ (x : SearchFinding). Finds net budget lines leaves known x) found_none finds in
-    let before : (number : ℕ) → IsIn old number → ⊥ = λ number is_in. none_in (length net.constraints) number (subst (λ set. IsIn set number) fresh is_in) in
-    record {
-      lines = lines;
-      proof = f.proof;
-      named = record { named = marked.named; only = λ number is_in. elim (marked.fresh number is_in) [ inl old ↦ absurd (before number old) | inr named ↦ named ] };
-    }
+pub finding_apart : (drawn : Drawn) (word : FindingWord) (extremes : Extremes) (apart : Option Apart) → net_in drawn.net apart ≡ net_apart drawn → HasFound drawn.net word extremes
+    → (word ≡ findings.Inconsistent → ⊥) → IsSettledApart extremes.budget word apart → IsFindingApart (net_apart drawn) extremes.budget word (word_in word apart)
+finding_apart drawn word extremes None is found not_none settled =
+    subst (λ (n : Net). IsFindingApart n extremes.budget word word) is (whole_apart drawn.net word extremes found not_none)
+finding_apart drawn word extremes (Some a) is found not_none settled = subst (λ (n : Net). IsFindingApart n extremes.budget word a.searches.word) is settled

@@ -13,8 +13,8 @@ use Rattle.event_graph.specs.RootBound.{MeetsAlways}
 use Rattle.event_graph.specs.Satisfying.{Satisfies}
 use Rattle.event_graph.specs.Times.{separation}
 use Rattle.chains.specs.Chain.{IsChain}
-use Rattle.chains.specs.Named.{IsRefuting}
-use Rattle.requirements.specs.Bounds.{HasTimes, IsGreatestBound, IsLeastBound}
+use Rattle.extremes.specs.Found.{CanRise, IsContradictionFound, IsFindingOpen}
+use Rattle.requirements.specs.Bounds.{HasTimes, IsAttained, IsGreatestBound, IsLeastBound}
 use Rattle.requirements.specs.Verdicts.{verdict_of}
 use Rattle.requirements.specs.declared.bound.BothBounds.{BothBounds}
 use Rattle.requirements.specs.declared.bound.Bound.{Bound}
@@ -23,9 +23,9 @@ use Rattle.requirements.specs.declared.verdict.Verdict.{Verdict}
 use Rattle.requirements.specs.declared.verdict.Verdict.TheVariants as verdicts
 use Rattle.slack_report.specs.declared.words.FindingWord.{FindingWord}
 use Rattle.slack_report.specs.declared.words.FindingWord.TheVariants as findings
-use Rattle.right_report.specs.Right.ReportState.{NextBound, greatest, least_by}
-use Rattle.right_report.specs.Right.LineClaims.{IsBoundOf, IsFinding}
-use Rattle.right_report.specs.Shown.{ShowsBound, ShowsFinding}
+use Rattle.right_report.specs.Right.ReportState.{NextBound, greatest, is_within, least_by}
+use Rattle.right_report.specs.Right.LineClaims.{IsBoundOf}
+use Rattle.right_report.specs.Shown.{ShowsBound}
 use Rattle.drawn.specs.Drawn.{Drawn}
 use Rattle.drawn.specs.declared.row.Row.{Row}
 use Rattle.explained.specs.Apart.{net_apart}
@@ -37,26 +37,17 @@ use Rattle.explained.specs.declared.row.RowFound.{RowFound}
 
 -- ---- the finding
 
--- some times satisfy; or a proof shows that none do, and the set has just the constraints that it names, so they contradict each other by themselves;
--- or, unsettled, some times meet all always-edges
-abbrev pub FindingHolds : Net → Finding → Type 0
-FindingHolds net Consistent = (times : List ℤ) × Satisfies times net
-FindingHolds net (Inconsistent set) = (length set.items ≡ length net.constraints) × IsRefuting net set.items
-FindingHolds net Unsettled = (times : List ℤ) × MeetsAlways times net
-
 abbrev pub word_of : Finding → FindingWord
 word_of Consistent = findings.Consistent
 word_of (Inconsistent set) = findings.Inconsistent
 word_of Unsettled = findings.Unsettled
 
--- the lines of some search show a finding within a budget, as in job bounds: an unsettled one has a stopped proof that used the budget up
-abbrev pub IsFindingShown : Net → ℕ → FindingWord → Type 0
-IsFindingShown net budget word = (lines : List ProofLine) × ShowsFinding net budget lines word
-
--- a finding is right, and a search within the budget makes it
-pub record IsFindingFound (net : Net) (budget : ℕ) (finding : Finding) : Type 0 where
-  pub holds : FindingHolds net finding
-  pub shown : IsFindingShown net budget (word_of finding)
+-- A finding is right. Some times satisfy; or the constraints of the set contradict each other by themselves; or it was left open, and some times meet all
+-- always-edges. It is open only where a stopped proof used the budget up.
+abbrev pub IsFindingFound : Net → ℕ → Finding → Type 0
+IsFindingFound net budget Consistent = (times : List ℤ) × Satisfies times net
+IsFindingFound net budget (Inconsistent set) = IsContradictionFound net budget set.items
+IsFindingFound net budget Unsettled = IsFindingOpen net budget
 
 -- ---- a bound
 
@@ -68,17 +59,14 @@ pub record Explains (net : Net) (from to : EventId) (value : ℤ) (names : List 
   pub attained : separation times from to ≡ value
   pub chain : IsChain net times from to names
 
--- the events of a set can be raised by any number from satisfying times
-abbrev pub CanRise : Net → EventId → EventId → List Bool → Type 0
-CanRise net from to set = (times : List ℤ) × Satisfies times net × IsRay net from to times set
-
--- what stands behind a bound; for a least separation this is what stands behind the greatest one of the reversed pair, which is minus it
+-- What stands behind a bound; for a least separation this is what stands behind the greatest one of the reversed pair, which is minus it. Behind a bound
+-- that was left open stand times that attain the attained number, if there is one.
 abbrev pub IsBehind : Net → Row → NextBound → BoundFound → Type 0
 IsBehind net row greatest (Closed value chain) = Explains net row.from row.to value chain.items
 IsBehind net row (least_by most) (Closed value chain) = Explains net row.to row.from (neg_ℤ value) chain.items
 IsBehind net row greatest (Unbounded set) = CanRise net row.from row.to set.items
 IsBehind net row (least_by most) (Unbounded set) = CanRise net row.to row.from set.items
-IsBehind net row side (Within limit attained) = Unit {0}
+IsBehind net row side (Within limit attained) = IfSome attained (IsAttained net row.from row.to)
 
 -- the bound alone, without its reason
 abbrev pub bound_of : BoundFound → Bound
@@ -86,19 +74,12 @@ bound_of (Closed value chain) = bounds.Closed value
 bound_of (Unbounded set) = bounds.Unbounded
 bound_of (Within limit attained) = bounds.Within limit attained
 
--- a bound of a row on one side is right
-abbrev pub BoundHolds : Net → Row → NextBound → Bound → Type 0
-BoundHolds net row greatest value = IsGreatestBound net row.from row.to value
-BoundHolds net row (least_by most) value = IsLeastBound net row.from row.to value
-
--- the lines of some search show a bound of a row within a budget, as in job bounds: one that was left open with an attained number has a stopped proof
--- that used the budget up; there are no lines after an unsettled finding
+-- the lines of some search show a bound of a row that was left open: a stopped proof of the attained number used the budget up
 abbrev pub IsBoundShown : Net → ℕ → Row → NextBound → Bound → Type 0
-IsBoundShown net budget row side bound = (lines : List ProofLine) × ShowsBound net budget lines row side bound
+IsBoundShown net budget row side bound = is_within bound ≡ true → (lines : List ProofLine) × ShowsBound net budget lines row side bound
 
--- a bound is right, by itself and after a finding, what stands behind it is so too, and a search within the budget makes it
+-- a bound is right after a finding, what stands behind it is so too, and it is open only where a search used the budget up
 pub record IsBoundFound (net : Net) (budget : ℕ) (word : FindingWord) (row : Row) (side : NextBound) (found : BoundFound) : Type 0 where
-  pub holds : BoundHolds net row side (bound_of found)
   pub right : IsBoundOf net word row side (bound_of found)
   pub behind : IsBehind net row side found
   pub shown : IsBoundShown net budget row side (bound_of found)
@@ -115,19 +96,14 @@ verdict_in range found = verdict_of range (bound_of found.least) (bound_of found
 abbrev pub verdict_by : Ends → BothBounds → Verdict
 verdict_by range both = verdict_of range both.least both.greatest
 
--- What the searches find of whether times satisfy the network apart, according to the finding of the drawn network. After a consistent one
--- a search of its own within the budget makes the finding. After an unsettled one nothing is searched, and the network apart is unsettled too.
-abbrev pub IsShownApart : Net → ℕ → FindingWord → FindingWord → Type 0
-IsShownApart apart budget findings.Consistent word = IsFindingShown apart budget word
-IsShownApart apart budget findings.Inconsistent word = ⊥
-IsShownApart apart budget findings.Unsettled word = word ≡ findings.Unsettled
+-- The one finding of the network apart after a finding of the drawn network. After a consistent one a search of its own makes it, and it is open only
+-- where that search used the budget up. After an unsettled one nothing is searched, and the network apart is unsettled too.
+abbrev pub IsFindingApart : Net → ℕ → FindingWord → FindingWord → Type 0
+IsFindingApart apart budget word findings.Consistent = word ≡ findings.Consistent
+IsFindingApart apart budget word findings.Inconsistent = ⊥
+IsFindingApart apart budget word findings.Unsettled = word ≡ findings.Consistent → IsFindingOpen apart budget
 
--- the one finding of the network apart after a finding of the drawn network
-pub record IsFindingApart (apart : Net) (budget : ℕ) (word word_apart : FindingWord) : Type 0 where
-  pub holds : IsFinding apart word_apart
-  pub shown : IsShownApart apart budget word word_apart
-
--- both bounds of a row are right in a network, by themselves and after a finding, and searches within the budget make them
+-- both bounds of a row are right in a network, by themselves and after a finding, and they are open only where searches used the budget up
 pub record AreRowBounds (net : Net) (budget : ℕ) (word : FindingWord) (row : Row) (both : BothBounds) : Type 0 where
   pub holds : IsGreatestBound net row.from row.to both.greatest × IsLeastBound net row.from row.to both.least
   pub greatest_shown : IsBoundShown net budget row greatest both.greatest

@@ -19,8 +19,8 @@ pub enum BoundFound {
     Unbounded {
         set: Vec<bool>,
     },
-    /// The budget ended the search. `limit` is the limit by the always-edges, if there is one. `attained` is the best separation that was attained,
-    /// if there is one.
+    /// The budget and the turns were spent before it was known. `limit` is the limit by the always-edges, if there is one. `attained` is the best
+    /// separation that was attained, if there is one.
     Within {
         limit: Option<i64>,
         attained: Option<i64>,

@@ -1,12 +1,14 @@
 //! All memory for the searches.
 
 ghost use Rattle.std.specs.Prelude.{◌≡◌, ◌≤◌, ℕ, IfOk, IfSome};
+ghost use Rattle.itv_base.specs.declared.limits.TheConstants.{MAX_BUDGET};
 ghost use Rattle.event_graph.specs.Network.{Net};
+ghost use Rattle.explained.specs.Answers.{IsFindingApart};
 ghost use Rattle.explained.specs.Apart.{net_apart};
-ghost use Rattle.explained.specs.Step.Standing.{FindingAllows, HasSameBudget, IsDeskFor, IsFor, IsFresh, IsNotInconsistent, IsSettledApart, net_in};
+ghost use Rattle.explained.specs.Step.Standing.{FindingAllows, HasSameBudget, IsDeskFor, IsFresh, IsSearchable, IsSettledApart, net_in};
 
 use crate::apart::network_apart;
-use crate::searches::{Searches, find_quietly};
+use crate::searches::Searches;
 use chains::Chains;
 use drawn::DrawnNetwork;
 use event_graph::Network;
@@ -31,12 +33,13 @@ pub struct Desk {
 }
 
 impl Desk {
-    /// Takes all memory that the searches ever need, or answers `NoMemory`. Nothing is searched yet.
+    /// The memory for the searches, or `NoMemory`. Nothing is searched yet.
     pub fn new(alloc: Global, drawn: &DrawnNetwork, budget: u64) -> Result<Desk, NoMemory>
-        requires budget { 1 ≤ budget }
-        ensures made { IfOk result (λ desk. IsFor drawn.now.net desk.searches) }
+        requires least { 1 ≤ budget }
+        requires most { budget ≤ MAX_BUDGET }
+        ensures fresh { IfOk result (λ desk. IsFresh drawn.now.net desk.searches) }
         ensures desk { IfOk result (IsDeskFor drawn.now) }
-        ensures budget { IfOk result (λ desk. desk.searches.budget ≡ budget) }
+        ensures budget { IfOk result (λ desk. desk.searches.extremes.budget ≡ budget) }
     {
         let net = drawn.network();
         let chains = Chains::new(alloc, net)?;
@@ -57,7 +60,8 @@ impl Desk {
 
 // The network apart with its memory, or `None` where it is the drawn network itself.
 fn new_apart(alloc: Global, drawn: &DrawnNetwork, budget: u64) -> Result<Option<Apart>, NoMemory>
-    requires budget { 1 ≤ budget }
+    requires least { 1 ≤ budget }
+    requires most { budget ≤ MAX_BUDGET }
     ensures apart { IfOk result (λ apart. net_in drawn.now.net apart ≡ net_apart drawn.now) }
     ensures fresh { IfOk result (λ apart. IfSome apart (λ a. IsFresh a.net a.searches)) }
     ensures budget { IfOk result (HasSameBudget budget) }
@@ -71,20 +75,37 @@ fn new_apart(alloc: Global, drawn: &DrawnNetwork, budget: u64) -> Result<Option<
     }
 }
 
-/// Makes the finding of the network apart. After a consistent finding of the drawn network it looks for times there too, within the budget. After
-/// an unsettled one the network apart stays unsettled.
-pub fn settle_apart(word: FindingWord, apart: &mut Option<Apart>)
+/// Makes the finding of the network apart. After a consistent finding of the drawn network it looks for times there too. After an unsettled one the
+/// network apart stays unsettled.
+pub fn settle_apart(
+    alloc: Global,
+    word: FindingWord,
+    apart: &mut Option<Apart>,
+) -> Result<(), NoMemory>
     requires fresh { IfSome apart.old (λ a. IsFresh a.net a.searches) }
     requires allows { IfSome apart.old (λ a. FindingAllows a.net word) }
-    ensures settled { IfSome apart.new (λ a. IsNotInconsistent a.net a.searches) }
-    ensures finding { (budget : ℕ) → HasSameBudget budget apart.old → IsSettledApart budget word apart.new }
+    ensures ready { IfOk result (λ _. IfSome apart.new (λ a. IsSearchable a.net a.searches)) }
+    ensures finding { IfOk result (λ _. (budget : ℕ) → HasSameBudget budget apart.old → IsSettledApart budget word apart.new) }
     ensures budget { (budget : ℕ) → HasSameBudget budget apart.old → HasSameBudget budget apart.new }
     ensures same { (net : Net) → net_in net apart.new ≡ net_in net apart.old }
 {
-    if let Some(apart) = apart {
-        match word {
-            FindingWord::Consistent => find_quietly(&apart.net, &mut apart.searches),
-            FindingWord::Inconsistent | FindingWord::Unsettled => {}
-        }
+    match apart {
+        None => Ok(()),
+        Some(apart) => settle_in(alloc, word, apart),
+    }
+}
+
+// Makes the finding of a network apart that is another network than the drawn one.
+fn settle_in(alloc: Global, word: FindingWord, apart: &mut Apart) -> Result<(), NoMemory>
+    requires fresh { IsFresh apart.old.net apart.old.searches }
+    requires allows { FindingAllows apart.old.net word }
+    ensures ready { IfOk result (λ _. IsSearchable apart.new.net apart.new.searches) }
+    ensures finding { IfOk result (λ _. IsFindingApart apart.old.net apart.old.searches.extremes.budget word apart.new.searches.word) }
+    ensures budget { apart.new.searches.extremes.budget ≡ apart.old.searches.extremes.budget }
+    ensures same { apart.new.net ≡ apart.old.net }
+{
+    match word {
+        FindingWord::Consistent => apart.searches.find(alloc, &apart.net),
+        FindingWord::Inconsistent | FindingWord::Unsettled => Ok(()),
     }
 }

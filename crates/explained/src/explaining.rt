@@ -1,19 +1,22 @@
 //! Greatest bounds, with their reasons.
 
-ghost use Rattle.std.specs.Prelude.{◌≡◌, ◌<◌, IfOk};
+ghost use Rattle.std.specs.Prelude.{◌≡◌, ◌<◌, ℕ, IfOk};
 ghost use Rattle.requirements.specs.Bounds.{HasTimes};
+ghost use Rattle.extremes.specs.Found.{IsAttainedBy, IsGreatestFound, IsOpenShown};
 ghost use Rattle.explained.specs.Answers.{bound_of};
-ghost use Rattle.explained.specs.Step.Bounding.{IsExplained, IsGreatestShown};
-ghost use Rattle.explained.specs.Step.Standing.{IsNotInconsistent, KeepsFinding};
+ghost use Rattle.explained.specs.Step.Bounding.{IsExplained};
+ghost use Rattle.explained.specs.Step.Standing.{IsSearchable, KeepsFinding};
 
 use crate::bound::BoundFound;
-use crate::bounding::greatest_bound;
+use crate::bounding::search_pair;
 use crate::pair::Pair;
+use crate::pair_found::PairFound;
 use crate::searches::Searches;
 use chains::Chains;
 use event_graph::Network;
+use extremes::Greatest;
 use itv_base::NoMemory;
-use requirements::Bound;
+use slack_report::FindingWord;
 use std::alloc::Global;
 
 /// The greatest bound of a pair of events of a network that is not inconsistent, with its reason.
@@ -24,31 +27,75 @@ pub fn explain_greatest(
     searches: &mut Searches,
     chains: &mut Chains,
 ) -> Result<BoundFound, NoMemory>
-    requires settled { IsNotInconsistent net.now searches.old }
+    requires ready { IsSearchable net.now searches.old }
     requires chains { chains.old.events ≡ net.now.events }
     requires from { pair.from.0 < net.now.events }
     requires to { pair.to.0 < net.now.events }
-    ensures settled { IsNotInconsistent net.now searches.new }
+    ensures ready { IsSearchable net.now searches.new }
     ensures kept { KeepsFinding searches.old searches.new }
     ensures chains { chains.new.events ≡ net.now.events }
-    ensures found { IfOk result (IsExplained net.now searches.old.word pair) }
-    ensures shown { IfOk result (λ found. IsGreatestShown net.now searches.old.budget pair (bound_of found)) }
+    ensures found { IfOk result (IsExplained net.now searches.old.extremes.budget searches.old.word pair) }
     ensures times { IfOk result (λ found. HasTimes (bound_of found)) }
 {
-    match greatest_bound(net, pair, searches) {
-        Bound::Closed(value) => {
-            if !chains.find(net, searches.work.times(), pair.from, pair.to) {
-                // The times attain the greatest separation, so there is a chain.
-                unreachable!()
-            }
-            Ok(BoundFound::Closed {
-                value,
-                chain: Vec::from_slice(alloc, chains.names())?,
-            })
-        }
-        Bound::Unbounded => Ok(BoundFound::Unbounded {
-            set: Vec::from_slice(alloc, searches.work.ray())?,
+    match search_pair(alloc, net, pair, searches)? {
+        PairFound::Searched(greatest) => explain_searched(alloc, net, pair, greatest, chains),
+        PairFound::Limited(limit) => Ok(BoundFound::Within {
+            limit,
+            attained: None,
         }),
-        Bound::Within { limit, attained } => Ok(BoundFound::Within { limit, attained }),
     }
+}
+
+// The bound that a search found, with its reason.
+fn explain_searched(
+    alloc: Global,
+    net: &Network,
+    pair: Pair,
+    greatest: Greatest,
+    chains: &mut Chains,
+) -> Result<BoundFound, NoMemory>
+    requires found { IsGreatestFound net.now pair.from pair.to greatest }
+    requires chains { chains.old.events ≡ net.now.events }
+    requires from { pair.from.0 < net.now.events }
+    requires to { pair.to.0 < net.now.events }
+    ensures chains { chains.new.events ≡ net.now.events }
+    ensures found { IfOk result (λ found. (budget : ℕ) → IsOpenShown net.now budget pair.from pair.to greatest
+        → IsExplained net.now budget FindingWord.Consistent pair found) }
+    ensures times { IfOk result (λ found. (budget : ℕ) → IsOpenShown net.now budget pair.from pair.to greatest → HasTimes (bound_of found)) }
+{
+    match greatest {
+        Greatest::Closed { value, times } => {
+            explain_closed(alloc, net, pair, value, &times, chains)
+        }
+        Greatest::Unbounded { set } => Ok(BoundFound::Unbounded { set }),
+        Greatest::Open { limit, attained } => Ok(BoundFound::Within {
+            limit,
+            attained: Some(attained),
+        }),
+    }
+}
+
+// A greatest separation that some times attain, with its chain.
+fn explain_closed(
+    alloc: Global,
+    net: &Network,
+    pair: Pair,
+    value: i64,
+    times: &[i64],
+    chains: &mut Chains,
+) -> Result<BoundFound, NoMemory>
+    requires attained { IsAttainedBy net.now pair.from pair.to value times.now }
+    requires chains { chains.old.events ≡ net.now.events }
+    requires from { pair.from.0 < net.now.events }
+    requires to { pair.to.0 < net.now.events }
+    ensures chains { chains.new.events ≡ net.now.events }
+    ensures found { IfOk result (λ found. (budget : ℕ) → IsExplained net.now budget FindingWord.Consistent pair found) }
+    ensures times { IfOk result (λ found. HasTimes (bound_of found)) }
+{
+    if !chains.find(net, times, pair.from, pair.to) {
+        // The times attain the greatest separation, so there is a chain.
+        unreachable!()
+    }
+    let chain = Vec::from_slice(alloc, chains.names())?;
+    Ok(BoundFound::Closed { value, chain })
 }

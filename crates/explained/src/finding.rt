@@ -7,6 +7,6 @@ pub enum Finding {
     Consistent,
     /// No times satisfy it. The list has for each constraint whether it is in a set of constraints that contradict each other by themselves.
     Inconsistent(Vec<bool>),
-    /// The budget ended the search.
+    /// The budget and the turns were spent before it was known.
     Unsettled,
 }

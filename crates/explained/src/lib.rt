@@ -12,6 +12,7 @@ mod finding;
 pub mod laws;
 mod network;
 mod pair;
+mod pair_found;
 mod resting;
 mod row;
 mod rows;

@@ -1,17 +1,14 @@
 //! What is found of a network and of all its rows.
 
-ghost use Rattle.std.specs.Prelude.{◌≡◌, ◌≤◌, All, IfOk, length};
+ghost use Rattle.std.specs.Prelude.{◌≡◌, ◌≤◌, All, IfOk};
 ghost use Rattle.itv_base.specs.declared.limits.TheConstants.{MAX_BUDGET};
-ghost use Rattle.chains.specs.Named.{IsRefuting};
-ghost use Rattle.explained.specs.Answers.{AreFound, HasRowTimes, IsFindingFound, IsFindingShown, SettlesWithin};
-ghost use Rattle.explained.specs.Step.Standing.{HasFound, IsDeskFor, IsFor};
+ghost use Rattle.explained.specs.Answers.{AreFound, HasRowTimes, IsFindingFound, SettlesWithin};
+ghost use Rattle.explained.specs.Step.Standing.{HasFound, IsDeskFor, IsFresh};
 
 use crate::desk::Desk;
 use crate::finding::Finding;
 use crate::row::RowFound;
 use crate::rows::explain_rows;
-use crate::searches::find_marking;
-use chains::Marking;
 use drawn::DrawnNetwork;
 use itv_base::NoMemory;
 use slack_report::FindingWord;
@@ -25,8 +22,10 @@ pub struct NetworkFound {
 }
 
 /// Finds whether some times satisfy a drawn network, and both bounds of each of its rows, with their reasons. Each search closes at most `budget`
-/// cases; it leaves its finding or its bound open only if it closes just as many. If the budget is no less than the number of cause choices, neither the finding nor a bound is left open. Where some constraint keeps the
-/// order of a lane, a row that passes is searched once more without such orders.
+/// cases. Where that leaves something open, a search by clauses takes at most a thousand turns for each case, and all of them together take at most
+/// four times as many in the drawn network. A finding or a bound is left open only if a search used the budget up. If the budget is no less than the
+/// number of cause choices, neither the finding nor a bound is left open. Where some constraint keeps the order of a lane, a row that passes is
+/// searched once more without such orders, with turns of its own.
 ///
 /// `NoMemory` may come in place of an answer.
 pub fn explain(alloc: Global, drawn: &DrawnNetwork, budget: u64) -> Result<NetworkFound, NoMemory>
@@ -37,30 +36,40 @@ pub fn explain(alloc: Global, drawn: &DrawnNetwork, budget: u64) -> Result<Netwo
     ensures settles { IfOk result (λ found. SettlesWithin drawn.now.net budget found.finding found.rows.items) }
     ensures times { IfOk result (λ found. All HasRowTimes found.rows.items) }
 {
-    let net = drawn.network();
-    let mut marking = Marking::new(alloc, net)?;
+    // The drawn network is within its limits.
+    let _events = drawn.network().events();
     let mut desk = Desk::new(alloc, drawn, budget)?;
-    find_marking(net, &mut desk.searches, &mut marking);
-    let found = found_behind(alloc, drawn, &marking, &mut desk);
+    let found = explain_with(alloc, drawn, &mut desk);
     drop(desk);
     found
 }
 
-// What is found after the search for times. `marking` has the constraints that contradict each other, if this search found so.
+// What is found with this memory.
+fn explain_with(
+    alloc: Global,
+    drawn: &DrawnNetwork,
+    desk: &mut Desk,
+) -> Result<NetworkFound, NoMemory>
+    requires fresh { IsFresh drawn.now.net desk.old.searches }
+    requires desk { IsDeskFor drawn.now desk.old }
+    ensures finding { IfOk result (λ found. IsFindingFound drawn.now.net desk.old.searches.extremes.budget found.finding) }
+    ensures rows { IfOk result (λ found. AreFound drawn.now desk.old.searches.extremes.budget found.finding found.rows.items) }
+    ensures times { IfOk result (λ found. All HasRowTimes found.rows.items) }
+{
+    desk.searches.find(alloc, drawn.network())?;
+    found_behind(alloc, drawn, desk)
+}
+
+// What is found after the search for times.
 fn found_behind(
     alloc: Global,
     drawn: &DrawnNetwork,
-    marking: &Marking,
     desk: &mut Desk,
 ) -> Result<NetworkFound, NoMemory>
-    requires made { IsFor drawn.now.net desk.old.searches }
-    requires found { HasFound drawn.now.net desk.old.searches.word desk.old.searches.work.known }
-    requires shown { IsFindingShown drawn.now.net desk.old.searches.budget desk.old.searches.word }
+    requires found { HasFound drawn.now.net desk.old.searches.word desk.old.searches.extremes }
     requires desk { IsDeskFor drawn.now desk.old }
-    requires count { length marking.now ≡ length drawn.now.net.constraints }
-    requires marks { desk.old.searches.word ≡ FindingWord.Inconsistent → IsRefuting drawn.now.net marking.now }
-    ensures finding { IfOk result (λ found. IsFindingFound drawn.now.net desk.old.searches.budget found.finding) }
-    ensures rows { IfOk result (λ found. AreFound drawn.now desk.old.searches.budget found.finding found.rows.items) }
+    ensures finding { IfOk result (λ found. IsFindingFound drawn.now.net desk.old.searches.extremes.budget found.finding) }
+    ensures rows { IfOk result (λ found. AreFound drawn.now desk.old.searches.extremes.budget found.finding found.rows.items) }
     ensures times { IfOk result (λ found. All HasRowTimes found.rows.items) }
 {
     match desk.searches.word {
@@ -72,7 +81,7 @@ fn found_behind(
             })
         }
         FindingWord::Inconsistent => {
-            let set = Vec::from_slice(alloc, marking.marks())?;
+            let set = desk.searches.extremes.contradiction(alloc, drawn.network())?;
             Ok(NetworkFound {
                 finding: Finding::Inconsistent(set),
                 rows: Vec::new(alloc),

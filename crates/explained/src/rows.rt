@@ -2,8 +2,8 @@
 
 ghost use Rattle.std.specs.Prelude.{◌≡◌, ◌<◌, ◌≤◌, All, IfOk, length, slice_get, IsSomeAnd};
 ghost use Rattle.drawn.specs.Drawn.{IsRowOf};
-ghost use Rattle.explained.specs.Answers.{AreFoundBehind, AreRowsFound, HasRowTimes, IsFindingShown, IsRowFound};
-ghost use Rattle.explained.specs.Step.Standing.{IsDeskFor, IsNotInconsistent, IsReady, KeepsFindings, word_apart};
+ghost use Rattle.explained.specs.Answers.{AreFoundBehind, AreRowsFound, HasRowTimes, IsRowFound};
+ghost use Rattle.explained.specs.Step.Standing.{HasFound, IsDeskFor, IsReady, KeepsFindings, word_apart};
 
 use crate::desk::{Desk, settle_apart};
 use crate::explaining::explain_greatest;
@@ -13,6 +13,7 @@ use crate::row::RowFound;
 use drawn::{DrawnNetwork, Row};
 use itv_base::NoMemory;
 use requirements::BothBounds;
+use slack_report::FindingWord;
 use std::alloc::Global;
 
 /// Finds both bounds of each row of a drawn network that is not inconsistent.
@@ -21,13 +22,13 @@ pub fn explain_rows(
     drawn: &DrawnNetwork,
     desk: &mut Desk,
 ) -> Result<Vec<RowFound>, NoMemory>
-    requires settled { IsNotInconsistent drawn.now.net desk.old.searches }
-    requires shown { IsFindingShown drawn.now.net desk.old.searches.budget desk.old.searches.word }
+    requires found { HasFound drawn.now.net desk.old.searches.word desk.old.searches.extremes }
+    requires settled { desk.old.searches.word ≡ FindingWord.Inconsistent → ⊥ }
     requires desk { IsDeskFor drawn.now desk.old }
-    ensures rows { IfOk result (λ found. AreFoundBehind drawn.now desk.old.searches.budget desk.old.searches.word found.items) }
+    ensures rows { IfOk result (λ found. AreFoundBehind drawn.now desk.old.searches.extremes.budget desk.old.searches.word found.items) }
     ensures times { IfOk result (λ found. All HasRowTimes found.items) }
 {
-    settle_apart(desk.searches.word, &mut desk.apart);
+    settle_apart(alloc, desk.searches.word, &mut desk.apart)?;
     explain_each(alloc, drawn, desk)
 }
 
@@ -38,7 +39,7 @@ fn explain_each(
     desk: &mut Desk,
 ) -> Result<Vec<RowFound>, NoMemory>
     requires ready { IsReady drawn.now desk.old }
-    ensures rows { IfOk result (λ found. AreRowsFound drawn.now desk.old.searches.budget desk.old.searches.word (word_apart desk.old)
+    ensures rows { IfOk result (λ found. AreRowsFound drawn.now desk.old.searches.extremes.budget desk.old.searches.word (word_apart desk.old)
         drawn.now.rows found.items) }
     ensures times { IfOk result (λ found. All HasRowTimes found.items) }
 {
@@ -62,7 +63,7 @@ fn explain_row(
     requires row { IsRowOf drawn.now.net row.now }
     ensures ready { IfOk result (λ _. IsReady drawn.now desk.new) }
     ensures kept { IfOk result (λ _. KeepsFindings desk.old desk.new) }
-    ensures found { IfOk result (IsRowFound drawn.now desk.old.searches.budget desk.old.searches.word (word_apart desk.old) row.now) }
+    ensures found { IfOk result (IsRowFound drawn.now desk.old.searches.extremes.budget desk.old.searches.word (word_apart desk.old) row.now) }
     ensures times { IfOk result HasRowTimes }
 {
     let net = drawn.network();
@@ -83,7 +84,7 @@ fn explain_row(
         least: least.bound(),
         greatest: greatest.bound(),
     };
-    let apart = bounds_apart(row, &both, &mut desk.apart);
+    let apart = bounds_apart(alloc, row, &both, &mut desk.apart)?;
     Ok(RowFound {
         greatest,
         least,

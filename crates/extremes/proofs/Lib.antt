@@ -1,2 +1,4 @@
 mod Finding
 mod Separating
+mod Spans
+mod Parts

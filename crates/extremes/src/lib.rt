@@ -1,10 +1,19 @@
-//! Whether some times satisfy a network, and greatest separations of its pairs, by two searches: the search over cases within a budget, and, where
-//! that leaves an answer open, the search by clauses within a number of turns. The contract of the crate: what `find` and `greatest` find is right,
-//! and is left open only where the cause choices are more than the budget.
+//! Whether some times satisfy a network, and greatest separations of its pairs, by two searches: the search over cases within a budget, and the search
+//! by clauses within a number of turns, which answers where the other leaves it open. The contract of the crate: what `find` and `greatest` find is
+//! right. An answer is left open only where a search by cases used the budget up. The constraints that `contradiction` gives contradict each other.
 #![tactic(auto)]
 
+mod by_cases;
+mod by_clauses;
+mod confirming;
 mod extremes;
 mod found;
+mod naming;
+mod run_turns;
+mod starting;
+mod turns;
 
 pub use extremes::Extremes;
 pub use found::{Consistency, Greatest};
+pub use run_turns::RunTurns;
+pub use turns::turns_of;

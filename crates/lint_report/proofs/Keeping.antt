@@ -12,7 +12,7 @@ use Rattle.drawn.specs.Drawn.{Drawn}
 use Rattle.drawn.specs.declared.row.Row.{Row}
 use Rattle.requirements.specs.Laws.{IsMet}
 use Rattle.explained.specs.Apart.{net_apart}
-use Rattle.extremes.specs.Found.{IsConsistency, IsGreatestFound}
+use Rattle.extremes.specs.Found.{IsConsistency, IsGreatestFound, is_open}
 use Rattle.extremes.specs.declared.found.Consistency.{Consistency}
 use Rattle.extremes.specs.declared.found.Consistency.TheVariants as consistency
 use Rattle.extremes.specs.declared.found.Greatest.{Greatest}
@@ -32,18 +32,18 @@ use Rattle.lint_report.specs.Step.Keeping.{IsExtent, KeepsBelow, KeepsRange, ext
 -- what is found of a greatest separation is right
 pub extent_found : (net : Net) (from to : EventId) (found : Greatest) → IsGreatestFound net from to found → IsExtent net from to (extent_by found)
 extent_found net from to (greatest.Closed value times) is = is.greatest
-extent_found net from to greatest.Unbounded is = ray_is_unbounded net from to is.times is.set is.raises
-extent_found net from to greatest.Open is = tt
+extent_found net from to (greatest.Unbounded set) is = ray_is_unbounded net from to is.0 set.items is.2
+extent_found net from to (greatest.Open limit attained) is = tt
 
 pub extent_seen : (net : Net) (from to : EventId) (found : PairSeen) → IsPairSeen net from to found → IsExtent net from to (extent_of found)
 extent_seen net from to (seen.Closed value chain) is = is.0
-extent_seen net from to seen.Unbounded is = ray_is_unbounded net from to is.times is.set is.raises
+extent_seen net from to seen.Unbounded is = ray_is_unbounded net from to is.1.0 is.0 is.1.2
 extent_seen net from to seen.Open is = tt
 
-pub extent_settles : (found : Greatest) → (found ≡ greatest.Open → ⊥) → extent_by found ≡ extent.Open → ⊥
+pub extent_settles : (found : Greatest) → is_open found ≡ false → extent_by found ≡ extent.Open → ⊥
 extent_settles (greatest.Closed value times) settled is = absurd (cc is)
-extent_settles greatest.Unbounded settled is = absurd (cc is)
-extent_settles greatest.Open settled is = settled refl
+extent_settles (greatest.Unbounded set) settled is = absurd (cc is)
+extent_settles (greatest.Open limit attained) settled is = absurd (cc settled)
 
 pub seen_settles : (found : PairSeen) → is_pair_open found ≡ false → extent_of found ≡ extent.Open → ⊥
 seen_settles (seen.Closed value chain) settled is = absurd (cc is)

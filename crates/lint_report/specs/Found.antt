@@ -13,7 +13,7 @@ use Rattle.drawn.specs.Drawn.{Drawn}
 use Rattle.drawn.specs.declared.row.Row.{Row}
 use Rattle.explained.specs.Answers.{Explains}
 use Rattle.explained.specs.Apart.{keeps_order, net_apart}
-use Rattle.extremes.specs.Found.{IsConsistency, IsWithoutEnd}
+use Rattle.extremes.specs.Found.{CanRise, IsConsistency}
 use Rattle.extremes.specs.declared.found.Consistency.TheVariants as consistency
 use Rattle.narrow.specs.Ends.{all_ends, ends_of}
 use Rattle.narrow.specs.Narrow.{IsEndFound, IsEndSettled}
@@ -46,7 +46,7 @@ ContradictsByOrder network by =
 -- equality; or from some satisfying times the second event can be put off without end; or nothing is known.
 abbrev pub IsPairSeen : Net → EventId → EventId → PairSeen → Type 0
 IsPairSeen net from to (seen.Closed value chain) = IsGreatest net from to value × Explains net from to value chain.items
-IsPairSeen net from to seen.Unbounded = IsWithoutEnd net from to
+IsPairSeen net from to seen.Unbounded = (set : List Bool) × CanRise net from to set
 IsPairSeen net from to seen.Open = Unit {0}
 
 -- some satisfying times are out of a range

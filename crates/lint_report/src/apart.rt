@@ -15,7 +15,7 @@ ghost use Rattle.lint_report.specs.Step.Searching.{IsApartEnough, IsApartFor, Is
 
 use crate::by_order::ByOrder;
 use crate::kept::{Extent, RangeKept, extent_by, kept_in, order_by_finding, order_by_kept};
-use crate::turns::turns_of;
+use crate::turns::run_turns;
 use drawn::{DrawnNetwork, Row};
 use event_graph::Network;
 use explained::network_apart;
@@ -86,7 +86,7 @@ fn find_times(alloc: Global, net: &Network, budget: u64) -> Result<Consistency, 
     ensures finding { IfOk result (IsConsistency net.now) }
     ensures settles { IfOk result (λ found. cause_choices net.now.constraints ≤ budget → found ≡ Consistency.Open → ⊥) }
 {
-    let mut extremes = Extremes::new(alloc, net, budget, turns_of(budget))?;
+    let mut extremes = Extremes::new(alloc, net, budget, run_turns(budget))?;
     let found = extremes.find(alloc, net);
     drop(extremes);
     found
@@ -126,7 +126,7 @@ fn find_in(
 {
     // The drawn network is within its limits.
     let _events = drawn.network().events();
-    let mut extremes = Extremes::new(alloc, &net, budget, turns_of(budget))?;
+    let mut extremes = Extremes::new(alloc, &net, budget, run_turns(budget))?;
     match extremes.find(alloc, &net) {
         Ok(found) => Ok(found_apart(drawn, net, extremes, found)),
         Err(NoMemory) => {

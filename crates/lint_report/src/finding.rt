@@ -10,7 +10,7 @@ ghost use Rattle.lint_report.specs.Found.{IsLintFound, LeavesNothingOpen};
 use crate::apart::contradicts_by_order;
 use crate::lint_found::LintFound;
 use crate::rows::see_rows;
-use crate::turns::turns_of;
+use crate::turns::run_turns;
 use drawn::DrawnNetwork;
 use extremes::{Consistency, Extremes};
 use itv_base::NoMemory;
@@ -26,7 +26,7 @@ pub fn find_all(alloc: Global, drawn: &DrawnNetwork, budget: u64) -> Result<Lint
     ensures settles { IfOk result (LeavesNothingOpen drawn.now budget) }
 {
     let net = drawn.network();
-    let mut extremes = Extremes::new(alloc, net, budget, turns_of(budget))?;
+    let mut extremes = Extremes::new(alloc, net, budget, run_turns(budget))?;
     match extremes.find(alloc, net) {
         Ok(found) => find_after(alloc, drawn, budget, extremes, found),
         Err(NoMemory) => {

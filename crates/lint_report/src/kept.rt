@@ -44,8 +44,8 @@ pub fn extent_by(found: &Greatest) -> Extent
 {
     match found {
         Greatest::Closed { value, .. } => Extent::Closed(*value),
-        Greatest::Unbounded => Extent::Unbounded,
-        Greatest::Open => Extent::Open,
+        Greatest::Unbounded { .. } => Extent::Unbounded,
+        Greatest::Open { .. } => Extent::Open,
     }
 }
 

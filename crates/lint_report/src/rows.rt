@@ -196,8 +196,8 @@ fn see_pair(
         Greatest::Closed { value, times } => {
             see_closed(alloc, net, from, to, value, &times, &mut search.chains)
         }
-        Greatest::Unbounded => Ok(PairSeen::Unbounded),
-        Greatest::Open => Ok(PairSeen::Open),
+        Greatest::Unbounded { .. } => Ok(PairSeen::Unbounded),
+        Greatest::Open { .. } => Ok(PairSeen::Open),
     }
 }
 

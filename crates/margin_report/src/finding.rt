@@ -21,9 +21,6 @@ use slack_report::EndWord;
 use spans::find_span;
 use std::alloc::Global;
 
-// Turns for each case of the budget, as in job settle.
-const CASE_TURNS: u64 = 1000;
-
 /// What is found of a network as drawn, and of numbers: the word that the network would end with, and the margins of each number. Of numbers nothing is looked
 /// for where no times satisfy the network, or where it was left open whether every requirement passes.
 #[derive(Drop)]
@@ -45,7 +42,7 @@ pub fn find_margins(
     requires most { budget ≤ MAX_BUDGET }
     ensures ending { IfOk result (λ found. EndsByOf drawn.now budget seen.now as_one found.word found.numbers.items) }
 {
-    let mut turns = RunTurns::of(CASE_TURNS * budget);
+    let mut turns = RunTurns::of(turns_of(budget));
     let base = base_of(alloc, drawn, budget, &mut turns)?;
     let numbers = numbers_by(alloc, drawn, seen, as_one, &base, budget, &mut turns)?;
     Ok(MarginFound {

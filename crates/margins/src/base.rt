@@ -6,9 +6,9 @@ ghost use Rattle.moves.specs.Networks.{IsNetFound, is_net_open};
 ghost use Rattle.probing.specs.Step.{IsProbed};
 
 use drawn::DrawnNetwork;
+use extremes::RunTurns;
 use itv_base::NoMemory;
 use probing::{Probed, probe};
-use settle::RunTurns;
 use std::alloc::Global;
 
 /// What is found of the network as it is drawn.

@@ -8,10 +8,10 @@ ghost use Rattle.probing.specs.Step.{IsProbed};
 ghost use Rattle.margins.specs.Step.{IsBracket, IsFoundOf, IsProbedAt, IsEndSought};
 
 use crate::sought::EndSought;
+use extremes::RunTurns;
 use itv_base::NoMemory;
 use moves::{Margin, NetFound};
 use probing::Probed;
-use settle::RunTurns;
 use std::alloc::Global;
 
 // Rounds in which the next move is guessed by the edges behind bounds. After them the middle is taken.

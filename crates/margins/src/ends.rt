@@ -16,10 +16,10 @@ use crate::passing::margin_from_pass;
 use crate::reach::reach_of;
 use crate::sought::EndSought;
 use drawn::DrawnNetwork;
+use extremes::RunTurns;
 use itv_base::{NoMemory, Side};
 use moves::{Margin, NetFound, NumberSeen};
 use probing::Probed;
-use settle::RunTurns;
 use std::alloc::Global;
 
 /// What is found of the ends of a number. An end that is open as drawn has nothing.

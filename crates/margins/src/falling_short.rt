@@ -7,10 +7,10 @@ ghost use Rattle.margins.specs.Step.{IsFoundOf, IsGapOf, IsGapAbove, IsGapSearch
 
 use crate::bracket::{Bracket, broken_at, inside, margin_in, middle};
 use crate::sought::EndSought;
+use extremes::RunTurns;
 use itv_base::NoMemory;
 use moves::{Margin, NetFound};
 use probing::Probed;
-use settle::RunTurns;
 use std::alloc::Global;
 
 /// With the lesser move of an end the rules contradict each other, and with the greater one a row breaks. Moves are outward and in picoseconds.

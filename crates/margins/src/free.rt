@@ -8,11 +8,11 @@ ghost use Rattle.margins.specs.Step.{AreFree, IsFreeBetween, IsOpeningOf, end_on
 
 use crate::sought::probe_opened;
 use drawn::DrawnNetwork;
+use extremes::RunTurns;
 use itv_base::{NoMemory, Side};
 use moves::{NetFound, NumberSeen};
 use numbers::DrawnNumber;
 use probing::{Probed, SideChain, Step, room};
-use settle::RunTurns;
 use std::alloc::Global;
 
 /// Ends on one side of numbers of a drawn network that are opened together: those of the numbers that are marked. No edge behind a bound uses them.

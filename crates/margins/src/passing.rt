@@ -8,10 +8,10 @@ ghost use Rattle.margins.specs.Step.{IsClimbOf, IsClimbFound, IsFoundOf, IsProbe
 
 use crate::bracket::{bracket_below, margin_in};
 use crate::sought::EndSought;
+use extremes::RunTurns;
 use itv_base::NoMemory;
 use moves::{Margin, NetFound};
 use probing::{Probed, SideChain};
-use settle::RunTurns;
 use std::alloc::Global;
 
 /// A move with which every requirement passes, the last stride that led there, and the room that is guessed above it.

@@ -12,11 +12,11 @@ ghost use Rattle.margins.specs.Step.{IsNetOf, IsProbedAt, IsProbedIn, IsProbedOp
 use crate::reach::Reach;
 use drawn::{DrawnNetwork, Row};
 use event_graph::{Network, separation};
+use extremes::RunTurns;
 use itv_base::{NoMemory, RowKind, Side};
 use moves::{Move, moved_network};
 use numbers::DrawnNumber;
 use probing::{Probed, SideChain, Step, excess, need, probe, room};
-use settle::RunTurns;
 use std::alloc::Global;
 
 /// An end of a number whose margin is sought, how far it can be moved, and how long each search may go on.

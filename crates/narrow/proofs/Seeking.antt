@@ -1,5 +1,5 @@
 -- What a search of one edge finds.
-use Rattle.std.proofs.Common.{◌≡◌, ◌^◌, ◌≤ℤ◌, ◌<ℤ◌, ◌-ℤ◌, ℕ, zero, suc, ℤ, pos, neg_ℤ, List, [], ◌∷◌, get_or, All, Option, Some, None, refl, sym, subst, ◌⊎◌, inl, inr, arith, rules, to_z, of_z, w64}
+use Rattle.std.proofs.Common.{◌≡◌, ◌^◌, ◌≤ℤ◌, ◌<ℤ◌, ◌-ℤ◌, ℕ, zero, suc, ℤ, pos, neg_ℤ, Bool, List, [], ◌∷◌, get_or, All, Option, Some, None, refl, sym, subst, ◌⊎◌, inl, inr, arith, rules, to_z, of_z, w64}
 use Rattle.std.specs.Prelude.{IfSome}
 use Rattle.std.specs.Global.{Vec}
 use Rattle.std.proofs.lemmas.Int.{ints, to_z-of_z}
@@ -11,7 +11,7 @@ use Rattle.event_graph.specs.Network.{Net}
 use Rattle.event_graph.specs.Satisfying.{Satisfies}
 use Rattle.event_graph.specs.Times.{IsTime, separation, time_of}
 use Rattle.event_graph.proofs.Rays.{ray_is_unbounded}
-use Rattle.extremes.specs.Found.{IsAttainedBy, IsGreatestFound, IsWithoutEnd}
+use Rattle.extremes.specs.Found.{CanRise, IsAttainedBy, IsGreatestFound}
 use Rattle.extremes.specs.declared.found.Greatest.{Greatest}
 use Rattle.extremes.specs.declared.found.Greatest.TheVariants.{Closed, Unbounded}
 use Rattle.narrow.specs.declared.end.EndFound.{EndFound}
@@ -26,9 +26,9 @@ closed_reached net e weight value greatest le =
     (greatest.attained.0, greatest.attained.1, subst (λ (z : ℤ). weight ≤ℤ z) (sym at) le)
 
 -- separations without end reach each number
-pub unbounded_reached : (net : Net) (e : Edge) (weight : ℤ) → IsWithoutEnd net e.from e.to → IsAttainable net weight e
-unbounded_reached net e weight found =
-    let beyond = ray_is_unbounded net e.from e.to found.times found.set found.raises weight in
+pub unbounded_reached : (net : Net) (e : Edge) (weight : ℤ) (set : List Bool) → CanRise net e.from e.to set → IsAttainable net weight e
+unbounded_reached net e weight set found =
+    let beyond = ray_is_unbounded net e.from e.to found.0 set found.2 weight in
     let less : weight <ℤ separation beyond.0 e.from e.to = beyond.2 in
     (beyond.0, beyond.1, omega (arith, ints, less))
 
@@ -79,11 +79,11 @@ closed_found net e weight passed value so_far greatest times next last same_weig
     subst (λ (z : ℤ). IsSearched net e z so_far last) same_weight (subst (IsSearched net e passed so_far) (sym same) here)
 
 -- what is found of an end without a greatest separation
-pub unbounded_found : (net : Net) (e : Edge) (weight : ℤ) (so_far : Option ℤ) (greatest : Greatest) (last : EndFound) → greatest ≡ Unbounded → last ≡ Wide
+pub unbounded_found : (net : Net) (e : Edge) (weight : ℤ) (so_far : Option ℤ) (greatest : Greatest) (set : Vec Bool) (last : EndFound) → greatest ≡ Unbounded set → last ≡ Wide
     → IsGreatestFound net e.from e.to greatest → IsSearched net e weight so_far last
-unbounded_found net e weight so_far greatest last is same found =
-    let without_end : IsWithoutEnd net e.from e.to = subst (IsGreatestFound net e.from e.to) is found in
-    subst (IsSearched net e weight so_far) (sym same) (unbounded_reached net e weight without_end)
+unbounded_found net e weight so_far greatest set last is same found =
+    let without_end : CanRise net e.from e.to set.items = subst (IsGreatestFound net e.from e.to) is found in
+    subst (IsSearched net e weight so_far) (sym same) (unbounded_reached net e weight set.items without_end)
 
 pub open_found : (net : Net) (e : Edge) (weight : ℤ) (so_far : Option ℤ) (last : EndFound) → last ≡ Open → IsSearched net e weight so_far last
 open_found net e weight so_far last same = subst (IsSearched net e weight so_far) (sym same) tt

@@ -1,8 +1,8 @@
 //! What a search of one edge finds of an end.
 
-ghost use Rattle.std.specs.Prelude.{◌≡◌, ◌<◌, ◌≤◌, ◌≤ℤ◌, ◌+◌, ◌⊎◌, IfOk, IfSome, Some};
+ghost use Rattle.std.specs.Prelude.{◌≡◌, false, ◌<◌, ◌≤◌, ◌≤ℤ◌, ◌+◌, ◌⊎◌, IfOk, IfSome, Some};
 ghost use Rattle.event_graph.specs.Edges.{cause_choices};
-ghost use Rattle.extremes.specs.Found.{IsGreatestFound};
+ghost use Rattle.extremes.specs.Found.{IsGreatestFound, is_open};
 ghost use Rattle.extremes.specs.Ready.{IsReady};
 ghost use Rattle.narrow.specs.Narrow.{IsEndSettled};
 ghost use Rattle.narrow.specs.Step.{IsSearched};
@@ -47,12 +47,12 @@ pub fn search(
 // What is found of an end with a weight, according to what is found of a greatest separation and the greatest one so far.
 fn found_of(greatest: Greatest, weight: i64, so_far: Option<i64>) -> EndFound
     ensures found { (net : Net) (e : EdgeSeen) → IsGreatestFound net e.from e.to greatest → IsSearched net e weight so_far result }
-    ensures settled { (greatest ≡ Greatest.Open → ⊥) → IsEndSettled result }
+    ensures settled { is_open greatest ≡ false → IsEndSettled result }
 {
     match greatest {
         Greatest::Closed { value, .. } => found_by(value, weight, so_far),
-        Greatest::Unbounded => EndFound::Wide,
-        Greatest::Open => EndFound::Open,
+        Greatest::Unbounded { .. } => EndFound::Wide,
+        Greatest::Open { .. } => EndFound::Open,
     }
 }
 

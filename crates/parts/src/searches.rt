@@ -10,7 +10,7 @@ use crate::writing::{PairQuestion, asked_of};
 use branch::{GreatestAnswer, SearchFinding, Work, find, greatest};
 use certificate::TreeScribe;
 use event_graph::{Line, Network};
-use extremes::{Consistency, Extremes, Greatest};
+use extremes::{Consistency, Extremes, Greatest, RunTurns};
 use settle::{Settled, Settler};
 use std::alloc::Global;
 
@@ -208,7 +208,7 @@ fn extremes_for(alloc: Global, net: &Network, asked: PairQuestion<'_>) -> Option
     if budget == 0 {
         return None;
     }
-    Extremes::new(alloc, net, budget, turns).ok()
+    Extremes::new(alloc, net, budget, RunTurns::of(turns)).ok()
 }
 
 fn extremes_of(
@@ -239,7 +239,7 @@ fn extremes_of(
 fn put_greatest(found: &Greatest, out: &mut Out) {
     match found {
         Greatest::Closed { value, .. } => put_closed(*value, out),
-        Greatest::Unbounded => out.put("unbounded"),
-        Greatest::Open => out.put("open"),
+        Greatest::Unbounded { .. } => out.put("unbounded"),
+        Greatest::Open { .. } => out.put("open"),
     }
 }

@@ -1,5 +1,5 @@
 -- What is found of ends of requirements, of ranges and of rows.
-use Rattle.std.proofs.Common.{◌≡◌, ◌^◌, ℤ, pos, neg_ℤ, ◌≤ℤ◌, ◌<ℤ◌, List, Option, Some, None, refl, sym, subst, arith, rules, to_z, of_z, w64}
+use Rattle.std.proofs.Common.{◌≡◌, ◌^◌, ℤ, pos, neg_ℤ, ◌≤ℤ◌, ◌<ℤ◌, Bool, List, Option, Some, None, refl, sym, subst, arith, rules, to_z, of_z, w64}
 use Rattle.std.specs.Prelude.{IfSome, IsSomeAnd}
 use Rattle.std.proofs.lemmas.Int.{ints, to_z-of_z}
 use mir.Val.{SFits}
@@ -11,7 +11,7 @@ use Rattle.event_graph.specs.Bounds.{IsGreatest}
 use Rattle.event_graph.specs.Network.{Net}
 use Rattle.event_graph.specs.Times.{separation}
 use Rattle.event_graph.proofs.Rays.{ray_is_unbounded}
-use Rattle.extremes.specs.Found.{IsAttainedBy, IsWithoutEnd}
+use Rattle.extremes.specs.Found.{CanRise, IsAttainedBy}
 use Rattle.probing.specs.Step.{IsHighFound, IsKindFound, IsLimitFound, IsLowFound, IsRangeFound, both_of}
 use Rattle.probing.specs.declared.side.SideFound.{SideFound}
 use Rattle.probing.specs.declared.side.SideFound.TheVariants.{Meets, Exceeds, Open}
@@ -25,8 +25,8 @@ closed_within net from to value limit greatest le = λ times sat.
 pub closed_past : (net : Net) (from to : EventId) (value limit : ℤ) (times : List ℤ) → IsAttainedBy net from to value times → limit <ℤ value → IsLimitFound net from to limit Exceeds
 closed_past net from to value limit times attained less = (times, attained.satisfies, subst (λ (z : ℤ). limit <ℤ z) (sym attained.attains) less)
 
-pub unbounded_past : (net : Net) (from to : EventId) (limit : ℤ) → IsWithoutEnd net from to → IsLimitFound net from to limit Exceeds
-unbounded_past net from to limit found = ray_is_unbounded net from to found.times found.set found.raises limit
+pub unbounded_past : (net : Net) (from to : EventId) (limit : ℤ) (set : List Bool) → CanRise net from to set → IsLimitFound net from to limit Exceeds
+unbounded_past net from to limit set found = ray_is_unbounded net from to found.0 set found.2 limit
 
 pub high_by : (net : Net) (from to : EventId) (high : ℤ) (found : SideFound) → IsLimitFound net from to high found → IsHighFound net from to (Some high) found
 high_by net from to high found h = h

@@ -15,10 +15,9 @@ use crate::probed::Probed;
 use crate::side::{SideFound, both_of};
 use drawn::Row;
 use event_graph::Network;
-use extremes::{Consistency, Extremes};
+use extremes::{Consistency, Extremes, RunTurns};
 use itv_base::{NoMemory, Range, RowKind};
 use moves::NetFound;
-use settle::RunTurns;
 use std::alloc::Global;
 
 // The cases of the first try. Where few cases are not enough, a search by clauses mostly is, and takes less time than many cases.

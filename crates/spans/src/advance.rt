@@ -5,9 +5,9 @@ ghost use Rattle.spans.specs.Step.{IsAdvance, IsOn, IsPast, IsWithinReach, IsSou
 
 use crate::direction::{Direction, Value, between, distance, is_same, next_of, value_on};
 use crate::sought::{SpanAim, SpanSought, ValueFound};
+use extremes::RunTurns;
 use itv_base::NoMemory;
 use moves::NetFound;
-use settle::RunTurns;
 use std::alloc::Global;
 
 // How often an interval is halved before the next value is taken by itself.

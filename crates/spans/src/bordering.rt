@@ -14,10 +14,10 @@ use crate::direction::{
 use crate::looking::{Ahead, look_ahead};
 use crate::reach::limit_of;
 use crate::sought::{SpanAim, SpanSought};
+use extremes::RunTurns;
 use itv_base::NoMemory;
 use moves::NetFound;
 use probing::SideChain;
-use settle::RunTurns;
 use std::alloc::Global;
 
 /// Two values: some times satisfy with the one, and none with the other one.

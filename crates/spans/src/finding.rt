@@ -16,11 +16,11 @@ use crate::nearby::{Nearby, near_in};
 use crate::reach::{limit_of, reach_of, start_limit};
 use crate::sought::SpanSought;
 use drawn::DrawnNetwork;
+use extremes::RunTurns;
 use itv_base::NoMemory;
 use moves::{Margin, NetFound, SpanFound};
 use numbers::DrawnNumber;
 use probing::{Probed, SideChain};
-use settle::RunTurns;
 use std::alloc::Global;
 
 // How often the next value is guessed, where a design fails as drawn.

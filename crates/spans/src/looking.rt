@@ -5,10 +5,10 @@ ghost use Rattle.spans.specs.Step.{IsAhead, IsGlanced, IsOn, IsPast, IsWithinRea
 
 use crate::direction::{Direction, Value, is_same, step_of, value_on};
 use crate::sought::SpanSought;
+use extremes::RunTurns;
 use itv_base::NoMemory;
 use moves::NetFound;
 use probing::SideChain;
-use settle::RunTurns;
 use std::alloc::Global;
 
 // Values that are looked at. They are guessed by the edges behind bounds, and after the first few of them, or without such an edge, the strides grow, so that no way

@@ -7,8 +7,8 @@ use crate::advance::{Advance, Shortfall, show_to};
 use crate::direction::{Direction, Value, drawn_value, next_of};
 use crate::reach::limit_of;
 use crate::sought::{SpanAim, SpanSought};
+use extremes::RunTurns;
 use itv_base::NoMemory;
-use settle::RunTurns;
 use std::alloc::Global;
 
 /// What is found of the values near the drawn one, in a direction: those that are no more picoseconds from it than the budget has cases, and can be drawn.

@@ -12,11 +12,11 @@ use crate::framed_range::FrameKind;
 use crate::interval::Interval;
 use crate::reach::ShiftReach;
 use drawn::DrawnNetwork;
+use extremes::RunTurns;
 use itv_base::NoMemory;
 use moves::{Move, NetFound, moved_network, moved_rows};
 use numbers::DrawnNumber;
 use probing::{Probed, SideChain, Step, excess, probe, room};
-use settle::RunTurns;
 use std::alloc::Global;
 
 /// Numbers whose span is sought, how many values each event counts from, as many zeros, the last values that can be drawn, and how long each search may go

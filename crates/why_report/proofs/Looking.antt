@@ -14,7 +14,7 @@ use Rattle.right_report.specs.Right.ReportState.{NextBound, greatest, least_by}
 use Rattle.slack_report.specs.declared.words.FindingWord.{FindingWord}
 use Rattle.drawn.specs.Drawn.{Drawn, OriginsFit}
 use Rattle.drawn.specs.declared.row.Row.{Row}
-use Rattle.explained.specs.Answers.{AreFound, AreFoundBehind, AreRowsFound, FindingHolds, HasRowTimes, IsBehind, IsFindingFound, bound_of, word_of}
+use Rattle.explained.specs.Answers.{AreFound, AreFoundBehind, AreRowsFound, HasRowTimes, IsBehind, IsFindingFound, bound_of, word_of}
 use Rattle.explained.specs.declared.bound.BoundFound.{BoundFound}
 use Rattle.explained.specs.declared.bound.BoundFound.TheVariants.{Closed, Unbounded, Within}
 use Rattle.explained.specs.declared.finding.Finding.{Finding}
@@ -83,7 +83,7 @@ known_told drawn finding found e are times =
 -- a set of rules that contradict each other has a flag for each constraint
 pub set_count : (drawn : Drawn) (finding : Finding) (set : _) → finding ≡ Inconsistent set → (budget : ℕ) × IsFindingFound drawn.net budget finding
     → length set.items ≡ length drawn.net.constraints
-set_count drawn finding set e is = (subst (FindingHolds drawn.net) e is.1.holds).0
+set_count drawn finding set e is = (subst (IsFindingFound drawn.net is.0) e is.1).count
 
 -- ---- constraints
 

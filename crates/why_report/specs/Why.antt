@@ -8,8 +8,8 @@ use Rattle.explained.specs.declared.row.RowFound.{RowFound}
 use Rattle.explained.specs.Answers.{AreFound, IsFindingFound, SettlesWithin}
 use Rattle.why_report.specs.Text.{Noted, ending_of, why_text}
 
--- The text says what is found of the network and of each row, with the reasons. All of it is right, and shown by searches within the budget. The
--- answer is given by the word at the end.
+-- The text says what is found of the network and of each row, with the reasons. All of it is right, and the finding or a bound is open only where a search
+-- by cases used the budget up. The answer is given by the word at the end.
 pub record AnswersWhy (noted : Noted) (drawn : Drawn) (budget : ℕ) (answer : Answer) (text : List ℕ) : Type 0 where
   pub finding : Finding
   pub found : List RowFound

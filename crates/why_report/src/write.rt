@@ -22,8 +22,8 @@ use std::alloc::Global;
 
 /// Writes both bounds of each row of a drawn network, with the edges of the drawing that make them so. After a number stand the
 /// steps from one event to the other; their weights sum to it. After an inconsistent finding stand the rules that contradict each
-/// other. What draws a step, a row or a rule comes with its note. Each search closes at most `budget` cases. All is found before
-/// the first put.
+/// other. What draws a step, a row or a rule comes with its note. Each search closes at most `budget` cases. Where that is not
+/// enough, a search by clauses takes at most a thousand turns for each. All is found before the first put.
 pub fn write_why<N: Notes, K: Sink>(
     alloc: Global,
     notes: &N,

@@ -1,10 +1,14 @@
 -- What is known of a network while its rows are searched.
-use Rattle.std.specs.Prelude.{◌≡◌, ◌<◌, ℕ, ℤ, List, Option, Some, None, IfSome, IsSomeAnd}
-use Rattle.event_graph.specs.Bounds.{IsInconsistent}
+use Rattle.std.specs.Prelude.{◌≡◌, ℕ, ℤ, List, Option, Some, None, IfSome}
 use Rattle.event_graph.specs.Network.{Net}
 use Rattle.event_graph.specs.RootBound.{MeetsAlways}
 use Rattle.event_graph.specs.Satisfying.{Satisfies}
-use Rattle.branch.specs.Work.{IsMadeFor}
+use Rattle.extremes.specs.Found.{IsFindingOpen}
+use Rattle.extremes.specs.Ready.{IsContradicted, IsFor}
+use Rattle.extremes.specs.Ready.{IsReady as CanSearch}
+use Rattle.extremes.specs.declared.extremes.Extremes.{Extremes}
+use Rattle.extremes.specs.declared.found.Consistency.{Consistency}
+use Rattle.extremes.specs.declared.found.Consistency.TheVariants as consistency
 use Rattle.slack_report.specs.declared.words.FindingWord.{FindingWord}
 use Rattle.slack_report.specs.declared.words.FindingWord.TheVariants as findings
 use Rattle.drawn.specs.Drawn.{Drawn}
@@ -14,11 +18,17 @@ use Rattle.explained.specs.declared.searches.Searches.{Searches}
 use Rattle.explained.specs.declared.desk.Apart.{Apart}
 use Rattle.explained.specs.declared.desk.Desk.{Desk}
 
--- what a finding says of a network, and the known times that come with it
-abbrev pub HasFound : Net → FindingWord → Option (List ℤ) → Type 0
-HasFound net findings.Consistent known = IsSomeAnd known (λ times. Satisfies times net)
-HasFound net findings.Inconsistent known = IsInconsistent net
-HasFound net findings.Unsettled known = (times : List ℤ) × MeetsAlways times net
+-- the word of a finding
+abbrev pub word_by : Consistency → FindingWord
+word_by consistency.Consistent = findings.Consistent
+word_by consistency.Inconsistent = findings.Inconsistent
+word_by consistency.Open = findings.Unsettled
+
+-- what is known after the search for times
+abbrev pub HasFound : Net → FindingWord → Extremes → Type 0
+HasFound net findings.Consistent extremes = CanSearch net extremes
+HasFound net findings.Inconsistent extremes = IsContradicted net extremes
+HasFound net findings.Unsettled extremes = IsFor net extremes × IsFindingOpen net extremes.budget
 
 -- times that a finding allows: some that satisfy, or some that meet the always-edges; an inconsistent finding allows none
 abbrev pub FindingAllows : Net → FindingWord → Type 0
@@ -26,26 +36,24 @@ FindingAllows net findings.Consistent = (times : List ℤ) × Satisfies times ne
 FindingAllows net findings.Inconsistent = ⊥
 FindingAllows net findings.Unsettled = (times : List ℤ) × MeetsAlways times net
 
--- the memory is made for a network, and a search may close at least one case
-pub record IsFor (net : Net) (searches : Searches) : Type 0 where
-  pub made : IsMadeFor net searches.work
-  pub some : 0 < searches.budget
-
 -- nothing was searched yet
 pub record IsFresh (net : Net) (searches : Searches) : Type 0 where
-  pub made : IsFor net searches
+  pub made : IsFor net searches.extremes
   pub unsettled : searches.word ≡ findings.Unsettled
 
--- a finding was made, and it is not inconsistent
-pub record IsNotInconsistent (net : Net) (searches : Searches) : Type 0 where
-  pub made : IsFor net searches
-  pub found : HasFound net searches.word searches.work.known
-  pub allows : FindingAllows net searches.word
+-- bounds can be found after a finding: by searches after a consistent one, and as limits after an unsettled one
+abbrev pub IsSearchableAfter : Net → FindingWord → Extremes → Type 0
+IsSearchableAfter net findings.Consistent extremes = CanSearch net extremes
+IsSearchableAfter net findings.Inconsistent extremes = ⊥
+IsSearchableAfter net findings.Unsettled extremes = IsFor net extremes × ((times : List ℤ) × MeetsAlways times net)
+
+abbrev pub IsSearchable : Net → Searches → Type 0
+IsSearchable net searches = IsSearchableAfter net searches.word searches.extremes
 
 -- a search keeps the finding and the budget
 pub record KeepsFinding (old new : Searches) : Type 0 where
   pub word : new.word ≡ old.word
-  pub budget : new.budget ≡ old.budget
+  pub budget : new.extremes.budget ≡ old.extremes.budget
 
 -- the network apart in some memory, or the network itself where there is no such memory
 abbrev pub net_in : Net → Option Apart → Net
@@ -63,14 +71,14 @@ word_apart desk = word_in desk.searches.word desk.apart
 
 -- searches of the network apart have this budget
 abbrev pub HasSameBudget : ℕ → Option Apart → Type 0
-HasSameBudget budget apart = IfSome apart (λ (a : Apart). a.searches.budget ≡ budget)
+HasSameBudget budget apart = IfSome apart (λ (a : Apart). a.searches.extremes.budget ≡ budget)
 
 -- the memory is made for a drawn network, and for its network apart if this is another
 pub record IsDeskFor (drawn : Drawn) (desk : Desk) : Type 0 where
   pub chains : desk.chains.events ≡ drawn.net.events
   pub apart : net_in drawn.net desk.apart ≡ net_apart drawn
   pub fresh : IfSome desk.apart (λ (a : Apart). IsFresh a.net a.searches)
-  pub budget : HasSameBudget desk.searches.budget desk.apart
+  pub budget : HasSameBudget desk.searches.extremes.budget desk.apart
 
 -- the finding of the network apart is made, if this is another network; after the finding of the drawn network with this word
 abbrev pub IsSettledApart : ℕ → FindingWord → Option Apart → Type 0
@@ -78,11 +86,11 @@ IsSettledApart budget word apart = IfSome apart (λ (a : Apart). IsFindingApart 
 
 -- findings were made in the drawn network and in the network apart; no finding is inconsistent
 pub record IsReady (drawn : Drawn) (desk : Desk) : Type 0 where
-  pub settled : IsNotInconsistent drawn.net desk.searches
+  pub searchable : IsSearchable drawn.net desk.searches
   pub chains : desk.chains.events ≡ drawn.net.events
   pub apart : net_in drawn.net desk.apart ≡ net_apart drawn
-  pub settled_apart : IfSome desk.apart (λ (a : Apart). IsNotInconsistent a.net a.searches)
-  pub budget : HasSameBudget desk.searches.budget desk.apart
+  pub searchable_apart : IfSome desk.apart (λ (a : Apart). IsSearchable a.net a.searches)
+  pub budget : HasSameBudget desk.searches.extremes.budget desk.apart
 
 -- the searches of a row keep both findings and the budget
 pub record KeepsFindings (old new : Desk) : Type 0 where

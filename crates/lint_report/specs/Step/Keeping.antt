@@ -36,8 +36,8 @@ extent_of seen.Open = extent.Open
 
 abbrev pub extent_by : Greatest → Extent
 extent_by (greatest.Closed value times) = extent.Closed value
-extent_by greatest.Unbounded = extent.Unbounded
-extent_by greatest.Open = extent.Open
+extent_by (greatest.Unbounded set) = extent.Unbounded
+extent_by (greatest.Open limit attained) = extent.Open
 
 -- ---- sides
 

@@ -8,7 +8,8 @@ use Rattle.slack_report.specs.declared.words.FindingWord.{FindingWord}
 use Rattle.explained.specs.declared.bound.BoundFound.{BoundFound}
 use Rattle.explained.specs.declared.pair.Pair.{Pair}
 use Rattle.explained.specs.Step.Standing.{net_in, word_apart}
-use Rattle.explained.proofs.Lanes.{IsFoundBy, row_found, row_kept}
+use Rattle.explained.specs.Step.Bounding.{IsExplained}
+use Rattle.explained.proofs.Lanes.{row_found, row_kept}
 use Rattle.explained.proofs.Standing.{in_memory}
 use Rattle.explained.proofs.rows.explain_row.Goals as goal
 
@@ -27,17 +28,16 @@ returns-clause-found c =
     let both : BothBounds = record { least = c.bound.result; greatest = c.bound-2.result } in
     let turned : Pair = c.reversed-searched.result in
     let searched : BoundFound = c.in_ok-explain_greatest.field-0 in
-    let later : IsFoundBy net c.explain_greatest.new.searches.budget c.explain_greatest.new.searches.word turned searched =
-    record { explained = c.in_ok-explain_greatest.ensures.found; shown = c.in_ok-explain_greatest.ensures.shown } in
-    let second : IsFoundBy net desk.searches.budget desk.searches.word turned searched =
-    subst (λ (b : ℕ). IsFoundBy net b desk.searches.word turned searched) kept.budget
-    (subst (λ (w : FindingWord). IsFoundBy net c.explain_greatest.new.searches.budget w turned searched) kept.word later) in
-    row_found drawn net (net_in drawn.net desk.apart) desk.searches.budget desk.searches.word (word_apart desk) c.args.row.now turned
-    c.in_ok-greatest.greatest searched c.reversed-least.result both c.bounds_apart-apart.result c.network-net.ensures.network c.requires.ready.apart
+    let later : IsExplained net c.explain_greatest.new.searches.extremes.budget c.explain_greatest.new.searches.word turned searched = c.in_ok-explain_greatest.ensures.found in
+    let second : IsExplained net desk.searches.extremes.budget desk.searches.word turned searched =
+    subst (λ (b : ℕ). IsExplained net b desk.searches.word turned searched) kept.budget
+    (subst (λ (w : FindingWord). IsExplained net c.explain_greatest.new.searches.extremes.budget w turned searched) kept.word later) in
+    row_found drawn net (net_in drawn.net desk.apart) desk.searches.extremes.budget desk.searches.word (word_apart desk) c.args.row.now turned
+    c.in_ok-greatest.greatest searched c.reversed-least.result both c.in_ok-apart.apart c.network-net.ensures.network c.requires.ready.apart
     c.reversed-searched.ensures.pair c.reversed-least.ensures.found
     (same_both c.bound.result (bound_of c.reversed-least.result) c.bound-2.result (bound_of c.in_ok-greatest.greatest) c.bound.ensures.bound c.bound-2.ensures.bound)
-    (record { explained = c.in_ok-greatest.ensures.found; shown = c.in_ok-greatest.ensures.shown }) second
-    (λ bounds. c.bounds_apart-apart.ensures.rests drawn.net desk.searches.budget desk.searches.word c.requires.ready.budget bounds)
+    c.in_ok-greatest.ensures.found second
+    (λ bounds. c.in_ok-apart.ensures.rests drawn.net desk.searches.extremes.budget desk.searches.word c.requires.ready.budget bounds)
 
 pub returns-clause-kept : goal.returns-clause-kept
 returns-clause-kept c = row_kept c.args.desk.now _ c.explain_greatest.new.searches c.in_ok-greatest.ensures.kept c.in_ok-explain_greatest.ensures.kept c.bounds_apart-apart.ensures.word
