@@ -12,6 +12,7 @@ ghost use Rattle.margin_report.specs.Step.{AreFoundIf, AreFoundOf, IsBaseOf, End
 
 use crate::number_found::NumberFound;
 use drawn::DrawnNetwork;
+use extremes::{RunTurns, turns_of};
 use itv_base::{NoMemory, Range};
 use margins::{EndsFound, base_of, find_ends};
 use moves::{NetFound, NumberSeen, SpanFound};
