@@ -20,7 +20,7 @@ use Rattle.slack_report.specs.declared.words.FindingWord.TheVariants as findings
 use Rattle.right_report.specs.Right.ReportState.{greatest, least_by}
 use Rattle.right_report.specs.Right.LineClaims.{HasAttained, IsBoundOf}
 use Rattle.drawn.specs.declared.row.Row.{Row}
-use Rattle.extremes.specs.Found.{IsAttainedBy, IsGreatestFound, IsLeftOpen, IsOpenShown, IsWithoutEnd}
+use Rattle.extremes.specs.Found.{CanRise, IsAttainedBy, IsGreatestFound, IsLeftOpen, IsOpenShown}
 use Rattle.extremes.specs.declared.found.Greatest.{Greatest}
 use Rattle.extremes.specs.declared.found.Greatest.TheVariants as separations
 use Rattle.explained.specs.Answers.{AreRowBounds, Explains, IsBehind, IsBoundFound, IsBoundShown, bound_of}
@@ -40,7 +40,7 @@ searched_bound : (net : Net) (budget : ℕ) (pair : Pair) (found : Greatest) →
     → IsGreatestFoundBy net budget findings.Consistent pair (greatest_bound found)
 searched_bound net budget pair (separations.Closed value times) right shown = record { bound = (refl, right.greatest); shown = tt; times = right.value_within }
 searched_bound net budget pair (separations.Unbounded set) right shown =
-    record { bound = (refl, ray_is_unbounded net pair.from pair.to right.times set.items right.raises); shown = tt; times = tt }
+    record { bound = (refl, ray_is_unbounded net pair.from pair.to right.0 set.items right.2); shown = tt; times = tt }
 searched_bound net budget pair (separations.Open limit attained) right shown = record {
   bound = record { root = shown.root; rests = refl; attained = shown.attains };
   shown = shown.stopped;
@@ -76,16 +76,16 @@ closed_explained net budget pair value times names chain same is leads = record 
   behind = record { times = times; satisfied = is.satisfies; attained = is.attains; chain = subst (IsChain net times pair.from pair.to) (sym same) leads };
 }
 
-pub unbounded_explained : (net : Net) (budget : ℕ) (pair : Pair) (set : Vec Bool) → IsWithoutEnd net pair.from pair.to set.items
+pub unbounded_explained : (net : Net) (budget : ℕ) (pair : Pair) (set : Vec Bool) → CanRise net pair.from pair.to set.items
     → IsExplained net budget findings.Consistent pair (Unbounded set)
 unbounded_explained net budget pair set is = record {
   bound = searched_bound net budget pair (separations.Unbounded set) is tt;
-  behind = (is.times, is.satisfies, is.raises);
+  behind = is;
 }
 
 pub open_explained : (net : Net) (budget : ℕ) (pair : Pair) (limit : Option ℤ) (attained : ℤ) → IsLeftOpen net budget pair.from pair.to limit attained
     → IsExplained net budget findings.Consistent pair (Within limit (Some attained))
-open_explained net budget pair limit attained is = record { bound = searched_bound net budget pair (separations.Open limit attained) tt is; behind = tt }
+open_explained net budget pair limit attained is = record { bound = searched_bound net budget pair (separations.Open limit attained) tt is; behind = is.attains }
 
 pub limited_explained : (net : Net) (budget : ℕ) (word : FindingWord) (pair : Pair) (limit : Option ℤ) → IsPairFound net budget word pair (Limited limit)
     → IsExplained net budget word pair (Within limit None)
@@ -136,11 +136,11 @@ behind_greatest net row (Unbounded set) is = is
 behind_greatest net row (Within limit attained) is = is
 
 -- and by the reversed pair behind a least bound
-behind_least : (net : Net) (row : Row) (most : Bound) (found : BoundFound) → IsBehindPair net (record { from = row.to; to = row.from }) found
-    → IsBehind net row (least_by most) (reversed_found found)
-behind_least net row most (Closed value chain) is = subst (λ z. Explains net row.to row.from z chain.items) (sym (neg_neg value)) is
-behind_least net row most (Unbounded set) is = is
-behind_least net row most (Within limit attained) is = is
+behind_least : (net : Net) (word : FindingWord) (row : Row) (most : Bound) (found : BoundFound) → IsGreatestBy net word (record { from = row.to; to = row.from }) (bound_of found)
+    → IsBehindPair net (record { from = row.to; to = row.from }) found → IsBehind net row (least_by most) (reversed_found found)
+behind_least net word row most (Closed value chain) by is = subst (λ z. Explains net row.to row.from z chain.items) (sym (neg_neg value)) is
+behind_least net word row most (Unbounded set) by is = is
+behind_least net word row most (Within limit attained) by is = (least_holds net word row.from row.to (bounds.Within limit attained) by).1
 
 turned_bound : (found : BoundFound) → bound_of (reversed_found found) ≡ reversed (bound_of found)
 turned_bound (Closed value chain) = refl
@@ -152,7 +152,6 @@ turned_bound (Within limit attained) = refl
 pub greatest_found : (net : Net) (budget : ℕ) (word : FindingWord) (row : Row) (found : BoundFound) → IsExplained net budget word (record { from = row.from; to = row.to }) found
     → IsBoundFound net budget word row greatest found
 greatest_found net budget word row found is = record {
-  holds = holds_by net word row.from row.to (bound_of found) is.bound.bound;
   right = greatest_of net word row (bound_of found) is.bound.bound;
   behind = behind_greatest net row found is.behind;
   shown = greatest_shown net budget row (bound_of found) is.bound.shown;
@@ -163,9 +162,8 @@ pub least_found : (net : Net) (budget : ℕ) (word : FindingWord) (row : Row) (m
 least_found net budget word row most found is =
     let e : reversed (bound_of found) ≡ bound_of (reversed_found found) = sym (turned_bound found) in
     record {
-      holds = subst (IsLeastBound net row.from row.to) e (least_holds net word row.from row.to (bound_of found) is.bound.bound);
       right = subst (λ (b : Bound). IsBoundOf net word row (least_by most) b) e (least_of net word row most (bound_of found) is.bound.bound);
-      behind = behind_least net row most found is.behind;
+      behind = behind_least net word row most found is.bound.bound is.behind;
       shown = subst (IsBoundShown net budget row (least_by most)) e (least_shown net budget row most (bound_of found) is.bound.shown);
     }
 
@@ -189,3 +187,11 @@ both_of net budget word pair turned row most fewest least same_turned same_least
       greatest_shown = greatest_shown net budget row most one.shown;
       least_shown = subst (IsBoundShown net budget row (least_by most)) turn (least_shown net budget row most fewest two.shown);
     }
+
+-- so they are by what is found of both pairs with its reason
+pub both_explained : (net : Net) (budget : ℕ) (word : FindingWord) (row : Row) (most searched : BoundFound) → IsExplained net budget word (record { from = row.from; to = row.to }) most
+    → IsExplained net budget word (record { from = row.to; to = row.from }) searched
+    → AreRowBounds net budget word row (record { least = bound_of (reversed_found searched); greatest = bound_of most })
+both_explained net budget word row most searched first second =
+    both_of net budget word (record { from = row.from; to = row.to }) (record { from = row.to; to = row.from }) row (bound_of most) (bound_of searched)
+    (bound_of (reversed_found searched)) refl (turned_bound searched) refl refl first.bound second.bound

@@ -20,24 +20,13 @@ use Rattle.explained.specs.Step.Bounding.{IsExplained, reversed_found}
 use Rattle.explained.specs.declared.searches.Searches.{Searches}
 use Rattle.explained.specs.Step.Standing.{IsReady, KeepsFinding, KeepsFindings, word_apart, word_in}
 use Rattle.explained.specs.Step.Resting.{AreBoundsApart}
-use Rattle.explained.proofs.Behind.{greatest_found, least_found}
+use Rattle.explained.proofs.Behind.{both_explained, greatest_found, least_found}
 
 -- the bounds apart that are found by both bounds of a row are found with it
 told_of : (apart : Net) (budget : ℕ) (word : FindingWord) (row : Row) (kind : RowKind) (found : RowFound)
     → AreBoundsApart apart budget word row kind (record { least = bound_of found.least; greatest = bound_of found.greatest }) found.apart → IsApartOf apart budget word row kind found
 told_of apart budget word row kinds.Ask found rests = rests
 told_of apart budget word row (kinds.Req range) found rests = rests
-
--- both bounds of a row, as they are found
-both_found : (net : Net) (budget : ℕ) (word : FindingWord) (row : Row) (most fewest : BoundFound) → IsBoundFound net budget word row greatest most
-    → IsBoundFound net budget word row (least_by (bound_of most)) fewest → AreRowBounds net budget word row (record { least = bound_of fewest; greatest = bound_of most })
-both_found net budget word row most fewest first second = record {
-  holds = (first.holds, second.holds);
-  greatest = first.right;
-  least = second.right;
-  greatest_shown = first.shown;
-  least_shown = second.shown;
-}
 
 -- what is found of a row: by the searches of its pair and of the reversed one, and by its bounds in the network apart
 pub row_found : (drawn : Drawn) (net apart : Net) (budget : ℕ) (word there : FindingWord) (row : Row) (turned : Pair) (most searched fewest : BoundFound) (both : BothBounds) (rests : Option BothBounds)
@@ -56,7 +45,10 @@ row_found drawn net apart budget word there row turned most searched fewest both
     let two : IsBoundFound drawn.net budget word row (least_by (bound_of most)) fewest =
     subst (λ (f : BoundFound). IsBoundFound drawn.net budget word row (least_by (bound_of most)) f) (sym same_fewest)
     (least_found drawn.net budget word row (bound_of most) searched two_by) in
-    let bounds : AreRowBounds drawn.net budget word row both = subst (λ (b : BothBounds). AreRowBounds drawn.net budget word row b) (sym same_both) (both_found drawn.net budget word row most fewest one two) in
+    let here : AreRowBounds drawn.net budget word row (record { least = bound_of fewest; greatest = bound_of most }) =
+    subst (λ (f : BoundFound). AreRowBounds drawn.net budget word row (record { least = bound_of f; greatest = bound_of most })) (sym same_fewest)
+    (both_explained drawn.net budget word row most searched one_by two_by) in
+    let bounds : AreRowBounds drawn.net budget word row both = subst (λ (b : BothBounds). AreRowBounds drawn.net budget word row b) (sym same_both) here in
     let is_told : AreBoundsApart (net_apart drawn) budget there row row.kind (record { least = bound_of fewest; greatest = bound_of most }) rests =
     subst (λ (n : Net). AreBoundsApart n budget there row row.kind (record { least = bound_of fewest; greatest = bound_of most }) rests) same_apart
     (subst (λ (b : BothBounds). AreBoundsApart apart budget there row row.kind b rests) same_both (tells bounds)) in

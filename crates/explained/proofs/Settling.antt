@@ -25,9 +25,8 @@ use Rattle.extremes.specs.Found.{IsFindingOpen}
 use Rattle.origin.specs.declared.origin.Origin.{Origin}
 use Rattle.drawn.specs.Drawn.{Drawn}
 use Rattle.drawn.specs.declared.row.Row.{Row}
-use Rattle.explained.specs.Answers.{AreFound, AreRowsFound, AreSettledApart, FoundSettles, IsApart, IsApartOf, IsBoundSettled, IsBoundShown, IsFindingFound, IsRowFound, IsRowSettled, IsWordFound, RestsOnOrder, SettlesWithin, bound_of, verdict_in}
+use Rattle.explained.specs.Answers.{AreFound, AreRowsFound, AreSettledApart, FoundSettles, IsApart, IsApartOf, IsBoundSettled, IsBoundShown, IsFindingApart, IsFindingFound, IsRowFound, IsRowSettled, RestsOnOrder, SettlesWithin, bound_of, verdict_in}
 use Rattle.explained.specs.Apart.{constraints_apart, keeps_order, net_apart}
-use Rattle.explained.specs.declared.finding.Finding.{Finding}
 use Rattle.explained.specs.declared.finding.Finding.TheVariants.{Consistent, Inconsistent, Unsettled}
 use Rattle.explained.specs.declared.network.NetworkFound.{NetworkFound}
 use Rattle.explained.specs.declared.row.RowFound.{RowFound}
@@ -52,7 +51,7 @@ bound_settles net budget word row side (bounds.Closed value) is_net enough settl
 bound_settles net budget word row side bounds.Unbounded is_net enough settled right shown = tt
 bound_settles net budget word row side (bounds.Within limit None) is_net enough settled right shown = settled (unsettled_by word right.1)
 bound_settles net budget word row side (bounds.Within limit (Some found)) is_net enough settled right shown =
-    let below : budget < cause_choices net.constraints = stopped_proof_is_below_choices net (goal_of row side found) shown.0 budget is_net shown.1 in
+    let below : budget < cause_choices net.constraints = stopped_proof_is_below_choices net (goal_of row side found) (shown refl).0 budget is_net (shown refl).1 in
     absurd (omega (arith, below, enough))
 
 -- ---- apart
@@ -82,11 +81,11 @@ suffices_apart drawn budget is_net enough =
     omega (arith, fewer, enough)
 
 -- so a finding that is searched there is settled
-apart_settles : (drawn : Drawn) (budget : ℕ) (word : FindingWord) → IsNet drawn.net → cause_choices drawn.net.constraints ≤ budget → IsWordFound (net_apart drawn) budget word
-    → word ≡ findings.Unsettled → ⊥
+apart_settles : (drawn : Drawn) (budget : ℕ) (word : FindingWord) → IsNet drawn.net → cause_choices drawn.net.constraints ≤ budget
+    → IsFindingApart (net_apart drawn) budget findings.Consistent word → word ≡ findings.Unsettled → ⊥
 apart_settles drawn budget word is_net enough found unsettled =
-    let below : budget < cause_choices (net_apart drawn).constraints =
-    unsettled_below (net_apart drawn) budget (is_net_apart drawn is_net) (subst (IsWordFound (net_apart drawn) budget) unsettled found) in
+    let left : IsFindingOpen (net_apart drawn) budget = subst (IsFindingApart (net_apart drawn) budget findings.Consistent) unsettled found refl in
+    let below : budget < cause_choices (net_apart drawn).constraints = unsettled_below (net_apart drawn) budget (is_net_apart drawn is_net) left in
     let fewer = suffices_apart drawn budget is_net enough in
     omega (arith, below, fewer)
 

@@ -1,5 +1,5 @@
 -- What lines show of a bound that was left open.
-use Rattle.std.proofs.Common.{ℕ, None, Some, sym, subst}
+use Rattle.std.proofs.Common.{ℕ, [], None, Some, refl, sym, subst}
 use Rattle.event_graph.specs.Network.{Net}
 use Rattle.event_graph.specs.Proof.{IsStoppedProof}
 use Rattle.event_graph.specs.Proof.{Bound as BoundGoal}
@@ -14,16 +14,16 @@ use Rattle.explained.proofs.Numbers.{neg_neg}
 
 -- a greatest bound of a pair is a bound of a row
 pub greatest_shown : (net : Net) (budget : ℕ) (row : Row) (value : Bound) → IsGreatestShown net budget (record { from = row.from; to = row.to }) value → IsBoundShown net budget row greatest value
-greatest_shown net budget row (bounds.Closed value) shown = shown
-greatest_shown net budget row bounds.Unbounded shown = shown
-greatest_shown net budget row (bounds.Within limit None) shown = shown
-greatest_shown net budget row (bounds.Within limit (Some attained)) shown = shown
+greatest_shown net budget row (bounds.Closed value) shown = λ is. absurd (cc is)
+greatest_shown net budget row bounds.Unbounded shown = λ is. absurd (cc is)
+greatest_shown net budget row (bounds.Within limit None) shown = λ is. ([], refl)
+greatest_shown net budget row (bounds.Within limit (Some attained)) shown = λ is. shown
 
 -- and of the reversed pair it is a least bound
 pub least_shown : (net : Net) (budget : ℕ) (row : Row) (most value : Bound) → IsGreatestShown net budget (record { from = row.to; to = row.from }) value
     → IsBoundShown net budget row (least_by most) (reversed value)
-least_shown net budget row most (bounds.Closed value) shown = shown
-least_shown net budget row most bounds.Unbounded shown = shown
-least_shown net budget row most (bounds.Within limit None) shown = shown
+least_shown net budget row most (bounds.Closed value) shown = λ is. absurd (cc is)
+least_shown net budget row most bounds.Unbounded shown = λ is. absurd (cc is)
+least_shown net budget row most (bounds.Within limit None) shown = λ is. ([], refl)
 least_shown net budget row most (bounds.Within limit (Some attained)) shown =
-    (shown.0, subst (λ z. IsStoppedProof net (BoundGoal row.to row.from z) shown.0 budget) (sym (neg_neg attained)) shown.1)
+    λ is. (shown.0, subst (λ z. IsStoppedProof net (BoundGoal row.to row.from z) shown.0 budget) (sym (neg_neg attained)) shown.1)

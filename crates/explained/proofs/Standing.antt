@@ -8,7 +8,7 @@ use Rattle.event_graph.proofs.EdgesMet.{All-found}
 use Rattle.event_graph.specs.Bounds.{IsInconsistent}
 use Rattle.event_graph.specs.Network.{Net}
 use Rattle.event_graph.specs.Satisfying.{Holds}
-use Rattle.extremes.specs.Found.{IsContradictionFound}
+use Rattle.extremes.specs.Found.{IsContradictionFound, IsFindingOpen}
 use Rattle.extremes.specs.declared.extremes.Extremes.{Extremes}
 use Rattle.requirements.specs.declared.bound.BothBounds.{BothBounds}
 use Rattle.requirements.specs.declared.verdict.Verdict.TheVariants as verdicts
@@ -16,7 +16,7 @@ use Rattle.slack_report.specs.declared.words.FindingWord.{FindingWord}
 use Rattle.slack_report.specs.declared.words.FindingWord.TheVariants as findings
 use Rattle.drawn.specs.Drawn.{Drawn}
 use Rattle.drawn.specs.declared.row.Row.{Row}
-use Rattle.explained.specs.Answers.{IsFindingApart, IsWordFound, RestsOnOrder, verdict_by}
+use Rattle.explained.specs.Answers.{IsFindingApart, RestsOnOrder, verdict_by}
 use Rattle.explained.specs.Apart.{net_apart}
 use Rattle.explained.specs.declared.desk.Apart.{Apart}
 use Rattle.explained.specs.declared.searches.Searches.{Searches}
@@ -78,39 +78,32 @@ judged_apart apart there row kind range both rests same_there same_kind passes i
 
 -- ---- the finding of the network apart
 
--- what a search finds of a network that is not inconsistent
-word_found : (net : Net) (word : FindingWord) (extremes : Extremes) → HasFound net word extremes → (word ≡ findings.Inconsistent → ⊥) → IsWordFound net extremes.budget word
-word_found net findings.Consistent extremes found settled = found.consistent
-word_found net findings.Inconsistent extremes found settled = settled refl
-word_found net findings.Unsettled extremes found settled = found.1
-
 -- after a consistent finding of the drawn network the network apart is searched
 pub searched_apart : (net : Net) (budget : ℕ) (there : FindingWord) (extremes : Extremes) → FindingAllows net findings.Consistent → HasFound net there extremes → extremes.budget ≡ budget
     → IsFindingApart net budget findings.Consistent there
-searched_apart net budget there extremes allows found same =
-    subst (λ (b : ℕ). IsWordFound net b there) same (word_found net there extremes found (not_inconsistent net there extremes allows found))
+searched_apart net budget findings.Consistent extremes allows found same = refl
+searched_apart net budget findings.Inconsistent extremes allows found same = found.none allows.0 allows.1
+searched_apart net budget findings.Unsettled extremes allows found same = λ is. subst (λ (b : ℕ). IsFindingOpen net b) same found.1
 
 -- so bounds can be found there
 pub searchable_apart : (net : Net) (there : FindingWord) (extremes : Extremes) → FindingAllows net findings.Consistent → HasFound net there extremes → IsSearchableAfter net there extremes
 searchable_apart net there extremes allows found = found_searchable net there extremes found (not_inconsistent net there extremes allows found)
 
 -- after an unsettled one it is not
-pub unsettled_apart : (net : Net) (budget : ℕ) (there : FindingWord) → FindingAllows net findings.Unsettled → there ≡ findings.Unsettled
-    → IsFindingApart net budget findings.Unsettled there
-unsettled_apart net budget there allows same = (same, allows)
+pub unsettled_apart : (net : Net) (budget : ℕ) (there : FindingWord) → there ≡ findings.Unsettled → IsFindingApart net budget findings.Unsettled there
+unsettled_apart net budget there same = subst (IsFindingApart net budget findings.Unsettled) (sym same) (λ is. absurd (cc is))
 
 -- and bounds can be found as limits
 pub unsettled_searchable : (net : Net) (searches : Searches) → FindingAllows net findings.Unsettled → IsFresh net searches → IsSearchable net searches
 unsettled_searchable net searches allows fresh = subst (λ (w : FindingWord). IsSearchableAfter net w searches.extremes) (sym fresh.unsettled) (fresh.made, allows)
 
 -- a network apart that is the drawn one has its finding
-whole_apart : (net : Net) (word : FindingWord) (extremes : Extremes) → HasFound net word extremes → (word ≡ findings.Inconsistent → ⊥) → IsFindingApart net extremes.budget word word
-whole_apart net findings.Consistent extremes found settled = found.consistent
-whole_apart net findings.Inconsistent extremes found settled = settled refl
-whole_apart net findings.Unsettled extremes found settled = (refl, found.1.always)
+whole_apart : (net : Net) (budget : ℕ) (word : FindingWord) → (word ≡ findings.Inconsistent → ⊥) → IsFindingApart net budget word word
+whole_apart net budget findings.Consistent settled = refl
+whole_apart net budget findings.Inconsistent settled = settled refl
+whole_apart net budget findings.Unsettled settled = λ is. absurd (cc is)
 
-pub finding_apart : (drawn : Drawn) (word : FindingWord) (extremes : Extremes) (apart : Option Apart) → net_in drawn.net apart ≡ net_apart drawn → HasFound drawn.net word extremes
-    → (word ≡ findings.Inconsistent → ⊥) → IsSettledApart extremes.budget word apart → IsFindingApart (net_apart drawn) extremes.budget word (word_in word apart)
-finding_apart drawn word extremes None is found not_none settled =
-    subst (λ (n : Net). IsFindingApart n extremes.budget word word) is (whole_apart drawn.net word extremes found not_none)
-finding_apart drawn word extremes (Some a) is found not_none settled = subst (λ (n : Net). IsFindingApart n extremes.budget word a.searches.word) is settled
+pub finding_apart : (drawn : Drawn) (budget : ℕ) (word : FindingWord) (apart : Option Apart) → net_in drawn.net apart ≡ net_apart drawn → (word ≡ findings.Inconsistent → ⊥)
+    → IsSettledApart budget word apart → IsFindingApart (net_apart drawn) budget word (word_in word apart)
+finding_apart drawn budget word None is not_none settled = subst (λ (n : Net). IsFindingApart n budget word word) is (whole_apart drawn.net budget word not_none)
+finding_apart drawn budget word (Some a) is not_none settled = subst (λ (n : Net). IsFindingApart n budget word a.searches.word) is settled

@@ -1,5 +1,5 @@
 -- What a search of one edge finds.
-use Rattle.std.proofs.Common.{◌≡◌, ◌^◌, ◌≤ℤ◌, ◌<ℤ◌, ◌-ℤ◌, ℕ, zero, suc, ℤ, pos, neg_ℤ, Bool, List, [], ◌∷◌, get_or, All, Option, Some, None, refl, sym, subst, ◌⊎◌, inl, inr, arith, rules, to_z, of_z, w64}
+use Rattle.std.proofs.Common.{◌≡◌, ◌^◌, ◌≤ℤ◌, ◌<ℤ◌, ◌-ℤ◌, ℕ, zero, suc, ℤ, pos, neg_ℤ, Bool, List, [], ◌∷◌, get_or, All, Option, Some, None, sym, subst, ◌⊎◌, inl, inr, arith, rules, to_z, of_z, w64}
 use Rattle.std.specs.Prelude.{IfSome}
 use Rattle.std.specs.Global.{Vec}
 use Rattle.std.proofs.lemmas.Int.{ints, to_z-of_z}
@@ -8,15 +8,14 @@ use Rattle.itv_base.specs.declared.names.EventId.{EventId}
 use Rattle.event_graph.specs.declared.edge.Edge.{Edge}
 use Rattle.event_graph.specs.Bounds.{IsGreatest}
 use Rattle.event_graph.specs.Network.{Net}
-use Rattle.event_graph.specs.Satisfying.{Satisfies}
 use Rattle.event_graph.specs.Times.{IsTime, separation, time_of}
 use Rattle.event_graph.proofs.Rays.{ray_is_unbounded}
 use Rattle.extremes.specs.Found.{CanRise, IsAttainedBy, IsGreatestFound}
 use Rattle.extremes.specs.declared.found.Greatest.{Greatest}
 use Rattle.extremes.specs.declared.found.Greatest.TheVariants.{Closed, Unbounded}
 use Rattle.narrow.specs.declared.end.EndFound.{EndFound}
-use Rattle.narrow.specs.declared.end.EndFound.TheVariants.{Narrow, Open, Wide}
-use Rattle.narrow.specs.Narrow.{IsNeverBeyond, IsAttainable}
+use Rattle.narrow.specs.declared.end.EndFound.TheVariants.{Narrow, Wide}
+use Rattle.narrow.specs.Narrow.{IsAttainable}
 use Rattle.narrow.specs.Step.{IsSearched}
 
 -- a greatest separation of at least this reaches it
@@ -84,6 +83,3 @@ pub unbounded_found : (net : Net) (e : Edge) (weight : ℤ) (so_far : Option ℤ
 unbounded_found net e weight so_far greatest set last is same found =
     let without_end : CanRise net e.from e.to set.items = subst (IsGreatestFound net e.from e.to) is found in
     subst (IsSearched net e weight so_far) (sym same) (unbounded_reached net e weight set.items without_end)
-
-pub open_found : (net : Net) (e : Edge) (weight : ℤ) (so_far : Option ℤ) (last : EndFound) → last ≡ Open → IsSearched net e weight so_far last
-open_found net e weight so_far last same = subst (IsSearched net e weight so_far) (sym same) tt

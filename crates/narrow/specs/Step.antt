@@ -1,5 +1,5 @@
 -- Words of private contracts.
-use Rattle.std.specs.Prelude.{◌≡◌, ◌<◌, ◌⊎◌, ◌↔◌, [], ℕ, ℤ, ◌≤ℤ◌, ◌<ℤ◌, Bool, true, false, List, All, Contains, length, map, Option, Some, None, IfSome, IsSome, slice_get}
+use Rattle.std.specs.Prelude.{◌≡◌, ◌<◌, ◌⊎◌, ◌↔◌, [], ℕ, ℤ, ◌≤ℤ◌, ◌<ℤ◌, Bool, true, false, List, All, Contains, length, map, Option, Some, IfSome, IsSome, slice_get}
 use Rattle.std.specs.HashMap.{get, HashMap}
 use Rattle.std.specs.declared.hash.FoldHasher.{FoldHasher}
 use Rattle.std.specs.declared.hash.BuildHasherDefault.{BuildHasherDefault}

@@ -12,10 +12,10 @@ use Rattle.requirements.specs.declared.bound.Bound.TheVariants as bounds
 use Rattle.slack_report.specs.declared.words.FindingWord.{FindingWord}
 use Rattle.slack_report.specs.declared.words.FindingWord.TheVariants as findings
 use Rattle.right_report.specs.Right.LineClaims.{HasAttained}
-use Rattle.extremes.specs.Found.{IsGreatestFound, IsOpenShown}
+use Rattle.extremes.specs.Found.{CanRise, IsGreatestFound, IsOpenShown}
 use Rattle.extremes.specs.declared.found.Greatest.{Greatest}
 use Rattle.extremes.specs.declared.found.Greatest.TheVariants as greatest
-use Rattle.explained.specs.Answers.{CanRise, Explains, bound_of}
+use Rattle.explained.specs.Answers.{Explains, bound_of}
 use Rattle.explained.specs.declared.bound.BoundFound.{BoundFound}
 use Rattle.explained.specs.declared.bound.BoundFound.TheVariants.{Closed, Unbounded, Within}
 use Rattle.explained.specs.declared.pair.Pair.{Pair}
@@ -73,7 +73,7 @@ pub record IsGreatestFoundBy (net : Net) (budget : ℕ) (word : FindingWord) (pa
 abbrev pub IsBehindPair : Net → Pair → BoundFound → Type 0
 IsBehindPair net pair (Closed value chain) = Explains net pair.from pair.to value chain.items
 IsBehindPair net pair (Unbounded set) = CanRise net pair.from pair.to set.items
-IsBehindPair net pair (Within limit attained) = Unit {0}
+IsBehindPair net pair (Within limit attained) = IfSome attained (IsAttained net pair.from pair.to)
 
 -- a greatest bound after a finding, with the chain or the set that stands behind it
 pub record IsExplained (net : Net) (budget : ℕ) (word : FindingWord) (pair : Pair) (found : BoundFound) : Type 0 where

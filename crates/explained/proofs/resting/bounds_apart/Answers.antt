@@ -1,11 +1,14 @@
 use Rattle.std.proofs.Common.{◌≡◌, rules}
+use Rattle.std.proofs.lemmas.Result.{IfOk-weaker}
 use Rattle.requirements.specs.declared.verdict.Verdict.TheVariants as verdicts
 use Rattle.explained.specs.Answers.{verdict_by}
 use Rattle.explained.proofs.Standing.{judged_apart}
 use Rattle.explained.proofs.resting.bounds_apart.Goals as goal
 
 pub returns-in-Some-clause-rests : goal.returns-in-Some-clause-rests
-returns-in-Some-clause-rests c = λ net budget word has bounds.
+returns-in-Some-clause-rests c =
     let passes : verdict_by c.in-Req.range c.args.both.now ≡ verdicts.Pass = search rules in
-    judged_apart c.in-Some.apart c.args.apart.now c.args.row.now c.args.row.now.kind c.in-Req.range c.args.both.now c.broken_apart.result c.in-Some.is c.in-Req.is passes
-    c.broken_apart.ensures.rests net budget word has
+    IfOk-weaker c.broken_apart.result _ _
+    (λ rests is net budget word has bounds. judged_apart c.in-Some.apart c.args.apart.now c.args.row.now c.args.row.now.kind c.in-Req.range c.args.both.now rests c.in-Some.is c.in-Req.is passes
+        is net budget word has)
+    c.broken_apart.ensures.rests

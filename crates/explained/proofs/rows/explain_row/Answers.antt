@@ -16,8 +16,8 @@ use Rattle.explained.proofs.rows.explain_row.Goals as goal
 same_both : (least least' greatest greatest' : Bound) → least ≡ least' → greatest ≡ greatest' → ◌≡◌ {A = BothBounds} (record { least = least; greatest = greatest }) (record { least = least'; greatest = greatest' })
 same_both least least' greatest greatest' l g = cc (l, g)
 
-pub bounds_apart-apart-requires-clause-row : goal.bounds_apart-apart-requires-clause-row
-bounds_apart-apart-requires-clause-row c = in_memory (λ (n : Net). IsRowOf n c.args.row.now) c.args.drawn.now c.args.desk.now.apart c.requires.ready.apart c.requires.row
+pub bounds_apart-requires-clause-row : goal.bounds_apart-requires-clause-row
+bounds_apart-requires-clause-row c = in_memory (λ (n : Net). IsRowOf n c.args.row.now) c.args.drawn.now c.args.desk.now.apart c.requires.ready.apart c.requires.row
 
 pub returns-clause-found : goal.returns-clause-found
 returns-clause-found c =
@@ -40,4 +40,4 @@ returns-clause-found c =
     (λ bounds. c.in_ok-apart.ensures.rests drawn.net desk.searches.extremes.budget desk.searches.word c.requires.ready.budget bounds)
 
 pub returns-clause-kept : goal.returns-clause-kept
-returns-clause-kept c = row_kept c.args.desk.now _ c.explain_greatest.new.searches c.in_ok-greatest.ensures.kept c.in_ok-explain_greatest.ensures.kept c.bounds_apart-apart.ensures.word
+returns-clause-kept c = row_kept c.args.desk.now _ c.explain_greatest.new.searches c.in_ok-greatest.ensures.kept c.in_ok-explain_greatest.ensures.kept c.bounds_apart.ensures.word

@@ -21,6 +21,6 @@ returns-clause-rows c =
     let after = c.settle_apart.new.apart in
     let is : net_in drawn.net after ≡ net_apart drawn = c.settle_apart.ensures.same drawn.net ∙ c.requires.desk.apart in
     let there : IsFindingApart (net_apart drawn) desk.searches.extremes.budget desk.searches.word (word_in desk.searches.word after) =
-    finding_apart drawn desk.searches.word desk.searches.extremes after is c.requires.found c.requires.settled
+    finding_apart drawn desk.searches.extremes.budget desk.searches.word after is c.requires.settled
     (c.in_ok-settle_apart.ensures.finding desk.searches.extremes.budget c.requires.desk.budget) in
     IfOk-weaker c.explain_each.result _ _ (λ found rows. record { word_apart = word_in desk.searches.word after; finding_apart = there; rows = rows }) c.explain_each.ensures.rows

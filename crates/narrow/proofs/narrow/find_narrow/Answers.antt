@@ -1,7 +1,5 @@
-use Rattle.std.proofs.Common.{◌≡◌, ◌≤◌, List, length, ◌∙◌, subst, sym, arith}
-use Rattle.itv_base.specs.declared.names.EdgeName.{EdgeName}
+use Rattle.std.proofs.Common.{◌≡◌, ◌≤◌, length, ◌∙◌, arith}
 use Rattle.narrow.specs.Ends.{all_ends}
-use Rattle.narrow.specs.Step.{Stand}
 use Rattle.narrow.proofs.Along.{along_all, along_next, found_all}
 use Rattle.narrow.proofs.Standing.{are_places}
 use Rattle.narrow.proofs.narrow.find_narrow.Goals as goal
