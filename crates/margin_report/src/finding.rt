@@ -12,17 +12,15 @@ ghost use Rattle.margin_report.specs.Step.{AreFoundIf, AreFoundOf, IsBaseOf, End
 
 use crate::number_found::NumberFound;
 use drawn::DrawnNetwork;
+use extremes::{RunTurns, turns_of};
 use itv_base::{NoMemory, Range};
 use margins::{EndsFound, base_of, find_ends};
 use moves::{NetFound, NumberSeen, SpanFound};
 use numbers::DrawnNumber;
-use probing::{Effort, Probed};
+use probing::Probed;
 use slack_report::EndWord;
 use spans::find_span;
 use std::alloc::Global;
-
-// Turns for each case of the budget, as in job settle.
-const CASE_TURNS: u64 = 1000;
 
 /// What is found of a network as drawn, and of numbers: the word that the network would end with, and the margins of each number. Of numbers nothing is looked
 /// for where no times satisfy the network, or where it was left open whether every requirement passes.
@@ -33,6 +31,7 @@ pub struct MarginFound {
 }
 
 /// Finds how far numbers may be moved, each by itself or all as one. Each search closes at most `budget` cases, and takes at most a thousand turns for each.
+/// All searches together take at most as many turns as a few of them that take all of theirs. Those after that close cases alone.
 pub fn find_margins(
     alloc: Global,
     drawn: &DrawnNetwork,
@@ -44,25 +43,13 @@ pub fn find_margins(
     requires most { budget ≤ MAX_BUDGET }
     ensures ending { IfOk result (λ found. EndsByOf drawn.now budget seen.now as_one found.word found.numbers.items) }
 {
-    let effort = effort_of(budget);
-    let base = base_of(alloc, drawn, effort)?;
-    let numbers = numbers_by(alloc, drawn, seen, as_one, &base, effort)?;
+    let mut turns = RunTurns::of(turns_of(budget));
+    let base = base_of(alloc, drawn, budget, &mut turns)?;
+    let numbers = numbers_by(alloc, drawn, seen, as_one, &base, budget, &mut turns)?;
     Ok(MarginFound {
         word: word_of(base.found),
         numbers,
     })
-}
-
-// How long each search may go on, for a budget of cases.
-fn effort_of(budget: u64) -> Effort
-    requires least { 1 ≤ budget }
-    requires most { budget ≤ MAX_BUDGET }
-    ensures { result.budget ≡ budget }
-{
-    Effort {
-        budget,
-        turns: CASE_TURNS * budget,
-    }
 }
 
 // The word that the network as drawn would end with.
@@ -84,18 +71,19 @@ fn numbers_by(
     seen: &[NumberSeen],
     as_one: bool,
     base: &Probed,
-    effort: Effort,
+    budget: u64,
+    turns: &mut RunTurns,
 ) -> Result<Vec<NumberFound>, NoMemory>
-    requires base { IsBaseOf drawn.now effort.budget base.now }
-    ensures { IfOk result (λ found. AreFoundIf (is_decided base.now.found) drawn.now effort.budget seen.now as_one found.items) }
+    requires base { IsBaseOf drawn.now budget base.now }
+    ensures { IfOk result (λ found. AreFoundIf (is_decided base.now.found) drawn.now budget seen.now as_one found.items) }
 {
     if !is_decided(base.found) {
         return Ok(Vec::new(alloc));
     }
     if as_one {
-        as_one_found(alloc, drawn, seen, base, effort)
+        as_one_found(alloc, drawn, seen, base, budget, turns)
     } else {
-        each_found(alloc, drawn, seen, base, effort)
+        each_found(alloc, drawn, seen, base, budget, turns)
     }
 }
 
@@ -117,16 +105,17 @@ fn each_found(
     drawn: &DrawnNetwork,
     seen: &[NumberSeen],
     base: &Probed,
-    effort: Effort,
+    budget: u64,
+    turns: &mut RunTurns,
 ) -> Result<Vec<NumberFound>, NoMemory>
-    requires base { IsBaseOf drawn.now effort.budget base.now }
+    requires base { IsBaseOf drawn.now budget base.now }
     requires decided { is_decided base.now.found ≡ true }
-    ensures { IfOk result (λ found. AllZip (IsNumberFound drawn.now effort.budget) seen.now found.items) }
+    ensures { IfOk result (λ found. AllZip (IsNumberFound drawn.now budget) seen.now found.items) }
 {
-    let ends = find_ends(alloc, drawn, seen, base, effort)?;
+    let ends = find_ends(alloc, drawn, seen, base, budget, turns)?;
     let mut found = Vec::new(alloc);
     for k in 0..seen.len() {
-        let span = span_of(alloc, drawn, &seen[k], base, effort)?;
+        let span = span_of(alloc, drawn, &seen[k], base, budget, turns)?;
         found.push(NumberFound {
             ends: ends[k],
             span,
@@ -141,17 +130,18 @@ fn span_of(
     drawn: &DrawnNetwork,
     seen: &NumberSeen,
     base: &Probed,
-    effort: Effort,
+    budget: u64,
+    turns: &mut RunTurns,
 ) -> Result<Option<SpanFound>, NoMemory>
-    requires base { IsBaseOf drawn.now effort.budget base.now }
+    requires base { IsBaseOf drawn.now budget base.now }
     requires decided { is_decided base.now.found ≡ true }
-    ensures span { IfOk result (λ span. IfSome span (λ s. IsSpanFound drawn.now (seen.now.number ∷ []) effort.budget s.down s.up)) }
+    ensures span { IfOk result (λ span. IfSome span (λ s. IsSpanFound drawn.now (seen.now.number ∷ []) budget s.down s.up)) }
     ensures has_span { IfOk result (λ span. is_some span ≡ (is_some seen.now.range.low && option_eq int_eq seen.now.range.low seen.now.range.high)) }
 {
     if !is_single(seen.range) {
         return Ok(None);
     }
-    let span = find_span(alloc, drawn, &[&seen.number], base, effort)?;
+    let span = find_span(alloc, drawn, &[&seen.number], base, budget, turns)?;
     Ok(Some(span))
 }
 
@@ -173,14 +163,15 @@ fn as_one_found(
     drawn: &DrawnNetwork,
     seen: &[NumberSeen],
     base: &Probed,
-    effort: Effort,
+    budget: u64,
+    turns: &mut RunTurns,
 ) -> Result<Vec<NumberFound>, NoMemory>
-    requires base { IsBaseOf drawn.now effort.budget base.now }
+    requires base { IsBaseOf drawn.now budget base.now }
     requires decided { is_decided base.now.found ≡ true }
-    ensures { IfOk result (λ found. AreFoundOf drawn.now effort.budget seen.now true found.items) }
+    ensures { IfOk result (λ found. AreFoundOf drawn.now budget seen.now true found.items) }
 {
     let numbers = lent_numbers(alloc, seen)?;
-    let span = find_span(alloc, drawn, &numbers, base, effort)?;
+    let span = find_span(alloc, drawn, &numbers, base, budget, turns)?;
     repeated(alloc, seen.len(), span)
 }
 

@@ -72,7 +72,7 @@ module _ (sought : EndSought) where
 
   -- ---- what is left open
 
-  pub left_open : (other : Drawn) (probed : Probed) → IsProbedIn sought.drawn.now other sought.effort probed → is_net_open probed.found ≡ true → IsFoundOf sought margins.Spent
+  pub left_open : (other : Drawn) (probed : Probed) → IsProbedIn sought.drawn.now other sought.budget probed → is_net_open probed.found ≡ true → IsFoundOf sought margins.Spent
   left_open other probed is open_ = record { found = λ enough. absurd (cc (is.settles enough, open_)) }
 
   -- ---- free ends

@@ -16,7 +16,6 @@ use Rattle.moves.specs.declared.margin.Margin.{Margin}
 use Rattle.moves.specs.declared.net_found.NetFound.TheVariants as nets
 use Rattle.moves.specs.declared.number_seen.NumberSeen.{NumberSeen}
 use Rattle.probing.specs.Step.{IsProbed}
-use Rattle.probing.specs.declared.effort.Effort.{Effort}
 use Rattle.probing.specs.declared.probed.Probed.{Probed}
 use Rattle.margins.specs.Reaching.{IsReachOf}
 use Rattle.margins.specs.declared.bracket.Bracket.{Bracket}
@@ -36,7 +35,7 @@ pub record IsNetOf (drawn : Drawn) (net : Net) : Type 0 where
 
 -- a search may close at least one case, and the reach is that of the end
 pub record IsEndSought (sought : EndSought) : Type 0 where
-  pub budget : 1 ≤ sought.effort.budget
+  pub budget : 1 ≤ sought.budget
   pub reach : IsReachOf sought.drawn.now sought.number.now sought.side sought.reach
 
 -- ---- the drawn networks that are looked at
@@ -52,22 +51,22 @@ open_in sought = opened_at sought.drawn.now sought.number.now sought.side
 -- ---- what is found
 
 -- what a probe of a drawn network found, where another one has its events and cause choices
-pub record IsProbedIn (drawn other : Drawn) (effort : Effort) (probed : Probed) : Type 0 where
+pub record IsProbedIn (drawn other : Drawn) (budget : ℕ) (probed : Probed) : Type 0 where
   pub found : IsNetFound other probed.found
-  pub settles : cause_choices drawn.net.constraints ≤ effort.budget → is_net_open probed.found ≡ false
+  pub settles : cause_choices drawn.net.constraints ≤ budget → is_net_open probed.found ≡ false
   pub fits : IsProbed drawn.net.events probed
 
 -- what a probe with the end moved found
 abbrev pub IsProbedAt : EndSought → ℤ → Probed → Type 0
-IsProbedAt sought by = IsProbedIn sought.drawn.now (moved_in sought by) sought.effort
+IsProbedAt sought by = IsProbedIn sought.drawn.now (moved_in sought by) sought.budget
 
 -- what a probe with the end open found
 abbrev pub IsProbedOpen : EndSought → Probed → Type 0
-IsProbedOpen sought = IsProbedIn sought.drawn.now (open_in sought) sought.effort
+IsProbedOpen sought = IsProbedIn sought.drawn.now (open_in sought) sought.budget
 
 -- what is found of an end
 pub record IsFoundOf (sought : EndSought) (margin : Margin) : Type 0 where
-  pub found : IsEndMargin sought.drawn.now sought.effort.budget sought.number.now sought.side margin
+  pub found : IsEndMargin sought.drawn.now sought.budget sought.number.now sought.side margin
 
 -- an end has its margin, and an open one has none
 pub record IsEndOf (drawn : Drawn) (budget : ℕ) (number : DrawnNumber) (side : Side) (end : Option ℤ) (found : Option Margin) : Type 0 where
@@ -75,10 +74,10 @@ pub record IsEndOf (drawn : Drawn) (budget : ℕ) (number : DrawnNumber) (side :
   pub has : is_some found ≡ is_some end
 
 -- what was found of the network as drawn, which some times satisfy
-pub record IsBase (drawn : Drawn) (effort : Effort) (base : Probed) : Type 0 where
-  pub probed : IsProbedIn drawn drawn effort base
+pub record IsBase (drawn : Drawn) (budget : ℕ) (base : Probed) : Type 0 where
+  pub probed : IsProbedIn drawn drawn budget base
   pub consistent : base.found ≡ nets.Inconsistent → ⊥
-  pub budget : 1 ≤ effort.budget
+  pub least : 1 ≤ budget
 
 -- ---- searches
 
@@ -135,7 +134,7 @@ AreFree drawn side seen free = (k : ℕ) → IsTrue (slice_index_or free k false
 -- every requirement passes as drawn, and a search may close at least one case
 pub record IsOpeningOf (opening : Opening) : Type 0 where
   pub passes : Passes opening.drawn.now
-  pub budget : 1 ≤ opening.effort.budget
+  pub budget : 1 ≤ opening.budget
 
 -- the ends of the marked numbers from one place to another are free
 abbrev pub IsFreeBetween : Opening → ℕ → ℕ → Type 0

@@ -6,8 +6,9 @@ ghost use Rattle.moves.specs.Networks.{IsNetFound, is_net_open};
 ghost use Rattle.probing.specs.Step.{IsProbed};
 
 use drawn::DrawnNetwork;
+use extremes::RunTurns;
 use itv_base::NoMemory;
-use probing::{Effort, Probed, probe};
+use probing::{Probed, probe};
 use std::alloc::Global;
 
 /// What is found of the network as it is drawn.
@@ -15,11 +16,22 @@ pub type Base = Probed;
 
 /// Looks for times that satisfy a drawn network, and for times that break a requirement. Nothing is left open where the budget is no less than the number of
 /// cause choices. Times that it leaves fit the network.
-pub fn base_of(alloc: Global, drawn: &DrawnNetwork, effort: Effort) -> Result<Base, NoMemory>
-    requires budget { 1 ≤ effort.budget }
+pub fn base_of(
+    alloc: Global,
+    drawn: &DrawnNetwork,
+    budget: u64,
+    turns: &mut RunTurns,
+) -> Result<Base, NoMemory>
+    requires budget { 1 ≤ budget }
     ensures found { IfOk result (λ base. IsNetFound drawn.now base.found) }
-    ensures settles { IfOk result (λ base. cause_choices drawn.now.net.constraints ≤ effort.budget → is_net_open base.found ≡ false) }
+    ensures settles { IfOk result (λ base. cause_choices drawn.now.net.constraints ≤ budget → is_net_open base.found ≡ false) }
     ensures fits { IfOk result (IsProbed drawn.now.net.events) }
 {
-    probe(alloc, drawn.network(), drawn.rows().as_slice(), effort)
+    probe(
+        alloc,
+        drawn.network(),
+        drawn.rows().as_slice(),
+        budget,
+        turns,
+    )
 }

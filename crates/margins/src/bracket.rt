@@ -8,6 +8,7 @@ ghost use Rattle.probing.specs.Step.{IsProbed};
 ghost use Rattle.margins.specs.Step.{IsBracket, IsFoundOf, IsProbedAt, IsEndSought};
 
 use crate::sought::EndSought;
+use extremes::RunTurns;
 use itv_base::NoMemory;
 use moves::{Margin, NetFound};
 use probing::Probed;
@@ -31,6 +32,7 @@ pub fn margin_in(
     alloc: Global,
     sought: &EndSought<'_>,
     bracket: Bracket,
+    turns: &mut RunTurns,
 ) -> Result<Margin, NoMemory>
     requires sought { IsEndSought sought.now }
     requires bracket { IsBracket sought.now bracket }
@@ -41,7 +43,7 @@ pub fn margin_in(
     while is_wide(bracket) {
         let by = between(bracket, rounds);
         rounds = rounds.saturating_add(1);
-        match tighter(alloc, sought, bracket, by)? {
+        match tighter(alloc, sought, bracket, by, turns)? {
             None => return Ok(Margin::Spent),
             Some(next) => bracket = next,
         }
@@ -101,6 +103,7 @@ fn tighter(
     sought: &EndSought<'_>,
     bracket: Bracket,
     by: i64,
+    turns: &mut RunTurns,
 ) -> Result<Option<Bracket>, NoMemory>
     requires sought { IsEndSought sought.now }
     requires bracket { IsBracket sought.now bracket }
@@ -108,9 +111,9 @@ fn tighter(
     requires below { by <ℤ bracket.breaks }
     ensures bracket { IfOk result (λ next. IfSome next (IsBracket sought.now)) }
     ensures smaller { IfOk result (λ next. IfSome next (λ next. (next.breaks -ℤ next.passes) <ℤ (bracket.breaks -ℤ bracket.passes))) }
-    ensures settles { IfOk result (λ next. cause_choices sought.now.drawn.now.net.constraints ≤ sought.now.effort.budget → IsSome next) }
+    ensures settles { IfOk result (λ next. cause_choices sought.now.drawn.now.net.constraints ≤ sought.now.budget → IsSome next) }
 {
-    let probed = sought.probe_at(alloc, by)?;
+    let probed = sought.probe_at(alloc, by, turns)?;
     let next = tightened(alloc, sought, bracket, by, &probed);
     drop(probed);
     next
@@ -131,7 +134,7 @@ fn tightened(
     requires probed { IsProbedAt sought.now by probed.now }
     ensures bracket { IfOk result (λ next. IfSome next (IsBracket sought.now)) }
     ensures smaller { IfOk result (λ next. IfSome next (λ next. (next.breaks -ℤ next.passes) <ℤ (bracket.breaks -ℤ bracket.passes))) }
-    ensures settles { IfOk result (λ next. cause_choices sought.now.drawn.now.net.constraints ≤ sought.now.effort.budget → IsSome next) }
+    ensures settles { IfOk result (λ next. cause_choices sought.now.drawn.now.net.constraints ≤ sought.now.budget → IsSome next) }
 {
     match probed.found {
         NetFound::Passes => Ok(Some(Bracket {

@@ -16,9 +16,10 @@ use crate::passing::margin_from_pass;
 use crate::reach::reach_of;
 use crate::sought::EndSought;
 use drawn::DrawnNetwork;
+use extremes::RunTurns;
 use itv_base::{NoMemory, Side};
 use moves::{Margin, NetFound, NumberSeen};
-use probing::{Effort, Probed};
+use probing::Probed;
 use std::alloc::Global;
 
 /// What is found of the ends of a number. An end that is open as drawn has nothing.
@@ -35,20 +36,23 @@ pub fn find_ends(
     drawn: &DrawnNetwork,
     seen: &[NumberSeen],
     base: &Probed,
-    effort: Effort,
+    budget: u64,
+    turns: &mut RunTurns,
 ) -> Result<Vec<EndsFound>, NoMemory>
     requires base { IsNetFound drawn.now base.now.found }
     requires consistent { base.now.found ≡ NetFound.Inconsistent → ⊥ }
-    requires settles { cause_choices drawn.now.net.constraints ≤ effort.budget → is_net_open base.now.found ≡ false }
+    requires settles { cause_choices drawn.now.net.constraints ≤ budget → is_net_open base.now.found ≡ false }
     requires fits { IsProbed drawn.now.net.events base.now }
-    requires budget { 1 ≤ effort.budget }
-    ensures ends { IfOk result (λ ends. AllZip (AreBothFound drawn.now effort.budget) seen.now ends.items) }
+    requires budget { 1 ≤ budget }
+    ensures ends { IfOk result (λ ends. AllZip (AreBothFound drawn.now budget) seen.now ends.items) }
 {
-    let lows = free_or_none(alloc, drawn, seen, Side::Lower, base, effort)?;
-    let highs = free_or_none(alloc, drawn, seen, Side::Upper, base, effort)?;
+    let lows = free_or_none(alloc, drawn, seen, Side::Lower, base, budget, turns)?;
+    let highs = free_or_none(alloc, drawn, seen, Side::Upper, base, budget, turns)?;
     let mut ends = Vec::new(alloc);
     for k in 0..seen.len() {
-        let found = find_both(alloc, drawn, &seen[k], base, effort, lows[k], highs[k])?;
+        let found = find_both(
+            alloc, drawn, &seen[k], base, budget, lows[k], highs[k], turns,
+        )?;
         ends.push(found)?;
     }
     Ok(ends)
@@ -61,15 +65,16 @@ fn free_or_none(
     seen: &[NumberSeen],
     side: Side,
     base: &Probed,
-    effort: Effort,
+    budget: u64,
+    turns: &mut RunTurns,
 ) -> Result<Vec<bool>, NoMemory>
     requires base { IsNetFound drawn.now base.now.found }
-    requires budget { 1 ≤ effort.budget }
+    requires budget { 1 ≤ budget }
     ensures free { IfOk result (λ free. AreFree drawn.now side seen.now free.items) }
     ensures each { IfOk result (λ free. length free.items ≡ length seen.now) }
 {
     match base.found {
-        NetFound::Passes => free_ends(alloc, drawn, seen, side, &base.sides, effort),
+        NetFound::Passes => free_ends(alloc, drawn, seen, side, &base.sides, budget, turns),
         _ => none_free(alloc, seen),
     }
 }
@@ -80,17 +85,36 @@ fn find_both(
     drawn: &DrawnNetwork,
     seen: &NumberSeen,
     base: &Probed,
-    effort: Effort,
+    budget: u64,
     is_low_free: bool,
     is_high_free: bool,
+    turns: &mut RunTurns,
 ) -> Result<EndsFound, NoMemory>
-    requires base { IsBase drawn.now effort base.now }
+    requires base { IsBase drawn.now budget base.now }
     requires low { IsTrue is_low_free → IsFreeAt drawn.now Side.Lower seen.now }
     requires high { IsTrue is_high_free → IsFreeAt drawn.now Side.Upper seen.now }
-    ensures ends { IfOk result (AreBothFound drawn.now effort.budget seen.now) }
+    ensures ends { IfOk result (AreBothFound drawn.now budget seen.now) }
 {
-    let low = find_side(alloc, drawn, seen, Side::Lower, base, effort, is_low_free)?;
-    let high = find_side(alloc, drawn, seen, Side::Upper, base, effort, is_high_free)?;
+    let low = find_side(
+        alloc,
+        drawn,
+        seen,
+        Side::Lower,
+        base,
+        budget,
+        is_low_free,
+        turns,
+    )?;
+    let high = find_side(
+        alloc,
+        drawn,
+        seen,
+        Side::Upper,
+        base,
+        budget,
+        is_high_free,
+        turns,
+    )?;
     Ok(EndsFound { low, high })
 }
 
@@ -101,12 +125,13 @@ fn find_side(
     seen: &NumberSeen,
     side: Side,
     base: &Probed,
-    effort: Effort,
+    budget: u64,
     is_free: bool,
+    turns: &mut RunTurns,
 ) -> Result<Option<Margin>, NoMemory>
-    requires base { IsBase drawn.now effort base.now }
+    requires base { IsBase drawn.now budget base.now }
     requires free { IsTrue is_free → IsFreeAt drawn.now side seen.now }
-    ensures end { IfOk result (IsEndOf drawn.now effort.budget seen.now.number side (end_on side seen.now.range)) }
+    ensures end { IfOk result (IsEndOf drawn.now budget seen.now.number side (end_on side seen.now.range)) }
 {
     if !has_end(seen, side) {
         return Ok(None);
@@ -117,9 +142,9 @@ fn find_side(
         number,
         side,
         reach: reach_of(drawn, number, side),
-        effort,
+        budget,
     };
-    let found = find_end(alloc, &sought, base, is_free)?;
+    let found = find_end(alloc, &sought, base, is_free, turns)?;
     Ok(Some(found))
 }
 
@@ -129,9 +154,10 @@ fn find_end(
     sought: &EndSought<'_>,
     base: &Probed,
     is_free: bool,
+    turns: &mut RunTurns,
 ) -> Result<Margin, NoMemory>
     requires sought { IsEndSought sought.now }
-    requires base { IsBase sought.now.drawn.now sought.now.effort base.now }
+    requires base { IsBase sought.now.drawn.now sought.now.budget base.now }
     requires free { IsTrue is_free → Passes (opened_at sought.now.drawn.now sought.now.number.now sought.now.side) }
     ensures { IfOk result (IsFoundOf sought.now) }
 {
@@ -139,8 +165,8 @@ fn find_end(
         return Ok(Margin::Free);
     }
     match base.found {
-        NetFound::Passes => margin_from_pass(alloc, sought, &base.sides),
-        NetFound::Breaks(row) => margin_from_break(alloc, sought, row, base),
+        NetFound::Passes => margin_from_pass(alloc, sought, &base.sides, turns),
+        NetFound::Breaks(row) => margin_from_break(alloc, sought, row, base, turns),
         // Some times satisfy the network.
         NetFound::Inconsistent => unreachable!(),
         NetFound::Open => Ok(Margin::Spent),

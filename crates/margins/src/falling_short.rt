@@ -7,6 +7,7 @@ ghost use Rattle.margins.specs.Step.{IsFoundOf, IsGapOf, IsGapAbove, IsGapSearch
 
 use crate::bracket::{Bracket, broken_at, inside, margin_in, middle};
 use crate::sought::EndSought;
+use extremes::RunTurns;
 use itv_base::NoMemory;
 use moves::{Margin, NetFound};
 use probing::Probed;
@@ -33,6 +34,7 @@ pub fn margin_from_break(
     sought: &EndSought<'_>,
     row: u32,
     base: &Probed,
+    turns: &mut RunTurns,
 ) -> Result<Margin, NoMemory>
     requires sought { IsEndSought sought.now }
     requires breaks { BreaksRow sought.now.drawn.now row }
@@ -54,7 +56,7 @@ pub fn margin_from_break(
         breaks,
         row,
     };
-    margin_from_least(alloc, sought, gap, guess_below(sought, breaks, base))
+    margin_from_least(alloc, sought, gap, guess_below(sought, breaks, base), turns)
 }
 
 // Whether the times of a probe are known to break a row with the least move.
@@ -96,14 +98,15 @@ fn margin_from_least(
     sought: &EndSought<'_>,
     gap: Gap,
     guess: Option<i64>,
+    turns: &mut RunTurns,
 ) -> Result<Margin, NoMemory>
     requires sought { IsEndSought sought.now }
     requires gap { IsGapAbove sought.now gap }
     requires least { gap.contradicts ≡ sought.now.reach.least }
     ensures { IfOk result (IsFoundOf sought.now) }
 {
-    let probed = sought.probe_at(alloc, gap.contradicts)?;
-    let found = margin_by_least(alloc, sought, gap, guess, &probed);
+    let probed = sought.probe_at(alloc, gap.contradicts, turns)?;
+    let found = margin_by_least(alloc, sought, gap, guess, &probed, turns);
     drop(probed);
     found
 }
@@ -115,6 +118,7 @@ fn margin_by_least(
     gap: Gap,
     guess: Option<i64>,
     probed: &Probed,
+    turns: &mut RunTurns,
 ) -> Result<Margin, NoMemory>
     requires sought { IsEndSought sought.now }
     requires gap { IsGapAbove sought.now gap }
@@ -123,9 +127,9 @@ fn margin_by_least(
     ensures { IfOk result (IsFoundOf sought.now) }
 {
     match probed.found {
-        NetFound::Passes => margin_in(alloc, sought, bracket_of(gap, guess)),
+        NetFound::Passes => margin_in(alloc, sought, bracket_of(gap, guess), turns),
         NetFound::Breaks(_) => Ok(Margin::Never),
-        NetFound::Inconsistent => margin_past_contradiction(alloc, sought, gap),
+        NetFound::Inconsistent => margin_past_contradiction(alloc, sought, gap, turns),
         NetFound::Open => Ok(Margin::Spent),
         NetFound::Spent => Ok(Margin::Spent),
     }
@@ -148,6 +152,7 @@ fn margin_past_contradiction(
     alloc: Global,
     sought: &EndSought<'_>,
     gap: Gap,
+    turns: &mut RunTurns,
 ) -> Result<Margin, NoMemory>
     requires sought { IsEndSought sought.now }
     requires gap { IsGapOf sought.now gap }
@@ -156,7 +161,7 @@ fn margin_past_contradiction(
     let mut gap = gap;
     while is_wide(gap) {
         let by = between(gap);
-        match gap_with(alloc, sought, gap, by)? {
+        match gap_with(alloc, sought, gap, by, turns)? {
             GapSearched::Narrower(next) => gap = next,
             GapSearched::Found(found) => return Ok(found),
         }
@@ -188,6 +193,7 @@ fn gap_with(
     sought: &EndSought<'_>,
     gap: Gap,
     by: i64,
+    turns: &mut RunTurns,
 ) -> Result<GapSearched, NoMemory>
     requires sought { IsEndSought sought.now }
     requires gap { IsGapOf sought.now gap }
@@ -195,8 +201,8 @@ fn gap_with(
     requires below { by <ℤ gap.breaks }
     ensures { IfOk result (IsGapSearched sought.now gap) }
 {
-    let probed = sought.probe_at(alloc, by)?;
-    let next = gap_by(alloc, sought, gap, by, &probed);
+    let probed = sought.probe_at(alloc, by, turns)?;
+    let next = gap_by(alloc, sought, gap, by, &probed, turns);
     drop(probed);
     next
 }
@@ -208,6 +214,7 @@ fn gap_by(
     gap: Gap,
     by: i64,
     probed: &Probed,
+    turns: &mut RunTurns,
 ) -> Result<GapSearched, NoMemory>
     requires sought { IsEndSought sought.now }
     requires gap { IsGapOf sought.now gap }
@@ -222,7 +229,7 @@ fn gap_by(
                 contradicts: by,
                 ..gap
             };
-            let found = margin_in(alloc, sought, bracket_of(higher, None))?;
+            let found = margin_in(alloc, sought, bracket_of(higher, None), turns)?;
             Ok(GapSearched::Found(found))
         }
         NetFound::Breaks(row) => {

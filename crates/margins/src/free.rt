@@ -8,10 +8,11 @@ ghost use Rattle.margins.specs.Step.{AreFree, IsFreeBetween, IsOpeningOf, end_on
 
 use crate::sought::probe_opened;
 use drawn::DrawnNetwork;
+use extremes::RunTurns;
 use itv_base::{NoMemory, Side};
 use moves::{NetFound, NumberSeen};
 use numbers::DrawnNumber;
-use probing::{Effort, Probed, SideChain, Step, room};
+use probing::{Probed, SideChain, Step, room};
 use std::alloc::Global;
 
 /// Ends on one side of numbers of a drawn network that are opened together: those of the numbers that are marked. No edge behind a bound uses them.
@@ -21,7 +22,7 @@ pub struct Opening<'a> {
     pub seen: &'a [NumberSeen],
     pub unused: &'a [bool],
     pub side: Side,
-    pub effort: Effort,
+    pub budget: u64,
 }
 
 /// Of each number whether its end on a side was found to be free, where every requirement passes as drawn. An end that no edge behind a bound uses is opened
@@ -32,10 +33,11 @@ pub fn free_ends(
     seen: &[NumberSeen],
     side: Side,
     sides: &[SideChain],
-    effort: Effort,
+    budget: u64,
+    turns: &mut RunTurns,
 ) -> Result<Vec<bool>, NoMemory>
     requires passes { Passes drawn.now }
-    requires budget { 1 ≤ effort.budget }
+    requires budget { 1 ≤ budget }
     ensures free { IfOk result (λ free. AreFree drawn.now side seen.now free.items) }
     ensures each { IfOk result (λ free. length free.items ≡ length seen.now) }
 {
@@ -46,9 +48,9 @@ pub fn free_ends(
         seen,
         unused: &unused,
         side,
-        effort,
+        budget,
     };
-    open_between(alloc, &opening, 0, seen.len(), &mut free)?;
+    open_between(alloc, &opening, 0, seen.len(), &mut free, turns)?;
     Ok(free)
 }
 
@@ -98,6 +100,7 @@ fn open_between(
     start: usize,
     end: usize,
     free: &mut [bool],
+    turns: &mut RunTurns,
 ) -> Result<(), NoMemory>
     requires opening { IsOpeningOf opening.now }
     requires order { start ≤ end }
@@ -105,7 +108,7 @@ fn open_between(
     requires free { AreFree opening.now.drawn.now opening.now.side opening.now.seen.now free.old }
     ensures free { OnOk result (AreFree opening.now.drawn.now opening.now.side opening.now.seen.now free.new) }
 {
-    if are_free_together(alloc, opening, start, end)? {
+    if are_free_together(alloc, opening, start, end, turns)? {
         mark(opening.unused, start, end, free);
         return Ok(());
     }
@@ -113,8 +116,8 @@ fn open_between(
     if half < FEWEST {
         return Ok(());
     }
-    open_between(alloc, opening, start, start + half, free)?;
-    open_between(alloc, opening, start + half, end, free)
+    open_between(alloc, opening, start, start + half, free, turns)?;
+    open_between(alloc, opening, start + half, end, free, turns)
 }
 
 // Marks the numbers from one place to another that have this mark.
@@ -136,6 +139,7 @@ fn are_free_together(
     opening: &Opening<'_>,
     start: usize,
     end: usize,
+    turns: &mut RunTurns,
 ) -> Result<bool, NoMemory>
     requires opening { IsOpeningOf opening.now }
     requires order { start ≤ end }
@@ -146,7 +150,14 @@ fn are_free_together(
     if numbers.len() < 2 {
         return Ok(false);
     }
-    let probed = probe_opened(alloc, opening.drawn, &numbers, opening.side, opening.effort)?;
+    let probed = probe_opened(
+        alloc,
+        opening.drawn,
+        &numbers,
+        opening.side,
+        opening.budget,
+        turns,
+    )?;
     Ok(passes(&probed))
 }
 

@@ -8,6 +8,7 @@ ghost use Rattle.margins.specs.Step.{IsClimbOf, IsClimbFound, IsFoundOf, IsProbe
 
 use crate::bracket::{bracket_below, margin_in};
 use crate::sought::EndSought;
+use extremes::RunTurns;
 use itv_base::NoMemory;
 use moves::{Margin, NetFound};
 use probing::{Probed, SideChain};
@@ -33,6 +34,7 @@ pub fn margin_from_pass(
     alloc: Global,
     sought: &EndSought<'_>,
     sides: &[SideChain],
+    turns: &mut RunTurns,
 ) -> Result<Margin, NoMemory>
     requires sought { IsEndSought sought.now }
     requires passes { Passes sought.now.drawn.now }
@@ -40,13 +42,17 @@ pub fn margin_from_pass(
 {
     if 0 < sought.reach.least {
         // No range is empty as drawn, so this is never so.
-        return margin_from_least(alloc, sought);
+        return margin_from_least(alloc, sought, turns);
     }
-    margin_above(alloc, sought, 0, sides)
+    margin_above(alloc, sought, 0, sides, turns)
 }
 
 // The margin of an end that can't be drawn where it is.
-fn margin_from_least(alloc: Global, sought: &EndSought<'_>) -> Result<Margin, NoMemory>
+fn margin_from_least(
+    alloc: Global,
+    sought: &EndSought<'_>,
+    turns: &mut RunTurns,
+) -> Result<Margin, NoMemory>
     requires sought { IsEndSought sought.now }
     requires inward { pos 0 <ℤ sought.now.reach.least }
     requires passes { Passes sought.now.drawn.now }
@@ -55,8 +61,8 @@ fn margin_from_least(alloc: Global, sought: &EndSought<'_>) -> Result<Margin, No
     if sought.reach.most < sought.reach.least {
         return Ok(Margin::Never);
     }
-    let probed = sought.probe_at(alloc, sought.reach.least)?;
-    let found = margin_at_least(alloc, sought, &probed);
+    let probed = sought.probe_at(alloc, sought.reach.least, turns)?;
+    let found = margin_at_least(alloc, sought, &probed, turns);
     drop(probed);
     found
 }
@@ -66,6 +72,7 @@ fn margin_at_least(
     alloc: Global,
     sought: &EndSought<'_>,
     probed: &Probed,
+    turns: &mut RunTurns,
 ) -> Result<Margin, NoMemory>
     requires sought { IsEndSought sought.now }
     requires inward { pos 0 <ℤ sought.now.reach.least }
@@ -75,7 +82,7 @@ fn margin_at_least(
     ensures { IfOk result (IsFoundOf sought.now) }
 {
     match probed.found {
-        NetFound::Passes => margin_above(alloc, sought, sought.reach.least, &probed.sides),
+        NetFound::Passes => margin_above(alloc, sought, sought.reach.least, &probed.sides, turns),
         NetFound::Breaks(_) => Ok(Margin::Never),
         // Times that satisfy the drawn network satisfy this one.
         NetFound::Inconsistent => unreachable!(),
@@ -90,6 +97,7 @@ fn margin_above(
     sought: &EndSought<'_>,
     passes: i64,
     sides: &[SideChain],
+    turns: &mut RunTurns,
 ) -> Result<Margin, NoMemory>
     requires sought { IsEndSought sought.now }
     requires least { sought.now.reach.least ≤ℤ passes }
@@ -103,12 +111,12 @@ fn margin_above(
         room: sought.room(sides),
     };
     while let Some(by) = next_of(climb, sought.reach.most) {
-        match climbed_to(alloc, sought, climb, by)? {
+        match climbed_to(alloc, sought, climb, by, turns)? {
             Climbed::Higher(next) => climb = next,
             Climbed::Found(found) => return Ok(found),
         }
     }
-    margin_by_opening(alloc, sought, climb.passes)
+    margin_by_opening(alloc, sought, climb.passes, turns)
 }
 
 // The next move to be tried, if there is room and the move can be drawn. Each stride is at least twice as long as the one before.
@@ -132,6 +140,7 @@ fn climbed_to(
     sought: &EndSought<'_>,
     climb: Climb,
     by: i64,
+    turns: &mut RunTurns,
 ) -> Result<Climbed, NoMemory>
     requires sought { IsEndSought sought.now }
     requires climb { IsClimbOf sought.now climb }
@@ -139,8 +148,8 @@ fn climbed_to(
     requires most { by ≤ℤ sought.now.reach.most }
     ensures { IfOk result (IsClimbFound sought.now climb) }
 {
-    let probed = sought.probe_at(alloc, by)?;
-    let next = climbed_by(alloc, sought, climb, by, &probed);
+    let probed = sought.probe_at(alloc, by, turns)?;
+    let next = climbed_by(alloc, sought, climb, by, &probed, turns);
     drop(probed);
     next
 }
@@ -152,6 +161,7 @@ fn climbed_by(
     climb: Climb,
     by: i64,
     probed: &Probed,
+    turns: &mut RunTurns,
 ) -> Result<Climbed, NoMemory>
     requires sought { IsEndSought sought.now }
     requires climb { IsClimbOf sought.now climb }
@@ -168,7 +178,7 @@ fn climbed_by(
         })),
         NetFound::Breaks(row) => {
             let bracket = bracket_below(alloc, sought, climb.passes, by, row, probed)?;
-            Ok(Climbed::Found(margin_in(alloc, sought, bracket)?))
+            Ok(Climbed::Found(margin_in(alloc, sought, bracket, turns)?))
         }
         // Times that satisfy the network with a lesser move satisfy this one.
         NetFound::Inconsistent => unreachable!(),
@@ -178,15 +188,20 @@ fn climbed_by(
 }
 
 // The margin above a move with which every requirement passes, where no bound is known to grow: by the network with the end open.
-fn margin_by_opening(alloc: Global, sought: &EndSought<'_>, passes: i64) -> Result<Margin, NoMemory>
+fn margin_by_opening(
+    alloc: Global,
+    sought: &EndSought<'_>,
+    passes: i64,
+    turns: &mut RunTurns,
+) -> Result<Margin, NoMemory>
     requires sought { IsEndSought sought.now }
     requires least { sought.now.reach.least ≤ℤ passes }
     requires most { passes ≤ℤ sought.now.reach.most }
     requires passes { Passes (widened_at sought.now.drawn.now sought.now.number.now sought.now.side passes) }
     ensures { IfOk result (IsFoundOf sought.now) }
 {
-    let opened = sought.probe_open(alloc)?;
-    let found = margin_by_open(alloc, sought, passes, &opened);
+    let opened = sought.probe_open(alloc, turns)?;
+    let found = margin_by_open(alloc, sought, passes, &opened, turns);
     drop(opened);
     found
 }
@@ -197,6 +212,7 @@ fn margin_by_open(
     sought: &EndSought<'_>,
     passes: i64,
     opened: &Probed,
+    turns: &mut RunTurns,
 ) -> Result<Margin, NoMemory>
     requires sought { IsEndSought sought.now }
     requires least { sought.now.reach.least ≤ℤ passes }
@@ -207,7 +223,7 @@ fn margin_by_open(
 {
     match opened.found {
         NetFound::Passes => Ok(Margin::Free),
-        NetFound::Breaks(row) => margin_below_open(alloc, sought, passes, row, opened),
+        NetFound::Breaks(row) => margin_below_open(alloc, sought, passes, row, opened, turns),
         // Times that satisfy the network with a move of the end satisfy the one with the end open.
         NetFound::Inconsistent => unreachable!(),
         NetFound::Open => Ok(Margin::Spent),
@@ -222,6 +238,7 @@ fn margin_below_open(
     passes: i64,
     row: u32,
     opened: &Probed,
+    turns: &mut RunTurns,
 ) -> Result<Margin, NoMemory>
     requires sought { IsEndSought sought.now }
     requires least { sought.now.reach.least ≤ℤ passes }
@@ -237,9 +254,9 @@ fn margin_below_open(
     let need = need_above(sought, passes, opened);
     if need < sought.reach.most && sought.breaks_at(alloc, need, row, opened)? {
         let bracket = bracket_below(alloc, sought, passes, need, row, opened)?;
-        return margin_in(alloc, sought, bracket);
+        return margin_in(alloc, sought, bracket, turns);
     }
-    margin_to_limit(alloc, sought, passes, row)
+    margin_to_limit(alloc, sought, passes, row, turns)
 }
 
 // The least move above a number that the times of a probe need, or the greatest move that can be drawn where nothing is known.
@@ -261,6 +278,7 @@ fn margin_to_limit(
     sought: &EndSought<'_>,
     passes: i64,
     row: u32,
+    turns: &mut RunTurns,
 ) -> Result<Margin, NoMemory>
     requires sought { IsEndSought sought.now }
     requires least { sought.now.reach.least ≤ℤ passes }
@@ -269,8 +287,8 @@ fn margin_to_limit(
     requires breaks { BreaksRow (opened_at sought.now.drawn.now sought.now.number.now sought.now.side) row }
     ensures { IfOk result (IsFoundOf sought.now) }
 {
-    let probed = sought.probe_at(alloc, sought.reach.most)?;
-    let found = margin_at_limit(alloc, sought, passes, row, &probed);
+    let probed = sought.probe_at(alloc, sought.reach.most, turns)?;
+    let found = margin_at_limit(alloc, sought, passes, row, &probed, turns);
     drop(probed);
     found
 }
@@ -282,6 +300,7 @@ fn margin_at_limit(
     passes: i64,
     row: u32,
     probed: &Probed,
+    turns: &mut RunTurns,
 ) -> Result<Margin, NoMemory>
     requires sought { IsEndSought sought.now }
     requires least { sought.now.reach.least ≤ℤ passes }
@@ -296,7 +315,7 @@ fn margin_at_limit(
         NetFound::Breaks(row) => {
             let most = sought.reach.most;
             let bracket = bracket_below(alloc, sought, passes, most, row, probed)?;
-            margin_in(alloc, sought, bracket)
+            margin_in(alloc, sought, bracket, turns)
         }
         // Times that satisfy the network with a lesser move satisfy this one.
         NetFound::Inconsistent => unreachable!(),

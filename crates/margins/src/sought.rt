@@ -12,10 +12,11 @@ ghost use Rattle.margins.specs.Step.{IsNetOf, IsProbedAt, IsProbedIn, IsProbedOp
 use crate::reach::Reach;
 use drawn::{DrawnNetwork, Row};
 use event_graph::{Network, separation};
+use extremes::RunTurns;
 use itv_base::{NoMemory, RowKind, Side};
 use moves::{Move, moved_network};
 use numbers::DrawnNumber;
-use probing::{Effort, Probed, SideChain, Step, excess, need, probe, room};
+use probing::{Probed, SideChain, Step, excess, need, probe, room};
 use std::alloc::Global;
 
 /// An end of a number whose margin is sought, how far it can be moved, and how long each search may go on.
@@ -25,19 +26,19 @@ pub struct EndSought<'a> {
     pub number: &'a DrawnNumber,
     pub side: Side,
     pub reach: Reach,
-    pub effort: Effort,
+    pub budget: u64,
 }
 
 impl EndSought<'_> {
     /// What is found of the network with the end moved outward. The moved end can be drawn.
-    pub fn probe_at(&self, alloc: Global, by: i64) -> Result<Probed, NoMemory>
+    pub fn probe_at(&self, alloc: Global, by: i64, turns: &mut RunTurns) -> Result<Probed, NoMemory>
         requires sought { IsEndSought self.now }
         requires least { self.now.reach.least ≤ℤ by }
         requires most { by ≤ℤ self.now.reach.most }
         ensures { IfOk result (IsProbedAt self.now by) }
     {
         match self.network_at(alloc, by)? {
-            Some(net) => probe_net(alloc, self.drawn, &net, self.effort),
+            Some(net) => probe_net(alloc, self.drawn, &net, self.budget, turns),
             None => unreachable!(),
         }
     }
@@ -56,11 +57,18 @@ impl EndSought<'_> {
     }
 
     /// What is found of the network with the end open.
-    pub fn probe_open(&self, alloc: Global) -> Result<Probed, NoMemory>
+    pub fn probe_open(&self, alloc: Global, turns: &mut RunTurns) -> Result<Probed, NoMemory>
         requires sought { IsEndSought self.now }
         ensures { IfOk result (IsProbedOpen self.now) }
     {
-        probe_opened(alloc, self.drawn, &[self.number], self.side, self.effort)
+        probe_opened(
+            alloc,
+            self.drawn,
+            &[self.number],
+            self.side,
+            self.budget,
+            turns,
+        )
     }
 
     /// How far the end may be moved by the edges behind the bounds: a guess.
@@ -111,13 +119,14 @@ pub fn probe_opened(
     drawn: &DrawnNetwork,
     numbers: &[&DrawnNumber],
     side: Side,
-    effort: Effort,
+    budget: u64,
+    turns: &mut RunTurns,
 ) -> Result<Probed, NoMemory>
-    requires budget { 1 ≤ effort.budget }
-    ensures { IfOk result (IsProbedIn drawn.now (record drawn.now { net = net_moved (opened side) drawn.now (lent numbers.now) }) effort) }
+    requires budget { 1 ≤ budget }
+    ensures { IfOk result (IsProbedIn drawn.now (record drawn.now { net = net_moved (opened side) drawn.now (lent numbers.now) }) budget) }
 {
     match moved_network(alloc, drawn, numbers, Move::Open(side))? {
-        Some(net) => probe_net(alloc, drawn, &net, effort),
+        Some(net) => probe_net(alloc, drawn, &net, budget, turns),
         None => unreachable!(),
     }
 }
@@ -127,13 +136,14 @@ fn probe_net(
     alloc: Global,
     drawn: &DrawnNetwork,
     net: &Network,
-    effort: Effort,
+    budget: u64,
+    turns: &mut RunTurns,
 ) -> Result<Probed, NoMemory>
     requires net { IsNetOf drawn.now net.now }
-    requires budget { 1 ≤ effort.budget }
-    ensures { IfOk result (IsProbedIn drawn.now (record drawn.now { net = net.now }) effort) }
+    requires budget { 1 ≤ budget }
+    ensures { IfOk result (IsProbedIn drawn.now (record drawn.now { net = net.now }) budget) }
 {
-    probe(alloc, net, drawn.rows().as_slice(), effort)
+    probe(alloc, net, drawn.rows().as_slice(), budget, turns)
 }
 
 // Whether times satisfy a network with the events of a drawn one, and break the requirement of a row.

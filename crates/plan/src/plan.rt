@@ -47,18 +47,12 @@ impl Plan {
         requires sheets { IsPlan (record { netlist = netlist; sheets = sheets.entries }) }
         ensures plan { IfOk result (λ plan. plan ≡ record { netlist = netlist; sheets = sheets.entries }) }
     {
-        match places_of(alloc, netlist.parts().as_slice(), &sheets) {
-            Ok(places) => Ok(Plan {
-                netlist,
-                sheets,
-                places,
-            }),
-            Err(NoMemory) => {
-                drop(netlist);
-                drop(sheets);
-                Err(NoMemory)
-            }
-        }
+        let places = places_of(alloc, netlist.parts().as_slice(), &sheets)?;
+        Ok(Plan {
+            netlist,
+            sheets,
+            places,
+        })
     }
 
     /// The netlist.

@@ -4,7 +4,6 @@
 #![tactic(auto)]
 
 mod drawing;
-mod effort;
 mod gauge;
 mod lacking;
 mod noting;
@@ -12,7 +11,6 @@ mod probed;
 mod searching;
 mod side;
 
-pub use effort::Effort;
 pub use gauge::{Step, excess, room};
 pub use lacking::need;
 pub use probed::{Probed, SideChain};

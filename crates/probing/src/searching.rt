@@ -10,7 +10,6 @@ ghost use Rattle.moves.specs.Networks.{IsNetFound, is_net_open};
 ghost use Rattle.moves.specs.Step.{bare_drawn};
 ghost use Rattle.probing.specs.Step.{IsHighFound, IsLowFound, IsNotedFor, IsProbed, IsRangeFound, IsRowLookedAt, passes_unless};
 
-use crate::effort::Effort;
 use crate::noting::{ProbeNotes, high_limit, look, low_limit};
 use crate::probed::Probed;
 use crate::side::{SideFound, both_of};
@@ -21,38 +20,32 @@ use itv_base::{NoMemory, Range, RowKind};
 use moves::NetFound;
 use std::alloc::Global;
 
-// The first try. Where few cases are not enough, a search by clauses mostly is, and takes less time than many cases.
+// The cases of the first try. Where few cases are not enough, a search by clauses mostly is, and takes less time than many cases.
 const FIRST_CASES: u64 = 8;
 
-const FIRST_TURNS: u64 = 200_000;
-
 /// Looks for times that satisfy a network, and for times that break the requirement of a row, from the first row on. It ends with the first row that is
-/// found to break. What is found is not left open where the budget is no less than the number of cause choices. Times that it leaves fit the network.
-pub fn probe(alloc: Global, net: &Network, rows: &[Row], effort: Effort) -> Result<Probed, NoMemory>
+/// found to break. Each search closes at most `budget` cases, and takes turns from those that are left of the run where that is not enough. What is found is
+/// not left open where the budget is no less than the number of cause choices. Times that it leaves fit the network.
+pub fn probe(
+    alloc: Global,
+    net: &Network,
+    rows: &[Row],
+    budget: u64,
+    turns: &mut RunTurns,
+) -> Result<Probed, NoMemory>
     requires rows { All (IsRowOf net.now) rows.now }
     requires few { length rows.now ≤ MAX_ROWS }
-    requires budget { 1 ≤ effort.budget }
+    requires budget { 1 ≤ budget }
     ensures found { IfOk result (λ probed. IsNetFound (bare_drawn net.now rows.now) probed.found) }
-    ensures settles { IfOk result (λ probed. cause_choices net.now.constraints ≤ effort.budget → is_net_open probed.found ≡ false) }
+    ensures settles { IfOk result (λ probed. cause_choices net.now.constraints ≤ budget → is_net_open probed.found ≡ false) }
     ensures fits { IfOk result (IsProbed net.now.events) }
 {
-    let first = probe_within(alloc, net, rows, first_effort(effort))?;
+    let first = probe_within(alloc, net, rows, budget.min(FIRST_CASES), turns)?;
     if !is_open(first.found) {
         return Ok(first);
     }
     drop(first);
-    probe_within(alloc, net, rows, effort)
-}
-
-// How long the first try goes on.
-fn first_effort(effort: Effort) -> Effort
-    requires { 1 ≤ effort.budget }
-    ensures { 1 ≤ result.budget }
-{
-    Effort {
-        budget: effort.budget.min(FIRST_CASES),
-        turns: effort.turns.min(FIRST_TURNS),
-    }
+    probe_within(alloc, net, rows, budget, turns)
 }
 
 // Whether a search was left open.
@@ -73,17 +66,19 @@ fn probe_within(
     alloc: Global,
     net: &Network,
     rows: &[Row],
-    effort: Effort,
+    budget: u64,
+    turns: &mut RunTurns,
 ) -> Result<Probed, NoMemory>
     requires rows { All (IsRowOf net.now) rows.now }
     requires few { length rows.now ≤ MAX_ROWS }
-    requires budget { 1 ≤ effort.budget }
+    requires budget { 1 ≤ budget }
     ensures found { IfOk result (λ probed. IsNetFound (bare_drawn net.now rows.now) probed.found) }
-    ensures settles { IfOk result (λ probed. cause_choices net.now.constraints ≤ effort.budget → is_net_open probed.found ≡ false) }
+    ensures settles { IfOk result (λ probed. cause_choices net.now.constraints ≤ budget → is_net_open probed.found ≡ false) }
     ensures fits { IfOk result (IsProbed net.now.events) }
 {
-    let mut extremes = Extremes::new(alloc, net, effort.budget, RunTurns::of(effort.turns))?;
+    let mut extremes = Extremes::new(alloc, net, budget, *turns)?;
     let probed = probe_with(alloc, net, rows, &mut extremes);
+    *turns = extremes.turns();
     drop(extremes);
     probed
 }

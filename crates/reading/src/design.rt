@@ -24,9 +24,7 @@ pub fn open_design<H: Shelf>(alloc: Global, name: &str, shelf: &mut H) -> Result
         (design_at name.now) result }
 {
     let plan = open_plan(alloc, name, shelf)?;
-    let drawn = draw_plan(alloc, &plan);
-    drop(plan);
-    drawn
+    draw_plan(alloc, &plan)
 }
 
 /// What a plan draws, or the first fault of its joins, or else the first limit that it passes.
@@ -39,9 +37,7 @@ pub fn draw_plan(alloc: Global, plan: &Plan) -> Result<DrawnNetwork, Stop>
         Ok(design) => design,
         Err(fault) => return Err(join_stop(RefusalPlace::Design, fault)),
     };
-    let unrolled = unroll(alloc, &design);
-    drop(design);
-    match unrolled {
+    match unroll(alloc, &design) {
         Ok(drawn) => Ok(drawn),
         Err(fault) => Err(limit_stop(RefusalPlace::Design, fault)),
     }

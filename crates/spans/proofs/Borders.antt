@@ -41,7 +41,7 @@ module _ (sought : SpanSought) (d : Direction) (from : ℤ) where
   endless shown = record { ahead = tt; by = tt; each = shown; stands = tt }
 
   pub spent_at : (last : ℤ) (border : Border) → border ≡ borders.Spent last → IsOn d from last → IsMoveBy last → IsShown sought d from (Some last)
-      → IsFurther d from sought.effort.budget last → IsBorderFrom sought d from border
+      → IsFurther d from sought.budget last → IsBorderFrom sought d from border
   spent_at last border is on move shown far = subst (IsBorderFrom sought d from) (sym is) (record { ahead = on; by = move; each = shown; stands = far })
 
   pub left_at : (border : Border) → border ≡ borders.Left from → IsMoveBy from → NoneBreaks (at_value sought from) → (IsEnough sought → ⊥) → IsBorderFrom sought d from border
@@ -107,13 +107,13 @@ module _ (sought : SpanSought) (from : ℤ) where
   way_up last ahead each some = (ahead, some, λ by low high. each by (low, high))
 
   pub margin_up : (border : Border) → IsBorderFrom sought Up from border
-      → IsMarginFrom (shifted_at sought.drawn.now numbers_of) numbers_of sought.effort.budget from (margin_of Up border)
+      → IsMarginFrom (shifted_at sought.drawn.now numbers_of) numbers_of sought.budget from (margin_of Up border)
   margin_up borders.Endless is = λ by low. is.each by (low, tt)
   margin_up (borders.Breaks last row) is = (way_up last is.ahead is.each is.stands.0, is.stands.1)
   margin_up (borders.Contradicts last) is = (way_up last is.ahead is.each is.stands.0, is.stands.1)
   margin_up (borders.Limit last) is = (last, way_up last is.ahead is.each is.stands.0, is.stands.1)
-  margin_up (borders.Spent last) is = λ enough by low high. is.each by (low, within_further Up from last by sought.effort.budget is.stands high)
-  margin_up (borders.Left last) is = λ enough by low high. absurd (is.stands (enough_own sought.drawn.now numbers_of sought.effort.budget enough))
+  margin_up (borders.Spent last) is = λ enough by low high. is.each by (low, within_further Up from last by sought.budget is.stands high)
+  margin_up (borders.Left last) is = λ enough by low high. absurd (is.stands (enough_own sought.drawn.now numbers_of sought.budget enough))
 
   way_down : (last : ℤ) → IsOn Down from last → IsShown sought Down from (Some last) → IsConsistent (at_value sought last)
       → IsWay (λ by. shifted_at sought.drawn.now numbers_of (neg_ℤ by)) (neg_ℤ from) (neg_ℤ last)
@@ -124,7 +124,7 @@ module _ (sought : SpanSought) (from : ℤ) where
   )
 
   pub margin_down : (border : Border) → IsBorderFrom sought Down from border
-      → IsMarginFrom (λ by. shifted_at sought.drawn.now numbers_of (neg_ℤ by)) numbers_of sought.effort.budget (neg_ℤ from) (margin_of Down border)
+      → IsMarginFrom (λ by. shifted_at sought.drawn.now numbers_of (neg_ℤ by)) numbers_of sought.budget (neg_ℤ from) (margin_of Down border)
   margin_down borders.Endless is = λ by low. is.each (neg_ℤ by) (neg_below from by low, tt)
   margin_down (borders.Breaks last row) is = (
     way_down last is.ahead is.each is.stands.0,
@@ -141,9 +141,9 @@ module _ (sought : SpanSought) (from : ℤ) where
   )
   margin_down (borders.Spent last) is = λ enough by low high. is.each (neg_ℤ by) (
     neg_below from by low,
-    within_further Down from last (neg_ℤ by) sought.effort.budget is.stands (neg_far by from sought.effort.budget high),
+    within_further Down from last (neg_ℤ by) sought.budget is.stands (neg_far by from sought.budget high),
   )
-  margin_down (borders.Left last) is = λ enough by low high. absurd (is.stands (enough_own sought.drawn.now numbers_of sought.effort.budget enough))
+  margin_down (borders.Left last) is = λ enough by low high. absurd (is.stands (enough_own sought.drawn.now numbers_of sought.budget enough))
 
 -- ---- spans
 
@@ -156,11 +156,11 @@ found_span drawn numbers budget down up span = span
 -- the span between a border below a value and one above it
 pub span_of : (sought : SpanSought) (from : ℤ) (low high : Border) (down up : Margin) → IsBorderFrom sought Down from low → IsBorderFrom sought Up from high
     → Passes (at_value sought from) → (Passes sought.drawn.now → from ≡ pos 0) → down ≡ margin_of Down low → up ≡ margin_of Up high
-    → IsSpanFound sought.drawn.now (lent sought.numbers.now) sought.effort.budget down up
+    → IsSpanFound sought.drawn.now (lent sought.numbers.now) sought.budget down up
 span_of sought from low high down up below above passes own is_down is_up =
     let drawn = sought.drawn.now in
     let numbers = lent sought.numbers.now in
-    let budget = sought.effort.budget in
+    let budget = sought.budget in
     let made : IsSpan drawn numbers budget (margin_of Down low) (margin_of Up high) = record {
       from = from;
       some = passes;

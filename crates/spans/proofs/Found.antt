@@ -6,8 +6,8 @@ use Rattle.event_graph.specs.Network.{Net}
 use Rattle.drawn.specs.Drawn.{Drawn}
 use Rattle.drawn.specs.declared.row.Row.{Row}
 use Rattle.moves.specs.Networks.{IsNetFound, is_net_open}
-use Rattle.moves.specs.Passing.{BreaksRow, NoneBreaks, Passes}
-use Rattle.moves.specs.Step.{IsConsistent, bare_drawn, lent}
+use Rattle.moves.specs.Passing.{BreaksRow, Passes}
+use Rattle.moves.specs.Step.{bare_drawn, lent}
 use Rattle.moves.specs.declared.net_found.NetFound.{NetFound}
 use Rattle.moves.specs.declared.net_found.NetFound.TheVariants as nets
 use Rattle.moves.proofs.Cores.{core_breaks}
@@ -15,7 +15,7 @@ use Rattle.moves.proofs.Covering.{cover_contradicts, cover_holds}
 use Rattle.moves.proofs.Each.{shifted_by_nothing}
 use Rattle.moves.proofs.Thresholds.{excluded}
 use Rattle.probing.specs.declared.probed.Probed.{Probed}
-use Rattle.spans.specs.Step.{Frames, IsEnough, IsFrameFound, IsInside, IsProbeOf, IsStop, IsValueFound, IsValueFoundAt, MeetsAim, TellsConsistency, at_value, breaks_for, consistency_of, passes_for}
+use Rattle.spans.specs.Step.{IsEnough, IsFrameFound, IsFrameOf, IsInside, IsProbeOf, IsStop, IsValueFound, IsValueFoundAt, MeetsAim, TellsConsistency, at_value, breaks_for, consistency_of, passes_for}
 use Rattle.spans.specs.declared.framed_range.FrameKind.{FrameKind}
 use Rattle.spans.specs.declared.framed_range.FrameKind.TheVariants as frames
 use Rattle.spans.specs.declared.interval.Interval.{Interval}
@@ -92,8 +92,8 @@ module _ (sought : SpanSought) (value : ℤ) where
 -- a probe of a network and rows that are those with a value
 module _ (sought : SpanSought) (value : ℤ) where
   pub probed_at : {E : Type 0} (net : Net) (rows : List Row) (result : Result Probed E) → net ≡ (at_value sought value).net → rows ≡ (at_value sought value).rows
-      → (IsEnough sought → cause_choices net.constraints ≤ sought.effort.budget) → IfOk result (λ (p : Probed). IsNetFound (bare_drawn net rows) p.found)
-      → IfOk result (λ (p : Probed). cause_choices net.constraints ≤ sought.effort.budget → is_net_open p.found ≡ false) → IfOk result (IsProbeOf sought value)
+      → (IsEnough sought → cause_choices net.constraints ≤ sought.budget) → IfOk result (λ (p : Probed). IsNetFound (bare_drawn net rows) p.found)
+      → IfOk result (λ (p : Probed). cause_choices net.constraints ≤ sought.budget → is_net_open p.found ≡ false) → IfOk result (IsProbeOf sought value)
   probed_at net rows (Ok p) on_net on_rows enough found settles = record {
     found = found_at (at_value sought value) net rows p.found on_net on_rows found;
     settles = λ is. settles (enough is);
@@ -103,12 +103,12 @@ module _ (sought : SpanSought) (value : ℤ) where
   -- the same of the drawn network
   pub probed_own : {E : Type 0} (net : Net) (rows : List Row) (result : Result Probed E) → value ≡ pos 0 → net ≡ sought.drawn.now.net → rows ≡ sought.drawn.now.rows
       → IfOk result (λ (p : Probed). IsNetFound (bare_drawn net rows) p.found)
-      → IfOk result (λ (p : Probed). cause_choices net.constraints ≤ sought.effort.budget → is_net_open p.found ≡ false) → IfOk result (IsProbeOf sought value)
+      → IfOk result (λ (p : Probed). cause_choices net.constraints ≤ sought.budget → is_net_open p.found ≡ false) → IfOk result (IsProbeOf sought value)
   probed_own net rows result none on_net on_rows found settles =
       let same : at_value sought value ≡ sought.drawn.now =
       ap (λ (v : ℤ). at_value sought v) none ∙ shifted_by_nothing sought.drawn.now (lent sought.numbers.now) in
       probed_at net rows result (on_net ∙ sym (ap (λ (d : Drawn). d.net) same)) (on_rows ∙ sym (ap (λ (d : Drawn). d.rows) same))
-      (λ enough. subst (λ (n : Net). cause_choices n.constraints ≤ sought.effort.budget) (sym on_net) enough) found settles
+      (λ enough. subst (λ (n : Net). cause_choices n.constraints ≤ sought.budget) (sym on_net) enough) found settles
 
 -- there is none
 pub not_there : {A : Type 0} (o : Option A) → o ≡ None → IsSome o → ⊥
@@ -117,7 +117,7 @@ not_there (Some x) is some = cc is
 
 -- what a probe of a frame found, of the values that it frames
 pub frame_found : (sought : SpanSought) (counts : List ℤ) (interval : Interval) (kind : FrameKind) (net : Net) (rows : List Row) (found : NetFound)
-    → ((value : ℤ) → IsInside interval value → Frames kind counts sought.drawn.now (lent sought.numbers.now) (bare_drawn net rows) value) → IsNetFound (bare_drawn net rows) found
+    → ((value : ℤ) → IsInside interval value → IsFrameOf kind counts sought.drawn.now (lent sought.numbers.now) (bare_drawn net rows) value) → IsNetFound (bare_drawn net rows) found
     → IsFrameFound sought interval kind found
 frame_found sought counts interval frames.Cover net rows nets.Passes framed is = λ value within.
     cover_holds counts sought.drawn.now (lent sought.numbers.now) (bare_drawn net rows) value (framed value within) is.1

@@ -1,7 +1,6 @@
 -- A frame, cause by cause and row by row.
 use Rattle.std.proofs.Common.{◌≡◌, ◌<◌, ◌≤◌, ◌+◌, ℕ, ℤ, Bool, true, false, IsSomeAnd, List, [], ◌∷◌, ◌++◌, length, map, take, Option, Some, None, option_map, slice_get, refl, sym, ap, subst, ◌∙◌, arith}
 use Rattle.std.specs.Prelude.{if◌then◌else◌, unwrap_or}
-use lib.IntN.{◌*ℤ◌}
 use Rattle.std.specs.List.{AllZip}
 use Rattle.std.proofs.lemmas.List.{length_push, map_push, take_all}
 use Rattle.std.proofs.lemmas.List.Elements.{AllZip-push}
@@ -22,7 +21,7 @@ use Rattle.moves.specs.Step.{bare_drawn, cause_moved, causes_at}
 use Rattle.moves.proofs.Lists.{each_next}
 use Rattle.moves.proofs.Moved.{fit_length, front_causes, front_moved}
 use Rattle.moves.proofs.Drew.{same_count}
-use Rattle.spans.specs.Step.{Frames, FramesCauses, FramesNet, FramesRows, IsFramedCause, IsFramedConstraint, IsFramedKind, IsFramedRange, IsFramedRow, kind_at, range_at}
+use Rattle.spans.specs.Step.{FramesCauses, FramesNet, FramesRows, IsFrameOf, IsFramedCause, IsFramedConstraint, IsFramedKind, IsFramedRange, IsFramedRow, kind_at, range_at}
 use Rattle.spans.specs.declared.framed_range.FrameKind.{FrameKind}
 use Rattle.spans.specs.declared.framed_range.FrameKind.TheVariants as frames
 
@@ -219,7 +218,7 @@ rows_whole kind counts drawn numbers k items value all covers =
 
 -- a frame of its network and its rows
 pub frames_of : (kind : FrameKind) (counts : List ℤ) (drawn : Drawn) (numbers : List DrawnNumber) (net : Net) (rows : List Row) (value : ℤ) → length counts ≡ drawn.net.events
-    → FramesNet kind counts drawn numbers net value → FramesRows kind counts drawn numbers rows value → Frames kind counts drawn numbers (bare_drawn net rows) value
+    → FramesNet kind counts drawn numbers net value → FramesRows kind counts drawn numbers rows value → IsFrameOf kind counts drawn numbers (bare_drawn net rows) value
 frames_of frames.Cover counts drawn numbers net rows value count on_net on_rows = record { count = count; wider = on_net; tighter = on_rows }
 frames_of frames.Core counts drawn numbers net rows value count on_net on_rows = record { count = count; narrower = on_net; looser = on_rows }
 

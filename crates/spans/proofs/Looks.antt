@@ -1,5 +1,5 @@
 -- Values on the way to a goal.
-use Rattle.std.proofs.Common.{◌≡◌, ℤ, pos, sym, subst}
+use Rattle.std.proofs.Common.{◌≡◌, ℤ, sym, subst}
 use Rattle.spans.specs.Step.{IsOn}
 use Rattle.spans.specs.declared.direction.Direction.{Direction}
 use Rattle.spans.proofs.Ways.{on_same, on_through}

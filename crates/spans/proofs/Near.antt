@@ -2,7 +2,6 @@
 use Rattle.std.proofs.Common.{◌≡◌, ◌≤◌, ◌⊎◌, inl, inr, ℕ, ℤ, pos, neg_ℤ, ◌+ℤ◌, ◌≤ℤ◌, sym, subst, arith}
 use Rattle.std.proofs.lemmas.Int.{by_lt_z, ints}
 use Rattle.itv_base.specs.declared.limits.TheConstants.{MAX_BUDGET}
-use Rattle.drawn.specs.Drawn.{Drawn}
 use Rattle.moves.specs.Found.{FailsNear}
 use Rattle.moves.specs.Passing.{Passes}
 use Rattle.moves.specs.Step.{lent}
@@ -38,21 +37,21 @@ module _ (sought : SpanSought) (is : IsSought sought) (d : Direction) where
   pub fails_reached : (goal : ℤ) → IsNearGoal sought d goal → IsShownTo sought aims.Failing d (pos 0) goal → IsNearFound sought d nearby.Fails
   fails_reached goal near shown = λ value past few can passes. by_way value past few can passes (on_or_past d value (limit_of d sought.reach).by)
     where
-      beyond : (value : ℤ) → outward d value ≤ℤ pos sought.effort.budget → CanShift sought.drawn.now (lent sought.numbers.now) value
+      beyond : (value : ℤ) → outward d value ≤ℤ pos sought.budget → CanShift sought.drawn.now (lent sought.numbers.now) value
           → ((v : ℤ) → IsPast d (limit_of d sought.reach).by v → CanShift sought.drawn.now (lent sought.numbers.now) v → ⊥) ⊎ ((limit_of d sought.reach).by ≡ farthest d)
           → IsPast d (limit_of d sought.reach).by value → ⊥
       beyond value few can (inl none) past = none value past can
-      beyond value few can (inr far) past = not_beyond d value sought.effort.budget is.most (subst (λ (v : ℤ). IsPast d v value) far past) few
+      beyond value few can (inr far) past = not_beyond d value sought.budget is.most (subst (λ (v : ℤ). IsPast d v value) far past) few
 
-      by_way : (value : ℤ) → IsPast d (pos 0) value → outward d value ≤ℤ pos sought.effort.budget → CanShift sought.drawn.now (lent sought.numbers.now) value → Passes (at_value sought value)
+      by_way : (value : ℤ) → IsPast d (pos 0) value → outward d value ≤ℤ pos sought.budget → CanShift sought.drawn.now (lent sought.numbers.now) value → Passes (at_value sought value)
           → IsOn d value (limit_of d sought.reach).by ⊎ IsPast d (limit_of d sought.reach).by value → ⊥
       by_way value past few can passes (inl on) = shown.each value past (near value (on_past d (pos 0) value past) few on) passes
       by_way value past few can passes (inr beyond_limit) = beyond value few can (limit_last sought is d).beyond beyond_limit
 
   -- as many values were shown as the budget says
-  pub fails_further : (last : ℤ) → IsShownTo sought aims.Failing d (pos 0) last → IsFurther d (pos 0) sought.effort.budget last → IsNearFound sought d nearby.Fails
+  pub fails_further : (last : ℤ) → IsShownTo sought aims.Failing d (pos 0) last → IsFurther d (pos 0) sought.budget last → IsNearFound sought d nearby.Fails
   fails_further last shown far = λ value past few can passes.
-      shown.each value past (within_further d (pos 0) last value sought.effort.budget far (near_none d value sought.effort.budget few)) passes
+      shown.each value past (within_further d (pos 0) last value sought.budget far (near_none d value sought.budget few)) passes
 
 -- a value between the drawn one and one with which a span may be begun
 pub start_between : (d : Direction) (value goal : ℤ) → IsOn d (pos 0) value → IsOn d value goal → IsSpanStart goal → IsSpanStart value
@@ -64,9 +63,9 @@ down_few value count low = omega (arith, ints, low)
 
 -- near the drawn value no value passes, nor does the drawn one
 pub fails_near : (sought : SpanSought) → (Passes sought.drawn.now → ⊥) → IsNearFound sought Up nearby.Fails → IsNearFound sought Down nearby.Fails
-    → FailsNear sought.drawn.now (lent sought.numbers.now) sought.effort.budget
+    → FailsNear sought.drawn.now (lent sought.numbers.now) sought.budget
 fails_near sought own above below = λ by low high can passes.
-    by_lt_z by (pos 0) (λ lt. below by lt (down_few by sought.effort.budget low) can passes)
+    by_lt_z by (pos 0) (λ lt. below by lt (down_few by sought.budget low) can passes)
     (λ le. by_lt_z (pos 0) by (λ lt. above by lt high can passes)
     (λ ge.
     let same : by ≡ pos 0 = omega (arith, ints, le, ge) in

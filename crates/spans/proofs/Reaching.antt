@@ -1,5 +1,5 @@
 -- Values that can be drawn.
-use Rattle.std.proofs.Common.{◌≡◌, ◌⊎◌, inl, inr, ℤ, pos, neg_ℤ, ◌+ℤ◌, ◌≤ℤ◌, List, All, refl, sym, ap, subst, ◌∙◌, arith}
+use Rattle.std.proofs.Common.{◌≡◌, ◌⊎◌, inl, inr, ℤ, pos, ◌+ℤ◌, List, All, refl, sym, subst, ◌∙◌, arith}
 use Rattle.std.proofs.lemmas.Int.{by_lt_z, ints}
 use Rattle.event_graph.specs.Network.{IsNet}
 use Rattle.drawn.specs.Drawn.{Drawn}
@@ -12,7 +12,7 @@ use Rattle.spans.specs.declared.direction.Direction.{Direction}
 use Rattle.spans.specs.declared.direction.Direction.TheVariants.{Down, Up}
 use Rattle.spans.specs.declared.reach.DrawnGap.{DrawnGap}
 use Rattle.spans.specs.declared.sought.SpanSought.{SpanSought}
-use Rattle.spans.proofs.Ways.{move_between, next_on, on_next, on_past, on_same, on_through, past_to}
+use Rattle.spans.proofs.Ways.{move_between, next_on, on_past, on_same, on_through}
 
 -- ---- directions
 

@@ -1,12 +1,9 @@
 -- Values that were shown, one after another.
 use Rattle.std.proofs.Common.{◌≡◌, ◌<◌, ◌+◌, ℕ, ℤ, ◌+ℤ◌, Some, sym, subst}
 use Rattle.event_graph.specs.Bounds.{IsInconsistent}
-use Rattle.moves.specs.Networks.{IsNetFound}
 use Rattle.moves.specs.Passing.{NoneBreaks}
 use Rattle.moves.specs.Step.{IsConsistent}
-use Rattle.moves.specs.declared.net_found.NetFound.{NetFound}
-use Rattle.spans.specs.Step.{IsAdvance, IsFurther, IsGapIn, IsNarrowerGap, IsOn, IsPast, IsWithinReach, IsShown, IsShownTo, IsStop, IsStretched, MeetsAim, at_value, on_of, steps_between}
-use Rattle.spans.specs.declared.advance.Advance.{Advance}
+use Rattle.spans.specs.Step.{IsAdvance, IsFurther, IsGapIn, IsNarrowerGap, IsOn, IsPast, IsWithinReach, IsShown, IsShownTo, IsStretched, MeetsAim, at_value, on_of, steps_between}
 use Rattle.spans.specs.declared.advance.Advance.TheVariants as advances
 use Rattle.spans.specs.declared.advance.ShownStretch.{ShownStretch}
 use Rattle.spans.specs.declared.advance.Stretched.TheVariants as stretches
@@ -16,7 +13,7 @@ use Rattle.spans.specs.declared.sought.SpanAim.{SpanAim}
 use Rattle.spans.specs.declared.sought.SpanAim.TheVariants as aims
 use Rattle.spans.specs.declared.sought.SpanSought.{SpanSought}
 use Rattle.spans.proofs.Reaching.{reached_between}
-use Rattle.spans.proofs.Ways.{further_more, further_start, nearer_end, nearer_start, next_on, none_past, on_next, on_past, on_same, on_through, past_by_next, past_from, way_from, way_next, way_past}
+use Rattle.spans.proofs.Ways.{further_more, further_start, nearer_end, nearer_start, next_on, none_past, on_past, on_same, on_through, past_by_next, past_from, way_from, way_next, way_past}
 
 module _ (sought : SpanSought) (aim : SpanAim) (d : Direction) where
   -- ---- a stretch

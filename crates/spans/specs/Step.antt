@@ -145,9 +145,9 @@ FramesRows frames.Cover counts drawn numbers rows value = AllZip IsTighterRow (m
 FramesRows frames.Core counts drawn numbers rows value = AllZip IsTighterRow rows (map (row_counted counts value) (shifted_at drawn numbers value).rows)
 
 -- a drawn network is a cover or a core of the one with some numbers moved by a value
-abbrev pub Frames : FrameKind → List ℤ → Drawn → List DrawnNumber → Drawn → ℤ → Type 0
-Frames frames.Cover counts drawn numbers frame value = Covers counts drawn numbers frame value
-Frames frames.Core counts drawn numbers frame value = IsCoreOf counts drawn numbers frame value
+abbrev pub IsFrameOf : FrameKind → List ℤ → Drawn → List DrawnNumber → Drawn → ℤ → Type 0
+IsFrameOf frames.Cover counts drawn numbers frame value = Covers counts drawn numbers frame value
+IsFrameOf frames.Core counts drawn numbers frame value = IsCoreOf counts drawn numbers frame value
 
 -- a number that is far from wrapping
 abbrev pub IsUnwrapped : ℤ → Type 0
@@ -238,12 +238,12 @@ pub record IsSought (sought : SpanSought) : Type 0 where
   pub counts : AreEventCounts sought.drawn.now.net sought.counts.now
   pub zeros : AreEventCounts sought.drawn.now.net sought.zeros.now
   pub reach : IsShiftReach sought.drawn.now (lent sought.numbers.now) sought.reach
-  pub least : 1 ≤ sought.effort.budget
-  pub most : sought.effort.budget ≤ MAX_BUDGET
+  pub least : 1 ≤ sought.budget
+  pub most : sought.budget ≤ MAX_BUDGET
 
 -- the budget is no less than the number of cause choices
 abbrev pub IsEnough : SpanSought → Type 0
-IsEnough sought = cause_choices sought.drawn.now.net.constraints ≤ sought.effort.budget
+IsEnough sought = cause_choices sought.drawn.now.net.constraints ≤ sought.budget
 
 -- the drawn network with the numbers moved up by a value
 abbrev pub at_value : SpanSought → ℤ → Drawn
@@ -287,7 +287,7 @@ IsFurther direction from count value = (outward direction from +ℤ pos count) �
 abbrev pub IsShort : SpanSought → SpanAim → Direction → ℤ → Shortfall → Type 0
 IsShort sought aim direction from (shorts.Stops last found) =
     IsShownTo sought aim direction from last.by × IsNetFound (at_value sought (last.by +ℤ on_of direction)) found × IsStop aim found
-IsShort sought aim direction from (shorts.Spent last) = IsShownTo sought aim direction from last.by × IsFurther direction from sought.effort.budget last.by
+IsShort sought aim direction from (shorts.Spent last) = IsShownTo sought aim direction from last.by × IsFurther direction from sought.budget last.by
 IsShort sought aim direction from shorts.Left = IsEnough sought → ⊥
 
 -- it stops before the goal
@@ -351,7 +351,7 @@ IsBorder sought direction from (borders.Breaks by row) = IsConsistent (at_value 
 IsBorder sought direction from (borders.Contradicts by) = IsConsistent (at_value sought by) × IsInconsistent (at_value sought (by +ℤ on_of direction)).net
 IsBorder sought direction from (borders.Limit by) =
     IsConsistent (at_value sought by) × (CanShift sought.drawn.now (lent sought.numbers.now) (by +ℤ on_of direction) → ⊥)
-IsBorder sought direction from (borders.Spent by) = IsFurther direction from sought.effort.budget by
+IsBorder sought direction from (borders.Spent by) = IsFurther direction from sought.budget by
 IsBorder sought direction from (borders.Left by) = IsEnough sought → ⊥
 
 -- a border in a direction from a value with which every requirement passes
@@ -372,7 +372,7 @@ margin_of direction (borders.Left by) = margins.Spent
 
 -- what is found of the numbers is right
 abbrev pub IsSpanOf : SpanSought → SpanFound → Type 0
-IsSpanOf sought span = IsSpanFound sought.drawn.now (lent sought.numbers.now) sought.effort.budget span.down span.up
+IsSpanOf sought span = IsSpanFound sought.drawn.now (lent sought.numbers.now) sought.budget span.down span.up
 
 -- what is found of a value beside the drawn one
 abbrev pub IsTriedValue : SpanSought → Tried → Type 0
@@ -391,11 +391,11 @@ pub record IsStartGoal (sought : SpanSought) (direction : Direction) (goal : ℤ
 -- the values in a direction that are no further from the drawn one than the budget says, and can be drawn, are on the way to a goal
 abbrev pub IsNearGoal : SpanSought → Direction → ℤ → Type 0
 IsNearGoal sought direction goal =
-    (value : ℤ) → IsOn direction (pos 0) value → outward direction value ≤ℤ pos sought.effort.budget → IsOn direction value (limit_of direction sought.reach).by → IsOn direction value goal
+    (value : ℤ) → IsOn direction (pos 0) value → outward direction value ≤ℤ pos sought.budget → IsOn direction value (limit_of direction sought.reach).by → IsOn direction value goal
 
 -- what is known of the values near the drawn one in a direction
 abbrev pub IsNearFound : SpanSought → Direction → Nearby → Type 0
-IsNearFound sought direction nearby.Fails = (value : ℤ) → IsPast direction (pos 0) value → outward direction value ≤ℤ pos sought.effort.budget
+IsNearFound sought direction nearby.Fails = (value : ℤ) → IsPast direction (pos 0) value → outward direction value ≤ℤ pos sought.budget
     → CanShift sought.drawn.now (lent sought.numbers.now) value → Passes (at_value sought value) → ⊥
 IsNearFound sought direction (nearby.Passes at) = IsWithinReach sought at.by × IsSpanStart at.by × Passes (at_value sought at.by)
 IsNearFound sought direction nearby.Left = IsEnough sought → ⊥

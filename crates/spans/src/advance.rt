@@ -5,6 +5,7 @@ ghost use Rattle.spans.specs.Step.{IsAdvance, IsOn, IsPast, IsWithinReach, IsSou
 
 use crate::direction::{Direction, Value, between, distance, is_same, next_of, value_on};
 use crate::sought::{SpanAim, SpanSought, ValueFound};
+use extremes::RunTurns;
 use itv_base::NoMemory;
 use moves::NetFound;
 use std::alloc::Global;
@@ -59,6 +60,7 @@ pub fn show_to(
     from: Value,
     goal: Value,
     direction: Direction,
+    turns: &mut RunTurns,
 ) -> Result<Advance, NoMemory>
     requires sought { IsSought sought.now }
     requires from { IsWithinReach sought.now from.by }
@@ -70,11 +72,11 @@ pub fn show_to(
         done: from,
         size: distance(from, goal),
     };
-    for _turn in 0..sought.effort.budget {
+    for _turn in 0..sought.budget {
         if is_same(stretch.done, goal) {
             return Ok(Advance::Reached);
         }
-        match stretch_on(alloc, sought, aim, stretch, goal, direction)? {
+        match stretch_on(alloc, sought, aim, stretch, goal, direction, turns)? {
             Stretched::On(next) => stretch = next,
             Stretched::Stops(found) => {
                 let last = stretch.done;
@@ -97,6 +99,7 @@ fn stretch_on(
     stretch: ShownStretch,
     goal: Value,
     direction: Direction,
+    turns: &mut RunTurns,
 ) -> Result<Stretched, NoMemory>
     requires sought { IsSought sought.now }
     requires done { IsWithinReach sought.now stretch.done.by }
@@ -108,10 +111,10 @@ fn stretch_on(
     let mut more = stretch.size.saturating_sub(1).min(distance(first, goal));
     for _halving in 0..MOST_HALVINGS {
         if more < 1 {
-            return one_more(alloc, sought, aim, stretch.done, goal, direction);
+            return one_more(alloc, sought, aim, stretch.done, goal, direction, turns);
         }
         let end = value_on(first, more, goal, direction);
-        if sought.is_shown(alloc, aim, between(stretch.done, end, direction))? {
+        if sought.is_shown(alloc, aim, between(stretch.done, end, direction), turns)? {
             return Ok(Stretched::On(ShownStretch {
                 done: end,
                 size: more.saturating_add(1).saturating_mul(2),
@@ -119,7 +122,7 @@ fn stretch_on(
         }
         more /= 2;
     }
-    one_more(alloc, sought, aim, stretch.done, goal, direction)
+    one_more(alloc, sought, aim, stretch.done, goal, direction, turns)
 }
 
 // The next value by itself.
@@ -130,6 +133,7 @@ fn one_more(
     done: Value,
     goal: Value,
     direction: Direction,
+    turns: &mut RunTurns,
 ) -> Result<Stretched, NoMemory>
     requires sought { IsSought sought.now }
     requires done { IsWithinReach sought.now done.by }
@@ -138,7 +142,7 @@ fn one_more(
     ensures { IfOk result (IsStretched sought.now aim direction done.by goal.by) }
 {
     let next = next_of(done, direction);
-    match sought.value_at(alloc, aim, next)? {
+    match sought.value_at(alloc, aim, next, turns)? {
         ValueFound::Shown => Ok(Stretched::On(ShownStretch {
             done: next,
             size: 2,

@@ -14,6 +14,7 @@ use crate::direction::{
 use crate::looking::{Ahead, look_ahead};
 use crate::reach::limit_of;
 use crate::sought::{SpanAim, SpanSought};
+use extremes::RunTurns;
 use itv_base::NoMemory;
 use moves::NetFound;
 use probing::SideChain;
@@ -33,6 +34,7 @@ pub fn border_of(
     from: Value,
     sides: &[SideChain],
     direction: Direction,
+    turns: &mut RunTurns,
 ) -> Result<Border, NoMemory>
     requires sought { IsSought sought.now }
     requires from { IsWithinReach sought.now from.by }
@@ -41,14 +43,14 @@ pub fn border_of(
     ensures border { IfOk result (IsBorderFrom sought.now direction from.by) }
 {
     let is_free = sought.room(step_of(direction), sides).is_none();
-    if is_free && sought.is_shown(alloc, SpanAim::Passing, beyond(from, direction))? {
+    if is_free && sought.is_shown(alloc, SpanAim::Passing, beyond(from, direction), turns)? {
         return Ok(Border::Endless);
     }
     let goal = limit_of(sought.reach, direction);
-    match look_ahead(alloc, sought, from, goal, sides, direction)? {
-        Ahead::Breaks { at, row } => border_before(alloc, sought, from, at, row, direction),
-        Ahead::Contradicts(at) => border_in(alloc, sought, from, at, direction),
-        Ahead::Nothing => border_at_limit(alloc, sought, from, goal, direction),
+    match look_ahead(alloc, sought, from, goal, sides, direction, turns)? {
+        Ahead::Breaks { at, row } => border_before(alloc, sought, from, at, row, direction, turns),
+        Ahead::Contradicts(at) => border_in(alloc, sought, from, at, direction, turns),
+        Ahead::Nothing => border_at_limit(alloc, sought, from, goal, direction, turns),
         Ahead::Left => Ok(left(from)),
     }
 }
@@ -61,6 +63,7 @@ fn border_before(
     at: Value,
     row: u32,
     direction: Direction,
+    turns: &mut RunTurns,
 ) -> Result<Border, NoMemory>
     requires sought { IsSought sought.now }
     requires from { IsWithinReach sought.now from.by }
@@ -71,9 +74,17 @@ fn border_before(
     ensures border { IfOk result (IsBorderFrom sought.now direction from.by) }
 {
     let last = last_before(at, direction);
-    match show_to(alloc, sought, SpanAim::Passing, from, last, direction)? {
-        Advance::Reached => border_by_row(alloc, sought, from, last, row, direction),
-        Advance::Shortfall(short) => border_short(alloc, sought, from, short, direction),
+    match show_to(
+        alloc,
+        sought,
+        SpanAim::Passing,
+        from,
+        last,
+        direction,
+        turns,
+    )? {
+        Advance::Reached => border_by_row(alloc, sought, from, last, row, direction, turns),
+        Advance::Shortfall(short) => border_short(alloc, sought, from, short, direction, turns),
     }
 }
 
@@ -84,6 +95,7 @@ fn border_in(
     from: Value,
     at: Value,
     direction: Direction,
+    turns: &mut RunTurns,
 ) -> Result<Border, NoMemory>
     requires sought { IsSought sought.now }
     requires from { IsWithinReach sought.now from.by }
@@ -93,9 +105,9 @@ fn border_in(
     requires contradicts { IsInconsistent (at_value sought.now at.by).net }
     ensures border { IfOk result (IsBorderFrom sought.now direction from.by) }
 {
-    match show_to(alloc, sought, SpanAim::Passing, from, at, direction)? {
-        Advance::Reached => border_by_contradiction(alloc, sought, from, at, direction),
-        Advance::Shortfall(short) => border_short(alloc, sought, from, short, direction),
+    match show_to(alloc, sought, SpanAim::Passing, from, at, direction, turns)? {
+        Advance::Reached => border_by_contradiction(alloc, sought, from, at, direction, turns),
+        Advance::Shortfall(short) => border_short(alloc, sought, from, short, direction, turns),
     }
 }
 
@@ -106,6 +118,7 @@ fn border_at_limit(
     from: Value,
     at: Value,
     direction: Direction,
+    turns: &mut RunTurns,
 ) -> Result<Border, NoMemory>
     requires sought { IsSought sought.now }
     requires from { IsWithinReach sought.now from.by }
@@ -114,9 +127,9 @@ fn border_at_limit(
     requires at { at ≡ limit_of direction sought.now.reach }
     ensures border { IfOk result (IsBorderFrom sought.now direction from.by) }
 {
-    match show_to(alloc, sought, SpanAim::Passing, from, at, direction)? {
-        Advance::Reached => border_beyond(alloc, sought, from, at, direction),
-        Advance::Shortfall(short) => border_short(alloc, sought, from, short, direction),
+    match show_to(alloc, sought, SpanAim::Passing, from, at, direction, turns)? {
+        Advance::Reached => border_beyond(alloc, sought, from, at, direction, turns),
+        Advance::Shortfall(short) => border_short(alloc, sought, from, short, direction, turns),
     }
 }
 
@@ -127,6 +140,7 @@ fn border_short(
     from: Value,
     short: Shortfall,
     direction: Direction,
+    turns: &mut RunTurns,
 ) -> Result<Border, NoMemory>
     requires sought { IsSought sought.now }
     requires from { IsWithinReach sought.now from.by }
@@ -136,7 +150,7 @@ fn border_short(
 {
     match short {
         Shortfall::Stops { last, found } => {
-            border_by_row(alloc, sought, from, last, row_of(found), direction)
+            border_by_row(alloc, sought, from, last, row_of(found), direction, turns)
         }
         Shortfall::Spent(last) => Ok(spent(last)),
         Shortfall::Left => Ok(left(from)),
@@ -163,6 +177,7 @@ fn border_beyond(
     from: Value,
     at: Value,
     direction: Direction,
+    turns: &mut RunTurns,
 ) -> Result<Border, NoMemory>
     requires sought { IsSought sought.now }
     requires from { IsWithinReach sought.now from.by }
@@ -172,16 +187,16 @@ fn border_beyond(
     requires shown { IsShown sought.now direction from.by (Some at.by) }
     ensures border { IfOk result (IsBorderFrom sought.now direction from.by) }
 {
-    if sought.is_shown(alloc, SpanAim::Passing, beyond(at, direction))? {
+    if sought.is_shown(alloc, SpanAim::Passing, beyond(at, direction), turns)? {
         return Ok(Border::Endless);
     }
     if is_same(at, farthest(direction)) {
         return Ok(spent(at));
     }
-    match sought.consistency_at(alloc, at)? {
+    match sought.consistency_at(alloc, at, turns)? {
         None => Ok(left(from)),
         Some(true) => Ok(limit(at)),
-        Some(false) => border_by_contradiction(alloc, sought, from, at, direction),
+        Some(false) => border_by_contradiction(alloc, sought, from, at, direction, turns),
     }
 }
 
@@ -193,6 +208,7 @@ fn border_by_row(
     last: Value,
     row: u32,
     direction: Direction,
+    turns: &mut RunTurns,
 ) -> Result<Border, NoMemory>
     requires sought { IsSought sought.now }
     requires from { IsWithinReach sought.now from.by }
@@ -203,10 +219,10 @@ fn border_by_row(
     requires breaks { BreaksRow (at_value sought.now (last.by +ℤ on_of direction)) row }
     ensures border { IfOk result (IsBorderFrom sought.now direction from.by) }
 {
-    match sought.consistency_at(alloc, last)? {
+    match sought.consistency_at(alloc, last, turns)? {
         None => Ok(left(from)),
         Some(true) => Ok(breaks(last, row)),
-        Some(false) => border_by_contradiction(alloc, sought, from, last, direction),
+        Some(false) => border_by_contradiction(alloc, sought, from, last, direction, turns),
     }
 }
 
@@ -217,6 +233,7 @@ fn border_by_contradiction(
     from: Value,
     at: Value,
     direction: Direction,
+    turns: &mut RunTurns,
 ) -> Result<Border, NoMemory>
     requires sought { IsSought sought.now }
     requires from { IsWithinReach sought.now from.by }
@@ -232,7 +249,7 @@ fn border_by_contradiction(
         lacks: at,
     };
     while !is_same(next_of(gap.has, direction), gap.lacks) {
-        match halved(alloc, sought, gap, direction)? {
+        match halved(alloc, sought, gap, direction, turns)? {
             None => return Ok(left(from)),
             Some(half) => gap = half,
         }
@@ -246,6 +263,7 @@ fn halved(
     sought: &SpanSought<'_>,
     gap: ValueGap,
     direction: Direction,
+    turns: &mut RunTurns,
 ) -> Result<Option<ValueGap>, NoMemory>
     requires sought { IsSought sought.now }
     requires has { IsWithinReach sought.now gap.has.by }
@@ -259,7 +277,7 @@ fn halved(
     let first = next_of(gap.has, direction);
     let last = last_before(gap.lacks, direction);
     let middle = value_on(first, distance(first, last) / 2, last, direction);
-    match sought.consistency_at(alloc, middle)? {
+    match sought.consistency_at(alloc, middle, turns)? {
         None => Ok(None),
         Some(true) => Ok(Some(ValueGap {
             has: middle,

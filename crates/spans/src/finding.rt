@@ -16,10 +16,11 @@ use crate::nearby::{Nearby, near_in};
 use crate::reach::{limit_of, reach_of, start_limit};
 use crate::sought::SpanSought;
 use drawn::DrawnNetwork;
+use extremes::RunTurns;
 use itv_base::NoMemory;
 use moves::{Margin, NetFound, SpanFound};
 use numbers::DrawnNumber;
-use probing::{Effort, Probed, SideChain};
+use probing::{Probed, SideChain};
 use std::alloc::Global;
 
 // How often the next value is guessed, where a design fails as drawn.
@@ -44,14 +45,15 @@ pub fn find_span(
     drawn: &DrawnNetwork,
     numbers: &[&DrawnNumber],
     base: &Probed,
-    effort: Effort,
+    budget: u64,
+    turns: &mut RunTurns,
 ) -> Result<SpanFound, NoMemory>
     requires base { IsNetFound drawn.now base.now.found }
     requires consistent { base.now.found ≡ NetFound.Inconsistent → ⊥ }
     requires decided { is_net_open base.now.found ≡ false }
-    requires least { 1 ≤ effort.budget }
-    requires most { effort.budget ≤ MAX_BUDGET }
-    ensures found { IfOk result (λ span. IsSpanFound drawn.now (lent numbers.now) effort.budget span.down span.up) }
+    requires least { 1 ≤ budget }
+    requires most { budget ≤ MAX_BUDGET }
+    ensures found { IfOk result (λ span. IsSpanFound drawn.now (lent numbers.now) budget span.down span.up) }
 {
     let counts = counts_of(alloc, drawn, numbers)?;
     let zeros = no_counts(alloc, drawn)?;
@@ -62,13 +64,18 @@ pub fn find_span(
         counts: &counts,
         zeros: &zeros,
         reach,
-        effort,
+        budget,
     };
-    span_from(alloc, &sought, base)
+    span_from(alloc, &sought, base, turns)
 }
 
 // The span of the numbers, by what was found of the network as drawn.
-fn span_from(alloc: Global, sought: &SpanSought<'_>, base: &Probed) -> Result<SpanFound, NoMemory>
+fn span_from(
+    alloc: Global,
+    sought: &SpanSought<'_>,
+    base: &Probed,
+    turns: &mut RunTurns,
+) -> Result<SpanFound, NoMemory>
     requires sought { IsSought sought.now }
     requires base { IsNetFound sought.now.drawn.now base.now.found }
     requires consistent { base.now.found ≡ NetFound.Inconsistent → ⊥ }
@@ -76,8 +83,8 @@ fn span_from(alloc: Global, sought: &SpanSought<'_>, base: &Probed) -> Result<Sp
     ensures found { IfOk result (IsSpanOf sought.now) }
 {
     match base.found {
-        NetFound::Passes => span_around(alloc, sought, drawn_value(), &base.sides),
-        NetFound::Breaks(row) => span_elsewhere(alloc, sought, row, &base.sides),
+        NetFound::Passes => span_around(alloc, sought, drawn_value(), &base.sides, turns),
+        NetFound::Breaks(row) => span_elsewhere(alloc, sought, row, &base.sides, turns),
         // Some times satisfy the network, and no search was left open.
         NetFound::Inconsistent => unreachable!(),
         NetFound::Open => unreachable!(),
@@ -92,6 +99,7 @@ fn span_around(
     sought: &SpanSought<'_>,
     from: Value,
     sides: &[SideChain],
+    turns: &mut RunTurns,
 ) -> Result<SpanFound, NoMemory>
     requires sought { IsSought sought.now }
     requires from { IsWithinReach sought.now from.by }
@@ -100,8 +108,8 @@ fn span_around(
     requires own { Passes sought.now.drawn.now → from.by ≡ pos 0 }
     ensures found { IfOk result (IsSpanOf sought.now) }
 {
-    let low = border_of(alloc, sought, from, sides, Direction::Down)?;
-    let high = border_of(alloc, sought, from, sides, Direction::Up)?;
+    let low = border_of(alloc, sought, from, sides, Direction::Down, turns)?;
+    let high = border_of(alloc, sought, from, sides, Direction::Up, turns)?;
     Ok(SpanFound {
         down: margin_of(low, Direction::Down),
         up: margin_of(high, Direction::Up),
@@ -116,42 +124,53 @@ fn span_elsewhere(
     sought: &SpanSought<'_>,
     row: u32,
     sides: &[SideChain],
+    turns: &mut RunTurns,
 ) -> Result<SpanFound, NoMemory>
     requires sought { IsSought sought.now }
     requires breaks { BreaksRow sought.now.drawn.now row }
     ensures found { IfOk result (IsSpanOf sought.now) }
 {
-    if let Some(above) = span_towards(alloc, sought, row, sides, Direction::Up)? {
+    if let Some(above) = span_towards(alloc, sought, row, sides, Direction::Up, turns)? {
         return Ok(above);
     }
-    if let Some(below) = span_towards(alloc, sought, row, sides, Direction::Down)? {
+    if let Some(below) = span_towards(alloc, sought, row, sides, Direction::Down, turns)? {
         return Ok(below);
     }
-    span_near(alloc, sought, row)
+    span_near(alloc, sought, row, turns)
 }
 
 // The span around a value near the drawn one, with which a row breaks.
-fn span_near(alloc: Global, sought: &SpanSought<'_>, row: u32) -> Result<SpanFound, NoMemory>
+fn span_near(
+    alloc: Global,
+    sought: &SpanSought<'_>,
+    row: u32,
+    turns: &mut RunTurns,
+) -> Result<SpanFound, NoMemory>
     requires sought { IsSought sought.now }
     requires breaks { BreaksRow sought.now.drawn.now row }
     ensures found { IfOk result (IsSpanOf sought.now) }
 {
-    match near_in(alloc, sought, Direction::Up)? {
-        Nearby::Passes(at) => span_at(alloc, sought, row, at),
+    match near_in(alloc, sought, Direction::Up, turns)? {
+        Nearby::Passes(at) => span_at(alloc, sought, row, at, turns),
         Nearby::Left => Ok(both(Margin::Spent)),
-        Nearby::Fails => span_below(alloc, sought, row),
+        Nearby::Fails => span_below(alloc, sought, row, turns),
     }
 }
 
 // The span around a value near the drawn one and below it. With no value near it and above it every requirement passes.
-fn span_below(alloc: Global, sought: &SpanSought<'_>, row: u32) -> Result<SpanFound, NoMemory>
+fn span_below(
+    alloc: Global,
+    sought: &SpanSought<'_>,
+    row: u32,
+    turns: &mut RunTurns,
+) -> Result<SpanFound, NoMemory>
     requires sought { IsSought sought.now }
     requires breaks { BreaksRow sought.now.drawn.now row }
     requires above { IsNearFound sought.now Direction.Up Nearby.Fails }
     ensures found { IfOk result (IsSpanOf sought.now) }
 {
-    match near_in(alloc, sought, Direction::Down)? {
-        Nearby::Passes(at) => span_at(alloc, sought, row, at),
+    match near_in(alloc, sought, Direction::Down, turns)? {
+        Nearby::Passes(at) => span_at(alloc, sought, row, at, turns),
         Nearby::Left => Ok(both(Margin::Spent)),
         Nearby::Fails => Ok(both(Margin::Never)),
     }
@@ -173,6 +192,7 @@ fn span_at(
     sought: &SpanSought<'_>,
     row: u32,
     at: Value,
+    turns: &mut RunTurns,
 ) -> Result<SpanFound, NoMemory>
     requires sought { IsSought sought.now }
     requires breaks { BreaksRow sought.now.drawn.now row }
@@ -181,8 +201,8 @@ fn span_at(
     requires passes { Passes (at_value sought.now at.by) }
     ensures found { IfOk result (IsSpanOf sought.now) }
 {
-    let probed = sought.probe_at(alloc, at)?;
-    span_around(alloc, sought, at, &probed.sides)
+    let probed = sought.probe_at(alloc, at, turns)?;
+    span_around(alloc, sought, at, &probed.sides, turns)
 }
 
 // The span around a value that is guessed in a direction: each row that breaks says how far the next value is at least.
@@ -192,6 +212,7 @@ fn span_towards(
     row: u32,
     sides: &[SideChain],
     direction: Direction,
+    turns: &mut RunTurns,
 ) -> Result<Option<SpanFound>, NoMemory>
     requires sought { IsSought sought.now }
     requires breaks { BreaksRow sought.now.drawn.now row }
@@ -205,7 +226,7 @@ fn span_towards(
             return Ok(None);
         };
         at = value_on(at, more, goal, direction);
-        match try_value(alloc, sought, row, at, direction)? {
+        match try_value(alloc, sought, row, at, direction, turns)? {
             Tried::Span(span) => return Ok(Some(span)),
             Tried::On(next) => far = next,
             Tried::Nothing => return Ok(None),
@@ -229,6 +250,7 @@ fn try_value(
     row: u32,
     at: Value,
     direction: Direction,
+    turns: &mut RunTurns,
 ) -> Result<Tried, NoMemory>
     requires sought { IsSought sought.now }
     requires breaks { BreaksRow sought.now.drawn.now row }
@@ -236,10 +258,10 @@ fn try_value(
     requires start { IsSpanStart at.by }
     ensures { IfOk result (IsTriedValue sought.now) }
 {
-    let probed = sought.probe_at(alloc, at)?;
+    let probed = sought.probe_at(alloc, at, turns)?;
     match probed.found {
         NetFound::Passes => {
-            let span = span_around(alloc, sought, at, &probed.sides)?;
+            let span = span_around(alloc, sought, at, &probed.sides, turns)?;
             Ok(Tried::Span(span))
         }
         NetFound::Breaks(_) => Ok(Tried::On(sought.excess(step_of(direction), &probed.sides))),

@@ -6,7 +6,7 @@ ghost use Rattle.itv_base.specs.declared.names.EventId.{EventId as Event};
 ghost use Rattle.drawn.specs.Drawn.{IsRowOf};
 ghost use Rattle.event_graph.specs.Network.{Constraint};
 ghost use Rattle.moves.specs.Step.{HasEventsOf, bare_drawn, lent};
-ghost use Rattle.spans.specs.Step.{AreEventCounts, Frames, FramesCauses, FramesNet, FramesRows, IsInside, IsInterval};
+ghost use Rattle.spans.specs.Step.{AreEventCounts, FramesCauses, FramesNet, FramesRows, IsFrameOf, IsInside, IsInterval};
 
 use crate::framed_range::{FrameKind, apart, framed_kind, framed_range};
 use crate::interval::Interval;
@@ -36,7 +36,7 @@ pub fn frame_of(
     requires counts { AreEventCounts drawn.now.net counts.now }
     requires interval { IsInterval interval }
     ensures frames { IfOk result (λ frame. IfSome frame (λ frame. (value : ℤ) → IsInside interval value
-        → Frames kind counts.now drawn.now (lent numbers.now) (bare_drawn frame.net frame.rows.items) value)) }
+        → IsFrameOf kind counts.now drawn.now (lent numbers.now) (bare_drawn frame.net frame.rows.items) value)) }
     ensures rows { IfOk result (λ frame. IfSome frame (λ frame. All (IsRowOf frame.net) frame.rows.items)) }
     ensures few { IfOk result (λ frame. IfSome frame (λ frame. length frame.rows.items ≤ MAX_ROWS)) }
 {

@@ -5,6 +5,7 @@ ghost use Rattle.spans.specs.Step.{IsAhead, IsGlanced, IsOn, IsPast, IsWithinRea
 
 use crate::direction::{Direction, Value, is_same, step_of, value_on};
 use crate::sought::SpanSought;
+use extremes::RunTurns;
 use itv_base::NoMemory;
 use moves::NetFound;
 use probing::SideChain;
@@ -54,6 +55,7 @@ pub fn look_ahead(
     goal: Value,
     sides: &[SideChain],
     direction: Direction,
+    turns: &mut RunTurns,
 ) -> Result<Ahead, NoMemory>
     requires sought { IsSought sought.now }
     requires from { IsWithinReach sought.now from.by }
@@ -71,7 +73,7 @@ pub fn look_ahead(
         if is_same(next, look.at) {
             return Ok(Ahead::Nothing);
         }
-        match looked_at(alloc, sought, from, next, look.stride, direction)? {
+        match looked_at(alloc, sought, from, next, look.stride, direction, turns)? {
             Glanced::On(further) => look = further,
             Glanced::Found(ahead) => return Ok(ahead),
         }
@@ -87,13 +89,14 @@ fn looked_at(
     next: Value,
     stride: i64,
     direction: Direction,
+    turns: &mut RunTurns,
 ) -> Result<Glanced, NoMemory>
     requires sought { IsSought sought.now }
     requires reached { IsWithinReach sought.now next.by }
     requires past { IsPast direction from.by next.by }
     ensures { IfOk result (IsGlanced sought.now direction from.by next.by) }
 {
-    let probed = sought.probe_at(alloc, next)?;
+    let probed = sought.probe_at(alloc, next, turns)?;
     match probed.found {
         NetFound::Passes => {
             let room = sought.room(step_of(direction), &probed.sides);

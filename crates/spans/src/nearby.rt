@@ -7,6 +7,7 @@ use crate::advance::{Advance, Shortfall, show_to};
 use crate::direction::{Direction, Value, drawn_value, next_of};
 use crate::reach::limit_of;
 use crate::sought::{SpanAim, SpanSought};
+use extremes::RunTurns;
 use itv_base::NoMemory;
 use std::alloc::Global;
 
@@ -26,6 +27,7 @@ pub fn near_in(
     alloc: Global,
     sought: &SpanSought<'_>,
     direction: Direction,
+    turns: &mut RunTurns,
 ) -> Result<Nearby, NoMemory>
     requires sought { IsSought sought.now }
     ensures nearby { IfOk result (IsNearFound sought.now direction) }
@@ -38,6 +40,7 @@ pub fn near_in(
         drawn_value(),
         goal,
         direction,
+        turns,
     )? {
         Advance::Reached => Ok(Nearby::Fails),
         Advance::Shortfall(Shortfall::Spent(_)) => Ok(Nearby::Fails),
@@ -57,7 +60,7 @@ fn near_goal(sought: &SpanSought<'_>, direction: Direction) -> Value
     ensures near { IsNearGoal sought.now direction result.by }
 {
     let limit = limit_of(sought.reach, direction);
-    within(limit, sought.effort.budget as i64, direction)
+    within(limit, sought.budget as i64, direction)
 }
 
 // A value, or the one that is this far from the drawn one in its direction, if it is further.

@@ -12,10 +12,11 @@ use crate::framed_range::FrameKind;
 use crate::interval::Interval;
 use crate::reach::ShiftReach;
 use drawn::DrawnNetwork;
+use extremes::RunTurns;
 use itv_base::NoMemory;
 use moves::{Move, NetFound, moved_network, moved_rows};
 use numbers::DrawnNumber;
-use probing::{Effort, Probed, SideChain, Step, excess, probe, room};
+use probing::{Probed, SideChain, Step, excess, probe, room};
 use std::alloc::Global;
 
 /// Numbers whose span is sought, how many values each event counts from, as many zeros, the last values that can be drawn, and how long each search may go
@@ -27,7 +28,7 @@ pub struct SpanSought<'a> {
     pub counts: &'a [i64],
     pub zeros: &'a [i64],
     pub reach: ShiftReach,
-    pub effort: Effort,
+    pub budget: u64,
 }
 
 /// What is to be shown of values.
@@ -52,42 +53,58 @@ pub enum ValueFound {
 
 impl SpanSought<'_> {
     /// What is found of the network with the numbers moved up by a number of picoseconds.
-    pub fn probe_at(&self, alloc: Global, at: Value) -> Result<Probed, NoMemory>
+    pub fn probe_at(
+        &self,
+        alloc: Global,
+        at: Value,
+        turns: &mut RunTurns,
+    ) -> Result<Probed, NoMemory>
         requires sought { IsSought self.now }
         requires reached { IsWithinReach self.now at.by }
         ensures probed { IfOk result (IsProbeOf self.now at.by) }
     {
         if is_same(at, drawn_value()) {
             let rows = self.drawn.rows().as_slice();
-            return probe(alloc, self.drawn.network(), rows, self.effort);
+            return probe(alloc, self.drawn.network(), rows, self.budget, turns);
         }
         let by = Move::Shift(at.by);
         match moved_network(alloc, self.drawn, self.numbers, by)? {
             None => unreachable!(),
             Some(net) => match moved_rows(alloc, self.drawn, self.numbers, by)? {
                 None => unreachable!(),
-                Some(rows) => probe(alloc, &net, &rows, self.effort),
+                Some(rows) => probe(alloc, &net, &rows, self.budget, turns),
             },
         }
     }
 
     /// What is found of a value by itself.
-    pub fn value_at(&self, alloc: Global, aim: SpanAim, at: Value) -> Result<ValueFound, NoMemory>
+    pub fn value_at(
+        &self,
+        alloc: Global,
+        aim: SpanAim,
+        at: Value,
+        turns: &mut RunTurns,
+    ) -> Result<ValueFound, NoMemory>
         requires sought { IsSought self.now }
         requires reached { IsWithinReach self.now at.by }
         ensures found { IfOk result (IsValueFoundAt self.now aim at.by) }
     {
-        let probed = self.probe_at(alloc, at)?;
+        let probed = self.probe_at(alloc, at, turns)?;
         Ok(value_of(aim, probed.found))
     }
 
     /// Whether some times satisfy with a value, or `None` where that was left open.
-    pub fn consistency_at(&self, alloc: Global, at: Value) -> Result<Option<bool>, NoMemory>
+    pub fn consistency_at(
+        &self,
+        alloc: Global,
+        at: Value,
+        turns: &mut RunTurns,
+    ) -> Result<Option<bool>, NoMemory>
         requires sought { IsSought self.now }
         requires reached { IsWithinReach self.now at.by }
         ensures consistency { IfOk result (TellsConsistency self.now at.by) }
     {
-        let probed = self.probe_at(alloc, at)?;
+        let probed = self.probe_at(alloc, at, turns)?;
         Ok(consistency_of(probed.found))
     }
 
@@ -97,15 +114,16 @@ impl SpanSought<'_> {
         alloc: Global,
         aim: SpanAim,
         interval: Interval,
+        turns: &mut RunTurns,
     ) -> Result<bool, NoMemory>
         requires sought { IsSought self.now }
         requires interval { IsInterval interval }
         ensures shown { IfOk result (λ shown. IsTrue shown → (value : ℤ) → IsInside interval value → MeetsAim aim (at_value self.now value)) }
     {
-        if self.is_shown_by(alloc, self.counts, aim, interval)? {
+        if self.is_shown_by(alloc, self.counts, aim, interval, turns)? {
             return Ok(true);
         }
-        self.is_shown_by(alloc, self.zeros, aim, interval)
+        self.is_shown_by(alloc, self.zeros, aim, interval, turns)
     }
 
     // Whether a frame shows all values of an interval, where each event counts from so many values.
@@ -115,15 +133,16 @@ impl SpanSought<'_> {
         counts: &[i64],
         aim: SpanAim,
         interval: Interval,
+        turns: &mut RunTurns,
     ) -> Result<bool, NoMemory>
         requires counts { AreEventCounts self.now.drawn.now.net counts.now }
         requires interval { IsInterval interval }
-        requires budget { 1 ≤ self.now.effort.budget }
+        requires budget { 1 ≤ self.now.budget }
         ensures shown { IfOk result (λ shown. IsTrue shown → (value : ℤ) → IsInside interval value → MeetsAim aim (at_value self.now value)) }
     {
         match aim {
-            SpanAim::Passing => self.is_covered_by(alloc, counts, interval),
-            SpanAim::Failing => self.fails_by(alloc, counts, interval),
+            SpanAim::Passing => self.is_covered_by(alloc, counts, interval, turns),
+            SpanAim::Failing => self.fails_by(alloc, counts, interval, turns),
         }
     }
 
@@ -133,13 +152,14 @@ impl SpanSought<'_> {
         alloc: Global,
         counts: &[i64],
         interval: Interval,
+        turns: &mut RunTurns,
     ) -> Result<bool, NoMemory>
         requires counts { AreEventCounts self.now.drawn.now.net counts.now }
         requires interval { IsInterval interval }
-        requires budget { 1 ≤ self.now.effort.budget }
+        requires budget { 1 ≤ self.now.budget }
         ensures covered { IfOk result (λ covered. IsTrue covered → (value : ℤ) → IsInside interval value → NoneBreaks (at_value self.now value)) }
     {
-        match self.probe_frame(alloc, counts, interval, FrameKind::Cover)? {
+        match self.probe_frame(alloc, counts, interval, FrameKind::Cover, turns)? {
             Some(NetFound::Passes) => Ok(true),
             Some(NetFound::Inconsistent) => Ok(true),
             _ => Ok(false),
@@ -147,10 +167,16 @@ impl SpanSought<'_> {
     }
 
     // Whether a core shows that a row breaks with each value of an interval, or a cover that the rules contradict each other with each.
-    fn fails_by(&self, alloc: Global, counts: &[i64], interval: Interval) -> Result<bool, NoMemory>
+    fn fails_by(
+        &self,
+        alloc: Global,
+        counts: &[i64],
+        interval: Interval,
+        turns: &mut RunTurns,
+    ) -> Result<bool, NoMemory>
         requires counts { AreEventCounts self.now.drawn.now.net counts.now }
         requires interval { IsInterval interval }
-        requires budget { 1 ≤ self.now.effort.budget }
+        requires budget { 1 ≤ self.now.budget }
         ensures fails { IfOk result (λ fails. IsTrue fails → (value : ℤ) → IsInside interval value → Passes (at_value self.now value) → ⊥) }
     {
         if let Some(NetFound::Breaks(_)) = self.probe_frame(
@@ -158,10 +184,11 @@ impl SpanSought<'_> {
             counts,
             interval,
             FrameKind::Core,
+            turns,
         )? {
             return Ok(true);
         }
-        match self.probe_frame(alloc, counts, interval, FrameKind::Cover)? {
+        match self.probe_frame(alloc, counts, interval, FrameKind::Cover, turns)? {
             Some(NetFound::Inconsistent) => Ok(true),
             _ => Ok(false),
         }
@@ -174,17 +201,18 @@ impl SpanSought<'_> {
         counts: &[i64],
         interval: Interval,
         kind: FrameKind,
+        turns: &mut RunTurns,
     ) -> Result<Option<NetFound>, NoMemory>
         requires counts { AreEventCounts self.now.drawn.now.net counts.now }
         requires interval { IsInterval interval }
-        requires budget { 1 ≤ self.now.effort.budget }
+        requires budget { 1 ≤ self.now.budget }
         ensures found { IfOk result (λ found. IfSome found (IsFrameFound self.now interval kind)) }
     {
         let framed = frame_of(alloc, self.drawn, self.numbers, counts, interval, kind)?;
         let Some(frame) = framed else {
             return Ok(None);
         };
-        let probed = probe(alloc, &frame.net, &frame.rows, self.effort)?;
+        let probed = probe(alloc, &frame.net, &frame.rows, self.budget, turns)?;
         Ok(Some(probed.found))
     }
 

@@ -5,4 +5,4 @@ use Rattle.margin_report.proofs.finding.each_found.Given as goal
 
 -- the numbers so far
 abbrev pub invariant-loop-k : goal.invariant-loop-k
-invariant-loop-k l = AllZip (IsNumberFound l.drawn l.effort.budget) (take l.k l.seen) l.found.items
+invariant-loop-k l = AllZip (IsNumberFound l.drawn l.budget) (take l.k l.seen) l.found.items

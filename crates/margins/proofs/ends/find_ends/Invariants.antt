@@ -5,4 +5,4 @@ use Rattle.margins.proofs.ends.find_ends.Given as goal
 
 -- the numbers so far
 abbrev pub invariant-loop-k : goal.invariant-loop-k
-invariant-loop-k l = AllZip (AreBothFound l.drawn l.effort.budget) (take l.k l.seen) l.ends.items
+invariant-loop-k l = AllZip (AreBothFound l.drawn l.budget) (take l.k l.seen) l.ends.items

@@ -1,7 +1,7 @@
-use Rattle.std.proofs.Common.{ℤ, ap, subst, sym, ◌∙◌}
+use Rattle.std.proofs.Common.{ℤ, subst, sym, ◌∙◌}
 use Rattle.moves.specs.Passing.{NoneBreaks}
 use Rattle.moves.specs.Step.{lent}
-use Rattle.spans.specs.Step.{IsFurther, IsLastDrawn, IsOn, IsWithinReach, at_value, limit_of}
+use Rattle.spans.specs.Step.{IsFurther, IsLastDrawn, IsOn, IsWithinReach, at_value}
 use Rattle.spans.specs.declared.direction.Value.{Value}
 use Rattle.spans.proofs.Borders.{beyond_last, endless, further_far, is_left, is_none_true, is_some_true, left_at, limit_at, spent_at}
 use Rattle.spans.proofs.Reaching.{limit_last, limit_on, limit_reached, reached_move}
@@ -28,8 +28,8 @@ returns-then-is_same c =
     record {
       border = spent_at c.args.sought.now c.args.direction c.args.from.by c.args.at.by c.spent.result c.spent.ensures on (reached_move c.args.sought.now c.requires.sought c.args.at.by reached)
           c.requires.shown
-          (subst (λ (v : ℤ). IsFurther c.args.direction c.args.from.by c.args.sought.now.effort.budget v) (sym far)
-          (further_far c.args.direction c.args.from.by c.args.sought.now.effort.budget c.requires.start c.requires.sought.most));
+          (subst (λ (v : ℤ). IsFurther c.args.direction c.args.from.by c.args.sought.now.budget v) (sym far)
+          (further_far c.args.direction c.args.from.by c.args.sought.now.budget c.requires.start c.requires.sought.most));
     }
 
 pub consistency_at-requires-clause-reached : goal.consistency_at-requires-clause-reached

@@ -1,6 +1,6 @@
-use Rattle.std.proofs.Common.{ℤ, ap, subst, sym}
+use Rattle.std.proofs.Common.{subst, sym}
 use Rattle.moves.specs.Passing.{NoneBreaks}
-use Rattle.spans.specs.Step.{IsOn, IsWithinReach, at_value, limit_of}
+use Rattle.spans.specs.Step.{IsOn, IsWithinReach, at_value}
 use Rattle.spans.specs.declared.direction.Value.{Value}
 use Rattle.spans.proofs.Borders.{endless, left_at, own_shown}
 use Rattle.spans.proofs.Reaching.{limit_on, limit_reached, reached_move}

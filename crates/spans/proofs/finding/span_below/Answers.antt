@@ -1,7 +1,6 @@
 use Rattle.std.proofs.Common.{sym, subst}
 use Rattle.moves.specs.declared.span.SpanFound.{SpanFound}
-use Rattle.spans.specs.Step.{IsNearFound, IsSpanOf}
-use Rattle.spans.specs.declared.direction.Direction.TheVariants.{Down}
+use Rattle.spans.specs.Step.{IsSpanOf}
 use Rattle.spans.proofs.Borders.{nothing_found}
 use Rattle.spans.proofs.Near.{fails_near}
 use Rattle.spans.proofs.finding.span_below.Goals as goal

@@ -1,5 +1,5 @@
 use Rattle.std.proofs.Common.{pos, subst, sym}
-use Rattle.spans.specs.Step.{IsOn, IsWithinReach}
+use Rattle.spans.specs.Step.{IsWithinReach}
 use Rattle.spans.specs.declared.direction.Value.{Value}
 use Rattle.spans.proofs.Reaching.{limit_reached, own_reached, reached_between}
 use Rattle.spans.proofs.nearby.near_goal.Goals as goal

@@ -1,4 +1,3 @@
-use Rattle.std.proofs.Common.{pos}
 use Rattle.spans.proofs.Near.{fails_further, fails_reached, passes_at}
 use Rattle.spans.proofs.nearby.near_in.Goals as goal
 

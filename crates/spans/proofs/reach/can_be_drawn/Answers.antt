@@ -1,7 +1,7 @@
 use Rattle.moves.specs.Step.{lent}
 use Rattle.spans.specs.Step.{CanShift}
 use Rattle.spans.proofs.Multiples.{as_passed, move_fits}
-use Rattle.std.proofs.Common.{◌↔◌, IsTrue, IfOk, true}
+use Rattle.std.proofs.Common.{◌↔◌, IsTrue, IfOk}
 use Rattle.spans.proofs.reach.can_be_drawn.Goals as goal
 
 pub returns : goal.returns

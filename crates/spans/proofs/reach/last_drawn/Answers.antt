@@ -1,4 +1,4 @@
-use Rattle.std.proofs.Common.{ℤ, refl, sym, subst, ◌∙◌}
+use Rattle.std.proofs.Common.{ℤ, sym, subst, ◌∙◌}
 use Rattle.moves.specs.Step.{lent}
 use Rattle.spans.specs.Step.{CanShift}
 use Rattle.spans.specs.declared.reach.DrawnGap.{DrawnGap}

@@ -1,5 +1,4 @@
 use Rattle.std.proofs.Common.{◌≤◌, IfOk, subst, sym, ◌∙◌}
-use Rattle.event_graph.specs.Edges.{cause_choices}
 use Rattle.moves.specs.Passing.{HasDrawableCauses, HasDrawableRows}
 use Rattle.moves.specs.Step.{lent}
 use Rattle.spans.specs.Step.{IsProbeOf, at_value}
@@ -37,6 +36,6 @@ returns c =
     record {
       probed = as_passed (λ b. IfOk c.probe-in-Some-2.result (IsProbeOf c.args.self.now b)) by (move_fits by (reached_move c.args.self.now c.requires.sought by c.requires.reached))
           (probed_at c.args.self.now (to_z w64 (of_z w64 by)) c.in-Some.net c.deref.result.now c.probe-in-Some-2.result (rw c.in-Some.is at c.in_ok-moved_network.ensures.net)
-          (c.deref.ensures.value ∙ (rw c.in-Some-2.is at c.in_ok-moved_rows-in-Some.ensures.rows)) (λ enough. subst (λ n. n ≤ c.args.self.now.effort.budget) (sym choices) enough)
+          (c.deref.ensures.value ∙ (rw c.in-Some-2.is at c.in_ok-moved_rows-in-Some.ensures.rows)) (λ enough. subst (λ n. n ≤ c.args.self.now.budget) (sym choices) enough)
           c.probe-in-Some-2.ensures.found c.probe-in-Some-2.ensures.settles);
     }
