@@ -62,6 +62,8 @@ pub fn both_bounds(
     ensures greatest { IfOk result (λ both. HasTimes both.greatest) }
 {
     let greatest = search_pair(alloc, net, pair, searches)?.bound();
-    let least = search_pair(alloc, net, pair.reversed(), searches)?.bound().reversed();
+    let least = search_pair(alloc, net, pair.reversed(), searches)?
+        .bound()
+        .reversed();
     Ok(BothBounds { least, greatest })
 }

@@ -1,6 +1,6 @@
 //! What is found of a network and of all its rows.
 
-ghost use Rattle.std.specs.Prelude.{◌≡◌, ◌≤◌, All, IfOk};
+ghost use Rattle.std.specs.Prelude.{◌≤◌, All, IfOk};
 ghost use Rattle.itv_base.specs.declared.limits.TheConstants.{MAX_BUDGET};
 ghost use Rattle.explained.specs.Answers.{AreFound, HasRowTimes, IsFindingFound, SettlesWithin};
 ghost use Rattle.explained.specs.Step.Standing.{HasFound, IsDeskFor, IsFresh};
@@ -81,7 +81,10 @@ fn found_behind(
             })
         }
         FindingWord::Inconsistent => {
-            let set = desk.searches.extremes.contradiction(alloc, drawn.network())?;
+            let set = desk
+                .searches
+                .extremes
+                .contradiction(alloc, drawn.network())?;
             Ok(NetworkFound {
                 finding: Finding::Inconsistent(set),
                 rows: Vec::new(alloc),

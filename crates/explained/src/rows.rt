@@ -1,6 +1,6 @@
 //! What is found of all rows.
 
-ghost use Rattle.std.specs.Prelude.{◌≡◌, ◌<◌, ◌≤◌, All, IfOk, length, slice_get, IsSomeAnd};
+ghost use Rattle.std.specs.Prelude.{◌≡◌, ◌<◌, All, IfOk};
 ghost use Rattle.drawn.specs.Drawn.{IsRowOf};
 ghost use Rattle.explained.specs.Answers.{AreFoundBehind, AreRowsFound, HasRowTimes, IsRowFound};
 ghost use Rattle.explained.specs.Step.Standing.{HasFound, IsDeskFor, IsReady, KeepsFindings, word_apart};

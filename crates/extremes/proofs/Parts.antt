@@ -65,9 +65,9 @@ part_contradicts net part set wider none = λ times sat. none times (wider times
 -- all constraints of a network that no times satisfy contradict each other
 pub all_contradict : (net : Net) (set : List Bool) → set ≡ replicate (length net.constraints) true → IsInconsistent net → IsContradiction net set
 all_contradict net set is none = λ times sat. none times (record {
-    count = sat.count;
-    each = λ k d within.
-        let f = found_below net.constraints k within in
-        let is_in : IsIn set k = subst (λ xs. IsIn xs k) (sym is) (get_or-replicate (length net.constraints) k true false within) in
-        subst (Holds times) (sym (get_or_from_slice_get net.constraints k f.0 d f.1)) (sat.each k f.0 is_in f.1);
-  })
+  count = sat.count;
+  each = λ k d within.
+      let f = found_below net.constraints k within in
+      let is_in : IsIn set k = subst (λ xs. IsIn xs k) (sym is) (get_or-replicate (length net.constraints) k true false within) in
+      subst (Holds times) (sym (get_or_from_slice_get net.constraints k f.0 d f.1)) (sat.each k f.0 is_in f.1);
+})

@@ -1,6 +1,6 @@
 //! Greatest separations by cases.
 
-ghost use Rattle.std.specs.Prelude.{◌≡◌, ◌<◌, ℤ, List, All, IfOk, IsSomeAnd};
+ghost use Rattle.std.specs.Prelude.{◌≡◌, ◌<◌, List, All, IfOk, IsSomeAnd};
 ghost use Rattle.event_graph.specs.Proof.{ProofLine};
 ghost use Rattle.event_graph.specs.Satisfying.{Satisfies};
 ghost use Rattle.branch.specs.Answers.{IsGreatestAnswer, PairSearch, evidence};

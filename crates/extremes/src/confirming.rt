@@ -1,6 +1,6 @@
 //! Whether some constraints contradict each other by themselves.
 
-ghost use Rattle.std.specs.Prelude.{◌≡◌, ℤ, true, List, IfOk, IsTrue, length, replicate};
+ghost use Rattle.std.specs.Prelude.{◌≡◌, true, IfOk, IsTrue, length, replicate};
 ghost use Rattle.event_graph.specs.Bounds.{IsInconsistent};
 ghost use Rattle.chains.specs.Named.{IsContradiction, IsIn};
 ghost use Rattle.extremes.specs.Ready.{AreTurnsOf};

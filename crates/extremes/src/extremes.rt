@@ -1,6 +1,6 @@
 //! The two searches of a network.
 
-ghost use Rattle.std.specs.Prelude.{◌≡◌, ◌<◌, ◌≤◌, ℤ, false, Some, None, List, IfOk, IfSome, IsNone, IsSome, length};
+ghost use Rattle.std.specs.Prelude.{◌≡◌, ◌<◌, ◌≤◌, ℤ, false, Some, None, List, IfOk, IfSome, IsSome};
 ghost use Rattle.event_graph.specs.Edges.{cause_choices};
 ghost use Rattle.event_graph.specs.RootBound.{IsRootBound, MeetsAlways};
 ghost use Rattle.event_graph.specs.Times.{IsTime};
@@ -256,7 +256,15 @@ impl Extremes {
         ensures found { IfOk result (IsFoundBy net.now self.old.budget from to) }
     {
         match &self.start {
-            Some(times) => greatest_from_start(alloc, &mut self.work, net, from, to, times, self.budget),
+            Some(times) => greatest_from_start(
+                alloc,
+                &mut self.work,
+                net,
+                from,
+                to,
+                times,
+                self.budget,
+            ),
             None => unreachable!(),
         }
     }

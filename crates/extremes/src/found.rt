@@ -1,7 +1,5 @@
 //! What is found.
 
-ghost use Rattle.std.specs.Prelude.{◌≡◌};
-
 /// Whether some times satisfy a network.
 #[derive(Clone, Copy, PartialEq, Eq)]
 pub enum Consistency {

@@ -10,5 +10,5 @@ returns-in-Some-clause-rests c =
     let passes : verdict_by c.in-Req.range c.args.both.now ≡ verdicts.Pass = search rules in
     IfOk-weaker c.broken_apart.result _ _
     (λ rests is net budget word has bounds. judged_apart c.in-Some.apart c.args.apart.now c.args.row.now c.args.row.now.kind c.in-Req.range c.args.both.now rests c.in-Some.is c.in-Req.is passes
-        is net budget word has)
+    is net budget word has)
     c.broken_apart.ensures.rests

@@ -4,12 +4,16 @@ use Rattle.extremes.proofs.Separating.{closed_found, open_found}
 use Rattle.extremes.proofs.by_cases.found_of.Goals as goal
 
 pub returns-in_ok-times-in-Closed : goal.returns-in_ok-times-in-Closed
-returns-in_ok-times-in-Closed c = record { found = λ search lines answer sat close.
-    let left = evidence lines c.args.work.now in
-    closed_found search c.in-Closed.value left c.in_ok-times-in-Closed.times (c.in_ok-times-in-Closed.ensures.items ∙ c.times.ensures)
-    (subst (IsGreatestAnswer search left) c.in-Closed.is answer) sat close }
+returns-in_ok-times-in-Closed c = record {
+  found = λ search lines answer sat close.
+      let left = evidence lines c.args.work.now in
+      closed_found search c.in-Closed.value left c.in_ok-times-in-Closed.times (c.in_ok-times-in-Closed.ensures.items ∙ c.times.ensures)
+      (subst (IsGreatestAnswer search left) c.in-Closed.is answer) sat close;
+}
 
 pub returns-in-Enclosed : goal.returns-in-Enclosed
-returns-in-Enclosed c = record { found = λ search lines answer sat close.
-    let left = evidence lines c.args.work.now in
-    open_found search c.in-Enclosed.upper c.in-Enclosed.attained left (subst (IsGreatestAnswer search left) c.in-Enclosed.is answer) sat close }
+returns-in-Enclosed c = record {
+  found = λ search lines answer sat close.
+      let left = evidence lines c.args.work.now in
+      open_found search c.in-Enclosed.upper c.in-Enclosed.attained left (subst (IsGreatestAnswer search left) c.in-Enclosed.is answer) sat close;
+}

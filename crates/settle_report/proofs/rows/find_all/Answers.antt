@@ -13,7 +13,7 @@ loop-number-preserved c = record {
   within =
       subst (All (IsRowWithin c.args.wanted.turns)) (sym c.in_ok-push.ensures.items)
       (All-push (IsRowWithin c.args.wanted.turns) c.loop-number.found.items c.in_ok-of_row.of_row c.loop-number.invariant.within c.in_ok-of_row.ensures.within);
-  each = c.find_row-of_row.ensures.each;
+  each = c.in_ok-of_row.ensures.each;
   lines =
       rw (c.in_ok-push.ensures.items, sum_by_push lines_in_row c.loop-number.found.items c.in_ok-of_row.of_row)
       (omega (arith, c.loop-number.invariant.lines, c.in_ok-of_row.ensures.lines));
