@@ -27,9 +27,9 @@ impl Desk {
         ensures set { IfOk result (IsSet net.now) }
     {
         Ok(Desk {
-            buffer: LineBuffer::new(alloc, LINE_ROOM)?,
-            times: Vec::from_elem(alloc, 0, net.events() as usize)?,
             solver: Falling::new(alloc, net, view)?,
+            times: Vec::from_elem(alloc, 0, net.events() as usize)?,
+            buffer: LineBuffer::new(alloc, LINE_ROOM)?,
         })
     }
 }

@@ -37,9 +37,7 @@ pub fn write_fall<K: Sink>(
 {
     let mut desk = Desk::new(alloc, drawn.network(), view)?;
     let wanted = Wanted { turns, cert };
-    let written = print_text(drawn, view, wanted, &mut desk, sink);
-    drop(desk);
-    Ok(written?)
+    Ok(print_text(drawn, view, wanted, &mut desk, sink)?)
 }
 
 // Searches and writes the whole text.

@@ -72,9 +72,7 @@ pub fn settle_by(
     ensures places { All (HasPlaces net.now.events) bounds.new }
     ensures room { checker.new.room ≡ checker.old.room }
 {
-    let change = settle(net, &mut work, checker, budget, found, bounds);
-    drop(work);
-    change
+    settle(net, &mut work, checker, budget, found, bounds)
 }
 
 // Whether some times satisfy the network. If so, the times are known afterwards.
