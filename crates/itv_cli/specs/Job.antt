@@ -78,7 +78,10 @@ whatif_at edits budget drawn =
 
 -- the plan of the design of a file, and the network that it draws
 abbrev pub planned_at : List ℕ → FileReading (Planned × Drawn)
-planned_at name = plan_at name >>= λ plan. drawn_at plan.netlist plan.sheets >>= λ drawn. gives (plan, drawn)
+planned_at name = do
+  plan ← plan_at name
+  drawn ← drawn_at plan.netlist plan.sheets
+  gives (plan, drawn)
 
 -- the numbers of a list that move as one, if there is a list; a drawn network with too many numbers is refused
 abbrev pub list_at : Drawn → Option (List ℕ) → FileReading (Option (List NumberSeen))
@@ -86,13 +89,28 @@ list_at drawn list = if nat_lt MAX_NUMBERS (length (numbers_of drawn)) then refu
     else option_map_or (λ text. at Design refusals.Number (numbers_in drawn text) >>= λ numbers. gives (Some numbers)) list (gives None)
 
 abbrev pub opening : Task → FileReading Ready
-opening (searched design job budget) = design_at design >>= λ drawn. gives (ready.Searched drawn job budget)
-opening (planned design job budget) = planned_at design >>= λ both. gives (ready.Planned both.0 both.1 job budget)
-opening (checked design job report) = design_at design >>= λ drawn. file_at Report report REPORT_LIMIT >>= λ bytes. gives (ready.Checked drawn job bytes)
-opening (fall design budget cert) = design_at design >>= λ drawn. fall_at budget cert drawn
-opening (matrix design) = design_at design >>= λ drawn. matrix_at drawn
-opening (generated size budget) = design_at (codes "bus.json") >>= λ drawn. gives (ready.Generated drawn size budget)
-opening (whatif design edits budget) = design_at design >>= λ drawn. whatif_at edits budget drawn
+opening (searched design job budget) = do
+  drawn ← design_at design
+  gives (ready.Searched drawn job budget)
+opening (planned design job budget) = do
+  both ← planned_at design
+  gives (ready.Planned both.0 both.1 job budget)
+opening (checked design job report) = do
+  drawn ← design_at design
+  bytes ← file_at Report report REPORT_LIMIT
+  gives (ready.Checked drawn job bytes)
+opening (fall design budget cert) = do
+  drawn ← design_at design
+  fall_at budget cert drawn
+opening (matrix design) = do
+  drawn ← design_at design
+  matrix_at drawn
+opening (generated size budget) = do
+  drawn ← design_at (codes "bus.json")
+  gives (ready.Generated drawn size budget)
+opening (whatif design edits budget) = do
+  drawn ← design_at design
+  whatif_at edits budget drawn
 opening (margin design list budget) = planned_at design >>= λ both. list_at both.1 list >>= λ numbers. gives (ready.Margin both.0 both.1 numbers budget)
 
 -- the files that are made for a task, if it reads no files of the shelf

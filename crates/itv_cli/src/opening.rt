@@ -152,13 +152,10 @@ fn for_fall(drawn: DrawnNetwork, budget: u64, cert: bool) -> Result<Ready, Stop>
             budget,
             cert,
         }),
-        Err(Mixed { late, early }) => {
-            drop(drawn);
-            Err(Stop::Refused(
-                RefusalPlace::Design,
-                Refusal::Mixed(late, early),
-            ))
-        }
+        Err(Mixed { late, early }) => Err(Stop::Refused(
+            RefusalPlace::Design,
+            Refusal::Mixed(late, early),
+        )),
     }
 }
 
@@ -179,7 +176,6 @@ fn for_matrix(drawn: DrawnNetwork) -> Result<Ready, Stop>
 {
     let events = drawn.network().events();
     if events > MAX_MATRIX_EVENTS {
-        drop(drawn);
         return Err(too_many(Limit::MatrixEvents, u64::from(events)));
     }
     Ok(Ready::Matrix { drawn })
@@ -228,7 +224,6 @@ fn for_whatif<H: Shelf>(
 {
     let rows = drawn.rows().len();
     if rows > u64::from(MAX_SESSION_ROWS) {
-        drop(drawn);
         return Err(too_many(Limit::SessionRows, rows));
     }
     with_edits(alloc, drawn, edits, budget, shelf)
@@ -271,10 +266,7 @@ fn for_edits(alloc: Global, drawn: DrawnNetwork, budget: u64, bytes: &[u8]) -> R
             edits,
             budget,
         }),
-        Err(fault) => {
-            drop(drawn);
-            Err(edits_stop(RefusalPlace::Edits, fault))
-        }
+        Err(fault) => Err(edits_stop(RefusalPlace::Edits, fault)),
     }
 }
 

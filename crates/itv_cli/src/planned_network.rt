@@ -29,11 +29,6 @@ pub fn open_planned<H: Shelf>(
     ensures composed { IfOk result (λ p. IsOk (composed_on p.plan.netlist (sheets_on p.plan.sheets p.plan.netlist.parts))) }
 {
     let plan = open_plan(alloc, name, shelf)?;
-    match draw_plan(alloc, &plan) {
-        Ok(drawn) => Ok(PlannedNetwork { plan, drawn }),
-        Err(stop) => {
-            drop(plan);
-            Err(stop)
-        }
-    }
+    let drawn = draw_plan(alloc, &plan)?;
+    Ok(PlannedNetwork { plan, drawn })
 }

@@ -1,4 +1,4 @@
-use Rattle.std.proofs.Common.{Ok, Err, refl}
+use Rattle.std.proofs.Common.{Ok, refl}
 use Rattle.drawn.specs.Drawn.{Drawn}
 use Rattle.plan.specs.Plan.{Planned}
 use Rattle.reading.specs.Design.{drawn_at, plan_at}
@@ -21,20 +21,20 @@ returns-in_err-plan-clause-opens g c =
     opens_up (λ (plan : Planned). plan) both (plan_at c.args.name.now) with_drawn (g.H.Shelf.state c.args.shelf.now) (g.H.Shelf.state c.open_plan.new.shelf) c.in_err-plan.field-0.0 c.from_residual.result
     c.from_residual.ensures.1 c.in_err-plan.ensures.opens
 
-pub returns-in-Err-clause-opens : goal.returns-in-Err-clause-opens
-returns-in-Err-clause-opens g c =
+pub returns-in_err-drawn-clause-opens : goal.returns-in_err-drawn-clause-opens
+returns-in_err-drawn-clause-opens g c =
     opens_then (λ (plan : Planned). plan) both (plan_at c.args.name.now) with_drawn (g.H.Shelf.state c.args.shelf.now) (g.H.Shelf.state c.open_plan.new.shelf) (g.H.Shelf.state c.open_plan.new.shelf) c.in_ok-plan.plan
-    (Err c.in-Err.stop) c.in_ok-plan.ensures.opens
+    c.from_residual-in_err-drawn.result c.in_ok-plan.ensures.opens
     (opens_up (λ (drawn : Drawn). drawn) both (drawn_at c.in_ok-plan.plan.netlist c.in_ok-plan.plan.sheets) (λ drawn. gives (c.in_ok-plan.plan, drawn)) (g.H.Shelf.state c.open_plan.new.shelf) (g.H.Shelf.state c.open_plan.new.shelf)
-    c.in-Err.stop (Err c.in-Err.stop) refl (c.in-Err.ensures.draws (g.H.Shelf.state c.open_plan.new.shelf)))
+    c.in_err-drawn.field-0.0 c.from_residual-in_err-drawn.result c.from_residual-in_err-drawn.ensures.1 (c.in_err-drawn.ensures.draws (g.H.Shelf.state c.open_plan.new.shelf)))
 
-pub returns-in-Ok-clause-opens : goal.returns-in-Ok-clause-opens
-returns-in-Ok-clause-opens g c =
+pub returns-clause-opens : goal.returns-clause-opens
+returns-clause-opens g c =
     opens_then (λ (plan : Planned). plan) both (plan_at c.args.name.now) with_drawn (g.H.Shelf.state c.args.shelf.now) (g.H.Shelf.state c.open_plan.new.shelf) (g.H.Shelf.state c.open_plan.new.shelf) c.in_ok-plan.plan
-    (Ok (record { plan = c.in_ok-plan.plan; drawn = c.in-Ok.drawn })) c.in_ok-plan.ensures.opens
+    (Ok (record { plan = c.in_ok-plan.plan; drawn = c.in_ok-drawn.drawn })) c.in_ok-plan.ensures.opens
     (opens_then (λ (drawn : Drawn). drawn) both (drawn_at c.in_ok-plan.plan.netlist c.in_ok-plan.plan.sheets) (λ drawn. gives (c.in_ok-plan.plan, drawn)) (g.H.Shelf.state c.open_plan.new.shelf) (g.H.Shelf.state c.open_plan.new.shelf)
-    (g.H.Shelf.state c.open_plan.new.shelf) c.in-Ok.drawn (Ok (record { plan = c.in_ok-plan.plan; drawn = c.in-Ok.drawn })) (c.in-Ok.ensures.draws (g.H.Shelf.state c.open_plan.new.shelf)) (refl, refl))
+    (g.H.Shelf.state c.open_plan.new.shelf) c.in_ok-drawn.drawn (Ok (record { plan = c.in_ok-plan.plan; drawn = c.in_ok-drawn.drawn })) (c.in_ok-drawn.ensures.draws (g.H.Shelf.state c.open_plan.new.shelf)) (refl, refl))
 
-pub returns-in-Ok-clause-composed : goal.returns-in-Ok-clause-composed
-returns-in-Ok-clause-composed g c =
-    drawn_composed (g.H.Shelf.state c.open_plan.new.shelf) c.in_ok-plan.plan c.in-Ok.drawn (c.in-Ok.ensures.draws (g.H.Shelf.state c.open_plan.new.shelf)).0
+pub returns-clause-composed : goal.returns-clause-composed
+returns-clause-composed g c =
+    drawn_composed (g.H.Shelf.state c.open_plan.new.shelf) c.in_ok-plan.plan c.in_ok-drawn.drawn (c.in_ok-drawn.ensures.draws (g.H.Shelf.state c.open_plan.new.shelf)).0
