@@ -6,11 +6,11 @@
 
 Runs programs in turn on the hardest row of each network: job settle of a built `itv`, the plain search of bench/settle, job settle of an earlier
 `itv`, and z3. The hardest row goes from the middle to the end where a family has two. Each run has 5 seconds of the processor and 500 MB, and one
-of z3 has 20 seconds and 4 GB. A time is the least of up to five runs: no turn begins after 2 seconds. z3 runs once.
+of z3 has 20 seconds and 4 GB. A time is the least of up to ten runs: no turn begins after 2 seconds. z3 runs once.
 
 Prints a line for each family and size: the processor seconds of each program for both bounds, for the seeds one after another; the most megabytes
 of the first program; the greatest ratio of a seed's seconds to those of the plain search and of the program before, where both ended. `cut` says
-that a run was ended, `memory` that it found none, and `spent` that a bound is left open. z3 is asked for seed after seed until it is cut once.
+that a run was ended, `memory` that it found none, and `spent` that a bound is left open. z3 is asked for seed after seed until it took 10 seconds.
 `DIFFERENT` says that two programs that ended gave different bounds.
 
 With `--proofs` the line has the seconds of job settle, of job settle with its proofs, and of job confirm, which has to accept their text. Those of
@@ -256,7 +256,9 @@ MEASURED = {
 }
 
 # The turns that programs take in running: a turn after the second second is the last one.
-MOST_TURNS, LAST_TURN = 5, 2.0
+MOST_TURNS, LAST_TURN = 10, 2.0
+# After so many seconds with the seeds of a family and size z3 is not asked for further ones.
+MOST_OF_Z3 = 10.0
 
 
 @dataclass
@@ -324,6 +326,10 @@ def ratio(results, kind, other):
     return max((one.took / two.took for one, two in pairs if one.is_settled() and two.is_settled()), default=None)
 
 
+def total(results, kind):
+    return sum(of[kind].took for of in results)
+
+
 def nets_of(family, size):
     """The networks of a family and size that are measured, each with its hardest row alone."""
     for seed in range(1, MEASURED[family][1] + 1):
@@ -340,7 +346,7 @@ def measure(programs, family, size):
             of = measured(asked, net, folder)
         results.append(of)
         differs |= len({found.says for found in of.values() if found.is_settled()}) > 1
-        asked = [program for program in asked if program.kind != "z3" or of["z3"].is_settled()]
+        asked = [program for program in asked if program.kind != "z3" or of["z3"].is_settled() and total(results, "z3") < MOST_OF_Z3]
     first = programs[0].kind
     cells = [", ".join(of[program.kind].cell() for of in results if program.kind in of) for program in programs]
     cells.insert(1, f"{max(of[first].room for of in results):.0f}")
