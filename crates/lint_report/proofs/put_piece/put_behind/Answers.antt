@@ -1,5 +1,5 @@
 use Rattle.std.proofs.lemmas.Result.{err_from_is_err_and}
-use Rattle.std.proofs.Common.{◌≡◌, ◌∷◌, ◌++◌, List, ℕ, ap}
+use Rattle.std.proofs.Common.{◌∷◌, ◌++◌, List, ℕ, ap}
 use Rattle.line_words.specs.Lines.{spaced}
 use Rattle.origin.specs.Text.{origin_text}
 use Rattle.lint_report.proofs.Putting.{cut_one, put_two}
