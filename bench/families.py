@@ -305,18 +305,17 @@ class Program:
 
 
 def measured(programs, net, folder):
-    """What each program takes for a network, by their kinds. They run in turn, so that all meet the same other work of the machine; z3 runs once."""
-    best, so_far = {}, 0.0
-    for turn in range(MOST_TURNS):
-        for program in programs:
-            if program.kind == "z3" and turn:
-                continue
-            found = program.run_on(net, folder)
-            so_far += found.took * (program.kind != "z3")
-            least = best.get(program.kind)
-            best[program.kind] = found if least is None or found.took < least.took else least
+    """What each program takes for a network, by their kinds. They run in turn, so that all meet the same other work of the machine. One that does not
+    settle the network runs once, and so does z3."""
+    best, so_far = {program.kind: program.run_on(net, folder) for program in programs}, 0.0
+    again = [program for program in programs if program.kind != "z3" and best[program.kind].is_settled()]
+    for _ in range(MOST_TURNS - 1):
         if so_far > LAST_TURN:
             break
+        for program in again:
+            found = program.run_on(net, folder)
+            so_far += found.took
+            best[program.kind] = min(found, best[program.kind], key=lambda one: one.took)
     return best
 
 
