@@ -1,12 +1,11 @@
 //! The network that negated times satisfy.
 
-ghost use Rattle.std.specs.Prelude.{◌≡◌, ◌<◌, ◌++◌, ◌∷◌, [], neg_ℤ, option_map, IfOk, OnOk, length, slice_get, Some};
-ghost use Rattle.itv_base.specs.Range.{IsEnd};
+ghost use Rattle.std.specs.Prelude.{◌≡◌, ◌<◌, ◌++◌, ◌∷◌, [], IfOk, OnOk, length, slice_get, Some};
 ghost use Rattle.event_graph.specs.Network.{Constraint, IsNet};
 ghost use Rattle.falling.specs.Kinds.{negated, negated_cause, negated_constraint, negated_ends};
 ghost use Rattle.falling.specs.Step.Kinds.{AreNegatedCauses};
 
-use event_graph::{Cause, Network, PushFault};
+use event_graph::{Cause, Network, PushFault, negated_end};
 use itv_base::{NoMemory, Range, RuleKind};
 use std::alloc::Global;
 
@@ -81,16 +80,5 @@ fn negated_range(range: Range) -> Range
     match Range::new(negated_end(range.high()), negated_end(range.low())) {
         Ok(range) => range,
         Err(_) => unreachable!(),
-    }
-}
-
-// Minus an end, if it is not open.
-fn negated_end(end: Option<i64>) -> Option<i64>
-    requires { IsEnd end }
-    ensures { result ≡ option_map neg_ℤ end }
-{
-    match end {
-        None => None,
-        Some(value) => Some(-value),
     }
 }
