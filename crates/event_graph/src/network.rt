@@ -159,8 +159,9 @@ impl Network {
         }
     }
 
-    // Adds a constraint of any kind.
-    fn push(
+    /// Adds a constraint of any kind. A linear one has one cause, and the others have 1 to [`MAX_CAUSES`]. All events are of the
+    /// network. Returns `Full` as [`Network::push_linear`] does. After a refusal the network is unchanged.
+    pub fn push(
         &mut self,
         alloc: Global,
         kind: RuleKind,

@@ -2,7 +2,7 @@
 
 ghost use Rattle.std.specs.Prelude.{◌≡◌, ◌<◌, ◌++◌, ◌∷◌, [], IfOk, OnOk, length, slice_get, Some};
 ghost use Rattle.event_graph.specs.Network.{Constraint, IsNet};
-ghost use Rattle.falling.specs.Kinds.{negated, negated_cause, negated_constraint, negated_ends};
+ghost use Rattle.falling.specs.Kinds.{negated, negated_cause, negated_constraint, negated_ends, negated_kind};
 ghost use Rattle.falling.specs.Step.Kinds.{AreNegatedCauses};
 
 use event_graph::{Cause, Network, PushFault, negated_end};
@@ -39,13 +39,18 @@ fn push_negated(
 {
     let causes = negated_causes(alloc, net, number)?;
     let target = net.target(number);
-    match net.kind(number) {
-        RuleKind::Lin => {
-            let cause = negated(net.cause(number, 0));
-            negation.push_linear(alloc, cause.event, target, cause.range)
-        }
-        RuleKind::Late => negation.push_early(alloc, target, &causes),
-        RuleKind::Early => negation.push_late(alloc, target, &causes),
+    let kind = negated_kind(net.kind(number));
+    negation.push(alloc, kind, target, &causes)
+}
+
+// The kind of the constraint that negated times meet.
+fn negated_kind(kind: RuleKind) -> RuleKind
+    ensures { result ≡ negated_kind kind }
+{
+    match kind {
+        RuleKind::Lin => RuleKind::Lin,
+        RuleKind::Late => RuleKind::Early,
+        RuleKind::Early => RuleKind::Late,
     }
 }
 
