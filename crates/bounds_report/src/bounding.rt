@@ -83,8 +83,7 @@ fn keep(
     ensures room { IsRoomFor net.now kept.new }
     ensures kept { IsWitness net.now pair which (bound_of which answer) kept.new.times.items kept.new.set.items }
 {
-    // The network is within its limits.
-    let _events = net.events();
+    net.is_whole();
     take_times(&mut kept.times, work.times(), pair.from);
     match answer {
         GreatestAnswer::Unbounded => kept.set.copy_from_slice(work.ray()),

@@ -115,8 +115,7 @@ fn pass_limit(
     ensures room { IsRoomFor net.now kept.new }
     ensures past { ArePast net.now pair which limit kept.new.times.items }
 {
-    // The network is within its limits.
-    let _events = net.events();
+    net.is_whole();
     match value {
         Bound::Unbounded => raise(which, limit, pair, net, &mut kept.times, &kept.set),
         Bound::Closed(_) | Bound::Within { .. } => {}

@@ -59,6 +59,13 @@ impl Network {
         self.events
     }
 
+    /// Says the invariant, for a caller that needs it and not the number of events. It does nothing.
+    pub fn is_whole(&self)
+        ensures net { IsNet self.now }
+    {
+        self.events();
+    }
+
     /// The number of constraints.
     pub fn len(&self) -> u32
         ensures count { result ≡ length self.now.constraints }

@@ -117,8 +117,7 @@ fn number_next(
         → reader.old.rest.now ≡ shown_text true proof ++ (entry_text (entry_bound which (bounds.Closed value)) ++ (entry_text (entry_times times.items) ++ more))
         → Gives (IsSameBound (Closed value times proof)) result }
 {
-    // The network is within its limits.
-    let _events = net.events();
+    net.is_whole();
     let proof = proof_next(alloc, net, views, Pair::of(which, row), reader)?;
     let value = reader.number(alloc, which)?;
     if !is_claimed(which, value, proof.claim) {
@@ -173,8 +172,7 @@ fn number_of(
     ensures times { HasTimes (bound_of result) }
     ensures is { result ≡ Closed value times proof }
 {
-    // The network is within its limits.
-    let _events = net.events();
+    net.is_whole();
     have_texts(&proof.lines);
     SettledBound::Closed(value, times, proof)
 }

@@ -123,8 +123,7 @@ fn refuted_by(net: &Network, proof: Proof) -> Finding
     ensures finding { IsFinding true net.now result }
     ensures is { result ≡ Inconsistent proof }
 {
-    // The network is within its limits.
-    let _events = net.events();
+    net.is_whole();
     have_texts(&proof.lines);
     Finding::Inconsistent(proof)
 }

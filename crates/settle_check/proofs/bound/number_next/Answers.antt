@@ -39,7 +39,7 @@ returns-then-not-is_near-clause-read c value times proof more number stands =
     let (same, next) = c.in_ok-proof.ensures.read proof _ shown (number_other c.args.which value _) stands in
     absurd (cc ((c.if-not-is_near.ensures.near c.args.net.now c.requires.views).1
     (rw (to_z-of_z w64 c.in_ok-proof.proof.claim c.in_ok-proof.ensures.fits) (subst (λ (claim : ℤ). claim <ℤ pos (far_line c.args.net.now)) same.claim
-    (number_near c.args.net.now c.args.which c.args.row.now value times.items proof c.events-events.ensures.net c.requires.row number)))))
+    (number_near c.args.net.now c.args.which c.args.row.now value times.items proof c.is_whole.ensures.net c.requires.row number)))))
 
 pub returns-in_err-times-clause-read : goal.returns-in_err-times-clause-read
 returns-in_err-times-clause-read c value times proof more number stands =
