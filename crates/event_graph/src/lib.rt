@@ -1,6 +1,7 @@
 //! Networks of linear, latest and earliest timing constraints between events: which times satisfy a network, its edges,
 //! its cause choices and the choices of a case. The contract of the crate: `broken` returns none if and only if the
-//! times satisfy the network, and otherwise the number of the first constraint that they break.
+//! times satisfy the network, and otherwise the number of the first constraint that they break. It also defines proofs by
+//! cases, the `Scribe` that writes one, and what searches and checkers share: `Decisions` and `ByEvent`.
 #![tactic(auto)]
 
 mod by_event;
