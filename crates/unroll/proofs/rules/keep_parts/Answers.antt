@@ -3,7 +3,7 @@ use Rattle.std.specs.Prelude.{slice_get}
 use Rattle.compose.specs.Design.{Composed}
 use Rattle.sheet.specs.Whole.{IsWhole}
 use Rattle.unroll.proofs.BetweenLists.{All-slice_get, sheet_rules}
-use Rattle.sheet.proofs.Lists.{take_get}
+use Rattle.itv_base.proofs.Lists.{take_get}
 use Rattle.unroll.proofs.PartLists.{parts_kept}
 use Rattle.unroll.proofs.rules.keep_parts.Goals as goal
 
