@@ -1,21 +1,21 @@
 -- What stands behind a bound.
-use Rattle.std.proofs.Common.{◌≡◌, ◌≤ℤ◌, ◌-ℤ◌, ℕ, zero, suc, ℤ, pos, neg_ℤ, Bool, List, [], ◌∷◌, get_or, All, Option, Some, None, option_map, refl, sym, subst, ap, ◌∙◌, arith}
-use Rattle.std.specs.Prelude.{IfSome}
-use Rattle.std.proofs.lemmas.Int.{ints}
+use Rattle.std.proofs.Common.{◌≡◌, ◌≤ℤ◌, ℕ, ℤ, neg_ℤ, Bool, List, All, Option, Some, None, option_map, refl, sym, subst, ap, ◌∙◌}
 use Rattle.itv_base.specs.declared.names.EventId.{EventId}
+use Rattle.itv_base.proofs.Integers.{neg_twice, no_neg}
 use Rattle.event_graph.specs.Bounds.{IsGreatest}
-use Rattle.event_graph.specs.Limits.{IsReach}
 use Rattle.event_graph.specs.Network.{Net}
 use Rattle.event_graph.specs.RootBound.{IsRootBound}
 use Rattle.event_graph.specs.Satisfying.{Satisfies}
-use Rattle.event_graph.specs.Times.{IsTime, separation, time_of}
+use Rattle.event_graph.specs.Times.{IsTime, separation}
 use Rattle.event_graph.proofs.Rays.{ray_is_unbounded}
 use Rattle.event_graph.proofs.Reversing.{least_is_reversed_greatest}
+use Rattle.event_graph.proofs.Sizes.{limit_time}
 use Rattle.branch.specs.AnswerBound.{greatest_bound}
 use Rattle.branch.specs.Answers.{IsGreatestAnswer, Evidence, PairSearch}
 use Rattle.branch.specs.Work.{IsClose}
 use Rattle.branch.specs.declared.answer.GreatestAnswer.{GreatestAnswer}
 use Rattle.branch.specs.declared.answer.GreatestAnswer.TheVariants as answers
+use Rattle.branch.proofs.Close.{separation_time, times_close}
 use Rattle.chains.specs.Chain.{AreBest}
 use Rattle.requirements.specs.Bounds.{HasTimes, IsGreatestBound, IsLeastBound, reversed}
 use Rattle.requirements.proofs.Judging.{reversed_greatest_is_least}
@@ -31,34 +31,9 @@ use Rattle.explained.specs.declared.bound.BoundFound.{BoundFound}
 use Rattle.explained.specs.declared.bound.BoundFound.TheVariants.{Closed, Unbounded, Within}
 use Rattle.explained.specs.declared.pair.Pair.{Pair}
 use Rattle.explained.specs.Step.Bounding.{IsClosedBy, IsExplained, IsGreatestBy, IsGreatestShown, reversed_found}
-use Rattle.explained.proofs.Numbers.{neg_neg, no_neg}
 use Rattle.explained.proofs.Shown.{greatest_shown, least_shown}
 
 -- ---- numbers
-
-time_close : (time : ℤ) → IsClose time → IsTime time
-time_close time h = (omega (arith, ints, h.0, h.1), omega (arith, ints, h.0, h.1))
-
-times_close : (times : List ℤ) → All IsClose times → All IsTime times
-times_close times close = λ k d within. time_close (get_or times k d) (close k d within)
-
-close_at : (times : List ℤ) (k : ℕ) → All IsClose times → IsClose (get_or times k (pos 0))
-close_at [] k close = (omega (arith, ints), omega (arith, ints))
-close_at (time ∷ times) zero close = close 0 (pos 0) (omega arith)
-close_at (time ∷ times) (suc k) close = close_at times k (λ j d within. close (suc j) d (omega arith))
-
-separation_time : (times : List ℤ) (from to : EventId) → All IsClose times → IsTime (separation times from to)
-separation_time times from to close = between (time_of times from) (time_of times to) (close_at times from.0 close) (close_at times to.0 close)
-  where
-    between : (a b : ℤ) → IsClose a → IsClose b → IsTime (b -ℤ a)
-    between a b h k = (omega (arith, ints, h.0, h.1, k.0, k.1), omega (arith, ints, h.0, h.1, k.0, k.1))
-
-reach_time : (sum : ℤ) → IsReach sum → IsTime sum
-reach_time sum h = (omega (arith, ints, h.0, h.1), omega (arith, ints, h.0, h.1))
-
-pub limit_time : (limit : Option ℤ) → IfSome limit IsReach → IfSome limit IsTime
-limit_time None h = tt
-limit_time (Some sum) h = reach_time sum h
 
 -- ---- what a search answers
 
@@ -126,7 +101,7 @@ greatest_of net word row (bounds.Within limit attained) times set is = (is.root,
 pub least_of : (net : Net) (word : FindingWord) (row : Row) (most value : Bound) (times : List ℤ) (set : List Bool)
     → IsGreatestBy net word (record { from = row.to; to = row.from }) value times set → IsBoundOf net word row (least_by most) (reversed value)
 least_of net word row most (bounds.Closed value) times set is =
-    (is.found, (least_is_reversed_greatest net row.from row.to (neg_ℤ value)).1 (subst (IsGreatest net row.to row.from) (sym (neg_neg value)) is.greatest))
+    (is.found, (least_is_reversed_greatest net row.from row.to (neg_ℤ value)).1 (subst (IsGreatest net row.to row.from) (sym (neg_twice value)) is.greatest))
 least_of net word row most bounds.Unbounded times set is = is.found
 least_of net word row most (bounds.Within limit attained) times set is =
     (subst (IsRootBound net row.to row.from) (no_neg limit) is.root, attained_turned word attained is.rests)
@@ -142,8 +117,8 @@ greatest_right net word row (Within limit attained) is = ((is.root, is.rests), t
 least_right : (net : Net) (word : FindingWord) (row : Row) (most : Bound) (found : BoundFound) → IsExplained net word (record { from = row.to; to = row.from }) found
     → IsBoundOf net word row (least_by most) (bound_of (reversed_found found)) × IsBehind net row (least_by most) (reversed_found found)
 least_right net word row most (Closed value chain) is = (
-  (is.0, (least_is_reversed_greatest net row.from row.to (neg_ℤ value)).1 (subst (IsGreatest net row.to row.from) (sym (neg_neg value)) is.1)),
-  subst (λ z. Explains net row.to row.from z chain.items) (sym (neg_neg value)) is.2,
+  (is.0, (least_is_reversed_greatest net row.from row.to (neg_ℤ value)).1 (subst (IsGreatest net row.to row.from) (sym (neg_twice value)) is.1)),
+  subst (λ z. Explains net row.to row.from z chain.items) (sym (neg_twice value)) is.2,
 )
 least_right net word row most (Unbounded set) is = (is.0, is.1)
 least_right net word row most (Within limit attained) is = ((subst (IsRootBound net row.to row.from) (no_neg limit) is.root, attained_turned word attained is.rests), tt)

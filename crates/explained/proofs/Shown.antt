@@ -19,7 +19,7 @@ use Rattle.drawn.specs.declared.row.Row.{Row}
 use Rattle.explained.specs.Answers.{IsBoundShown, IsFindingShown}
 use Rattle.jobs.specs.Found.{found_word}
 use Rattle.explained.specs.Step.Bounding.{IsGreatestShown}
-use Rattle.explained.proofs.Numbers.{neg_neg}
+use Rattle.itv_base.proofs.Integers.{neg_twice}
 
 -- ---- a finding
 
@@ -58,9 +58,9 @@ greatest_shown net budget row (bounds.Within limit (Some attained)) shown = show
 pub least_shown : (net : Net) (budget : ℕ) (row : Row) (most value : Bound) → IsGreatestShown net budget (record { from = row.to; to = row.from }) value
     → IsBoundShown net budget row (least_by most) (reversed value)
 least_shown net budget row most (bounds.Closed value) shown =
-    (shown.0, subst (λ z. IsProofWithin net (BoundGoal row.to row.from z) budget shown.0) (sym (neg_neg value)) shown.1)
+    (shown.0, subst (λ z. IsProofWithin net (BoundGoal row.to row.from z) budget shown.0) (sym (neg_twice value)) shown.1)
 least_shown net budget row most bounds.Unbounded shown =
-    (shown.0, (neg_ℤ shown.1, subst (λ z. IsStoppedWithin net (BoundGoal row.to row.from z) budget shown.0) (sym (neg_neg shown.1)) shown.2))
+    (shown.0, (neg_ℤ shown.1, subst (λ z. IsStoppedWithin net (BoundGoal row.to row.from z) budget shown.0) (sym (neg_twice shown.1)) shown.2))
 least_shown net budget row most (bounds.Within limit None) shown = ([], refl)
 least_shown net budget row most (bounds.Within limit (Some attained)) shown =
-    (shown.0, subst (λ z. IsStoppedProof net (BoundGoal row.to row.from z) shown.0 budget) (sym (neg_neg attained)) shown.1)
+    (shown.0, subst (λ z. IsStoppedProof net (BoundGoal row.to row.from z) shown.0 budget) (sym (neg_twice attained)) shown.1)

@@ -1,25 +1,18 @@
 -- What the searches for greatest separations find.
-use Rattle.std.proofs.Common.{◌≡◌, ◌≤◌, ℕ, ℤ, List, All, get_or, length, Option, refl, arith}
+use Rattle.std.proofs.Common.{◌≡◌, ◌≤◌, ℕ, ℤ, List, All, get_or, length, Option, refl}
 use Rattle.std.specs.Global.{Vec}
-use Rattle.std.proofs.lemmas.Int.{ints}
 use Rattle.itv_base.specs.declared.names.EventId.{EventId}
 use Rattle.event_graph.specs.Edges.{cause_choices}
 use Rattle.event_graph.specs.Network.{Net}
 use Rattle.event_graph.specs.Satisfying.{Satisfies}
-use Rattle.event_graph.specs.Times.{IsTime}
-use Rattle.falling.specs.Cap.{IsNearValue}
 use Rattle.falling.specs.declared.view.View.{View}
+use Rattle.falling.proofs.Near.{near_time}
 use Rattle.branch.specs.Answers.{Evidence, IsClosedAt, IsEnclosedBy, IsShownUnbounded, PairSearch}
 use Rattle.branch.specs.Work.{IsClose}
+use Rattle.branch.proofs.Close.{time_close}
 use Rattle.settle.specs.ShownAnswer.{IsSettledAt, IsSettledUnbounded}
 use Rattle.edge_clauses.specs.declared.line.StoredLine.{StoredLine}
 use Rattle.extremes.specs.Found.{IsAttainedBy, IsWithoutEnd}
-
-close_time : (time : ℤ) → IsClose time → IsTime time
-close_time time h = (omega (arith, ints, h.0, h.1), omega (arith, ints, h.0, h.1))
-
-near_time : (time : ℤ) → IsNearValue time → IsTime time
-near_time time h = (omega (arith, ints, h.0, h.1), omega (arith, ints, h.0, h.1))
 
 pub closed_by_cases : (search : PairSearch) (value : ℤ) (left : Evidence) → IsClosedAt search value left → Satisfies left.times search.net → All IsClose left.times
     → IsAttainedBy search.net search.from search.to value left.times
@@ -28,7 +21,7 @@ closed_by_cases search value left closed sat close = record {
   satisfies = sat;
   attains = closed.attained;
   count = sat.count;
-  within = λ k d inside. close_time (get_or left.times k d) (close k d inside);
+  within = λ k d inside. time_close (get_or left.times k d) (close k d inside);
 }
 
 pub unbounded_by_cases : (search : PairSearch) (left : Evidence) → IsShownUnbounded search left → Satisfies left.times search.net → IsWithoutEnd search.net search.from search.to

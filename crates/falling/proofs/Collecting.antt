@@ -3,12 +3,13 @@ use Rattle.std.proofs.Common.{◌≡◌, ◌+◌, ◌<◌, ◌≤◌, ℕ, zero,
 use Rattle.itv_base.specs.declared.names.EventId.{EventId}
 use Rattle.itv_base.specs.declared.names.RuleKind.{RuleKind}
 use Rattle.itv_base.specs.declared.names.RuleKind.TheVariants.{Lin, Late, Early}
+use Rattle.itv_base.proofs.Options.{mapped_some}
+use Rattle.itv_base.proofs.Lists.{found_below}
 use Rattle.event_graph.specs.declared.cause.Cause.{Cause}
 use Rattle.event_graph.specs.Network.{Constraint, IsCauseCount, IsConstraint, IsNet, Net, cause_at, cause_count_of, with_constraint}
-use Rattle.event_graph.proofs.EdgesMet.{All-found, found_below}
+use Rattle.event_graph.proofs.EdgesMet.{All-found}
 use Rattle.falling.specs.Kinds.{negated, negated_cause, negated_constraint, negated_kind}
 use Rattle.falling.specs.Step.Kinds.{AreNegatedCauses}
-use Rattle.falling.proofs.Between.{mapped_some}
 use Rattle.falling.proofs.Negating.{all_map, length-mapped}
 use Rattle.falling.proofs.Tried.{cause_of_at}
 use Rattle.falling.proofs.Widths.{take_all}
@@ -38,7 +39,7 @@ pub on_ok : {T E : Type 0} (r : Result T E) (P Q : Type 0) → (P → Q) → OnO
 on_ok (Ok x) P Q follows h = follows h
 on_ok (Err e) P Q follows h = h
 
-count_turns : (kind : RuleKind) (count : ℕ) → IsCauseCount kind count → IsCauseCount (negated_kind kind) count
+pub count_turns : (kind : RuleKind) (count : ℕ) → IsCauseCount kind count → IsCauseCount (negated_kind kind) count
 count_turns Lin count h = h
 count_turns Late count h = h
 count_turns Early count h = h

@@ -1,6 +1,6 @@
 -- What is found of the network as drawn and of numbers.
-use Rattle.std.proofs.Common.{◌≡◌, ◌+◌, ◌<◌, ◌≤◌, ℕ, zero, suc, Bool, true, false, List, [], ◌∷◌, ◌++◌, length, get_or, replicate, take, refl, sym, ap, subst, ◌∙◌, arith}
-use Rattle.std.proofs.lemmas.List.{length-replicate, take_more}
+use Rattle.std.proofs.Common.{◌≡◌, ◌<◌, ◌≤◌, ℕ, zero, suc, Bool, true, false, List, [], ◌∷◌, length, get_or, replicate, refl, sym, ap, subst, ◌∙◌, arith}
+use Rattle.std.proofs.lemmas.List.{length-replicate}
 use Rattle.std.specs.List.{AllZip}
 use Rattle.event_graph.specs.Edges.{cause_choices}
 use Rattle.drawn.specs.Drawn.{Drawn}
@@ -76,17 +76,3 @@ zip_at R [] ys k x d y e all within is_x is_y = absurd (omega (arith, within))
 zip_at R (a ∷ xs) [] k x d y e all within is_x is_y = absurd all
 zip_at R (a ∷ xs) (b ∷ ys) zero x d y e all within is_x is_y = subst (R x) (sym is_y) (subst (λ z. R z b) (sym is_x) all.0)
 zip_at R (a ∷ xs) (b ∷ ys) (suc k) x d y e all within is_x is_y = zip_at R xs ys k x d y e all.1 (omega (arith, within)) is_x is_y
-
-pairs_push : {A B : Type 0} (R : A → B → Type 0) (xs : List A) (ys : List B) (x : A) (y : B) → AllZip R xs ys → R x y → AllZip R (xs ++ x ∷ []) (ys ++ y ∷ [])
-pairs_push R [] [] x y pairs one = (one, tt)
-pairs_push R [] (b ∷ ys) x y pairs one = absurd pairs
-pairs_push R (a ∷ xs) [] x y pairs one = absurd pairs
-pairs_push R (a ∷ xs) (b ∷ ys) x y pairs one = (pairs.0, pairs_push R xs ys x y pairs.1 one)
-
--- one pair more
-pub pairs_next : {A B : Type 0} (R : A → B → Type 0) (xs : List A) (ys zs : List B) (k : ℕ) (x : A) (y : B) → k < length xs → x ≡ get_or xs k x → AllZip R (take k xs) ys
-    → R x y → zs ≡ ys ++ y ∷ [] → AllZip R (take (k + 1) xs) zs
-pairs_next R xs ys zs k x y within at pairs one pushed =
-    let more : take (k + 1) xs ≡ take k xs ++ x ∷ [] = take_more xs k x within ∙ ap (λ z. take k xs ++ z ∷ []) (sym at) in
-    subst (λ (list : List _). AllZip R (take (k + 1) xs) list) (sym pushed)
-    (subst (λ (list : List _). AllZip R list (ys ++ y ∷ [])) (sym more) (pairs_push R (take k xs) ys x y pairs one))

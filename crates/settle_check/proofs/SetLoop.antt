@@ -1,5 +1,5 @@
 -- Reading a set of events, event by event: the flags that were read stand in front of the flags that are still to be read.
-use Rattle.std.proofs.Common.{◌≡◌, ◌+◌, ◌-◌, ◌<◌, ◌≤◌, ℕ, suc, Bool, true, false, cond, List, [], ◌∷◌, ◌++◌, length, drop, Bor, Option, Some, None, option_map, refl, sym, ap, ◌∙◌, arith, inl, inr, append_assoc, append-nil}
+use Rattle.std.proofs.Common.{◌≡◌, ◌+◌, ◌-◌, ◌<◌, ◌≤◌, ℕ, suc, Bool, true, false, cond, List, [], ◌∷◌, ◌++◌, length, drop, Bor, Option, Some, None, option_map, refl, sym, ap, ◌∙◌, arith, inl, inr, append-nil}
 use Rattle.std.proofs.lemmas.Bool.{cases_lt}
 use Rattle.itv_base.specs.Numerals.{number_text}
 use Rattle.line_words.specs.Views.{texts}
@@ -7,6 +7,7 @@ use Rattle.line_words.specs.Words.{Word, is_word}
 use Rattle.line_words.proofs.Looping.{in_front, texts_more, texts_none}
 use Rattle.slack_report.specs.Reading.{flags_in}
 use Rattle.slack_report.specs.Step.Cuts.{stands_first}
+use Rattle.slack_report.proofs.SetLoop.{flag_in_front}
 
 -- the words behind the first one if the first one was the number's text, and else all words
 abbrev passed : Bool → List Word → List Word
@@ -22,10 +23,6 @@ one_flag left number (word ∷ words) flag is = at_flag flag is
         ≡ option_map (λ set. flag ∷ set) (flags_in left (number + 1) (passed flag (word ∷ words)))
     at_flag true e = rw (← e) refl
     at_flag false e = rw (← e) refl
-
-flag_in_front : (set : List Bool) (flag : Bool) (o : Option (List Bool)) → in_front set (option_map (λ rest. flag ∷ rest) o) ≡ in_front (set ++ flag ∷ []) o
-flag_in_front set flag None = refl
-flag_in_front set flag (Some rest) = ap (λ ys. Some ys) (sym (append_assoc set (flag ∷ []) rest))
 
 -- where the words behind a number begin
 words_passed : (words : List (Bor (List ℕ))) (at next : ℕ) (key : Word) (flag : Bool) → at ≤ length words → flag ≡ stands_first key (texts (drop at words)) → next ≡ cond flag (at + 1) at

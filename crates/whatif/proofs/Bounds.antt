@@ -16,6 +16,7 @@ use Rattle.branch.specs.Needed.{IsNeededToBound}
 use Rattle.branch.specs.Work.{IsClose}
 use Rattle.branch.specs.declared.answer.GreatestAnswer.{GreatestAnswer}
 use Rattle.branch.specs.declared.answer.GreatestAnswer.TheVariants.{Closed, Unbounded, Enclosed}
+use Rattle.branch.proofs.Close.{time_close}
 use Rattle.whatif.specs.declared.bound.TheConstants.{MAX_KEPT_EDGES, MAX_KEPT_LINES}
 use Rattle.whatif.specs.declared.pair.Pair.{Pair}
 use Rattle.whatif.specs.Step.Keeping.{KeeperGrew, Keeping, KeptOn}
@@ -143,10 +144,6 @@ searched_is net budget leaves old known times ray kept_ray answer begun grown la
       };
       least = is.least;
     }
-
--- times that are close are within the limit of times
-time_close : (time : ℤ) → IsClose time → IsTime time
-time_close time close = (omega (arith, ints, close.0), omega (arith, ints, close.1))
 
 pub times_close : (times : List ℤ) → All IsClose times → All IsTime times
 times_close times close = λ k d within. time_close _ (close k d within)

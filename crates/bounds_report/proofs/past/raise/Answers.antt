@@ -1,13 +1,13 @@
 use Rattle.std.proofs.Common.{◌<◌, subst, sym}
-use Rattle.bounds_report.proofs.Passing.{end_time, new_times, raise_done, raises}
-use Rattle.bounds_report.proofs.Printed.{times_printed}
+use Rattle.bounds_report.proofs.Passing.{new_times, raise_done, raises}
 use Rattle.bounds_report.proofs.Shifted.{times_nearby}
 use Rattle.bounds_report.proofs.past.raise.Goals as goal
 use Rattle.event_graph.proofs.MovingOn.{read_time}
+use Rattle.event_graph.proofs.Sizes.{end_time, printed_times}
 
 pub raise_past-requires-clause-times : goal.raise_past-requires-clause-times
 raise_past-requires-clause-times c =
-    times_printed c.args.times.now
+    printed_times c.args.times.now
     (times_nearby c.args.times.now c.args.pair.from c.requires.kept.nearby (subst (λ n. c.args.pair.from.0 < n) (sym c.requires.kept.satisfied.count) c.requires.kept.from) c.requires.kept.at_zero)
 
 pub move_all-requires-clause-times : goal.move_all-requires-clause-times

@@ -1,7 +1,7 @@
 use Rattle.std.proofs.Common.{◌∙◌, ap, arith}
 use Rattle.settle_report.specs.Step.{shown_by}
 use Rattle.settle_report.proofs.Answering.{closed_near, endless_shown, number_shown, unbounded_near, value_time}
-use Rattle.settle_report.proofs.Moving.{near_times}
+use Rattle.falling.proofs.Near.{near_times}
 use Rattle.settle_report.proofs.bounding.bound_by.Goals as goal
 use Rattle.event_graph.proofs.MovingOn.{read_time}
 
