@@ -28,7 +28,7 @@ use Rattle.right_report.specs.Right.ReportState.{NextBound, greatest, least_by, 
 use Rattle.drawn.specs.declared.row.Row.{Row}
 use Rattle.right_report.specs.Right.LineClaims.{IsBoundOf}
 use Rattle.right_report.specs.Shown.{ShowsBound}
-use Rattle.bounds_report.specs.declared.pair.Pair.{Pair}
+use Rattle.event_graph.specs.declared.pair.Pair.{Pair}
 use Rattle.bounds_report.specs.Step.Witness.{AreNearby, Attain, IsWitness, IsShiftedTo, searched_pair}
 use Rattle.bounds_report.specs.Step.Searched.{bound_of, search_of}
 use Rattle.bounds_report.specs.Written.{HasPrintedTimes}

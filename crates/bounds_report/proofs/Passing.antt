@@ -30,7 +30,7 @@ use Rattle.right_report.specs.Right.Following.{MayFollow}
 use Rattle.bounds_report.specs.Step.Searched.{sized}
 use Rattle.slack_report.specs.declared.words.Which.{Which}
 use Rattle.slack_report.specs.declared.words.Which.TheVariants as sorts
-use Rattle.bounds_report.specs.declared.pair.Pair.{Pair}
+use Rattle.event_graph.specs.declared.pair.Pair.{Pair}
 use Rattle.bounds_report.specs.Step.Witness.{ArePast, AreNearby, Attain, HasFoundValue, IsBeyond, IsWitness, IsNearby, number_on, searched_pair}
 use Rattle.bounds_report.proofs.Shifted.{at_zero, satisfies-shifted, separation-shifted, time-shifted, times_nearby}
 

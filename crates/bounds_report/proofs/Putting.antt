@@ -25,7 +25,7 @@ use Rattle.drawn.specs.Drawn.{Drawn, AreTimes}
 use Rattle.drawn.specs.declared.row.Row.{Row}
 use Rattle.right_report.specs.Right.LineClaims.{Attains, CanRise, IsBoundOf, IsLimit}
 use Rattle.right_report.specs.Right.Following.{MayFollow}
-use Rattle.bounds_report.specs.declared.pair.Pair.{Pair}
+use Rattle.event_graph.specs.declared.pair.Pair.{Pair}
 use Rattle.bounds_report.specs.Step.Witness.{Attain, HasFoundValue, IsWitness, IsLimitOf, IsOpenBound, searched_pair}
 use Rattle.bounds_report.specs.Step.Searched.{bound_of, search_of, sized}
 use Rattle.bounds_report.specs.Step.Writing.{IsOf}

@@ -19,7 +19,7 @@ use Rattle.drawn.specs.Drawn.{IsRowOf}
 use Rattle.drawn.specs.declared.row.Row.{Row}
 use Rattle.settle_report.specs.declared.proof.Proof.{Proof}
 use Rattle.settle_report.specs.Answers.{CanRise, IsEndless, IsExtreme, IsNumber, IsRefuted, ProvesClaim, first_event}
-use Rattle.settle_check.specs.declared.pair.Pair.{Pair}
+use Rattle.event_graph.specs.declared.pair.Pair.{Pair}
 use Rattle.settle_check.specs.Step.{IsShownProof, claim_of, pair_of}
 use Rattle.settle_check.proofs.Near.{greatest_is_near}
 

@@ -20,7 +20,7 @@ ghost use Rattle.settle_report.specs.Text.{bound_text, shown_text};
 ghost use Rattle.settle_check.specs.Step.{AreViewsOf, Gives, IsSameBound, claim_of, pair_of};
 
 use crate::check_stop::CheckStop;
-use crate::pair::Pair;
+use crate::pair::pair_of;
 use crate::proof::proof_next;
 use crate::reader::Reader;
 use crate::times::{attain, can_rise, row_times_next};
@@ -118,7 +118,7 @@ fn number_next(
         → Gives (IsSameBound (Closed value times proof)) result }
 {
     net.is_whole();
-    let proof = proof_next(alloc, net, views, Pair::of(which, row), reader)?;
+    let proof = proof_next(alloc, net, views, pair_of(which, row), reader)?;
     let value = reader.number(alloc, which)?;
     if !is_claimed(which, value, proof.claim) {
         return Err(reader.refused());

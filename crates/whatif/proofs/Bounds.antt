@@ -18,7 +18,7 @@ use Rattle.branch.specs.declared.answer.GreatestAnswer.{GreatestAnswer}
 use Rattle.branch.specs.declared.answer.GreatestAnswer.TheVariants.{Closed, Unbounded, Enclosed}
 use Rattle.branch.proofs.Close.{time_close}
 use Rattle.whatif.specs.declared.bound.TheConstants.{MAX_KEPT_EDGES, MAX_KEPT_LINES}
-use Rattle.whatif.specs.declared.pair.Pair.{Pair}
+use Rattle.event_graph.specs.declared.pair.Pair.{Pair}
 use Rattle.whatif.specs.Step.Keeping.{KeeperGrew, Keeping, KeptOn}
 use Rattle.whatif.specs.Laws.{IsSettledAnswer, SettledBoundsAgree}
 use Rattle.whatif.specs.Session.{left_by, pair_search, HasProof, IsRightBound, IsSearchedAnew, KeepsProof, KeptBound, MayKeep, MayKeepAs}

@@ -21,7 +21,7 @@ use Rattle.whatif.proofs.Sessions.{count_bounds}
 use Rattle.drawn.specs.Drawn.{Drawn, IsRowOf}
 use Rattle.drawn.specs.declared.row.Row.{Row}
 use Rattle.whatif.specs.Session.{IsPairOf}
-use Rattle.whatif.specs.declared.pair.Pair.{Pair}
+use Rattle.event_graph.specs.declared.pair.Pair.{Pair}
 use Rattle.whatif_report.specs.Step.{IsNoteOf, IsTimed}
 use Rattle.whatif_report.specs.Text.{last_note}
 use Rattle.whatif_report.specs.Whatif.{pair_of, pairs_of}

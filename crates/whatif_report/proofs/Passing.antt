@@ -41,7 +41,7 @@ use Rattle.drawn.specs.Drawn.{Drawn}
 use Rattle.drawn.specs.declared.row.Row.{Row}
 use Rattle.edits.specs.declared.edit.RangeEdit.{RangeEdit}
 use Rattle.whatif.specs.declared.change.Change.{Change}
-use Rattle.whatif.specs.declared.pair.Pair.{Pair}
+use Rattle.event_graph.specs.declared.pair.Pair.{Pair}
 use Rattle.whatif.specs.Runs.{EditedSession, Note, Runs, edited, last_of, note_of, notes_of}
 use Rattle.whatif.specs.Session.{IsRight, IsRightBound, IsRightFinding, KeptBound, SessionView, answers_of, both_ways, left_by, pair_search}
 use Rattle.whatif_report.specs.Laws.{PassedEditsAreMet}

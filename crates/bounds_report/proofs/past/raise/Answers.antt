@@ -12,13 +12,13 @@ raise_past-requires-clause-times c =
 
 pub move_all-requires-clause-times : goal.move_all-requires-clause-times
 move_all-requires-clause-times c =
-    let r = raises c.args.times.now c.args.set.now c.args.pair c.args.which c.searched-searched.result c.args.limit _ c.raise_past.new.times c.searched-searched.ensures.pair
+    let r = raises c.args.times.now c.args.set.now c.args.pair c.args.which c.searched_pair-searched.result c.args.limit _ c.raise_past.new.times c.searched_pair-searched.ensures.pair
     (read_time c.args.limit (end_time c.args.limit c.requires.limit)) c.raise_past.ensures in
     new_times c.args.net.now c.args.pair c.args.which c.args.limit c.args.times.now c.args.set.now c.raise_past.new.times c.requires.net c.requires.limit c.requires.to c.requires.kept r
 
 pub returns : goal.returns
 returns c =
-    let r = raises c.args.times.now c.args.set.now c.args.pair c.args.which c.searched-searched.result c.args.limit _ c.raise_past.new.times c.searched-searched.ensures.pair
+    let r = raises c.args.times.now c.args.set.now c.args.pair c.args.which c.searched_pair-searched.result c.args.limit _ c.raise_past.new.times c.searched_pair-searched.ensures.pair
     (read_time c.args.limit (end_time c.args.limit c.requires.limit)) c.raise_past.ensures in
     record {
       past = raise_done c.args.net.now c.args.pair c.args.which c.args.limit c.args.times.now c.args.set.now c.raise_past.new.times c.requires.net c.requires.limit c.requires.to c.requires.kept r c.move_all.new.times
