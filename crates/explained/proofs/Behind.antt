@@ -29,7 +29,7 @@ use Rattle.drawn.specs.declared.row.Row.{Row}
 use Rattle.explained.specs.Answers.{AreRowBounds, Explains, IsBehind, IsBoundFound, IsBoundShown, bound_of}
 use Rattle.explained.specs.declared.bound.BoundFound.{BoundFound}
 use Rattle.explained.specs.declared.bound.BoundFound.TheVariants.{Closed, Unbounded, Within}
-use Rattle.explained.specs.declared.pair.Pair.{Pair}
+use Rattle.event_graph.specs.declared.pair.Pair.{Pair}
 use Rattle.explained.specs.Step.Bounding.{IsClosedBy, IsExplained, IsGreatestBy, IsGreatestShown, reversed_found}
 use Rattle.explained.proofs.Shown.{greatest_shown, least_shown}
 

@@ -10,10 +10,9 @@ ghost use Rattle.explained.specs.Answers.{AreRowBounds};
 ghost use Rattle.explained.specs.Step.Bounding.{IsGreatestBy, IsGreatestShown};
 ghost use Rattle.explained.specs.Step.Standing.{IsNotInconsistent, KeepsFinding};
 
-use crate::pair::Pair;
 use crate::searches::{Searches, greatest_of};
 use branch::{Root, Work, root_bound};
-use event_graph::Network;
+use event_graph::{Network, Pair};
 use requirements::{BothBounds, Bound};
 use slack_report::FindingWord;
 

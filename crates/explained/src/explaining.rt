@@ -8,10 +8,9 @@ ghost use Rattle.explained.specs.Step.Standing.{IsNotInconsistent, KeepsFinding}
 
 use crate::bound::BoundFound;
 use crate::bounding::greatest_bound;
-use crate::pair::Pair;
 use crate::searches::Searches;
 use chains::Chains;
-use event_graph::Network;
+use event_graph::{Network, Pair};
 use itv_base::NoMemory;
 use requirements::Bound;
 use std::alloc::Global;

@@ -9,10 +9,9 @@ ghost use Rattle.chains.specs.Named.{IsRefuting};
 ghost use Rattle.explained.specs.Answers.{IsFindingShown};
 ghost use Rattle.explained.specs.Step.Standing.{HasFound, IsFor, IsFresh};
 
-use crate::pair::Pair;
 use branch::{GreatestAnswer, Quiet, ScribeFailed, Work, find, greatest};
 use chains::Marking;
-use event_graph::Network;
+use event_graph::{Network, Pair};
 use itv_base::NoMemory;
 use jobs::found_word;
 use slack_report::FindingWord;

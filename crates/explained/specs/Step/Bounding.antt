@@ -17,7 +17,7 @@ use Rattle.right_report.specs.Shown.{IsProofWithin, IsStoppedWithin}
 use Rattle.explained.specs.Answers.{CanRise, Explains}
 use Rattle.explained.specs.declared.bound.BoundFound.{BoundFound}
 use Rattle.explained.specs.declared.bound.BoundFound.TheVariants.{Closed, Unbounded, Within}
-use Rattle.explained.specs.declared.pair.Pair.{Pair}
+use Rattle.event_graph.specs.declared.pair.Pair.{Pair}
 
 -- the value is the greatest separation of a pair, and times attain it
 pub record IsClosedBy (net : Net) (word : FindingWord) (pair : Pair) (value : ℤ) (times : List ℤ) : Type 0 where
