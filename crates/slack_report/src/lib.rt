@@ -25,6 +25,7 @@ pub use item::Item;
 pub use items::Items;
 pub use place::{Place, Spot};
 pub use put_words::{put_asked, put_bound_words, put_range, put_verdict_words};
+pub use read_list::{flags_in, longs_in};
 pub use report::{Report, read_report};
-pub use words::{EndWord, FindingWord, Which};
+pub use words::{EndWord, FindingWord, Which, which_word};
 pub use write::{LINE_ROOM, write_item};
