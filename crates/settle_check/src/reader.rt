@@ -1,10 +1,9 @@
 //! Reading the lines of a text, one after another.
 
 ghost use Rattle.std.specs.Prelude.{◌≡◌, ◌∷◌, ◌↔◌, ◌≤◌, ℕ, ℤ, [], All, Bool, IfOk, IfSome, IsFalse, IsSomeAnd, IsTrue, List, Some, codes, drop, length, map, option_map};
-ghost use Rattle.std.specs.List.{position_or_len};
 ghost use Rattle.std.specs.Str.{IsUtf8};
 ghost use Rattle.itv_base.specs.Numerals.{signed_text};
-ghost use Rattle.line_words.specs.Lines.{ended, is_feed};
+ghost use Rattle.line_words.specs.Lines.{ended};
 ghost use Rattle.line_words.specs.Numbers.{IsLong, long_in};
 ghost use Rattle.line_words.specs.Views.{texts};
 ghost use Rattle.line_words.specs.Words.{Word, keyed, many, one};
@@ -21,7 +20,7 @@ use certificate::LineFault;
 use edge_clauses::{Claim, StoredLine};
 use falling::View;
 use itv_base::NoMemory;
-use line_words::{behind_word, long_in, only_word, split_words};
+use line_words::{behind_word, line_len, long_in, only_word, split_words};
 use settle_lines::{read_claim, read_clause_line, read_view};
 use slack_report::{Which, flags_in, longs_in, which_word};
 use std::alloc::Global;
@@ -164,14 +163,6 @@ impl<'a> Reader<'a> {
             None => Err(self.refused()),
         }
     }
-}
-
-// How many bytes stand before the first line end.
-fn line_len(text: &[u8]) -> usize
-    ensures len { result ≡ position_or_len is_feed text.now }
-    ensures within { result ≤ length text.now }
-{
-    text.iter().take_while(|b| **b != b'\n').count()
 }
 
 // The first line of a text without its end, and the text behind it. None if no line ends.
