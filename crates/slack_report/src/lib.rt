@@ -4,6 +4,7 @@
 //! first line at which no report can continue.
 #![tactic(auto)]
 
+mod add_words;
 mod fault;
 mod item;
 mod items;
@@ -20,6 +21,9 @@ mod step;
 mod words;
 mod write;
 
+pub use add_words::{
+    add_bound, add_ending, add_number, add_piece, add_range, add_signed, add_spaced, add_verdict,
+};
 pub use fault::ReportFault;
 pub use item::Item;
 pub use items::Items;
