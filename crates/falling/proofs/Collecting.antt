@@ -56,12 +56,12 @@ negated_fits net number kind t cs is_net is_kind is_target are =
     let is_j : IsConstraint net.events j = All-found (IsConstraint net.events) net.constraints number j at_j is_net.constraints in
     let made : cs ≡ map negated_cause k.causes = are k at_k in
     let same_length : length cs ≡ length k.causes = ap length made ∙ length-mapped negated_cause k.causes in
-    let count : IsCauseCount kind (length k.causes) = subst (λ (r : RuleKind). IsCauseCount r (length k.causes)) same_kind is.count in
+    let counts : IsCauseCount kind (length k.causes) = subst (λ (r : RuleKind). IsCauseCount r (length k.causes)) same_kind is.count in
     record {
       target = subst (λ (x : EventId). x.0 < net.events) same_target is_j.target;
       causes = subst (All (λ (c : Cause). c.event.0 < net.events)) (sym made)
           (all_map negated_cause (λ (c : Cause). c.event.0 < net.events) (λ (c : Cause). c.event.0 < net.events) k.causes (λ c h. h) is.causes);
-      count = subst (IsCauseCount (negated_kind kind)) (sym same_length) (count_turns kind (length k.causes) count);
+      count = subst (IsCauseCount (negated_kind kind)) (sym same_length) (count_turns kind (length k.causes) counts);
     }
 
 abbrev of_parts : RuleKind → EventId → List Cause → Constraint
