@@ -2,7 +2,7 @@ use Rattle.std.proofs.Common.{◌≡◌, ◌++◌, drop, map}
 use Rattle.std.specs.List.{filter_map}
 use Rattle.serde_json.specs.Find.{as_str}
 use Rattle.serde_json.specs.View.{view}
-use Rattle.netlist.proofs.tree.texts_of.Given as goal
+use Rattle.json_tree.proofs.texts.strings_in.Given as goal
 
 -- what is pushed, and the texts that are left, are all
 abbrev pub invariant-loop-element : goal.invariant-loop-element
