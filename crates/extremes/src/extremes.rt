@@ -1,6 +1,6 @@
 //! The two searches of a network.
 
-ghost use Rattle.std.specs.Prelude.{◌≡◌, ◌<◌, ◌≤◌, ℤ, false, Some, None, List, IfOk, IfSome, IsSome, length};
+ghost use Rattle.std.specs.Prelude.{◌≡◌, ◌<◌, ◌≤◌, ℤ, false, Some, None, List, IfOk, IfSome, IsSome, IsSomeAnd, length};
 ghost use Rattle.event_graph.specs.Bounds.{IsInconsistent};
 ghost use Rattle.event_graph.specs.Edges.{cause_choices};
 ghost use Rattle.event_graph.specs.RootBound.{IsRootBound, MeetsAlways};
@@ -80,8 +80,7 @@ impl Extremes {
         self.turns
     }
 
-    /// Looks for times that satisfy the network: by few cases, then by clauses, and by as many cases as the budget allows where clauses gave up or found
-    /// that no times satisfy. If it was found consistent, greatest separations can be found; if it was found inconsistent, the constraints that
+    /// Looks for times that satisfy the network: by few cases, then by clauses, and by as many cases as the budget allows where clauses gave up. If it was found consistent, greatest separations can be found; if it was found inconsistent, the constraints that
     /// contradict each other. The answer is open only where a search by cases used the budget up; so it is not where the budget is no less than the
     /// number of cause choices. Times that clauses found count as none where they are so far apart that no search by cases could start from them.
     pub fn find(&mut self, alloc: Global, net: &Network) -> Result<Consistency, NoMemory>
@@ -95,6 +94,8 @@ impl Extremes {
         ensures open { IfOk result (λ found. found ≡ Consistency.Open → IsFindingOpen net.now self.old.budget) }
         ensures settles { IfOk result (λ found. cause_choices net.now.constraints ≤ self.old.budget → found ≡ Consistency.Open → ⊥) }
     {
+        self.start = None;
+        self.guess = None;
         let few = self.few_cases();
         match self.search_cases(net, few) {
             Consistency::Consistent => Ok(Consistency::Consistent),
@@ -123,12 +124,10 @@ impl Extremes {
         ensures finding { IsConsistency net.now result }
         ensures known { result ≡ Consistency.Consistent → IsSome self.new.work.known }
         ensures marks { result ≡ Consistency.Inconsistent → IsRefuting net.now self.new.marking }
-        ensures guess { self.new.guess ≡ None }
+        ensures guess { self.new.guess ≡ self.old.guess }
         ensures open { result ≡ Consistency.Open → IsFindingOpen net.now cases }
         ensures settles { cause_choices net.now.constraints ≤ cases → result ≡ Consistency.Open → ⊥ }
     {
-        self.start = None;
-        self.guess = None;
         self.marking.begin();
         match find(&mut self.work, net, cases, &mut self.marking) {
             Ok(found) => consistency_of(found),
@@ -146,6 +145,7 @@ impl Extremes {
         requires made { IsFor net.now self.old }
         requires open { IsFindingOpen net.now few }
         requires below { cause_choices net.now.constraints ≤ few → ⊥ }
+        requires guess { self.old.guess ≡ None }
         ensures made { IsFor net.now self.new }
         ensures budget { self.new.budget ≡ self.old.budget }
         ensures turns { AreTurnsOf self.old.turns self.new.turns }
@@ -160,30 +160,12 @@ impl Extremes {
                 self.start = Some(times);
                 Ok(Consistency::Consistent)
             }
-            ClauseFinding::Nothing(named) => Ok(self.name_by_cases(net, few, named)),
+            ClauseFinding::Nothing(named) => {
+                self.guess = Some(named);
+                Ok(Consistency::Inconsistent)
+            }
             ClauseFinding::Open => Ok(self.search_all_cases(net, few)),
         }
-    }
-
-    // Looks for the proof by cases that no times satisfy the network, after clauses found it. Where the budget allows no such proof, the constraints that
-    // clauses named are the guess.
-    fn name_by_cases(&mut self, net: &Network, few: u64, named: Vec<bool>) -> Consistency
-        requires made { IsFor net.now self.old }
-        requires open { IsFindingOpen net.now few }
-        requires below { cause_choices net.now.constraints ≤ few → ⊥ }
-        requires none { IsInconsistent net.now }
-        requires named { length named.items ≡ length net.now.constraints }
-        ensures made { IsFor net.now self.new }
-        ensures budget { self.new.budget ≡ self.old.budget }
-        ensures turns { self.new.turns ≡ self.old.turns }
-        ensures finding { result ≡ Consistency.Inconsistent }
-        ensures contradicted { IsContradicted net.now self.new }
-    {
-        match self.search_all_cases(net, few) {
-            Consistency::Open => self.guess = Some(named),
-            Consistency::Consistent | Consistency::Inconsistent => {}
-        }
-        Consistency::Inconsistent
     }
 
     // Looks for times that satisfy the network by as many cases as the budget allows, after few cases left it open. If these are as many, it is left open
@@ -198,7 +180,7 @@ impl Extremes {
         ensures finding { IsConsistency net.now result }
         ensures known { result ≡ Consistency.Consistent → IsSome self.new.work.known }
         ensures marks { result ≡ Consistency.Inconsistent → IsRefuting net.now self.new.marking }
-        ensures guess { result ≡ Consistency.Inconsistent → self.new.guess ≡ None }
+        ensures guess { self.new.guess ≡ self.old.guess }
         ensures open { result ≡ Consistency.Open → IsFindingOpen net.now self.old.budget }
         ensures settles { cause_choices net.now.constraints ≤ self.old.budget → result ≡ Consistency.Open → ⊥ }
     {
@@ -210,8 +192,9 @@ impl Extremes {
     }
 
     /// A flag for each constraint of a network that was found inconsistent: whether it is in a set of constraints that contradict each other by
-    /// themselves. Where the search by cases found it, the set has just the constraints that its proof names. Otherwise it has the constraints that a
-    /// proof by clauses names, if a search of these constraints alone finds no times, and else all constraints.
+    /// themselves. Where clauses found it, as many cases as the budget allows are searched. Where a search by cases finds it, the set has just the
+    /// constraints that its proof names. Otherwise it has the constraints that a proof by clauses names, if a search of these constraints alone finds no
+    /// times, and else all constraints.
     pub fn contradiction(&mut self, alloc: Global, net: &Network) -> Result<Vec<bool>, NoMemory>
         requires contradicted { IsContradicted net.now self.old }
         ensures made { IsFor net.now self.new }
@@ -221,7 +204,50 @@ impl Extremes {
     {
         match &self.guess {
             None => Ok(Vec::from_slice(alloc, self.marking.marks())?),
+            Some(_) => self.name_by_cases(alloc, net),
+        }
+    }
+
+    // Constraints that contradict each other by themselves, after clauses found that no times satisfy: those of a proof by cases where the budget allows one.
+    fn name_by_cases(&mut self, alloc: Global, net: &Network) -> Result<Vec<bool>, NoMemory>
+        requires made { IsFor net.now self.old }
+        requires none { IsInconsistent net.now }
+        requires guess { IsSomeAnd self.old.guess (λ guess. length guess.items ≡ length net.now.constraints) }
+        ensures made { IsFor net.now self.new }
+        ensures budget { self.new.budget ≡ self.old.budget }
+        ensures turns { AreTurnsOf self.old.turns self.new.turns }
+        ensures set { IfOk result (λ set. IsContradictionFound net.now self.old.budget set.items) }
+    {
+        match self.search_cases(net, self.budget) {
+            Consistency::Consistent => unreachable!(),
+            Consistency::Inconsistent => self.marked(alloc, net),
+            Consistency::Open => self.guessed(alloc, net),
+        }
+    }
+
+    // The constraints that a proof by cases names.
+    fn marked(&self, alloc: Global, net: &Network) -> Result<Vec<bool>, NoMemory>
+        requires marks { IsRefuting net.now self.now.marking }
+        requires count { length self.now.marking ≡ length net.now.constraints }
+        ensures set { IfOk result (λ set. IsContradictionFound net.now self.now.budget set.items) }
+    {
+        Ok(Vec::from_slice(alloc, self.marking.marks())?)
+    }
+
+    // The constraints of the guess, or all, after a search by cases left the finding open.
+    fn guessed(&mut self, alloc: Global, net: &Network) -> Result<Vec<bool>, NoMemory>
+        requires made { IsFor net.now self.old }
+        requires none { IsInconsistent net.now }
+        requires guess { IsSomeAnd self.old.guess (λ guess. length guess.items ≡ length net.now.constraints) }
+        requires open { IsFindingOpen net.now self.old.budget }
+        ensures made { IsFor net.now self.new }
+        ensures budget { self.new.budget ≡ self.old.budget }
+        ensures turns { AreTurnsOf self.old.turns self.new.turns }
+        ensures set { IfOk result (λ set. IsContradictionFound net.now self.old.budget set.items) }
+    {
+        match &self.guess {
             Some(guess) => confirmed(alloc, net, guess, &mut self.turns),
+            None => unreachable!(),
         }
     }
 
