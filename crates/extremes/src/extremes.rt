@@ -80,9 +80,10 @@ impl Extremes {
         self.turns
     }
 
-    /// Looks for times that satisfy the network: by few cases, then by clauses, and by as many cases as the budget allows where clauses gave up. If it was found consistent, greatest separations can be found; if it was found inconsistent, the constraints that
-    /// contradict each other. The answer is open only where a search by cases used the budget up; so it is not where the budget is no less than the
-    /// number of cause choices. Times that clauses found count as none where they are so far apart that no search by cases could start from them.
+    /// Looks for times that satisfy the network: by few cases, then by clauses, and by as many cases as the budget allows where clauses gave up. If it was
+    /// found consistent, greatest separations can be found; if it was found inconsistent, the constraints that contradict each other. The answer is open
+    /// only where a search by cases used the budget up; so it is not where the budget is no less than the number of cause choices. Times that clauses
+    /// found count as none where they are so far apart that no search by cases could start from them.
     pub fn find(&mut self, alloc: Global, net: &Network) -> Result<Consistency, NoMemory>
         requires made { IsFor net.now self.old }
         ensures made { IsFor net.now self.new }
