@@ -14,21 +14,22 @@ use event_graph::Edge;
 use falling::View;
 use itoa::Buffer;
 use itv_base::{EventId, PutFailed, Sink, signed_text};
-use line_words::put_words;
+use line_words::{LineBuffer, put_words};
 
-/// Writes a proof by clauses: the view, the claim in picoseconds, and each line. If a put failed, a front of it was written, and the sink's count of
-/// faults rose.
+/// Writes a proof by clauses: the view, the claim in picoseconds, and each line. A line of the proof is put whole, by one put, if it fits the buffer;
+/// otherwise it is put piece by piece. If a put failed, a front of the proof was written, and the sink's count of faults rose.
 pub fn write_proof<K: Sink>(
     view: View,
     claim: i64,
     lines: &[StoredLine],
+    buffer: &mut LineBuffer,
     sink: &mut K,
 ) -> Result<(), PutFailed>
     ensures puts { Puts (K.state sink.old) (K.state sink.new) (proof_text view claim (lines_of lines.now)) result }
 {
     put_view(view, sink)?;
     put_claim(claim, sink)?;
-    put_lines(lines, sink)
+    put_lines(lines, buffer, sink)
 }
 
 fn put_view<K: Sink>(view: View, sink: &mut K) -> Result<(), PutFailed>
@@ -52,13 +53,32 @@ fn put_claim<K: Sink>(claim: i64, sink: &mut K) -> Result<(), PutFailed>
 }
 
 // Puts each line with its end.
-fn put_lines<K: Sink>(lines: &[StoredLine], sink: &mut K) -> Result<(), PutFailed>
+fn put_lines<K: Sink>(
+    lines: &[StoredLine],
+    buffer: &mut LineBuffer,
+    sink: &mut K,
+) -> Result<(), PutFailed>
     ensures { Puts (K.state sink.old) (K.state sink.new) (flat_map clause_line_text (lines_of lines.now)) result }
 {
     for line in lines {
-        write_clause_line(line, sink)?;
+        put_line(line, buffer, sink)?;
     }
     Ok(())
+}
+
+// Puts a line with one put if it fits the buffer; otherwise puts it piece by piece.
+fn put_line<K: Sink>(
+    line: &StoredLine,
+    buffer: &mut LineBuffer,
+    sink: &mut K,
+) -> Result<(), PutFailed>
+    ensures { Puts (K.state sink.old) (K.state sink.new) (clause_line_text (line_of line.now)) result }
+{
+    buffer.clear();
+    match write_clause_line(line, buffer) {
+        Ok(()) => buffer.put_into(sink),
+        Err(PutFailed) => write_clause_line(line, sink),
+    }
 }
 
 /// Writes a line of a proof and its line end. If a put failed, a front of it was written, and the sink's count of faults rose.
