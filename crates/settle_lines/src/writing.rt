@@ -16,8 +16,12 @@ use itoa::Buffer;
 use itv_base::{EventId, PutFailed, Sink, signed_text};
 use line_words::{LineBuffer, put_words};
 
-/// Writes a proof by clauses: the view, the claim in picoseconds, and each line. A line of the proof is put whole, by one put, if it fits the buffer;
-/// otherwise it is put piece by piece. If a put failed, a front of the proof was written, and the sink's count of faults rose.
+// How many lines are put at once. A line of a proof mostly has 20 to 30 bytes.
+const BLOCK: usize = 1_024;
+
+/// Writes a proof by clauses: the view, the claim in picoseconds, and each line. A block of lines is put at once if it fits the buffer; otherwise each of
+/// its lines is put whole, and a line that alone does not fit is put piece by piece. What the buffer held before is lost. If a put failed, a front of the
+/// proof was written, and the sink's count of faults rose.
 pub fn write_proof<K: Sink>(
     view: View,
     claim: i64,
@@ -52,8 +56,47 @@ fn put_claim<K: Sink>(claim: i64, sink: &mut K) -> Result<(), PutFailed>
     )
 }
 
-// Puts each line with its end.
+// Puts each line with its end, a block of lines at a time.
 fn put_lines<K: Sink>(
+    lines: &[StoredLine],
+    buffer: &mut LineBuffer,
+    sink: &mut K,
+) -> Result<(), PutFailed>
+    ensures { Puts (K.state sink.old) (K.state sink.new) (flat_map clause_line_text (lines_of lines.now)) result }
+{
+    for block in lines.chunks(BLOCK) {
+        put_block(block, buffer, sink)?;
+    }
+    Ok(())
+}
+
+// Puts lines with one put if they fit the buffer together; otherwise puts each by itself.
+fn put_block<K: Sink>(
+    lines: &[StoredLine],
+    buffer: &mut LineBuffer,
+    sink: &mut K,
+) -> Result<(), PutFailed>
+    ensures { Puts (K.state sink.old) (K.state sink.new) (flat_map clause_line_text (lines_of lines.now)) result }
+{
+    buffer.clear();
+    match write_lines(lines, buffer) {
+        Ok(()) => buffer.put_into(sink),
+        Err(PutFailed) => put_each(lines, buffer, sink),
+    }
+}
+
+// Writes each line piece by piece.
+fn write_lines<K: Sink>(lines: &[StoredLine], sink: &mut K) -> Result<(), PutFailed>
+    ensures { Puts (K.state sink.old) (K.state sink.new) (flat_map clause_line_text (lines_of lines.now)) result }
+{
+    for line in lines {
+        write_clause_line(line, sink)?;
+    }
+    Ok(())
+}
+
+// Puts each line by itself.
+fn put_each<K: Sink>(
     lines: &[StoredLine],
     buffer: &mut LineBuffer,
     sink: &mut K,
