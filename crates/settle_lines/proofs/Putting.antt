@@ -120,9 +120,9 @@ pub lines_more : (lines : List StoredLine) (i : ℕ) (d line : StoredLine) → i
     → flat_map clause_line_text (lines_of (drop i lines)) ≡ clause_line_text (stored_line_of line) ++ flat_map clause_line_text (lines_of (drop (i + 1) lines))
 lines_more lines i d line h e = rw (e, add-one, drop-cons lines i d h) refl
 
--- the lines of a block, and the lines behind it
-pub block_first : (all block rest : List StoredLine) → all ≡ block ++ rest
-    → flat_map clause_line_text (lines_of all) ≡ flat_map clause_line_text (lines_of block) ++ flat_map clause_line_text (lines_of rest)
-block_first all block rest e =
-    ap (λ lines. flat_map clause_line_text (lines_of lines)) e ∙ ap (flat_map clause_line_text) (map-append stored_line_of block rest)
-    ∙ flat_map-append clause_line_text (lines_of block) (lines_of rest)
+-- the lines of a batch, and the lines behind it
+pub batch_first : (all batch rest : List StoredLine) → all ≡ batch ++ rest
+    → flat_map clause_line_text (lines_of all) ≡ flat_map clause_line_text (lines_of batch) ++ flat_map clause_line_text (lines_of rest)
+batch_first all batch rest e =
+    ap (λ lines. flat_map clause_line_text (lines_of lines)) e ∙ ap (flat_map clause_line_text) (map-append stored_line_of batch rest)
+    ∙ flat_map-append clause_line_text (lines_of batch) (lines_of rest)

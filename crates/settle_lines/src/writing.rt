@@ -17,9 +17,9 @@ use itv_base::{EventId, PutFailed, Sink, signed_text};
 use line_words::{LineBuffer, put_words};
 
 // How many lines are put at once. A line of a proof mostly has 20 to 30 bytes.
-const BLOCK: usize = 1_024;
+const BATCH: usize = 1_024;
 
-/// Writes a proof by clauses: the view, the claim in picoseconds, and each line. A block of lines is put at once if it fits the buffer; otherwise each of
+/// Writes a proof by clauses: the view, the claim in picoseconds, and each line. A batch of lines is put at once if it fits the buffer; otherwise each of
 /// its lines is put whole, and a line that alone does not fit is put piece by piece. What the buffer held before is lost. If a put failed, a front of the
 /// proof was written, and the sink's count of faults rose.
 pub fn write_proof<K: Sink>(
@@ -56,7 +56,7 @@ fn put_claim<K: Sink>(claim: i64, sink: &mut K) -> Result<(), PutFailed>
     )
 }
 
-// Puts each line with its end, a block of lines at a time.
+// Puts each line with its end, a batch of lines at a time.
 fn put_lines<K: Sink>(
     lines: &[StoredLine],
     buffer: &mut LineBuffer,
@@ -64,14 +64,14 @@ fn put_lines<K: Sink>(
 ) -> Result<(), PutFailed>
     ensures { Puts (K.state sink.old) (K.state sink.new) (flat_map clause_line_text (lines_of lines.now)) result }
 {
-    for block in lines.chunks(BLOCK) {
-        put_block(block, buffer, sink)?;
+    for batch in lines.chunks(BATCH) {
+        put_batch(batch, buffer, sink)?;
     }
     Ok(())
 }
 
 // Puts lines with one put if they fit the buffer together; otherwise puts each by itself.
-fn put_block<K: Sink>(
+fn put_batch<K: Sink>(
     lines: &[StoredLine],
     buffer: &mut LineBuffer,
     sink: &mut K,

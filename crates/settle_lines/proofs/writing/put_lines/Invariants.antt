@@ -6,7 +6,7 @@ use Rattle.edge_clauses.specs.Proofs.{lines_of}
 use Rattle.settle_lines.specs.Text.{clause_line_text}
 use Rattle.settle_lines.proofs.writing.put_lines.Given as goal
 
-abbrev pub invariant-loop-block : goal.invariant-loop-block
-invariant-loop-block g l =
-    (0 < chunks_size l.block-iterator)
-    × Left (g.K.Sink.state l.fn.sink) (g.K.Sink.state l.sink) (flat_map clause_line_text (lines_of (chunks_rest l.block-iterator))) (flat_map clause_line_text (lines_of l.fn.lines))
+abbrev pub invariant-loop-batch : goal.invariant-loop-batch
+invariant-loop-batch g l =
+    (0 < chunks_size l.batch-iterator)
+    × Left (g.K.Sink.state l.fn.sink) (g.K.Sink.state l.sink) (flat_map clause_line_text (lines_of (chunks_rest l.batch-iterator))) (flat_map clause_line_text (lines_of l.fn.lines))
