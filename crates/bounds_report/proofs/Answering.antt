@@ -1,12 +1,14 @@
 -- What the answer of a search says of a bound of a pair.
-use Rattle.std.proofs.Common.{◌≡◌, ◌<◌, ◌≤◌, ℕ, zero, suc, ℤ, pos, neg_ℤ, ◌-ℤ◌, Bool, List, [], ◌∷◌, length, get_or, All, Option, Some, None, option_map, ◌⊎◌, inl, inr, refl, sym, subst, ap, ◌∙◌, arith}
+use Rattle.std.proofs.Common.{◌≡◌, ◌<◌, ◌≤◌, ℕ, ℤ, neg_ℤ, ◌-ℤ◌, Bool, List, length, All, Option, ◌⊎◌, inl, inr, refl, sym, subst, ap, ◌∙◌, arith}
 use Rattle.std.proofs.lemmas.Int.{ints}
 use Rattle.itv_base.specs.declared.names.EventId.{EventId}
+use Rattle.itv_base.proofs.Integers.{neg_twice, no_neg}
 use Rattle.branch.specs.AnswerBound.{greatest_bound}
 use Rattle.branch.specs.Answers.{IsGreatestAnswer, Evidence, PairSearch}
 use Rattle.branch.specs.Work.{IsClose, IsKnownReach}
 use Rattle.branch.specs.declared.answer.GreatestAnswer.{GreatestAnswer}
 use Rattle.branch.specs.declared.answer.GreatestAnswer.TheVariants as answers
+use Rattle.branch.proofs.Close.{close_at}
 use Rattle.event_graph.specs.Bounds.{IsGreatest, IsRay}
 use Rattle.event_graph.specs.Limits.{IsPrintedTime}
 use Rattle.event_graph.specs.Network.{IsNet, Net}
@@ -26,7 +28,7 @@ use Rattle.right_report.specs.Right.ReportState.{NextBound, greatest, least_by, 
 use Rattle.drawn.specs.declared.row.Row.{Row}
 use Rattle.right_report.specs.Right.LineClaims.{IsBoundOf}
 use Rattle.right_report.specs.Shown.{ShowsBound}
-use Rattle.bounds_report.specs.declared.pair.Pair.{Pair}
+use Rattle.event_graph.specs.declared.pair.Pair.{Pair}
 use Rattle.bounds_report.specs.Step.Witness.{AreNearby, Attain, IsWitness, IsShiftedTo, searched_pair}
 use Rattle.bounds_report.specs.Step.Searched.{bound_of, search_of}
 use Rattle.bounds_report.specs.Written.{HasPrintedTimes}
@@ -34,18 +36,6 @@ use Rattle.bounds_report.proofs.Printed.{bound_times, bound_turned}
 use Rattle.bounds_report.proofs.Shifted.{at_zero, nearby-shifted, nearby_close, ray-shifted, satisfies-shifted, separation-shifted}
 
 -- ---- numbers
-
-neg_neg : (z : ℤ) → neg_ℤ (neg_ℤ z) ≡ z
-neg_neg z = omega (arith, ints)
-
-no_neg : (z : Option ℤ) → z ≡ option_map neg_ℤ (option_map neg_ℤ z)
-no_neg None = refl
-no_neg (Some z) = ap Some (sym (neg_neg z))
-
-close_at : (times : List ℤ) (k : ℕ) → All IsClose times → IsClose (get_or times k (pos 0))
-close_at [] k close = (omega (arith, ints), omega (arith, ints))
-close_at (time ∷ times) zero close = close 0 (pos 0) (omega arith)
-close_at (time ∷ times) (suc k) close = close_at times k (λ j d within. close (suc j) d (omega arith))
 
 separation_printed : (times : List ℤ) (from to : EventId) → All IsClose times → IsPrintedTime (separation times from to)
 separation_printed times from to close = apart (time_of times from) (time_of times to) (close_at times from.0 close) (close_at times to.0 close)
@@ -94,16 +84,16 @@ shows_least : (net : Net) (most : ℕ) (r : Row) (first : Bound) (left : Evidenc
     → left.leaves ≤ most
     → IsBoundOf net findings.Consistent r (least_by first) (reversed (greatest_bound answer)) × ShowsBound net most left.lines r (least_by first) (reversed (greatest_bound answer))
 shows_least net most r first left (answers.Closed value) a count = (
-  (refl, (least_is_reversed_greatest net r.from r.to (neg_ℤ value)).1 (subst (IsGreatest net r.to r.from) (sym (neg_neg value)) a.greatest)),
-  (subst (λ z. IsProof net (BoundGoal r.to r.from z) left.lines) (sym (neg_neg value)) a.proof, omega (arith, a.count, count)),
+  (refl, (least_is_reversed_greatest net r.from r.to (neg_ℤ value)).1 (subst (IsGreatest net r.to r.from) (sym (neg_twice value)) a.greatest)),
+  (subst (λ z. IsProof net (BoundGoal r.to r.from z) left.lines) (sym (neg_twice value)) a.proof, omega (arith, a.count, count)),
 )
 shows_least net most r first left answers.Unbounded a count =
     let s = a.stopped in
-    (refl, (neg_ℤ s.0, (s.1, omega (arith, s.3, count), subst (λ z. IsStoppedProof net (BoundGoal r.to r.from z) left.lines s.1) (sym (neg_neg s.0)) s.2)))
+    (refl, (neg_ℤ s.0, (s.1, omega (arith, s.3, count), subst (λ z. IsStoppedProof net (BoundGoal r.to r.from z) left.lines s.1) (sym (neg_twice s.0)) s.2)))
 shows_least net most r first left (answers.Enclosed upper found) a count = (
   (subst (IsRootBound net r.to r.from) (no_neg upper) a.root, refl),
   subst (λ n. IsStoppedProof net (BoundGoal r.to r.from (neg_ℤ (neg_ℤ found))) left.lines n) a.used
-      (subst (λ z. IsStoppedProof net (BoundGoal r.to r.from z) left.lines left.leaves) (sym (neg_neg found)) a.stopped),
+      (subst (λ z. IsStoppedProof net (BoundGoal r.to r.from z) left.lines left.leaves) (sym (neg_twice found)) a.stopped),
 )
 
 shows_by : (net : Net) (most : ℕ) (r : Row) (coming : NextBound) (left : Evidence) (answer : GreatestAnswer) → IsGreatestAnswer (search_of net (searched_pair (which_of coming) (row_pair r)) most) left answer

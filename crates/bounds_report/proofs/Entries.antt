@@ -4,14 +4,14 @@ use Rattle.std.specs.Prelude.{IsSomeAnd, option_and_then}
 use Rattle.itv_base.specs.declared.limits.TheConstants.{MAX_CAUSES}
 use Rattle.itv_base.specs.declared.names.EdgeName.{EdgeName}
 use Rattle.itv_base.specs.declared.names.EventId.{EventId}
-use Rattle.itv_base.specs.declared.names.RuleKind.{RuleKind}
-use Rattle.itv_base.specs.declared.names.RuleKind.TheVariants.{Lin, Late, Early}
+use Rattle.itv_base.proofs.Options.{then_some}
 use Rattle.certificate.specs.Text.{IsEdgeName, IsProofLine}
 use Rattle.event_graph.specs.declared.edge.Edge.{Edge}
 use Rattle.event_graph.specs.Edges.{edge, side_edge}
-use Rattle.event_graph.specs.Network.{Constraint, IsCauseCount, IsConstraint, IsNet, Net}
+use Rattle.event_graph.specs.Network.{Constraint, IsConstraint, IsNet, Net}
 use Rattle.event_graph.specs.Proof.{Bound, Case, HasChoice, IsWalk, Loop, Nothing, Path, ProofGoal, ProofLine, Split}
 use Rattle.event_graph.specs.Proof.{ProofLeaves as ReadsProof}
+use Rattle.event_graph.proofs.Causes.{few_causes}
 use Rattle.slack_report.specs.declared.words.FindingWord.{FindingWord}
 use Rattle.slack_report.specs.declared.words.FindingWord.TheVariants as findings
 use Rattle.requirements.specs.declared.bound.Bound.{Bound as RowBound}
@@ -50,16 +50,7 @@ some_and : {A : Type 0} (P : A → Type 0) (o : Option A) → IsSomeAnd o P → 
 some_and P None h = absurd h
 some_and P (Some x) h = (x, refl, h)
 
-then_some : {A B : Type 0} (f : A → Option B) (o : Option A) (y : B) → option_and_then f o ≡ Some y → (x : A) × (o ≡ Some x) × (f x ≡ Some y)
-then_some f None y e = absurd (cc e)
-then_some f (Some x) y e = (x, refl, e)
-
 -- ---- lines of proofs
-
-few_causes : (kind : RuleKind) (count : ℕ) → IsCauseCount kind count → count ≤ MAX_CAUSES
-few_causes Lin count h = omega (arith, h)
-few_causes Late count h = h.1
-few_causes Early count h = h.1
 
 edge_named : (net : Net) (name : EdgeName) (e : Edge) → IsNet net → edge net name ≡ Some e → IsEdgeName name
 edge_named net name e is_net h =

@@ -10,6 +10,7 @@ use Rattle.event_graph.specs.Proof.{IsStoppedProof, Nothing, ProofLine}
 use Rattle.event_graph.specs.Reading.{AtEachSplit}
 use Rattle.event_graph.specs.Satisfying.{Satisfies}
 use Rattle.event_graph.specs.Times.{separation, time_of}
+use Rattle.event_graph.proofs.Shifting.{length-shifted}
 use Rattle.itv_base.specs.declared.names.EventId.{EventId}
 use Rattle.slack_report.specs.declared.words.FindingWord.{FindingWord}
 use Rattle.slack_report.specs.declared.words.FindingWord.TheVariants as findings
@@ -25,7 +26,7 @@ use Rattle.jobs.specs.Found.{found_word}
 use Rattle.bounds_report.specs.Step.Ready.{AreKnown, HasFound, behind_known}
 use Rattle.bounds_report.specs.Step.Searched.{printed_known, sized}
 use Rattle.bounds_report.specs.Written.{printed}
-use Rattle.bounds_report.proofs.Shifted.{at_zero, length-shifted, nearby-shifted, nearby_close, satisfies-shifted, separation-shifted, times_nearby}
+use Rattle.bounds_report.proofs.Shifted.{at_zero, nearby-shifted, nearby_close, satisfies-shifted, separation-shifted, times_nearby}
 
 -- what the search shows
 shows : (net : Net) (most : ℕ) (lines : List ProofLine) (leaves : ℕ) (known : Option (List ℤ)) (found : SearchFinding) → Finds net most lines leaves known found → leaves ≤ most

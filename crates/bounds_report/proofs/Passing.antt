@@ -1,16 +1,19 @@
 -- Times past an end of a range.
-use Rattle.std.proofs.Common.{◌≡◌, ◌<◌, ◌+◌, ◌*◌, ◌⊎◌, ℕ, zero, suc, ℤ, pos, neg_ℤ, ◌+ℤ◌, ◌-ℤ◌, ◌≤ℤ◌, ◌<ℤ◌, Bool, true, false, List, [], ◌∷◌, length, get_or, All, Option, Some, None, slice_get, refl, sym, subst, ap, ◌∙◌, inl, inr, arith}
-use Rattle.std.specs.Prelude.{IsSomeAnd, int_lt}
+use Rattle.std.proofs.Common.{◌≡◌, ◌<◌, ◌+◌, ◌*◌, ◌⊎◌, ℕ, zero, suc, ℤ, pos, neg_ℤ, ◌+ℤ◌, ◌-ℤ◌, ◌≤ℤ◌, ◌<ℤ◌, Bool, true, false, List, length, get_or, All, Option, Some, None, slice_get, refl, sym, subst, ap, ◌∙◌, inl, inr, arith}
+use Rattle.std.specs.Prelude.{IsSomeAnd}
 use Rattle.std.proofs.lemmas.Int.{ints}
 use Rattle.itv_base.specs.Range.{Ends, IsEnd}
 use Rattle.itv_base.specs.declared.names.EventId.{EventId}
+use Rattle.itv_base.proofs.Integers.{past_minus, lt_from_test}
+use Rattle.itv_base.proofs.Lists.{all_or}
 use Rattle.event_graph.specs.Limits.{IsPrintedTime, reach_limit, weight_limit}
 use Rattle.branch.specs.Work.{IsKnownReach}
 use Rattle.event_graph.specs.Bounds.{IsRay}
 use Rattle.event_graph.specs.Network.{IsNet, Net}
 use Rattle.event_graph.specs.Satisfying.{Satisfies}
 use Rattle.event_graph.specs.Times.{IsTime, raised, separation, shifted, time_of}
-use Rattle.event_graph.proofs.Rays.{length-raised, separation-raised}
+use Rattle.event_graph.proofs.Rays.{length-raised, separation-raised, raised_at}
+use Rattle.event_graph.proofs.Shifting.{length-shifted}
 use Rattle.requirements.specs.Raising.{RaisesPast}
 use Rattle.requirements.proofs.Breaking.{high_breaks, low_breaks}
 use Rattle.requirements.specs.Verdicts.{breaks_high, breaks_low, verdict_of}
@@ -27,9 +30,9 @@ use Rattle.right_report.specs.Right.Following.{MayFollow}
 use Rattle.bounds_report.specs.Step.Searched.{sized}
 use Rattle.slack_report.specs.declared.words.Which.{Which}
 use Rattle.slack_report.specs.declared.words.Which.TheVariants as sorts
-use Rattle.bounds_report.specs.declared.pair.Pair.{Pair}
+use Rattle.event_graph.specs.declared.pair.Pair.{Pair}
 use Rattle.bounds_report.specs.Step.Witness.{ArePast, AreNearby, Attain, HasFoundValue, IsBeyond, IsWitness, IsNearby, number_on, searched_pair}
-use Rattle.bounds_report.proofs.Shifted.{at_zero, length-shifted, satisfies-shifted, separation-shifted, time-shifted, times_nearby}
+use Rattle.bounds_report.proofs.Shifted.{at_zero, satisfies-shifted, separation-shifted, time-shifted, times_nearby}
 
 -- ---- numbers of times that are raised
 
@@ -40,14 +43,6 @@ most_by = 3 * reach_limit + weight_limit + 1
 -- a time that was raised by at most this number
 IsRaised : ℤ → Type 0
 IsRaised time = (neg_ℤ (pos (9 * reach_limit)) ≤ℤ time) × (time ≤ℤ pos (9 * reach_limit + most_by))
-
-raised_at : (set : List Bool) (by : ℕ) (times : List ℤ) (k : ℕ) (d : ℤ) → k < length times
-    → (get_or (raised set by times) k d ≡ get_or times k d) ⊎ (get_or (raised set by times) k d ≡ get_or times k d +ℤ pos by)
-raised_at [] by times k d h = inl refl
-raised_at (is_in ∷ set) by [] k d h = absurd (omega arith)
-raised_at (true ∷ set) by (time ∷ times) zero d h = inr refl
-raised_at (false ∷ set) by (time ∷ times) zero d h = inl refl
-raised_at (is_in ∷ set) by (time ∷ times) (suc k) d h = raised_at set by times k d (omega arith)
 
 -- by how much the times are raised
 raised_by : (old : List ℤ) (set : List Bool) (from to : EventId) (limit : ℤ) (new : List ℤ) (r : RaisesPast old set from to limit new) → IsKnownReach (separation old from to) → IsEnd (Some limit)
@@ -84,11 +79,6 @@ near_zero times origin k near in' at within = from_zero (get_or times k (pos 0))
   where
     from_zero : (time origin : ℤ) → origin ≡ pos 0 → IsNearby (time -ℤ origin) → IsNearby time
     from_zero time origin e n = (omega (arith, ints, e, n.0, n.1), omega (arith, ints, e, n.0, n.1))
-
-all_or : (P : ℤ → Type 0) (xs : List ℤ) (k : ℕ) (d e : ℤ) → k < length xs → P (get_or xs k d) → P (get_or xs k e)
-all_or P [] k d e h p = absurd (omega arith)
-all_or P (x ∷ xs) zero d e h p = p
-all_or P (x ∷ xs) (suc k) d e h p = all_or P xs k d e (omega arith) p
 
 module _ (net : Net) (pair : Pair) (which : Which) (limit : ℤ) (old : List ℤ) (set : List Bool) (new : List ℤ) (is_net : IsNet net) (end : IsEnd (Some limit)) (in_to : pair.to.0 < net.events)
     (kept : IsWitness net pair which bounds.Unbounded old set) (r : RaisesPast old set (searched_pair which pair).from (searched_pair which pair).to limit new) where
@@ -154,9 +144,6 @@ pub raises : (old : List ℤ) (set : List Bool) (pair : Pair) (which : Which) (s
 raises old set pair which searched limit read new e f r =
     subst (λ (z : ℤ). RaisesPast old set (searched_pair which pair).from (searched_pair which pair).to z new) f (subst (λ (p : Pair). RaisesPast old set p.from p.to read new) e r)
 
-pub end_time : (limit : ℤ) → IsEnd (Some limit) → IsTime limit
-end_time limit h = (omega (arith, ints, h.0, h.1), omega (arith, ints, h.0, h.1))
-
 -- ---- bounds that are past by themselves
 
 turn : (a b limit : ℤ) → limit <ℤ neg_ℤ (b -ℤ a) → limit <ℤ (a -ℤ b)
@@ -185,23 +172,17 @@ past_kept net pair which value limit list set n beyond kept = record {
 
 -- ---- which end a fail breaks
 
-below : (a b : ℤ) → int_lt a b ≡ true → a <ℤ b
-below a b h = omega (arith, ints)
-
-turned : (value limit : ℤ) → int_lt value (neg_ℤ limit) ≡ true → limit <ℤ neg_ℤ value
-turned value limit h = omega (arith, ints)
-
 beyond_high : (limit : ℤ) (most : Bound) → breaks_high (Some limit) most ≡ true → IsBeyond sorts.Max most limit × HasFoundValue most
-beyond_high limit (bounds.Closed value) e = (below limit value e, tt)
+beyond_high limit (bounds.Closed value) e = (lt_from_test limit value e, tt)
 beyond_high limit bounds.Unbounded e = (tt, tt)
 beyond_high limit (bounds.Within upper None) e = absurd (cc e)
-beyond_high limit (bounds.Within upper (Some found)) e = (below limit found e, tt)
+beyond_high limit (bounds.Within upper (Some found)) e = (lt_from_test limit found e, tt)
 
 beyond_low : (limit : ℤ) (least : Bound) → breaks_low (Some (neg_ℤ limit)) least ≡ true → IsBeyond sorts.Min least limit × HasFoundValue least
-beyond_low limit (bounds.Closed value) e = (turned value limit e, tt)
+beyond_low limit (bounds.Closed value) e = (past_minus value limit e, tt)
 beyond_low limit bounds.Unbounded e = (tt, tt)
 beyond_low limit (bounds.Within upper None) e = absurd (cc e)
-beyond_low limit (bounds.Within upper (Some found)) e = (turned found limit e, tt)
+beyond_low limit (bounds.Within upper (Some found)) e = (past_minus found limit e, tt)
 
 -- a bound that breaks an end goes past it
 pub past_high : (range : Ends) (least most : Bound) (limit : ℤ) → verdict_of range least most ≡ verdicts.FailHigh → range.high ≡ Some limit → IsBeyond sorts.Max most limit × HasFoundValue most

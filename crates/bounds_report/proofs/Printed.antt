@@ -1,41 +1,27 @@
 -- How large the numbers of a report are.
-use Rattle.std.proofs.Common.{ℤ, neg_ℤ, List, get_or, All, Option, Some, None, option_map, arith}
+use Rattle.std.proofs.Common.{ℤ, neg_ℤ, Option, Some, None, option_map, arith}
 use Rattle.std.specs.Prelude.{IfSome}
 use Rattle.std.proofs.lemmas.Int.{ints}
 use Rattle.event_graph.specs.Limits.{IsPrintedTime, IsReach}
 use Rattle.event_graph.specs.Times.{IsTime}
+use Rattle.event_graph.proofs.Sizes.{limit_time, printed_time}
 use Rattle.requirements.specs.Bounds.{HasTimes, reversed}
 use Rattle.requirements.specs.declared.bound.Bound.{Bound}
 use Rattle.requirements.specs.declared.bound.Bound.TheVariants as bounds
 use Rattle.right_report.specs.Checked.{IsWithinTimes}
 use Rattle.bounds_report.specs.Written.{HasPrintedTimes}
 
--- printed times are below 2^61 in absolute value
-pub time_printed : (time : ℤ) → IsPrintedTime time → IsTime time
-time_printed time h = (omega (arith, ints, h.0, h.1), omega (arith, ints, h.0, h.1))
-
-pub times_printed : (times : List ℤ) → All IsPrintedTime times → All IsTime times
-times_printed times all = λ k d within. time_printed (get_or times k d) (all k d within)
-
--- the reach of a path is below 2^61 in absolute value
-reach_time : (sum : ℤ) → IsReach sum → IsTime sum
-reach_time sum h = (omega (arith, ints, h.0, h.1), omega (arith, ints, h.0, h.1))
-
-pub limit_time : (limit : Option ℤ) → IfSome limit IsReach → IfSome limit IsTime
-limit_time None h = tt
-limit_time (Some sum) h = reach_time sum h
-
 attained_time : (attained : Option ℤ) → IfSome attained IsPrintedTime → IfSome attained IsTime
 attained_time None h = tt
-attained_time (Some value) h = time_printed value h
+attained_time (Some value) h = printed_time value h
 
 pub bound_times : (value : Bound) → HasPrintedTimes value → HasTimes value
-bound_times (bounds.Closed value) h = time_printed value h
+bound_times (bounds.Closed value) h = printed_time value h
 bound_times bounds.Unbounded h = tt
 bound_times (bounds.Within limit attained) h = (limit_time limit h.0, attained_time attained h.1)
 
 pub bound_within : (value : Bound) → HasPrintedTimes value → IsWithinTimes value
-bound_within (bounds.Closed value) h = time_printed value h
+bound_within (bounds.Closed value) h = printed_time value h
 bound_within bounds.Unbounded h = tt
 bound_within (bounds.Within limit attained) h = attained_time attained h.1
 

@@ -1,10 +1,11 @@
 -- The lines of a bound.
-use Rattle.std.proofs.Common.{◌≡◌, ◌<◌, ◌≤◌, length, All, ℕ, ℤ, Bool, true, false, List, [], ◌∷◌, ◌++◌, Option, Some, None, ◌⊎◌, refl, sym, subst, ap, ◌∙◌, inl, inr}
+use Rattle.std.proofs.Common.{◌≡◌, ◌<◌, ◌≤◌, length, All, ℕ, ℤ, Bool, true, false, List, [], Option, Some, None, ◌⊎◌, refl, sym, subst, ap, ◌∙◌, inl, inr}
 use Rattle.itv_base.specs.declared.names.EventId.{EventId}
 use Rattle.branch.specs.Answers.{IsGreatestAnswer, Evidence}
 use Rattle.branch.specs.Needed.{IsNeededToBound}
 use Rattle.branch.specs.Work.{IsClose}
 use Rattle.branch.specs.declared.answer.GreatestAnswer.{GreatestAnswer}
+use Rattle.branch.proofs.SearchedLines.{no_line}
 use Rattle.event_graph.specs.Bounds.{IsRay}
 use Rattle.event_graph.specs.Limits.{IsPrintedTime}
 use Rattle.event_graph.specs.Network.{Net}
@@ -24,7 +25,7 @@ use Rattle.drawn.specs.Drawn.{Drawn, AreTimes}
 use Rattle.drawn.specs.declared.row.Row.{Row}
 use Rattle.right_report.specs.Right.LineClaims.{Attains, CanRise, IsBoundOf, IsLimit}
 use Rattle.right_report.specs.Right.Following.{MayFollow}
-use Rattle.bounds_report.specs.declared.pair.Pair.{Pair}
+use Rattle.event_graph.specs.declared.pair.Pair.{Pair}
 use Rattle.bounds_report.specs.Step.Witness.{Attain, HasFoundValue, IsWitness, IsLimitOf, IsOpenBound, searched_pair}
 use Rattle.bounds_report.specs.Step.Searched.{bound_of, search_of, sized}
 use Rattle.bounds_report.specs.Step.Writing.{IsOf}
@@ -111,10 +112,6 @@ AreNeededFor net basis p lines = AtEachSplit net (IsNeededToBound net p.from p.t
 needed_is : (net : Net) (basis : List ℤ) (r : Row) (coming : NextBound) (lines : List ProofLine) → AreNeededFor net basis (searched_pair (which_of coming) (record { from = r.from; to = r.to })) lines → IsEachNeeded net basis r coming lines
 needed_is net basis r greatest lines h = h
 needed_is net basis r (least_by first) lines h = h
-
-no_line : (before after : List ProofLine) (line : ProofLine) → [] ≡ before ++ line ∷ after → ⊥
-no_line [] after line same = cc
-no_line (b ∷ before) after line same = cc
 
 -- without lines there is no needless split
 none_needed : (net : Net) (basis : List ℤ) (r : Row) (coming : NextBound) → IsEachNeeded net basis r coming []

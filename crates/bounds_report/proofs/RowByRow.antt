@@ -1,5 +1,5 @@
 -- The rows one after another.
-use Rattle.std.proofs.Common.{◌≡◌, ◌≤◌, ◌+◌, ℕ, zero, suc, List, [], ◌∷◌, length, drop, Option, Some, None, slice_get, refl, sym, subst, ap, ◌⊎◌, inl, inr, add-one, arith}
+use Rattle.std.proofs.Common.{◌≡◌, ◌≤◌, ◌+◌, ℕ, zero, suc, List, [], ◌∷◌, length, drop, Option, Some, None, refl, sym, subst, ap, ◌⊎◌, inl, inr, arith}
 use Rattle.itv_base.specs.Outside.{SinkState}
 use Rattle.requirements.specs.declared.verdict.Verdict.{Verdict}
 use Rattle.slack_report.specs.declared.words.FindingWord.{FindingWord}
@@ -32,18 +32,6 @@ with_keeps report_tally (Some word) = refl
 
 pub after_keeps : (report_tally : ReportTally) (end : RowEnd) → (tally_after report_tally end).found ≡ report_tally.found
 after_keeps report_tally end = with_keeps (with_bounds report_tally end.both.least end.both.greatest) end.verdict
-
--- the next row
-pub rows_more : (rows : List Row) (number : ℕ) (row : Row) → slice_get rows number ≡ Some row → drop number rows ≡ row ∷ drop (number + 1) rows
-rows_more rows number row e = rw add-one (more rows number row e)
-  where
-    more : (rows : List Row) (number : ℕ) (row : Row) → slice_get rows number ≡ Some row → drop number rows ≡ row ∷ drop (suc number) rows
-    more [] number row e = absurd (cc e)
-    more (x ∷ rows) zero row e = one x row rows e
-      where
-        one : (x row : Row) (rows : List Row) → ◌≡◌ {A = Option Row} (Some x) (Some row) → x ∷ rows ≡ row ∷ rows
-        one x row rows e = ap (λ (r : Row). r ∷ rows) (cc e)
-    more (x ∷ rows) (suc number) row e = more rows number row e
 
 -- no row is left
 pub rows_none : (rows : List Row) (number : ℕ) → length rows ≤ number → drop number rows ≡ []

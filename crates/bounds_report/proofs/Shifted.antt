@@ -2,22 +2,20 @@
 use Rattle.std.proofs.Common.{◌≡◌, ◌<◌, ◌+◌, ℕ, zero, suc, ℤ, pos, neg_ℤ, ◌+ℤ◌, ◌-ℤ◌, Bool, List, [], ◌∷◌, length, get_or, All, refl, sym, subst, ◌∙◌, arith}
 use Rattle.std.proofs.Math.ListN.{set}
 use Rattle.std.proofs.lemmas.Int.{ints}
-use Rattle.std.proofs.lemmas.List.{get_or-map, length-map}
+use Rattle.std.proofs.lemmas.List.{get_or-map}
 use Rattle.itv_base.specs.declared.names.EventId.{EventId}
 use Rattle.branch.specs.Work.{IsClose}
+use Rattle.branch.proofs.Close.{time_close}
 use Rattle.event_graph.specs.Bounds.{IsRay}
 use Rattle.event_graph.specs.Limits.{IsPrintedTime}
 use Rattle.event_graph.specs.Network.{IsNet, Net}
 use Rattle.event_graph.specs.Satisfying.{Satisfies}
 use Rattle.event_graph.specs.Times.{IsTime, raised, separation, shifted, time_of}
 use Rattle.event_graph.proofs.Moving.{raised-shifted}
-use Rattle.event_graph.proofs.Shifting.{satisfies_same}
+use Rattle.event_graph.proofs.Shifting.{satisfies_same, length-shifted}
 use Rattle.bounds_report.specs.Step.Witness.{AreNearby, IsNearby, IsShiftedTo}
 
 -- ---- separations
-
-pub length-shifted : (times : List ℤ) (by : ℤ) → length (shifted times by) ≡ length times
-length-shifted times by = length-map times (λ time. time +ℤ by)
 
 pub time-shifted : (times : List ℤ) (by : ℤ) (event : EventId) → event.0 < length times → time_of (shifted times by) event ≡ time_of times event +ℤ by
 time-shifted times by event in' = get_or-map (λ time. time +ℤ by) times event.0 (pos 0) (pos 0) in'
@@ -47,10 +45,6 @@ nearby-shifted times by near from to in_from in_to =
     let f : from.0 < length times = subst (λ n. from.0 < n) e in_from in
     let t : to.0 < length times = subst (λ n. to.0 < n) e in_to in
     subst IsNearby (separation-shifted times by from to f t) (near from to f t)
-
--- close times are times, and so are their separations
-pub time_close : (time : ℤ) → IsClose time → IsTime time
-time_close time h = (omega (arith, ints, h.0, h.1), omega (arith, ints, h.0, h.1))
 
 pub times_close : (times : List ℤ) → All IsClose times → All IsTime times
 times_close times close = λ k d within. time_close (get_or times k d) (close k d within)

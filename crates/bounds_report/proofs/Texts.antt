@@ -11,6 +11,7 @@ use Rattle.event_graph.specs.Limits.{IsPrintedTime}
 use Rattle.event_graph.specs.Network.{IsNet, Net}
 use Rattle.event_graph.specs.Proof.{ProofLine}
 use Rattle.event_graph.specs.Times.{IsTime}
+use Rattle.event_graph.proofs.Sizes.{printed_time}
 use Rattle.line_words.specs.Numbers.{IsLong, IsLongOrOpen}
 use Rattle.requirements.specs.Bounds.{HasTimes}
 use Rattle.requirements.specs.Slacks.{high_slack, low_slack}
@@ -30,7 +31,6 @@ use Rattle.drawn.specs.declared.row.Row.{Row}
 use Rattle.right_report.specs.Right.LineClaims.{CanRise}
 use Rattle.right_report.specs.Right.Following.{MayFollow, LinesLead}
 use Rattle.bounds_report.specs.Step.Searched.{sized}
-use Rattle.bounds_report.proofs.Printed.{time_printed}
 use Rattle.bounds_report.proofs.Entries.{all_cons, all_head, all_nil, all_tail, bound_lines, finding_lines, printed_lines}
 
 -- ---- numbers
@@ -49,7 +49,7 @@ apart a b h end = (
 )
 
 longs : (list : List ℤ) → All IsPrintedTime list → All IsLong list
-longs list all = λ k d h. long _ (time_printed _ (all k d h))
+longs list all = λ k d h. long _ (printed_time _ (all k d h))
 
 long_or_open : (z : Option ℤ) → IfSome z IsTime → IsLongOrOpen z
 long_or_open None h = tt

@@ -1,5 +1,5 @@
 -- Steps of the writer, one after another.
-use Rattle.std.proofs.Common.{◌≡◌, ℕ, ℤ, Bool, List, [], ◌∷◌, ◌++◌, map, None, Result, Ok, Err, IsErr, refl, sym, subst, ap, ◌∙◌, append-nil}
+use Rattle.std.proofs.Common.{◌≡◌, ℕ, ℤ, Bool, List, [], ◌∷◌, ◌++◌, map, None, Result, Ok, Err, IsErr, refl, sym, subst, ap, ◌∙◌}
 use Rattle.std.specs.Bool.{⊤}
 use Rattle.std.specs.Prelude.{IfOk, OnErr}
 use Rattle.itv_base.specs.Outside.{Puts, SinkState, grown}
@@ -7,7 +7,7 @@ use Rattle.event_graph.specs.Network.{Net}
 use Rattle.event_graph.specs.Proof.{ProofLine}
 use Rattle.bounds_report.specs.Step.Searched.{sized}
 use Rattle.certificate.specs.Scribing.{SinkGrew}
-use Rattle.certificate.specs.Text.{proof_line_text, proof_text}
+use Rattle.certificate.specs.Text.{proof_line_text}
 use Rattle.itv_base.proofs.Written.{grown-append, grown-nil}
 use Rattle.slack_report.proofs.Judging.{report_text-append}
 use Rattle.right_report.proofs.RightOrder.{reads-append}
@@ -17,7 +17,7 @@ use Rattle.slack_report.specs.Text.{entry_text, report_text, words_of}
 use Rattle.drawn.specs.Drawn.{Drawn}
 use Rattle.right_report.specs.Right.ReportState.{ReportState}
 use Rattle.right_report.specs.Right.Following.{LineClaims, MayFollow, LinesLead}
-use Rattle.right_report.proofs.Leading.{stopped_line, stopped_then}
+use Rattle.right_report.proofs.Leading.{stopped_line, stopped_then, line_text, proof_text-lines}
 use Rattle.right_report.specs.ReportContents.{end_in}
 use Rattle.right_report.specs.Writing.{WroteFront, WroteLines}
 use Rattle.bounds_report.specs.Step.Writing.{WritesVerdicts, WroteVerdicts, verdicts_in}
@@ -67,12 +67,6 @@ no_end_in : (lines : List ProofLine) → end_in (map proof lines) ≡ None
 no_end_in [] = refl
 no_end_in (line ∷ lines) = no_end_in lines
 
--- the text of one line
-line_text : (line : Entry) → entry_text line ≡ report_text (line ∷ [])
-line_text line = sym (append-nil (entry_text line))
-
--- the text of lines of a proof is the text of the same lines in a report
-proof_text-lines : (lines : List ProofLine) → proof_text lines ≡ report_text (map proof lines)
 unfolding words_of
 proof_text-lines [] = refl
 proof_text-lines (line ∷ lines) = ap (λ text. proof_line_text line ++ text) (proof_text-lines lines)
@@ -159,10 +153,6 @@ pub stopped_net : {net other : Net} (most : ℕ) (cert : Bool) (basis : List ℤ
 stopped_net most cert basis {drawn = drawn} {here = here} {old = old} {new = new} e t = subst (λ (net : Net). WroteFront (sized net most cert basis) drawn here old new) e t
 
 -- ---- answers
-
-pub on_err : {B E : Type 0} (P : Type 0) (result : Result B E) → P → OnErr result P
-on_err P (Ok x) p = tt
-on_err P (Err e) p = p
 
 pub if_ok : {B E : Type 0} (P Q : B → Type 0) (result : Result B E) → ((x : B) → P x → Q x) → IfOk result P → IfOk result Q
 if_ok P Q (Ok x) f p = f x p

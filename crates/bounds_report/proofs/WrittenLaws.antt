@@ -4,6 +4,7 @@ use Rattle.branch.specs.Needed.{IsNeededToFind}
 use Rattle.event_graph.specs.Network.{Net}
 use Rattle.event_graph.specs.Proof.{ProofLine}
 use Rattle.event_graph.specs.Reading.{AtEachSplit}
+use Rattle.event_graph.proofs.Sizes.{printed_times}
 use Rattle.requirements.specs.declared.bound.Bound.{Bound}
 use Rattle.requirements.specs.declared.bound.Bound.TheVariants as bounds
 use Rattle.slack_report.specs.declared.words.FindingWord.{FindingWord}
@@ -21,7 +22,7 @@ use Rattle.right_report.proofs.Ordering.{right_is_report}
 use Rattle.bounds_report.specs.Laws.{BegunIsRight, WrittenIsAccepted, WrittenIsBare, WrittenIsChecked, WrittenIsShown}
 use Rattle.bounds_report.specs.Reports.{IsWrittenReport}
 use Rattle.bounds_report.specs.Written.{ArePrinted, IsEachNeeded, written}
-use Rattle.bounds_report.proofs.Printed.{bound_within, times_printed}
+use Rattle.bounds_report.proofs.Printed.{bound_within}
 
 -- lines of proofs that are all printed
 all_printed : (lines : List ProofLine) (Shows : List ProofLine → Type 0) → ArePrinted true lines Shows → Shows lines
@@ -71,11 +72,11 @@ proves_bound net most found r coming lines (bounds.Within limit attained) b s = 
 checked_of : (net : Net) (most : ℕ) (known : List ℤ) → Implies (written net most true known) (checked net)
 checked_of net most known = record {
   finding = λ lines word h. proves_finding net most lines word h.0 ((shown_of net most known).finding lines word h).1;
-  known = λ list h. (times_printed list h.1, h.2);
+  known = λ list h. (printed_times list h.1, h.2);
   bound = λ found r coming lines value h. (bound_within value h.0, proves_bound net most found r coming lines value h.1 ((shown_of net most known).bound found r coming lines value h).1);
-  times = λ r value list h. (times_printed list h.0, h.1);
+  times = λ r value list h. (printed_times list h.0, h.1);
   raise = λ r coming list set h. h;
-  past = λ r range word list h. (times_printed list h.0, h.1);
+  past = λ r range word list h. (printed_times list h.0, h.1);
 }
 
 pub written_is_shown : WrittenIsShown

@@ -17,11 +17,11 @@ ghost use Rattle.bounds_report.specs.Step.Searched.{bound_of, printed_known, sea
 ghost use Rattle.bounds_report.specs.Step.Writing.{WritesVerdicts, IsOf};
 
 use crate::bound_witness::{BoundWitness, take_times};
-use crate::pair::{Extreme, Pair};
+use crate::pair::{Extreme, searched_pair};
 use crate::search::greatest_of;
 use crate::wanted::Wanted;
 use branch::{GreatestAnswer, Work};
-use event_graph::Network;
+use event_graph::{Network, Pair};
 use itv_base::{PutFailed, Sink};
 use line_words::LineBuffer;
 use requirements::Bound;
@@ -55,7 +55,7 @@ pub fn print_bound<K: Sink>(
         (K.state sink.old) (K.state sink.new) result }
 {
     let Extreme { which, pair } = extreme;
-    let answer = greatest_of(work, net, pair.searched(which), wanted, buffer, sink)?;
+    let answer = greatest_of(work, net, searched_pair(which, pair), wanted, buffer, sink)?;
     keep(net, pair, which, answer, work, kept);
     let value = bound_of(which, answer);
     put_bound(which, value, kept, buffer, sink)?;
@@ -83,8 +83,7 @@ fn keep(
     ensures room { IsRoomFor net.now kept.new }
     ensures kept { IsWitness net.now pair which (bound_of which answer) kept.new.times.items kept.new.set.items }
 {
-    // The network is within its limits.
-    let _events = net.events();
+    net.is_whole();
     take_times(&mut kept.times, work.times(), pair.from);
     match answer {
         GreatestAnswer::Unbounded => kept.set.copy_from_slice(work.ray()),

@@ -12,9 +12,9 @@ ghost use Rattle.bounds_report.specs.Step.Witness.{HasFoundValue, IsOpenBound};
 ghost use Rattle.bounds_report.specs.Step.Searched.{sized};
 ghost use Rattle.bounds_report.specs.Step.Writing.{WritesVerdicts, IsOf};
 
-use crate::pair::Pair;
+use crate::pair::searched_pair;
 use branch::{Root, Work, root_bound};
-use event_graph::Network;
+use event_graph::{Network, Pair};
 use itv_base::{PutFailed, Sink};
 use line_words::LineBuffer;
 use requirements::{BothBounds, Bound};
@@ -59,7 +59,7 @@ fn limit_of(which: Which, pair: Pair, net: &Network, work: &mut Work) -> Bound
     ensures open { IsOpenBound net.now pair which result }
     ensures times { HasTimes result }
 {
-    let searched = pair.searched(which);
+    let searched = searched_pair(which, pair);
     let limit = match root_bound(work, net, searched.from, searched.to) {
         Root::Bound(upper) => upper,
         Root::NoTimes => unreachable!(),

@@ -16,8 +16,8 @@ ghost use Rattle.bounds_report.specs.Step.Writing.{WritesVerdicts};
 
 use crate::bound_witness::BoundWitness;
 use crate::desk::Desk;
-use crate::pair::{Extreme, Pair};
-use event_graph::{Network, move_all};
+use crate::pair::{Extreme, searched_pair};
+use event_graph::{Network, Pair, move_all};
 use itv_base::{PutFailed, Range, Sink};
 use line_words::LineBuffer;
 use requirements::{BothBounds, Bound, Verdict, raise_past};
@@ -115,8 +115,7 @@ fn pass_limit(
     ensures room { IsRoomFor net.now kept.new }
     ensures past { ArePast net.now pair which limit kept.new.times.items }
 {
-    // The network is within its limits.
-    let _events = net.events();
+    net.is_whole();
     match value {
         Bound::Unbounded => raise(which, limit, pair, net, &mut kept.times, &kept.set),
         Bound::Closed(_) | Bound::Within { .. } => {}
@@ -131,7 +130,7 @@ fn raise(which: Which, limit: i64, pair: Pair, net: &Network, times: &mut [i64],
     requires kept { IsWitness net.now pair which Bound.Unbounded times.old set.now }
     ensures past { ArePast net.now pair which limit times.new }
 {
-    let searched = pair.searched(which);
+    let searched = searched_pair(which, pair);
     raise_past(times, set, searched.from, searched.to, limit);
     move_all(times, pair.from);
 }

@@ -8,11 +8,10 @@ ghost use Rattle.event_graph.specs.Satisfying.{Satisfies};
 ghost use Rattle.event_graph.specs.Times.{separation};
 ghost use Rattle.bounds_report.specs.Step.Searched.{AnswersSearch, FindsBy, WroteProof, WasCut, search_of};
 
-use crate::pair::Pair;
 use crate::wanted::Wanted;
 use branch::{GreatestAnswer, Quiet, SearchFinding, Work, find, greatest};
 use certificate::SinkScribe;
-use event_graph::{Network, ScribeFailed};
+use event_graph::{Network, Pair, ScribeFailed};
 use itv_base::{PutFailed, Sink};
 use line_words::LineBuffer;
 

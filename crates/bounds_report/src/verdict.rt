@@ -10,9 +10,8 @@ ghost use Rattle.bounds_report.specs.Step.Searched.{sized};
 ghost use Rattle.bounds_report.specs.Step.Writing.{WritesVerdicts};
 
 use crate::desk::Desk;
-use crate::pair::Pair;
 use crate::past::print_past;
-use event_graph::Network;
+use event_graph::{Network, Pair};
 use itv_base::{PutFailed, Range, Sink};
 use requirements::{BothBounds, Verdict, judge, slack};
 use slack_report::{Item, Which, write_item};

@@ -5,17 +5,18 @@ use Rattle.std.proofs.lemmas.List.Elements.{All-cons, All-contains, All-nil, Con
 use Rattle.itv_base.specs.declared.names.EdgeName.{EdgeName}
 use Rattle.itv_base.specs.declared.names.RuleKind.{RuleKind}
 use Rattle.itv_base.specs.declared.names.RuleKind.TheVariants.{Lin, Late, Early}
+use Rattle.itv_base.proofs.Options.{if_some, some_and}
 use Rattle.event_graph.specs.Cases.{IsCase}
 use Rattle.event_graph.specs.Edges.{Meets, choice_side, edge, holds_always}
 use Rattle.event_graph.specs.Laws.{MeetsAlwaysOf, MeetsSomeChoice}
-use Rattle.event_graph.specs.Network.{Constraint, IsCauseCount, IsConstraint, IsNet, Net, cause_count_of, named_causes}
+use Rattle.event_graph.specs.Network.{Constraint, IsCauseCount, IsConstraint, IsNet, Net, cause_count_of}
 use Rattle.event_graph.specs.Proof.{Case, Choice, HasChoice, IsOnChoiceSide, count_causes}
 use Rattle.event_graph.specs.Satisfying.{Breaks, Holds}
 use Rattle.event_graph.specs.Usable.{MeetsUsable}
 use Rattle.event_graph.proofs.ByEdges.{holds_by_edges}
-use Rattle.event_graph.proofs.EdgesMet.{All-found, met_if_some}
+use Rattle.event_graph.proofs.EdgesMet.{All-found}
+use Rattle.event_graph.proofs.Causes.{named_all}
 use Rattle.branch.specs.Step.Cases.{IsFree, IsSearchCase}
-use Rattle.branch.proofs.Results.{some_and}
 
 -- the constraint of a choice has its cause
 abbrev HasCauseThere : Net → Choice → Type 0
@@ -40,11 +41,6 @@ some_causes Lin count has counted = absurd has
 some_causes Late count has counted = counted.0
 some_causes Early count has counted = counted.0
 
-named_all : (kind : RuleKind) (count : ℕ) → HasChoice kind → named_causes kind count ≡ count
-named_all Lin count has = absurd has
-named_all Late count has = refl
-named_all Early count has = refl
-
 -- the times meet the usable edges of a case, and break a constraint of the network
 module _ (net : Net) (chosen : Case) (times : List ℤ) (number : ℕ) (k : Constraint) (is_net : IsNet net) (is_case : IsSearchCase net chosen) (meets : MeetsUsable net chosen times)
     (at_k : slice_get net.constraints number ≡ Some k) (breaks : Holds times k → ⊥) where
@@ -67,7 +63,7 @@ module _ (net : Net) (chosen : Case) (times : List ℤ) (number : ℕ) (k : Cons
       let name : EdgeName = record { constraint = number; cause = 0; side = choice_side k.kind } in (
         0,
         omega arith,
-        met_if_some (edge net name) (Meets times)
+        if_some (edge net name) (Meets times)
             (λ e is_edge. meets.each name e (inl (rw is_edge refl, rw at_k (single_always k.kind (length k.causes) has_choice single))) is_edge),
       )
 
@@ -90,7 +86,7 @@ module _ (net : Net) (chosen : Case) (times : List ℤ) (number : ℕ) (k : Cons
       let here : Contains chosen (record { constraint = number; cause = choice.cause }) =
       subst (λ (n : ℕ). Contains chosen (record { constraint = n; cause = choice.cause })) same contains in
       let on : IsOnChoiceSide net name = rw at_k (has_choice, refl) in
-      (choice.cause, omega (arith, there_number, counted), met_if_some (edge net name) (Meets times) (λ e is_edge. meets.each name e (inr (here, on)) is_edge))
+      (choice.cause, omega (arith, there_number, counted), if_some (edge net name) (Meets times) (λ e is_edge. meets.each name e (inr (here, on)) is_edge))
 
   none_chosen : All (λ (choice : Choice). choice.constraint ≡ number → ⊥) chosen
   none_chosen i d within same = unmet has_choice (met_chosen (get_or chosen i d) (Contains-get_or chosen i d within) same)

@@ -3,14 +3,13 @@ use Rattle.std.proofs.Common.{◌≡◌, ◌+◌, ◌-◌, ◌*◌, ◌<◌, ◌
 use Rattle.std.proofs.lemmas.Bool.{cases_lt, le-ltb, lt-ltb}
 use Rattle.std.proofs.lemmas.Option.{slice_get_within}
 use Rattle.std.proofs.lemmas.List.Sums.{sum_by-cons}
-use Rattle.itv_base.specs.declared.names.RuleKind.{RuleKind}
-use Rattle.itv_base.specs.declared.names.RuleKind.TheVariants.{Lin, Late, Early}
-use Rattle.event_graph.specs.Network.{Constraint, Net, cause_count_of, named_causes, splittable_count}
+use Rattle.event_graph.specs.Network.{Constraint, Net, cause_count_of, splittable_count}
 use Rattle.event_graph.specs.Proof.{Case, Choice, count_causes}
 use Rattle.event_graph.specs.Cases.{first_of, is_split}
 use Rattle.branch.specs.Step.Cases.{IsFree, IsSearchCase, IsSplittable, one_if_splittable, unsplit_from, work_left}
 use Rattle.event_graph.proofs.Choices.{others_unsplit, split-other, split-same}
-use Rattle.branch.proofs.Results.{some_and}
+use Rattle.event_graph.proofs.Causes.{named_most}
+use Rattle.itv_base.proofs.Options.{some_and}
 
 unsplit-earlier : (number : ℕ) (ks : List Constraint) (choice : Choice) (chosen : Case) → choice.constraint < number
     → unsplit_from number ks (choice ∷ chosen) ≡ unsplit_from number ks chosen
@@ -83,11 +82,6 @@ work_falls net budget leaves before now below is_case =
     let most : unsplit_from 0 net.constraints now < splittable_count net + 1 = omega (arith, bound_unsplit net now is_case) in
     subst (λ n. rest * (splittable_count net + 1) + unsplit_from 0 net.constraints now < n * (splittable_count net + 1) + unsplit_from 0 net.constraints before)
     (sym is_rest) (falls_by rest (splittable_count net + 1) (unsplit_from 0 net.constraints before) (unsplit_from 0 net.constraints now) most)
-
-named_most : (kind : RuleKind) (count : ℕ) → named_causes kind count ≤ count
-named_most Lin count = omega arith
-named_most Late count = omega arith
-named_most Early count = omega arith
 
 pub splittable_causes : (o : Option Constraint) → IsSplittable o → 0 < count_causes o
 splittable_causes None h = absurd h

@@ -8,11 +8,13 @@ use Rattle.itv_base.specs.declared.names.RuleKind.{RuleKind}
 use Rattle.itv_base.specs.declared.names.RuleKind.TheVariants.{Lin, Late, Early}
 use Rattle.event_graph.specs.declared.cause.Cause.{Cause}
 use Rattle.event_graph.specs.Bounds.{IsRay}
-use Rattle.event_graph.specs.Network.{Constraint, IsConstraint, IsNet, Net, cause_at}
+use Rattle.event_graph.specs.Network.{Constraint, IsConstraint, IsNet, Net}
 use Rattle.event_graph.specs.Satisfying.{HoldsAs, IsAfter, IsBefore, Satisfies}
 use Rattle.event_graph.specs.Times.{raised, time_of}
 use Rattle.event_graph.proofs.EdgesMet.{All-found}
 use Rattle.event_graph.specs.Limits.{weight_limit}
+use Rattle.event_graph.proofs.Causes.{cause_is}
+use Rattle.event_graph.proofs.Rays.{length-raised}
 use Rattle.branch.specs.Step.Raising.{IsRaisedApart, raised_to}
 
 -- the time of an event, raised or not
@@ -25,11 +27,6 @@ time_of-raised (true ∷ set) by (time ∷ times) zero false at within = absurd 
 time_of-raised (false ∷ set) by (time ∷ times) zero true at within = absurd (cc)
 time_of-raised (false ∷ set) by (time ∷ times) zero false at within = refl
 time_of-raised (is_in ∷ set) by (time ∷ times) (suc event) flag at within = time_of-raised set by times event flag at (omega arith)
-
-pub length-raised : (set : List Bool) (by : ℕ) (times : List ℤ) → length (raised set by times) ≡ length times
-length-raised [] by times = refl
-length-raised (is_in ∷ set) by [] = refl
-length-raised (is_in ∷ set) by (time ∷ times) = ap (λ n. suc n) (length-raised set by times)
 
 -- raised times meet an end that the times met before, unless the end reaches down across the gap
 after_raised : (low : Option ℤ) (cause target : ℤ) (in_cause in_target : Bool) (by : ℕ) → IsEnd low
@@ -105,9 +102,6 @@ module _ (set : List Bool) (by : ℕ) (times : List ℤ) (target : EventId) (cou
     any_kept (IsAfter times target) (IsAfter (raised set by times) target) causes (λ i c at. let has = each i c at in after_kept c has.0 has.1) holds.1,
   )
 
-cause-at : (net : Net) (number cause : ℕ) (k : Constraint) (c : Cause) → slice_get net.constraints number ≡ Some k → slice_get k.causes cause ≡ Some c → cause_at net number cause ≡ Some c
-cause-at net number cause k c at_k at_c = rw at_k at_c
-
 pub satisfies_raised : (net : Net) (set : List Bool) (by : ℕ) (times : List ℤ) → IsNet net → length set ≡ net.events → IsRaisedApart set times → Satisfies times net
     → Satisfies (raised set by times) net
 satisfies_raised net set by times is_net count apart satisfies = record {
@@ -120,7 +114,7 @@ satisfies_raised net set by times is_net count apart satisfies = record {
       let target : k.target.0 < length times = omega (arith, is_k.target) in
       holds_raised set by times k.target (count ∙ sym same) apart target k.kind k.causes
       (λ i c at.
-      let has = is_net.ends number i c (cause-at net number i k c at_k at) in
+      let has = is_net.ends number i c (cause_is net number i k c at_k at) in
       let event : c.event.0 < net.events = All-found (λ (cause : Cause). cause.event.0 < net.events) k.causes i c at is_k.causes in
       (omega arith, has.0, has.1))
       (satisfies.each number d within);

@@ -1,6 +1,6 @@
 mod Results
 mod CaseCounts
-mod SearchedLines
+pub mod SearchedLines
 mod Endings
 mod Advancing
 mod Gaps
@@ -15,3 +15,4 @@ mod GivenEdges
 mod MetSplits
 mod Looking
 mod KnownTimes
+pub mod Close

@@ -10,7 +10,6 @@ use Rattle.event_graph.specs.Satisfying.{Breaks, Satisfies}
 use Rattle.event_graph.specs.Times.{IsTime, separation}
 use Rattle.event_graph.specs.Usable.{MeetsUsable}
 use Rattle.diff_bounds.specs.Limits.{IsTimely}
-use Rattle.branch.specs.Work.{IsClose}
 use Rattle.branch.specs.Step.Cases.{IsFree, IsSearchCase}
 use Rattle.branch.specs.Step.Raising.{AreRaised, IsNearSeparation}
 use Rattle.branch.specs.Step.Searched.{IsOpen}
@@ -57,9 +56,6 @@ ray_at net chosen from to reach old new ray is_net is_ray are_raised satisfies =
 
 pub near_times : (times : List ℤ) → All IsTimely times → All IsTime times
 near_times times near = All-weaker IsTimely IsTime (λ t n. (omega (arith, ints), omega (arith, ints))) times near
-
-pub close_times : (times : List ℤ) → All IsClose times → All IsTime times
-close_times times close = All-weaker IsClose IsTime (λ t n. (omega (arith, ints), omega (arith, ints))) times close
 
 -- the separation of timely times is near
 pub near_separation : (times : List ℤ) (from to : EventId) → All IsTimely times → from.0 < length times → to.0 < length times → IsNearSeparation (separation times from to)

@@ -8,6 +8,8 @@ use Rattle.itv_base.specs.declared.names.EdgeName.{EdgeName}
 use Rattle.itv_base.specs.declared.names.EventId.{EventId}
 use Rattle.itv_base.specs.declared.names.RuleKind.{RuleKind}
 use Rattle.itv_base.specs.declared.names.RuleKind.TheVariants.{Lin, Late, Early}
+use Rattle.itv_base.proofs.Options.{if_some, some_and}
+use Rattle.itv_base.proofs.Lists.{found_below}
 use Rattle.event_graph.specs.declared.cause.Cause.{Cause}
 use Rattle.event_graph.specs.declared.edge.Edge.{Edge}
 use Rattle.event_graph.specs.Edges.{Meets, choice_side, edge, holds_always}
@@ -17,7 +19,7 @@ use Rattle.event_graph.specs.Proof.{Case, HasChoice}
 use Rattle.event_graph.specs.RootBound.{MeetsAlways}
 use Rattle.event_graph.specs.Satisfying.{Breaks, Holds, IsFirstBroken, Satisfies}
 use Rattle.event_graph.proofs.ByEdges.{holds_by_edges}
-use Rattle.event_graph.proofs.EdgesMet.{All-found, at_some, found_below, met_if_some}
+use Rattle.event_graph.proofs.EdgesMet.{All-found, at_some}
 use Rattle.branch.specs.declared.choice_edge.ChoiceEdge.{ChoiceEdge}
 use Rattle.branch.specs.ChoiceEdges.{HasChoiceEnds, given_edge}
 use Rattle.branch.specs.Step.Breaking.{IsBetween, IsEdgeBroken}
@@ -28,7 +30,7 @@ use Rattle.branch.specs.Step.Cases.{IsFree, IsSplittable}
 use Rattle.branch.specs.Step.Edges.{choice_name, side_of}
 use Rattle.branch.specs.Step.Looking.{IsTargetFound}
 use Rattle.event_graph.proofs.Choices.{IsOther, free_others}
-use Rattle.branch.proofs.Results.{some_and}
+use Rattle.event_graph.proofs.Causes.{named_most}
 
 one_cause : (kind : RuleKind) (count : ℕ) → IsCauseCount kind count → named_causes kind count < 2 → count ≡ 1
 one_cause Lin count counted few = counted
@@ -55,16 +57,11 @@ met_alone net times number k is_net meets at_k single =
     met_by_choice net times number k is_net meets at_k (
       0,
       omega (arith, single),
-      met_if_some (edge net name) (Meets times)
+      if_some (edge net name) (Meets times)
           (λ e is_edge. meets.each name e (rw is_edge refl, rw at_k (single_always k.kind (length k.causes) single)) is_edge),
     )
 
 -- ---- constraints by their choice edges
-
-named_most : (kind : RuleKind) (count : ℕ) → named_causes kind count ≤ count
-named_most Lin count = omega arith
-named_most Late count = omega arith
-named_most Early count = omega arith
 
 named_all : (kind : RuleKind) (count : ℕ) → 2 ≤ named_causes kind count → (named_causes kind count ≡ count) × HasChoice kind
 named_all Lin count many = absurd (omega (arith, many))
@@ -92,7 +89,7 @@ choice_met net times s k has at_k (cause, c, within, here, met) =
 -- the times meet a constraint with two or more causes where they meet one of its choice edges
 split_met : (net : Net) (times : List ℤ) (s : Splitting) → IsNet net → MeetsAlways times net → IsSplitOf net s → MeetsSome times s → IsMetAt times net s.number
 split_met net times s is_net meets split met =
-    met_if_some (slice_get net.constraints s.number) (Holds times) (λ k at_k. met_by_choice net times s.number k is_net meets at_k (choice_met net times s k split.edges at_k met))
+    if_some (slice_get net.constraints s.number) (Holds times) (λ k at_k. met_by_choice net times s.number k is_net meets at_k (choice_met net times s k split.edges at_k met))
 
 -- an edge is not both met and broken
 both : (times : List ℤ) (o : Option Edge) → IfSome o (Meets times) → IsSomeAnd o (λ (e : Edge). Meets times e → ⊥) → ⊥

@@ -8,10 +8,11 @@ use Rattle.std.proofs.lemmas.Option.{get_or_from_slice_get, slice_get-get_or, sl
 use Rattle.itv_base.specs.declared.names.EventId.{EventId}
 use Rattle.event_graph.specs.Times.{IsTime, raised, separation, time_of}
 use Rattle.event_graph.specs.Limits.{reach_limit, weight_limit}
+use Rattle.event_graph.proofs.Rays.{length-raised}
 use Rattle.diff_bounds.specs.Limits.{IsTimely}
 use Rattle.branch.specs.Work.{IsClose}
 use Rattle.branch.specs.Step.Raising.{AreRaised, IsRaisedApart, IsGap, IsNearSeparation, IsRise, raised_to}
-use Rattle.branch.proofs.Gaps.{length-raised, time_of-raised}
+use Rattle.branch.proofs.Gaps.{time_of-raised}
 
 moved_is : (flag : Bool) (time : ℤ) (by : ℕ) → (if flag then time +ℤ pos by else time) ≡ raised_to flag time by
 moved_is true time by = refl

@@ -1,5 +1,5 @@
 -- Facts of results.
-use Rattle.std.proofs.Common.{Ok, Err, IfOk, OnErr, OnOk, Result, Option, Some, None, IsSomeAnd, ◌≡◌, true, false, is_none, is_some, refl}
+use Rattle.std.proofs.Common.{Ok, Err, IfOk, OnErr, OnOk, Result, Option, Some, None, ◌≡◌, true, false, is_none, is_some, refl}
 
 pub on_err : {T E : Type 0} (r : Result T E) (P : Type 0) → P → OnErr r P
 on_err (Ok x) P p = tt
@@ -12,10 +12,6 @@ if_ok_then (Err e) P Q p f = tt
 pub on_err_then : {T E : Type 0} (r : Result T E) (P Q : Type 0) → OnErr r P → (P → Q) → OnErr r Q
 on_err_then (Ok x) P Q p f = tt
 on_err_then (Err e) P Q p f = f p
-
-pub some_and : {X : Type 0} (o : Option X) (P : X → Type 0) → IsSomeAnd o P → (x : X) × (o ≡ Some x) × P x
-some_and None P h = absurd h
-some_and (Some x) P h = (x, refl, h)
 
 pub is_none-some : {X : Type 0} (o : Option X) → is_some o ≡ true → is_none o ≡ false
 is_none-some None some = cc

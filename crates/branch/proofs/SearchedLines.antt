@@ -81,7 +81,7 @@ pub split_open : (net : Net) (chosen : Case) (number : ℕ) → 0 < count_causes
 split_open net chosen number some =
     ap (λ (cases : List Case). cases ++ siblings net chosen) (cases-first chosen number (count_causes (slice_get net.constraints number)) some)
 
-no_line : (before after : List ProofLine) (line : ProofLine) → [] ≡ before ++ line ∷ after → ⊥
+pub no_line : (before after : List ProofLine) (line : ProofLine) → [] ≡ before ++ line ∷ after → ⊥
 no_line [] after line same = cc
 no_line (b ∷ before) after line same = cc
 

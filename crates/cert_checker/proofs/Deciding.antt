@@ -31,11 +31,6 @@ pub none_first : {X : Type 0} (a b : Option X) → a ≡ None → b ≡ None →
 none_first None b no_a no_b = no_b
 none_first (Some x) b no_a no_b = absurd (cc)
 
--- the value that is there, and what holds of it
-pub some_and : {X : Type 0} (o : Option X) (P : X → Type 0) → IsSomeAnd o P → (x : X) × (o ≡ Some x) × P x
-some_and None P h = absurd h
-some_and (Some x) P h = (x, refl, h)
-
 pub and_some : {X : Type 0} (o : Option X) (P : X → Type 0) (x : X) → o ≡ Some x → P x → IsSomeAnd o P
 and_some {X = X} o P x is h = subst (λ (v : Option X). IsSomeAnd v P) (sym is) h
 

@@ -1,41 +1,28 @@
 -- A line is read next if and only if it has no fault.
-use Rattle.std.proofs.Common.{◌≡◌, ◌+◌, ◌≤◌, ◌==◌, ℕ, ℤ, pos, ◌≤ℤ◌, ◌<ℤ◌, Bool, true, false, if◌then◌else◌, List, [], ◌∷◌, ◌++◌, All, length, Option, Some, None, nat_le, int_le, int_lt, sym, ap, refl, subst, arith}
+use Rattle.std.proofs.Common.{◌≡◌, ◌+◌, ◌≤◌, ◌==◌, ℕ, pos, Bool, true, false, if◌then◌else◌, List, [], ◌∷◌, ◌++◌, All, length, Option, Some, None, nat_le, int_le, int_lt, sym, ap, refl, subst}
 use Rattle.std.specs.Option.{option_or}
 use Rattle.std.proofs.lemmas.Bool.{eq-eqb, eqb-true, le-leb, leb-true}
-use Rattle.std.proofs.lemmas.Int.{ints}
 use Rattle.std.proofs.lemmas.List.Elements.{All-cons, All-head, All-nil, All-tail}
 use Rattle.itv_base.specs.declared.names.EdgeName.{EdgeName}
 use Rattle.itv_base.specs.declared.names.EventId.{EventId}
+use Rattle.itv_base.proofs.Integers.{test_from_lt, test_from_le, lt_from_test, le_from_test}
+use Rattle.itv_base.proofs.Options.{some_and}
 use Rattle.event_graph.specs.declared.edge.Edge.{Edge}
 use Rattle.event_graph.specs.Edges.{edge}
 use Rattle.event_graph.specs.Network.{Net}
 use Rattle.event_graph.specs.Proof.{Bound, Case, ClosesByLoop, ClosesByPath, IsUsable, IsWalk, Loop, Nothing, Path, ProofGoal, ProofLine, ProofLeaves, Split, cases_of, path_sum}
 use Rattle.event_graph.proofs.ReadingOn.{reads-append}
+use Rattle.event_graph.proofs.Causes.{same_event}
 use Rattle.cert_checker.specs.declared.check_fault.CheckFault.{CheckFault}
 use Rattle.cert_checker.specs.declared.check_fault.CheckFault.TheVariants.{Broken, NotNegative, SumTooGreat, TooLong}
 use Rattle.cert_checker.specs.Faults.{behind_line, begin_of, edge_end, fault_of_edge, fault_of_length, fault_of_line, fault_of_loop, fault_of_loop_sum, fault_of_path, fault_of_path_sum, fault_of_walk, is_usable, loop_begin}
 use Rattle.cert_checker.specs.Laws.{LinesAreReadOneByOne, NoFaultIsRead}
-use Rattle.cert_checker.proofs.Deciding.{first_none, if_none, is_usable_of, none_first, none_split, some_and, split_none, usable_is}
+use Rattle.cert_checker.proofs.Deciding.{first_none, if_none, is_usable_of, none_first, none_split, split_none, usable_is}
 
 none_sum : (b : Bool) (fault : CheckFault) → b ≡ true → (if b then None else Some fault) ≡ None
 none_sum b fault is = rw is refl
 
-le_test : (a b : ℤ) → int_le a b ≡ true → a ≤ℤ b
-le_test a b h = grind (arith, ints)
-
-test_le : (a b : ℤ) → a ≤ℤ b → int_le a b ≡ true
-test_le a b h = grind (arith, ints)
-
-lt_test : (a b : ℤ) → int_lt a b ≡ true → a <ℤ b
-lt_test a b h = grind (arith, ints)
-
-test_lt : (a b : ℤ) → a <ℤ b → int_lt a b ≡ true
-test_lt a b h = grind (arith, ints)
-
 -- ---- walks
-
-same_event : (a b : EventId) → a.0 ≡ b.0 → a ≡ b
-same_event a b same = let event : ℕ → EventId = λ n. record { 0 = n } in ap event same
 
 edge_none : (place : ℕ) (at : EventId) (usable : Bool) (o : Option Edge) → fault_of_edge place at usable o ≡ None
     → (e : Edge) × (o ≡ Some e) × (usable ≡ true) × (e.from ≡ at)
@@ -81,7 +68,7 @@ path_none net (Bound from to value) chosen names h =
     let parts = first_none (fault_of_length net names) (option_or (fault_of_walk net chosen to 0 from names) (fault_of_path_sum value (path_sum net names))) h in
     let more = first_none (fault_of_walk net chosen to 0 from names) (fault_of_path_sum value (path_sum net names)) parts.1 in
     let walk = walk_none net chosen to 0 from names more.0 in
-    (walk.0, walk.1, le_test (path_sum net names) value (if_none (int_le (path_sum net names) value) (SumTooGreat (path_sum net names)) more.1), length_none net names parts.0)
+    (walk.0, walk.1, le_from_test (path_sum net names) value (if_none (int_le (path_sum net names) value) (SumTooGreat (path_sum net names)) more.1), length_none net names parts.0)
 
 none_path : (net : Net) (goal : ProofGoal) (chosen : Case) (names : List EdgeName) → ClosesByPath net goal chosen names → fault_of_path net goal chosen names ≡ None
 none_path net Nothing chosen names closes = absurd closes
@@ -89,7 +76,7 @@ none_path net (Bound from to value) chosen names closes =
     none_first (fault_of_length net names) (option_or (fault_of_walk net chosen to 0 from names) (fault_of_path_sum value (path_sum net names)))
     (none_length net names closes.3)
     (none_first (fault_of_walk net chosen to 0 from names) (fault_of_path_sum value (path_sum net names)) (none_walk net chosen to 0 from names closes.0 closes.1)
-    (none_sum (int_le (path_sum net names) value) (SumTooGreat (path_sum net names)) (test_le (path_sum net names) value closes.2)))
+    (none_sum (int_le (path_sum net names) value) (SumTooGreat (path_sum net names)) (test_from_le (path_sum net names) value closes.2)))
 
 loop_none : (net : Net) (chosen : Case) (names : List EdgeName) → fault_of_loop net chosen names ≡ None → ClosesByLoop net chosen names
 loop_none net chosen names h =
@@ -97,7 +84,7 @@ loop_none net chosen names h =
     let parts = first_none (fault_of_length net names) (option_or (fault_of_walk net chosen begin 0 begin names) (fault_of_loop_sum (path_sum net names))) h in
     let more = first_none (fault_of_walk net chosen begin 0 begin names) (fault_of_loop_sum (path_sum net names)) parts.1 in
     let walk = walk_none net chosen begin 0 begin names more.0 in
-    ((begin, walk.0), walk.1, lt_test (path_sum net names) (pos 0) (if_none (int_lt (path_sum net names) (pos 0)) (NotNegative (path_sum net names)) more.1), length_none net names parts.0)
+    ((begin, walk.0), walk.1, lt_from_test (path_sum net names) (pos 0) (if_none (int_lt (path_sum net names) (pos 0)) (NotNegative (path_sum net names)) more.1), length_none net names parts.0)
 
 -- a loop that is not empty begins where its first edge begins
 loop_walk : (net : Net) (event : EventId) (names : List EdgeName) → IsWalk net event names event → IsWalk net (loop_begin net names) names (loop_begin net names)
@@ -113,7 +100,7 @@ none_loop net chosen names closes =
     none_first (fault_of_length net names) (option_or (fault_of_walk net chosen begin 0 begin names) (fault_of_loop_sum (path_sum net names))) (none_length net names closes.3)
     (none_first (fault_of_walk net chosen begin 0 begin names) (fault_of_loop_sum (path_sum net names))
     (none_walk net chosen begin 0 begin names (loop_walk net closes.0.0 names closes.0.1) closes.1)
-    (none_sum (int_lt (path_sum net names) (pos 0)) (NotNegative (path_sum net names)) (test_lt (path_sum net names) (pos 0) closes.2)))
+    (none_sum (int_lt (path_sum net names) (pos 0)) (NotNegative (path_sum net names)) (test_from_lt (path_sum net names) (pos 0) closes.2)))
 
 -- ---- lines
 
@@ -135,7 +122,7 @@ pub lines_are_read_one_by_one : LinesAreReadOneByOne
 lines_are_read_one_by_one net goal cases line lines left = (none_reads net goal cases line lines left, reads_none net goal cases line lines left)
 
 -- lines lead to just one list of open cases
-reads_on : (net : Net) (goal : ProofGoal) (lines more : List ProofLine) (cases mid left : List Case) → ProofLeaves net goal cases lines mid → ProofLeaves net goal cases (lines ++ more) left
+pub reads_on : (net : Net) (goal : ProofGoal) (lines more : List ProofLine) (cases mid left : List Case) → ProofLeaves net goal cases lines mid → ProofLeaves net goal cases (lines ++ more) left
     → ProofLeaves net goal mid more left
 reads_on net goal [] more cases mid left first whole = subst (λ (cs : List Case). ProofLeaves net goal cs more left) first whole
 reads_on net goal (line ∷ lines) more [] mid left first whole = absurd first

@@ -5,23 +5,19 @@ use Rattle.itv_base.specs.declared.names.RuleKind.TheVariants.{Lin, Late, Early}
 use Rattle.event_graph.specs.Cases.{IsCase, first_of, is_split}
 use Rattle.event_graph.specs.Network.{Constraint, Net, cause_count_of, named_causes}
 use Rattle.event_graph.specs.Proof.{Case, HasChoice, MaySplit, count_causes}
+use Rattle.event_graph.proofs.Causes.{named_all}
 use Rattle.cert_checker.specs.declared.check_fault.CheckFault.TheVariants.{AlreadySplit}
 use Rattle.cert_checker.specs.Faults.{fault_of_constraint, fault_of_split}
 use Rattle.cert_checker.proofs.Deciding.{has_true, split_none}
 
 -- ---- numbers of causes
 
-counted : (kind : RuleKind) (count : ℕ) → HasChoice kind → named_causes kind count ≡ count
-counted Lin count has = absurd has
-counted Late count has = refl
-counted Early count has = refl
-
 -- a constraint with causes to choose from names all of them
 pub count_is : (o : Option Constraint) (count : ℕ) → IsSomeAnd o (λ c. HasChoice c.kind) → option_map cause_count_of o ≡ Some count → count_causes o ≡ count
 count_is None count has is = absurd has
 count_is (Some c) count has is =
     let named : cause_count_of c ≡ count = cc in
-    sym (counted c.kind (length c.causes) has) ∙ named
+    sym (named_all c.kind (length c.causes) has) ∙ named
 
 named_some : (kind : RuleKind) (count : ℕ) → (named_causes kind count ≡ 0 → ⊥) → HasChoice kind
 named_some Lin count some = absurd (some refl)

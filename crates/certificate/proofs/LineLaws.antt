@@ -13,11 +13,12 @@ use Rattle.itv_base.specs.declared.names.Side.TheVariants.{Lower, Upper}
 use Rattle.itv_base.proofs.Cuts.{stripped_some}
 use Rattle.itv_base.proofs.Numerals.{digits-text}
 use Rattle.itv_base.proofs.Runs.{front_of_run, rest_of_run, run_whole, stops}
+use Rattle.itv_base.proofs.Options.{mapped_some}
 use Rattle.event_graph.specs.Proof.{Loop, Path, ProofLine, Split}
 use Rattle.line_words.specs.Words.{◌>>=◌, Word, is_word, keyed, many, one, or_else, split_words, when}
 use Rattle.line_words.specs.Lines.{line_of}
 use Rattle.line_words.specs.Numbers.{number_in}
-use Rattle.line_words.proofs.Inverts.{Inverts, bind_some, either_takes, keyed_inverts, last_some, many_inverts, map_some, one_inverts, pick_some}
+use Rattle.line_words.proofs.Inverts.{Inverts, bind_some, either_takes, keyed_inverts, last_some, many_inverts, one_inverts, pick_some}
 use Rattle.line_words.proofs.NumberLaws.{number_inverts}
 use Rattle.line_words.proofs.Plain.{ArePlain, is_plain, line_is_text, map_plain, number_plain, plain_append, split-join}
 use Rattle.std.proofs.lemmas.List.Splits.{join_with_byte-slice_split}
@@ -43,10 +44,10 @@ side_again : (side : Side) → side_in (side_letter side) ≡ Some side
 side_again Upper = refl
 side_again Lower = refl
 
-below_from : (n : ℕ) → n ≤ 2 ^ 32 - 1 → n < 2 ^ 32
+pub below_from : (n : ℕ) → n ≤ 2 ^ 32 - 1 → n < 2 ^ 32
 below_from n h = omega arith
 
-to_below : (n : ℕ) → n < 2 ^ 32 → n ≤ 2 ^ 32 - 1
+pub to_below : (n : ℕ) → n < 2 ^ 32 → n ≤ 2 ^ 32 - 1
 to_below n h = omega arith
 
 short_inverts : Inverts (number_in (2 ^ 32 - 1)) number_text (λ n. n < 2 ^ 32)
@@ -118,7 +119,7 @@ proof_takes words line e =
     (λ n h. split_invert.takes words n h)
     (λ others. either_takes Path (keyed (codes "path") (many edge_in)) (option_map Loop (keyed (codes "loop") (many edge_in) words)) words line (Taken words) others
     (λ edges h. (edges_invert (codes "path")).takes words edges h)
-    (λ last. let m = map_some Loop (keyed (codes "loop") (many edge_in) words) line last in
+    (λ last. let m = mapped_some Loop (keyed (codes "loop") (many edge_in) words) line last in
     subst (Taken words) m.2 ((edges_invert (codes "loop")).takes words m.0 m.1)))
 
 proof_again : (line : ProofLine) → IsProofLine line → proof_in (proof_words line) ≡ Some line
@@ -136,7 +137,7 @@ side_plain : (side : Side) → is_plain (side_letter side) ≡ true
 side_plain Upper = refl
 side_plain Lower = refl
 
-edge_plain : (edge : EdgeName) → is_plain (edge_word edge) ≡ true
+pub edge_plain : (edge : EdgeName) → is_plain (edge_word edge) ≡ true
 edge_plain edge =
     plain_append (number_text edge.constraint) (46 ∷ (number_text edge.cause ++ side_letter edge.side)) (number_plain edge.constraint)
     (plain_append (number_text edge.cause) (side_letter edge.side) (number_plain edge.cause) (side_plain edge.side))

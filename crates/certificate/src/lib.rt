@@ -14,7 +14,7 @@ mod writing;
 
 pub use fault::LineFault;
 pub use line::OwnedLine;
-pub use reading::{proof_in, read_line};
+pub use reading::{edge_in, proof_in, read_line};
 pub use sink_scribe::SinkScribe;
 pub use tree_scribe::TreeScribe;
 pub use writing::{put_edge, side_letter, write_line};

@@ -41,8 +41,9 @@ fn cause_in(constraint: u32, word: &str) -> Option<EdgeName>
     })
 }
 
+/// The edge that a word names, if it names one.
 #[tactic(auto, unfolding(crate::specs::Reading::edge_in))]
-fn edge_in(word: &str) -> Option<EdgeName>
+pub fn edge_in(word: &str) -> Option<EdgeName>
     ensures { result ≡ edge_in word.now }
 {
     let (digits, rest) = split_digits(word);

@@ -4,13 +4,13 @@ use Rattle.std.proofs.lemmas.Option.{same_Some}
 use Rattle.std.proofs.lemmas.List.Elements.{All-nil, All-push}
 use Rattle.itv_base.specs.declared.names.EdgeName.{EdgeName}
 use Rattle.itv_base.specs.declared.names.EventId.{EventId}
+use Rattle.itv_base.proofs.Options.{some_and}
 use Rattle.event_graph.specs.declared.edge.Edge.{Edge}
 use Rattle.event_graph.specs.Edges.{edge}
 use Rattle.event_graph.specs.Network.{Net}
 use Rattle.event_graph.specs.Proof.{IsWalk}
 use Rattle.chains.specs.Chain.{IsChain, IsTight}
 use Rattle.chains.specs.Step.Spreading.{IsReached, LeadOn, LeadsFrom}
-use Rattle.chains.proofs.Raised.{some_and}
 
 -- a walk with one more edge
 pub walk_on : (net : Net) (from : EventId) (names : List EdgeName) (at end : EventId) (name : EdgeName) → IsWalk net from names at

@@ -1,23 +1,22 @@
 -- Edges that were looked at, one after another.
-use Rattle.std.proofs.Common.{◌≡◌, ◌+◌, ◌<◌, ◌≤◌, ◌⊎◌, inl, inr, ℕ, ℤ, max, Bool, true, false, List, length, get_or, replicate, set, Option, Some, None, option_map, option_and_then, slice_get, sym, ap, ◌∙◌, refl, subst, arith}
+use Rattle.std.proofs.Common.{◌≡◌, ◌+◌, ◌<◌, ◌≤◌, ◌⊎◌, inl, inr, ℕ, ℤ, max, Bool, true, false, List, length, get_or, replicate, set, Some, option_map, slice_get, sym, ap, ◌∙◌, refl, subst, arith}
 use Rattle.std.proofs.lemmas.Bool.{cases_eq, cases_lt, false≢true}
 use Rattle.std.proofs.lemmas.Grind.{get_or-set_at}
 use Rattle.std.proofs.lemmas.List.{get_or-replicate, get_or-set_other, get_or_past, length-replicate, length-set}
-use Rattle.std.proofs.lemmas.Option.{same_Some, slice_get_within}
+use Rattle.std.proofs.lemmas.Option.{slice_get_within}
 use Rattle.itv_base.specs.declared.names.EdgeName.{EdgeName}
 use Rattle.itv_base.specs.declared.names.EventId.{EventId}
-use Rattle.itv_base.specs.declared.names.RuleKind.{RuleKind}
-use Rattle.itv_base.specs.declared.names.RuleKind.TheVariants.{Lin, Late, Early}
 use Rattle.itv_base.specs.declared.names.Side.{Side}
 use Rattle.itv_base.specs.declared.names.Side.TheVariants.{Lower, Upper}
+use Rattle.itv_base.proofs.Options.{then_some, some_and}
 use Rattle.event_graph.specs.declared.edge.Edge.{Edge}
 use Rattle.event_graph.specs.Edges.{edge}
-use Rattle.event_graph.specs.Network.{Constraint, IsCauseCount, IsConstraint, IsNet, Net, cause_count_of, named_causes}
+use Rattle.event_graph.specs.Network.{Constraint, IsConstraint, IsNet, Net, cause_count_of}
 use Rattle.event_graph.proofs.EdgesMet.{All-found, cause_of}
+use Rattle.event_graph.proofs.Causes.{count_most, counted_is, same_event}
 use Rattle.chains.specs.Chain.{IsTight}
 use Rattle.chains.specs.Closed.{Has, IsClosedSet, DoesNotEnter}
 use Rattle.chains.specs.Step.Spreading.{IsSpread, IsTightEdge, LooksAt, Spread, spread_at, spread_by}
-use Rattle.chains.proofs.Raised.{some_and}
 
 -- ---- one edge
 
@@ -39,9 +38,6 @@ looked_past net times name spread closed = record {
   more = omega arith;
   none = λ same. (refl, λ other is. subst (DoesNotEnter net times spread.reached) (sym is) closed);
 }
-
-same_event : (a b : EventId) → a.0 ≡ b.0 → a ≡ b
-same_event a b same = ap (λ (n : ℕ). record { 0 = n }) same
 
 -- one more event is reached by an edge that leads from it
 pub spread_on : (net : Net) (times : List ℤ) (to : EventId) (name : EdgeName) (e : Edge) (spread : Spread) → IsTightEdge net times name e
@@ -105,20 +101,6 @@ looked_fewer net times Seen Fewer old new looked among = record {
 
 -- ---- the edges of a constraint
 
-then_some : {X Y : Type 0} (f : X → Option Y) (o : Option X) (y : Y) → option_and_then f o ≡ Some y → (x : X) × (o ≡ Some x) × (f x ≡ Some y)
-then_some f None y e = absurd (cc)
-then_some f (Some x) y e = (x, refl, e)
-
--- a constraint has at most as many causes as it names, or one if it names none
-named_most : (kind : RuleKind) (count : ℕ) → IsCauseCount kind count → count ≤ max (named_causes kind count) 1
-named_most Lin count h = omega arith
-named_most Late count h = omega arith
-named_most Early count h = omega arith
-
--- a number that an option maps to
-counted_is : (f : Constraint → ℕ) (o : Option Constraint) (k : Constraint) (count : ℕ) → option_map f o ≡ Some count → o ≡ Some k → f k ≡ count
-counted_is f o k count counted is = same_Some (f k) count (rw is at counted)
-
 -- an edge that is there is an edge of a constraint that is there, and of one of the causes that it names, or of cause 0 if it names none
 edge_within : (net : Net) (name : EdgeName) (e : Edge) → IsNet net → edge net name ≡ Some e
     → (k : Constraint) × (slice_get net.constraints name.constraint ≡ Some k) × (name.cause < max (cause_count_of k) 1)
@@ -127,7 +109,7 @@ edge_within net name e is_net is_edge =
     let (c, at_c, made) = cause_of net name k e at_k is_edge in
     let is : IsConstraint net.events k = All-found (IsConstraint net.events) net.constraints name.constraint k at_k is_net.constraints in
     let within : name.cause < length k.causes = slice_get_within k.causes name.cause c at_c in
-    let most : length k.causes ≤ max (cause_count_of k) 1 = named_most k.kind (length k.causes) is.count in
+    let most : length k.causes ≤ max (cause_count_of k) 1 = count_most k.kind (length k.causes) is.count in
     (k, at_k, omega arith)
 
 -- the edges of a constraint with the causes below a number

@@ -5,17 +5,17 @@ use Rattle.std.proofs.lemmas.Option.{get_or_from_slice_get, same_Some, slice_get
 use Rattle.std.proofs.lemmas.List.Elements.{All-cons, All-head, All-nil, All-tail}
 use Rattle.itv_base.specs.declared.names.EdgeName.{EdgeName}
 use Rattle.itv_base.specs.declared.names.EventId.{EventId}
+use Rattle.itv_base.proofs.Lists.{found_below}
+use Rattle.itv_base.proofs.Options.{some_and}
 use Rattle.event_graph.specs.declared.edge.Edge.{Edge}
 use Rattle.event_graph.specs.Network.{Constraint, Net}
 use Rattle.event_graph.specs.Satisfying.{Holds, IsAfter, IsBefore}
 use Rattle.event_graph.specs.Edges.{choice_side, edge, holds_always, side_edge}
 use Rattle.event_graph.specs.Proof.{Bound, Case, ClosesByLoop, ClosesByPath, HasChoice, IsProof, IsUsable, IsWalk, Loop, MaySplit, Nothing, Path, ProofGoal, ProofLine, ProofLeaves, Split, cases_from, cases_of, count_causes, path_sum, weight_of}
-use Rattle.event_graph.proofs.EdgesMet.{found_below}
 use Rattle.event_graph.proofs.SoundProofs.{proof_bounds, proof_of_nothing}
 use Rattle.chains.specs.Laws.{NamedBound, NamedContradict, OnlyIsOf, OnlyIsWider}
 use Rattle.chains.specs.Named.{HasEdgeOf, HasNames, IsIn, SomeNames}
 use Rattle.chains.specs.Only.{free_constraint, only_constraint, only_constraints, only_net}
-use Rattle.chains.proofs.Raised.{some_and}
 
 -- ---- the constraints of a set
 

@@ -6,6 +6,7 @@ use Rattle.std.proofs.lemmas.Option.{slice_get-get_or, slice_get_within}
 use Rattle.std.proofs.lemmas.List.Elements.{All-head, All-tail}
 use Rattle.itv_base.specs.declared.names.EdgeName.{EdgeName}
 use Rattle.itv_base.specs.declared.names.EventId.{EventId}
+use Rattle.itv_base.proofs.Options.{if_some, some_and}
 use Rattle.event_graph.specs.declared.edge.Edge.{Edge}
 use Rattle.event_graph.specs.declared.cause.Cause.{Cause}
 use Rattle.event_graph.specs.Network.{Constraint, IsNet, Net, cause_at}
@@ -15,7 +16,7 @@ use Rattle.event_graph.specs.Edges.{Meets, choice_side, edge}
 use Rattle.event_graph.specs.Laws.{MeetsAlwaysOf, MeetsSomeChoice}
 use Rattle.event_graph.specs.Proof.{HasChoice, IsWalk, path_sum, weight_of}
 use Rattle.event_graph.proofs.ByEdges.{holds_by_edges}
-use Rattle.event_graph.proofs.EdgesMet.{at_some, met_if_some}
+use Rattle.event_graph.proofs.EdgesMet.{at_some}
 use Rattle.event_graph.proofs.Rays.{length-raised}
 use Rattle.chains.specs.Chain.{AreBest, IsBinding, IsChain, IsExceeded, IsTight}
 use Rattle.chains.specs.Closed.{Has, IsClosedSet, DoesNotEnter}
@@ -126,14 +127,14 @@ choice_raised net times set number c same closed at_c (cause, within, met) =
       | inl (k, below, room) ↦ (
         k,
         below,
-        met_if_some (edge net (choice k)) (Meets (raised set 1 times))
+        if_some (edge net (choice k)) (Meets (raised set 1 times))
             (λ e is_edge. spare_raised times set e same (at_some (λ d. separation times d.from d.to <ℤ d.weight) (edge net (choice k)) e is_edge room)),
       )
       | inr none ↦
           let binds : IsBinding net times (choice cause) = inr (λ k some. none k (cause_within net number k c at_c some)) in (
             cause,
             within,
-            met_if_some (edge net (choice cause)) (Meets (raised set 1 times))
+            if_some (edge net (choice cause)) (Meets (raised set 1 times))
                 (λ e is_edge. meets_raised net times set (choice cause) e same binds (closed (choice cause)) is_edge
                 (at_some (Meets times) (edge net (choice cause)) e is_edge met)),
           )
@@ -184,11 +185,6 @@ not_best net times from to (others, satisfies, farther) best =
     omega (arith, ints)
 
 -- ---- chains
-
--- the value of the option, and what holds of it
-pub some_and : {X : Type 0} (o : Option X) (P : X → Type 0) → IsSomeAnd o P → (x : X) × (o ≡ Some x) × P x
-some_and None P h = absurd h
-some_and (Some x) P h = (x, refl, h)
 
 -- the weight of a named edge that is tight
 pub tight_at : (net : Net) (times : List ℤ) (name : EdgeName) (e : Edge) → edge net name ≡ Some e → IsTight net times name → separation times e.from e.to ≡ e.weight

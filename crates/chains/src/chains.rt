@@ -65,8 +65,7 @@ impl Chains {
         ensures best { AreBest net.now times.now from to → IsTrue result }
         ensures empty { result ≡ false → self.new.names ≡ [] }
     {
-        // The call also gives the invariant: the network is within its limits.
-        let _events = net.events();
+        net.is_whole();
         self.names.clear();
         self.spread.begin(to);
         if !spread_back(net, times, from, &mut self.spread) {

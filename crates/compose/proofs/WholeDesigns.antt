@@ -1,14 +1,13 @@
 -- A whole netlist and whole sheets make a design.
-use Rattle.std.proofs.Common.{◌≡◌, ℕ, zero, suc, ◌+◌, ◌<◌, ◌≤◌, Bool, true, false, cond, ◌==◌, ltb, List, [], ◌∷◌, ◌++◌, length, take, All, Option, Some, None, IfSome, position, unwrap_or, Result, Ok, Err, IfOk, refl, sym, ◌∙◌, arith}
+use Rattle.std.proofs.Common.{◌≡◌, ℕ, zero, suc, ◌+◌, ◌<◌, ◌≤◌, Bool, true, false, cond, ◌==◌, List, [], ◌∷◌, ◌++◌, length, take, All, Option, Some, None, IfSome, position, unwrap_or, Result, Ok, Err, IfOk, refl, sym, ◌∙◌, arith}
 use Rattle.std.specs.Prelude.{find, ok_or, option_map, slice_get, IsSomeAnd, ⊤}
-use Rattle.std.specs.List.{position_or_len}
 use Rattle.std.specs.Str.{bytes_eq}
-use Rattle.std.proofs.lemmas.Bool.{cond_both, eqb-true, ltb-true}
+use Rattle.std.proofs.lemmas.Bool.{cond_both, eqb-true}
 use Rattle.std.proofs.lemmas.List.{length-map}
 use Rattle.std.proofs.lemmas.List.Elements.{All-append, All-cons, All-head, All-nil, All-push, All-tail}
 use Rattle.std.proofs.lemmas.List.Sums.{sum_by-cons}
 use Rattle.std.proofs.lemmas.Option.{get_or_from_slice_get, slice_get_within}
-use Rattle.itv_base.specs.Range.{Ends, IsRange}
+use Rattle.itv_base.specs.Range.{Ends}
 use Rattle.itv_base.specs.Reading.{◌>>=◌, walk, walk_to}
 use Rattle.itv_base.proofs.Faults.{IfOk-bind, IfOk-walk}
 use Rattle.netlist.specs.declared.part.Part.{Part}
@@ -17,12 +16,13 @@ use Rattle.netlist.specs.declared.wire.Wire.{Wire}
 use Rattle.netlist.specs.NetlistContents.{JoinedPins}
 use Rattle.netlist.specs.NetlistContents.{NetlistContents as Netlist}
 use Rattle.netlist.specs.Whole.{IsNetlist, IsWholeWire}
+use Rattle.netlist.proofs.WholeNetlists.{IfOk-any, IfOk-ok_or}
 use Rattle.sheet.specs.declared.mark.Mark.{Mark}
 use Rattle.sheet.specs.declared.pin.Pin.{Pin}
 use Rattle.sheet.specs.SheetContents.{SheetContents}
-use Rattle.sheet.specs.Links.{Link, is_full, open_ends}
+use Rattle.sheet.specs.Links.{Link, is_full}
 use Rattle.sheet.specs.Whole.{IsWhole}
-use Rattle.sheet.proofs.WholeSheets.{AreWhole, AreWhole-none, IsWholeLink, few_push, link_rows_whole, link_rules_whole}
+use Rattle.sheet.proofs.WholeSheets.{AreWhole, AreWhole-none, IsWholeLink, few_push, link_rows_whole, link_rules_whole, position_within, range_whole}
 use Rattle.compose.specs.declared.fault.JoinFault.{JoinFault}
 use Rattle.compose.specs.declared.fault.JoinFault.TheVariants.{NoPart, NoPin, MarkCounts, WireNoPart, WireNoMark, TooManyCauses}
 use Rattle.compose.specs.declared.joins.Join.{Join}
@@ -43,15 +43,7 @@ after_step : {A B F : Type 0} (Q : B → Type 0) (read : Result A F) (f : A → 
 after_step Q (Ok x) f then = then x refl
 after_step Q (Err fault) f then = tt
 
-IfOk-any : {A F : Type 0} (read : Result A F) → IfOk read (λ _. Unit {0})
-IfOk-any (Ok x) = tt
-IfOk-any (Err fault) = tt
-
-IfOk-ok_or : {A F : Type 0} (P : A → Type 0) (o : Option A) (fault : F) → IfSome o P → IfOk (ok_or o fault) P
-IfOk-ok_or P None fault h = tt
-IfOk-ok_or P (Some x) fault h = h
-
-All-slice_get : {X : Type 0} (P : X → Type 0) (xs : List X) (i : ℕ) (x : X) → All P xs → slice_get xs i ≡ Some x → P x
+pub All-slice_get : {X : Type 0} (P : X → Type 0) (xs : List X) (i : ℕ) (x : X) → All P xs → slice_get xs i ≡ Some x → P x
 All-slice_get P xs i x all read = rw (get_or_from_slice_get xs i x x read) at (all i x (slice_get_within xs i x read))
 
 -- what holds for all elements holds for the one that is found
@@ -59,13 +51,9 @@ find_all : {X : Type 0} (P : X → Type 0) (p : X → Bool) (xs : List X) → Al
 find_all P p [] all = tt
 find_all P p (x ∷ xs) all = cond_both (p x) (Some x) (find p xs) (λ o. IfSome o P) (λ _. All-head P x xs all) (λ _. find_all P p xs (All-tail P x xs all))
 
-position_within : {X : Type 0} (p : X → Bool) (xs : List X) → IfSome (position p xs) (λ k. k < length xs)
-position_within p xs =
-    cond_both (ltb (position_or_len p xs) (length xs)) (Some (position_or_len p xs)) None (λ o. IfSome o (λ k. k < length xs)) (ltb-true (position_or_len p xs) (length xs)) (λ _. tt)
-
 -- ---- marks by numbers
 
-mark_count_cons : (sheet : SheetContents) (sheets : List SheetContents) → mark_count (sheet ∷ sheets) ≡ length sheet.marks + mark_count sheets
+pub mark_count_cons : (sheet : SheetContents) (sheets : List SheetContents) → mark_count (sheet ∷ sheets) ≡ length sheet.marks + mark_count sheets
 mark_count_cons sheet sheets = sum_by-cons (λ (s : SheetContents). length s.marks) sheet sheets
 
 -- the number of a mark is less than the number of marks
@@ -76,7 +64,7 @@ number_below (sheet ∷ sheets) zero mark there = omega (arith, there, mark_coun
 number_below (sheet ∷ sheets) (suc part) mark there =
     omega (arith, number_below sheets part mark there, mark_count_cons sheet sheets, mark_count_cons sheet (take part sheets))
 
-number_within : (sheets : List SheetContents) (mark : DesignMark) → IsMarkOf sheets mark → number_of sheets mark < mark_count sheets
+pub number_within : (sheets : List SheetContents) (mark : DesignMark) → IsMarkOf sheets mark → number_of sheets mark < mark_count sheets
 number_within sheets mark there = number_below sheets mark.part mark.mark there
 
 -- ---- pins
@@ -198,10 +186,6 @@ mark_named_there sheets part name (Some sheet) at =
 record AreEnds (sheets : List SheetContents) (ends : WireEnds) : Type 0 where
   from : IsMarkOf sheets ends.from
   to : IsMarkOf sheets ends.to
-
-range_whole : (ends : Option Ends) → IfSome ends IsRange → IsRange (unwrap_or ends open_ends)
-range_whole None h = (tt, tt, tt)
-range_whole (Some ends) h = h
 
 module _ (parts : List Part) (sheets : List SheetContents) where
   part_any : (name : List ℕ) (n : ℕ) → IfOk (ok_or (part_named parts name) (WireNoPart n)) (λ _. Unit {0})

@@ -72,6 +72,7 @@ use Rattle.itv_cli.specs.declared.outcome.Outcome.{Outcome}
 use Rattle.itv_cli.specs.declared.outcome.Outcome.TheVariants as ends
 use Rattle.itv_cli.specs.declared.ready.Ready.{Ready}
 use Rattle.itv_cli.specs.declared.ready.Ready.TheVariants as given
+use Rattle.itv_cli.proofs.Ending.{task_is}
 use Rattle.conformance.specs.Clients.{Asks, Draws, IsAnswerOf, IsRefusalOf, IsRightReportOf}
 
 -- if a reading behind another comes to something, the first comes to a value and the second comes to this by the value
@@ -92,9 +93,6 @@ same_ready x y e = cc
 
 pub told_then : {A B : Type 0} (files : Files) (o : FileReading A) (f : A → B) (y : B) → end_over files (o >>= (λ x. gives (f x))) ≡ ready y → (x : A) × (end_over files o ≡ ready x) × (f x ≡ y)
 told_then files o f y e = let (x, comes, is) = told_behind files o (λ x. gives (f x)) y e in (x, comes, same_ready (f x) y is)
-
-task_is : (a b : Task) → task a ≡ task b → a ≡ b
-task_is a b e = cc
 
 pub same_asked : (given : List (List ℕ)) (asked other : Task) → taken given ≡ task asked → taken given ≡ task other → other ≡ asked
 same_asked given asked other is also = task_is other asked (sym also ∙ is)

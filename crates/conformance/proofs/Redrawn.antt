@@ -7,12 +7,13 @@ use Rattle.itv_base.specs.Memory.{MemShelf, shelf_state}
 use Rattle.words.proofs.Limits.{taken_limits}
 use Rattle.event_graph.proofs.EdgesMet.{All-found}
 use Rattle.falling.proofs.Near.{below_or_not}
-use Rattle.falling.proofs.Removed.{is_le}
 use Rattle.itv_base.specs.Outside.{Files, IsMissing, ShelfState, file_of}
 use Rattle.itv_base.specs.Range.{Allows, Ends, IsEnd, IsRange}
 use Rattle.itv_base.specs.declared.limits.TheConstants.{END_LIMIT}
 use Rattle.itv_base.specs.declared.row_kind.RowKind.{RowKind}
 use Rattle.itv_base.specs.declared.row_kind.RowKind.TheVariants as kinds
+use Rattle.itv_base.proofs.Bools.{other_false}
+use Rattle.itv_base.proofs.Integers.{test_from_le}
 use Rattle.event_graph.specs.Edges.{cause_choices}
 use Rattle.event_graph.specs.Satisfying.{Satisfies}
 use Rattle.event_graph.specs.Times.{separation, shifted}
@@ -82,22 +83,18 @@ comes_of files (fetches place name most next) x e = by_file files place most nex
 not_above : (a b : ℤ) → int_le b a ≡ false → a <ℤ b
 not_above a b e = elim (below_or_not a b) [
   | inl less ↦ less
-  | inr other ↦ absurd (cc (is_le b a other, e))
+  | inr other ↦ absurd (cc (test_from_le b a other, e))
 ]
 
-both_of : (a b : Bool) → a ≡ true → (a && b) ≡ false → b ≡ false
-both_of true b e h = h
-both_of false b e h = absurd (cc e)
-
 under_limit : (high : ℤ) → IsEnd (Some high) → is_same high END_LIMIT ≡ false → IsInnerHigh high
-under_limit high h e = (h.0, not_above high END_LIMIT (both_of (int_le high END_LIMIT) (int_le END_LIMIT high) (is_le high END_LIMIT h.1) e))
+under_limit high h e = (h.0, not_above high END_LIMIT (other_false (int_le high END_LIMIT) (int_le END_LIMIT high) (test_from_le high END_LIMIT h.1) e))
 
 first_of : (a b : Bool) → b ≡ true → (a && b) ≡ false → a ≡ false
 first_of true b e h = cc (e, h)
 first_of false b e h = refl
 
 over_limit : (low : ℤ) → IsEnd (Some low) → is_same low (neg_ℤ END_LIMIT) ≡ false → IsInnerLow low
-over_limit low h e = (not_above (neg_ℤ END_LIMIT) low (first_of (int_le low (neg_ℤ END_LIMIT)) (int_le (neg_ℤ END_LIMIT) low) (is_le (neg_ℤ END_LIMIT) low h.0) e), h.1)
+over_limit low h e = (not_above (neg_ℤ END_LIMIT) low (first_of (int_le low (neg_ℤ END_LIMIT)) (int_le (neg_ℤ END_LIMIT) low) (test_from_le (neg_ℤ END_LIMIT) low h.0) e), h.1)
 
 past_high : (high : Option ℤ) (s : ℤ) → IsEnd high → is_end_at high END_LIMIT ≡ false → IsSomeAnd high (λ h. h <ℤ s) → IsSomeAnd high (λ h. IsInnerHigh h × (h <ℤ s))
 past_high None s end inner past = absurd past

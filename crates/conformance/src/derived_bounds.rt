@@ -21,8 +21,7 @@ pub fn bound_of(net: &Network, checker: &FallChecker, to: EventId) -> (i64, bool
         → separation times checker.now.source to ≤ℤ result.0 }
     ensures none { IsTrue result.1 → IsInconsistent net.now }
 {
-    // The network is within its limits.
-    let _events = net.events();
+    net.is_whole();
     derivation_bounds();
     ended_is_inconsistent();
     (checker.value(to), checker.is_ended())

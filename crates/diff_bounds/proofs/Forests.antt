@@ -7,6 +7,7 @@ use Rattle.std.proofs.lemmas.Option.{none-some, same_Some}
 use Rattle.std.proofs.lemmas.List.Elements.{All-nil, All-push}
 use Rattle.itv_base.specs.declared.names.EdgeName.{EdgeName}
 use Rattle.itv_base.specs.declared.names.EventId.{EventId}
+use Rattle.itv_base.proofs.Options.{and_some}
 use Rattle.event_graph.specs.declared.edge.Edge.{Edge}
 use Rattle.event_graph.specs.Edges.{edge}
 use Rattle.event_graph.specs.Network.{Net}
@@ -15,7 +16,7 @@ use Rattle.diff_bounds.specs.Current.{IsCurrent}
 use Rattle.diff_bounds.specs.Labels.{Follows, IsAmong, IsClimb, IsForest, IsHeld, IsEdgeWithin, GraphLabels, Parents, Scope, is_lower, number}
 use Rattle.event_graph.specs.Limits.{weight_limit}
 use Rattle.diff_bounds.specs.Step.Falling.{IsPotential, Undercuts, fresh}
-use Rattle.diff_bounds.proofs.NamedWalks.{and_some, event, walk-append}
+use Rattle.diff_bounds.proofs.NamedWalks.{event, walk-append}
 use Rattle.diff_bounds.proofs.Climbs.{ChangesAt, StartBelow, all_rooted, climb_within, no_way_on, rest_of, top_climb_short}
 
 -- ---- comparing labels

@@ -1,10 +1,11 @@
 -- Walks by the names of their edges, and the times along them.
-use Rattle.std.proofs.Common.{◌≡◌, ℕ, ℤ, ◌+ℤ◌, ◌-ℤ◌, ◌≤ℤ◌, List, [], ◌∷◌, ◌++◌, reverse, All, Option, Some, None, IfSome, IsSomeAnd, sym, ◌∙◌, ap, subst, refl, arith}
+use Rattle.std.proofs.Common.{◌≡◌, ℕ, ℤ, ◌+ℤ◌, ◌-ℤ◌, ◌≤ℤ◌, List, [], ◌∷◌, ◌++◌, reverse, All, Some, sym, ◌∙◌, ap, subst, refl, arith}
 use Rattle.std.proofs.lemmas.Int.{ints}
 use Rattle.std.proofs.lemmas.Grind.{reverse_onto}
 use Rattle.std.proofs.lemmas.List.Elements.{All-head, All-push, All-tail}
 use Rattle.itv_base.specs.declared.names.EdgeName.{EdgeName}
 use Rattle.itv_base.specs.declared.names.EventId.{EventId}
+use Rattle.itv_base.proofs.Options.{some_and, and_some}
 use Rattle.event_graph.specs.declared.edge.Edge.{Edge}
 use Rattle.event_graph.specs.Edges.{Meets, edge}
 use Rattle.event_graph.specs.Network.{Net}
@@ -13,18 +14,6 @@ use Rattle.event_graph.specs.Times.{separation, time_of}
 
 abbrev pub event : ℕ → EventId
 event n = record { 0 = n }
-
--- the value that is there, and what holds of it
-pub some_and : {X : Type 0} (o : Option X) (P : X → Type 0) → IsSomeAnd o P → (x : X) × (o ≡ Some x) × P x
-some_and None P h = absurd h
-some_and (Some x) P h = (x, refl, h)
-
-pub and_some : {X : Type 0} (o : Option X) (P : X → Type 0) (x : X) → o ≡ Some x → P x → IsSomeAnd o P
-and_some {X} o P x is h = let Q : Option X → Type 0 = λ p. IsSomeAnd p P in subst Q (sym is) h
-
-pub if_some : {X : Type 0} (o : Option X) (P : X → Type 0) → ((x : X) → o ≡ Some x → P x) → IfSome o P
-if_some None P h = tt
-if_some (Some x) P h = h x refl
 
 pub walk-append : (net : Net) (a b c : EventId) (xs ys : List EdgeName) → IsWalk net a xs b → IsWalk net b ys c → IsWalk net a (xs ++ ys) c
 walk-append net a b c [] ys first second = let P : EventId → Type 0 = λ x. IsWalk net x ys c in subst P (sym first) second

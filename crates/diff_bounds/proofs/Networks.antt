@@ -1,12 +1,13 @@
 -- The edges of a network are between its events, and their weights are within the limit.
-use Rattle.std.proofs.Common.{◌≡◌, ◌<◌, ℕ, ℤ, neg_ℤ, Option, Some, None, option_map, subst, refl, arith}
+use Rattle.std.proofs.Common.{◌≡◌, ◌<◌, ℕ, ℤ, neg_ℤ, Option, Some, subst, refl, arith}
 use Rattle.std.proofs.lemmas.Int.{ints}
-use Rattle.std.proofs.lemmas.Option.{option_and_then_some, same_Some}
+use Rattle.std.proofs.lemmas.Option.{option_and_then_some}
 use Rattle.itv_base.specs.Range.{IsEnd}
 use Rattle.itv_base.specs.declared.names.EdgeName.{EdgeName}
 use Rattle.itv_base.specs.declared.names.EventId.{EventId}
 use Rattle.itv_base.specs.declared.names.Side.{Side}
 use Rattle.itv_base.specs.declared.names.Side.TheVariants.{Lower, Upper}
+use Rattle.itv_base.proofs.Options.{mapped_some}
 use Rattle.event_graph.specs.declared.cause.Cause.{Cause}
 use Rattle.event_graph.specs.declared.edge.Edge.{Edge}
 use Rattle.event_graph.specs.Edges.{edge, side_edge}
@@ -14,21 +15,17 @@ use Rattle.event_graph.specs.Network.{AreEnds, IsConstraint, IsNet, Net, cause_a
 use Rattle.event_graph.proofs.EdgesMet.{All-found, cause_of}
 use Rattle.diff_bounds.specs.Labels.{IsEdgeWithin}
 
-mapped : {X Y : Type 0} (f : X → Y) (o : Option X) (y : Y) → option_map f o ≡ Some y → (x : X) × (o ≡ Some x) × (f x ≡ y)
-mapped f None y is = absurd (cc is)
-mapped f (Some x) y is = (x, refl, same_Some (f x) y is)
-
 at_end : (o : Option ℤ) (x : ℤ) → o ≡ Some x → IsEnd o → IsEnd (Some x)
 at_end o x is end = let P : Option ℤ → Type 0 = IsEnd in subst P is end
 
 side_within : (side : Side) (events : ℕ) (target : EventId) (c : Cause) (e : Edge) → target.0 < events → c.event.0 < events → AreEnds c.range → side_edge side target c ≡ Some e → IsEdgeWithin events e
 side_within Upper events target c e to from ends is =
-    let found = mapped (λ (high : ℤ). record { from = c.event; to = target; weight = high }) c.range.high e is in
+    let found = mapped_some (λ (high : ℤ). record { from = c.event; to = target; weight = high }) c.range.high e is in
     let end = at_end c.range.high found.0 found.1 ends.1 in
     let P : Edge → Type 0 = λ x. IsEdgeWithin events x in
     subst P found.2 (record { from = from; to = to; low = omega (arith, ints, end.0); high = omega (arith, ints, end.1) })
 side_within Lower events target c e to from ends is =
-    let found = mapped (λ (low : ℤ). record { from = target; to = c.event; weight = neg_ℤ low }) c.range.low e is in
+    let found = mapped_some (λ (low : ℤ). record { from = target; to = c.event; weight = neg_ℤ low }) c.range.low e is in
     let end = at_end c.range.low found.0 found.1 ends.0 in
     let P : Edge → Type 0 = λ x. IsEdgeWithin events x in
     subst P found.2 (record { from = to; to = from; low = omega (arith, ints, end.1); high = omega (arith, ints, end.0) })

@@ -7,17 +7,16 @@ use Rattle.std.proofs.lemmas.List.{get_or-set_other, get_or_default, length-repl
 use Rattle.std.proofs.lemmas.List.Elements.{All-contains, All-nil, All-same, Contains-append_left, Contains-get_or, Contains-push, Contains-push_cases}
 use Rattle.std.proofs.lemmas.Grind.{get_or-set_at}
 use Rattle.itv_base.specs.declared.names.EdgeName.{EdgeName}
-use Rattle.itv_base.specs.declared.names.RuleKind.{RuleKind}
-use Rattle.itv_base.specs.declared.names.RuleKind.TheVariants.{Lin, Late, Early}
 use Rattle.itv_base.specs.declared.names.Side.{Side}
 use Rattle.itv_base.specs.declared.names.Side.TheVariants.{Lower, Upper}
 use Rattle.event_graph.specs.declared.edge.Edge.{Edge}
 use Rattle.event_graph.specs.Edges.{IsAlways}
-use Rattle.event_graph.specs.Network.{IsCauseCount, IsConstraint, IsNet, Net, cause_count_of, named_causes}
+use Rattle.event_graph.specs.Network.{IsConstraint, IsNet, Net, cause_count_of, named_causes}
 use Rattle.event_graph.proofs.EdgesMet.{All-found, cause_of}
 use Rattle.diff_bounds.specs.declared.arc.Arc.{Arc}
 use Rattle.event_graph.specs.EventLists.{at_event}
 use Rattle.event_graph.proofs.EventLists.{each_at, empty_at, set_at}
+use Rattle.event_graph.proofs.Causes.{cause_within}
 use Rattle.diff_bounds.specs.Arcs.{AreAlwaysArcs, HasLight, IsArc}
 use Rattle.diff_bounds.specs.Step.Listing.{AreArcsSoFar, Grows, HasCause, HasName, IsPlaceOf, HasJoined, JoinsAt}
 
@@ -166,12 +165,6 @@ causes_more net old mid new constraint count before first second lower upper =
     here : (cause : ℕ) → cause ≡ count → (side : Side) → HasName net new (record { constraint = constraint; cause = cause; side = side })
     here cause same Lower = subst (λ (i : ℕ). HasName net new (record { constraint = constraint; cause = i; side = Lower })) (sym same) (kept_name net mid new _ second lower)
     here cause same Upper = subst (λ (i : ℕ). HasName net new (record { constraint = constraint; cause = i; side = Upper })) (sym same) upper
-
--- the number of a cause is below the number of causes, or the constraint is linear and the cause is its one cause
-cause_within : (kind : RuleKind) (cause length count : ℕ) → cause < length → IsCauseCount kind length → named_causes kind length ≡ count → cause < max count 1
-cause_within Lin cause length count below is named = omega arith
-cause_within Late cause length count below is named = omega arith
-cause_within Early cause length count below is named = omega arith
 
 pub all_causes : (net : Net) (out : List (List Arc)) (constraint count : ℕ) → IsNet net → option_map cause_count_of (slice_get net.constraints constraint) ≡ Some count
     → HasCausesBelow net out constraint (max count 1) → (cause : ℕ) → HasCause net out constraint cause

@@ -21,7 +21,7 @@ use Rattle.diff_bounds.proofs.NamedWalks.{event}
 use Rattle.diff_bounds.proofs.Climbs.{rest_of}
 use Rattle.diff_bounds.proofs.Forests.{fresh_is_parent, label_low, lower_number, number-at, starts_below}
 use Rattle.diff_bounds.proofs.Networks.{edge_within}
-use Rattle.diff_bounds.proofs.Runs.{run_not, stop_is_top}
+use Rattle.diff_bounds.proofs.Runs.{run_not, stop_is_top, label_fallen}
 use Rattle.diff_bounds.proofs.Settled.{closing_climb, closing_walk, forest_on}
 
 -- ---- before a fall
@@ -162,15 +162,11 @@ low_after old new was label fallen at low is =
           omega (arith, ints)
     ]
 
-label_either : (old new : Stamp) → HasFallen old new → (new.label ≡ old.label) ⊎ (is_lower new.label old.label ≡ true)
-label_either old new (inl same) = inl (ap (λ (x : Stamp). x.label) same)
-label_either old new (inr lower) = inr lower
-
 pub low_kept : (s : Scope) (run : Run) (old new : List Stamp) (parent : Parents) → run.base ≡ s.net.events → IsForest s zeros (labels_from old s.net.events) parent → AreLow s.net.events old → RunHasFallen s run old new → AreLow s.net.events new
 low_kept s run old new parent base forest low ran v label below is =
     let was = zeros_some s (labels_from old s.net.events) parent forest v below in
     low_after (labels_from old s.net.events v) (labels_from new s.net.events v) was.0 label
-    (label_either (stamp_at old (s.net.events + v)) (stamp_at new (s.net.events + v)) (ran.fallen (s.net.events + v))) was.1 (low v was.0 below was.1) is
+    (label_fallen (stamp_at old (s.net.events + v)) (stamp_at new (s.net.events + v)) (ran.fallen (s.net.events + v))) was.1 (low v was.0 below was.1) is
 
 -- the feasible times after a fall that settled
 pub feasible_after : (net : Net) (out : List (List Arc)) (arcs : List Arc) (from : EventId) (first : ℕ) (st : Stack) (w : Waiting) (new : List Stamp) → IsRunReady net out arcs (feasible_run net from first) from zeros st w → AreLow net.events st.current.stamps

@@ -144,7 +144,7 @@ height_falls s run stamps name e f running most few =
 slot_apart : (base u v : ℕ) → u ≢ v → base + u ≢ base + v
 slot_apart base u v off same = off (omega arith)
 
-label_fallen : (old new : Stamp) → HasFallen old new → (new.label ≡ old.label) ⊎ (is_lower new.label old.label ≡ true)
+pub label_fallen : (old new : Stamp) → HasFallen old new → (new.label ≡ old.label) ⊎ (is_lower new.label old.label ≡ true)
 label_fallen old new (inl same) = inl (ap (λ (x : Stamp). x.label) same)
 label_fallen old new (inr lower) = inr lower
 

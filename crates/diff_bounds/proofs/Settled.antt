@@ -7,13 +7,14 @@ use Rattle.std.proofs.lemmas.List.{length_push, length-reverse}
 use Rattle.std.proofs.lemmas.List.Elements.{All-push}
 use Rattle.itv_base.specs.declared.names.EdgeName.{EdgeName}
 use Rattle.itv_base.specs.declared.names.EventId.{EventId}
+use Rattle.itv_base.proofs.Options.{and_some}
 use Rattle.event_graph.specs.declared.edge.Edge.{Edge}
 use Rattle.event_graph.specs.Edges.{edge}
 use Rattle.event_graph.specs.Proof.{IsWalk, path_sum, weight_of}
 use Rattle.diff_bounds.specs.Current.{IsCurrent}
 use Rattle.diff_bounds.specs.Labels.{HaveSettled, IsAmong, IsClimb, IsForest, IsHeld, IsRooted, GraphLabels, Parents, Scope, is_lower, number}
 use Rattle.diff_bounds.specs.Step.Falling.{IsPotential, Undercuts, fresh}
-use Rattle.diff_bounds.proofs.NamedWalks.{and_some, event, sum-append, sum-reverse, walk-append}
+use Rattle.diff_bounds.proofs.NamedWalks.{event, sum-append, sum-reverse, walk-append}
 use Rattle.diff_bounds.proofs.Climbs.{climb-append, climb_along, climb_short, climb_within, rest_of}
 use Rattle.diff_bounds.proofs.Forests.{StopIsTop, climb_potential, climb_walk, climb_weight, fresh_fallen, fresh_is_parent, lower_number, not_lower_itself, number-at, stays, starts_below}
 

@@ -1,5 +1,5 @@
 -- What stands, and what is known of its graph.
-use Rattle.std.proofs.Common.{◌≡◌, ℕ, ◌+◌, ◌*◌, ◌<◌, ◌≤◌, ℤ, pos, ◌+ℤ◌, ◌≤ℤ◌, ◌<ℤ◌, inl, inr, Bool, List, [], ◌∷◌, ◌++◌, length, get_or, set, take, reverse, Option, Some, None, IfSome, IsSome, is_none, All, Contains, sym, ◌∙◌, ap, subst, refl, arith}
+use Rattle.std.proofs.Common.{◌≡◌, ℕ, ◌+◌, ◌*◌, ◌<◌, ◌≤◌, ℤ, pos, ◌+ℤ◌, ◌≤ℤ◌, ◌<ℤ◌, inl, inr, Bool, List, [], ◌∷◌, ◌++◌, length, get_or, set, take, reverse, Option, Some, None, IfSome, is_none, All, Contains, sym, ◌∙◌, ap, subst, refl, arith}
 use Rattle.std.proofs.lemmas.Int.{ints}
 use Rattle.std.proofs.lemmas.Option.{none-some}
 use Rattle.std.proofs.lemmas.List.{length-reverse, length_push, map-append, take-append-le}
@@ -9,6 +9,7 @@ use Rattle.std.proofs.Math.Seq.{take-length}
 use Rattle.itv_base.specs.declared.limits.TheConstants.{MAX_EVENTS}
 use Rattle.itv_base.specs.declared.names.EdgeName.{EdgeName}
 use Rattle.itv_base.specs.declared.names.EventId.{EventId}
+use Rattle.itv_base.proofs.Options.{if_some}
 use Rattle.event_graph.specs.declared.edge.Edge.{Edge}
 use Rattle.event_graph.specs.Edges.{Meets, edge}
 use Rattle.event_graph.specs.Network.{IsNet, Net}
@@ -27,10 +28,10 @@ use Rattle.diff_bounds.specs.Settled.{AddsOne, AreSettled, IsFeasible, IsRootGra
 use Rattle.diff_bounds.specs.Standing.{AreTimesOf, IsMadeFor, IsRayOf, Standing, Stands, chosen_of, feasible_of, lifted, upper_of}
 use Rattle.diff_bounds.specs.Step.Timing.{AreInReach, IsInReach}
 use Rattle.diff_bounds.specs.Step.Walking.{HasLoop, IsOneClimb}
-use Rattle.diff_bounds.proofs.NamedWalks.{MeetsNamed, event, if_some, walk_bounds}
+use Rattle.diff_bounds.proofs.NamedWalks.{MeetsNamed, event, walk_bounds}
 use Rattle.diff_bounds.proofs.Forests.{number-at, starts_below}
 use Rattle.diff_bounds.proofs.Poising.{new_potential, zeros_above, zeros_some}
-use Rattle.diff_bounds.proofs.Uppers.{AreTimes, IsBounding, has_path, in_reach, is_upper, lifted_attain, lifted_by, lifted_meet, lifted_origin, path_is, source_zero, table, table_times, times_meet}
+use Rattle.diff_bounds.proofs.Uppers.{AreTimes, IsBounding, has_path, in_reach, is_upper, lifted_attain, lifted_by, lifted_meet, lifted_origin, path_is, source_zero, table, table_times, times_meet, lifted-none}
 
 -- ---- the stack
 
@@ -159,9 +160,6 @@ times_above net b times stands are =
     let P : ℕ → Type 0 = λ n. (v : ℕ) (label : ℤ) → v < n → upper_of b v ≡ Some label → label ≤ℤ (number (labels_from b.trail.current.stamps n v) +ℤ are.lift) in
     subst P stands.made.events are.is_lift
 
-lifted-none : (o : Option ℤ) (time : ℤ) → o ≡ None → lifted o time ≡ time
-lifted-none o time is = ap (λ (x : Option ℤ). lifted x time) is
-
 -- the times of bounds without a source are feasible times, put off by one number
 unsourced_meet : (net : Net) (edges : List EdgeName) (stamps : List Stamp) (lift : ℤ) (times : List ℤ) → IsNet net → IsSettled (whole net edges) None stamps → AreTimes net.events (lifted_by (labels_from stamps 0) (labels_from stamps net.events) lift) times
     → MeetsCurrent net edges times
@@ -271,10 +269,6 @@ one_path net b source e z stands from below at =
       short,
       is,
     )
-
-pub some_is : (o : Option ℤ) → IsSome o → (z : ℤ) × (o ≡ Some z)
-some_is None some = absurd (cc some)
-some_is (Some z) some = (z, refl)
 
 -- the source has the label 0
 pub stands_source : (net : Net) (b : Standing) (source : EventId) → Stands net b → b.source ≡ Some source → upper_of b source.0 ≡ Some (pos 0)

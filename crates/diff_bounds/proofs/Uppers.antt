@@ -1,5 +1,5 @@
 -- The labels from a source are the greatest separations, and lifted times attain them.
-use Rattle.std.proofs.Common.{◌≡◌, ℕ, zero, suc, ◌+◌, ◌*◌, ◌<◌, ◌≤◌, ℤ, pos, negsuc, unsigned_abs, ◌+ℤ◌, ◌-ℤ◌, ◌≤ℤ◌, nat_eq, inl, inr, List, [], ◌∷◌, length, reverse, get_or, All, Option, Some, None, sym, ◌∙◌, ap, subst, refl, arith}
+use Rattle.std.proofs.Common.{◌≡◌, ℕ, zero, suc, ◌+◌, ◌*◌, ◌<◌, ◌≤◌, ℤ, pos, unsigned_abs, ◌+ℤ◌, ◌-ℤ◌, ◌≤ℤ◌, nat_eq, inl, inr, List, [], ◌∷◌, length, reverse, get_or, All, Option, Some, None, sym, ◌∙◌, ap, subst, refl, arith}
 use Rattle.std.proofs.lemmas.Int.{ints}
 use Rattle.std.proofs.lemmas.Bool.{cases_eq, cond-false, cond-true, eq-eqb, ne_eqb}
 use Rattle.std.proofs.lemmas.Option.{none-some}
@@ -8,6 +8,7 @@ use Rattle.std.proofs.lemmas.List.Elements.{All-weaker}
 use Rattle.itv_base.specs.declared.limits.TheConstants.{MAX_EVENTS}
 use Rattle.itv_base.specs.declared.names.EdgeName.{EdgeName}
 use Rattle.itv_base.specs.declared.names.EventId.{EventId}
+use Rattle.itv_base.proofs.Integers.{at_most_abs}
 use Rattle.event_graph.specs.declared.edge.Edge.{Edge}
 use Rattle.event_graph.specs.Bounds.{IsGreatestAmong, IsUnboundedAmong}
 use Rattle.event_graph.specs.Edges.{edge}
@@ -209,10 +210,6 @@ lifted_origin net chosen source upper feasible parent by times b are =
 
 -- ---- a number that is great enough
 
-at_most_abs : (z : ℤ) → z ≤ℤ pos (unsigned_abs z)
-at_most_abs (pos n) = omega (arith, ints)
-at_most_abs (negsuc n) = omega (arith, ints)
-
 -- how far the labels of the events below a number are above their feasible times
 pub lift_below : GraphLabels → GraphLabels → ℕ → ℕ
 lift_below upper feasible zero = 0
@@ -239,7 +236,7 @@ above_all n upper feasible by most v label below at =
     let enough : label ≤ℤ (number (feasible v) +ℤ pos (lift_below upper feasible n)) = lift_enough upper feasible n v label below at in
     omega (arith, ints)
 
-lifted-none : (o : Option ℤ) (time : ℤ) → o ≡ None → lifted o time ≡ time
+pub lifted-none : (o : Option ℤ) (time : ℤ) → o ≡ None → lifted o time ≡ time
 lifted-none o time is = ap (λ (x : Option ℤ). lifted x time) is
 
 -- where there is no label the separation is unbounded

@@ -1,10 +1,12 @@
 -- Lists in which no element occurs twice.
-use Rattle.std.proofs.Common.{◌≡◌, ◌<◌, ◌||◌, ℕ, zero, suc, Bool, true, false, List, [], ◌∷◌, ◌++◌, length, map, get_or, Option, Some, None, cond, refl, sym, ap, ◌∙◌, arith}
+use Rattle.std.proofs.Common.{◌≡◌, ◌<◌, ℕ, zero, suc, Bool, true, false, List, [], ◌∷◌, ◌++◌, length, map, get_or, None, refl, sym, ap, ◌∙◌, arith}
 use Rattle.std.specs.List.{list_any}
 use Rattle.itv_base.specs.Names.{Name}
+use Rattle.itv_base.proofs.Bools.{both_false}
 use Rattle.sheet.specs.SheetContents.{SheetContents}
 use Rattle.sheet.specs.Lanes.{first_repeated}
 use Rattle.sheet.specs.declared.mark.Mark.{Mark}
+use Rattle.sheet.proofs.WholeSheets.{cond_none}
 use Rattle.unroll.specs.Cycles.{in_cycles}
 use Rattle.unroll.specs.Drawn.{names_in}
 
@@ -60,13 +62,9 @@ apart_at (x ∷ xs) (suc i) (suc j) d h less within e = apart_at xs i j d h.1 (o
 not_same : {K : Type 0} (same : K → K → Bool) → ((a b : K) → a ≡ b → same a b ≡ true) → (a b : K) → same a b ≡ false → a ≡ b → ⊥
 not_same same self a b is e = cc (is, self a b e)
 
-parts_false : (a b : Bool) → (a || b) ≡ false → (a ≡ false) × (b ≡ false)
-parts_false true b e = absurd (cc e)
-parts_false false b e = (refl, e)
-
 -- no element meets the test
 pub none_met : {X : Type 0} (test : X → Bool) (x : X) (xs : List X) → list_any test (x ∷ xs) ≡ false → (test x ≡ false) × (list_any test xs ≡ false)
-none_met test x xs e = parts_false (test x) (list_any test xs) e
+none_met test x xs e = both_false (test x) (list_any test xs) e
 
 other_than : {K : Type 0} (same : K → K → Bool) (self : (a b : K) → a ≡ b → same a b ≡ true) (k : K) (before : List K) → list_any (same k) before ≡ false → IsOther k before
 other_than same self k [] e = tt
@@ -83,15 +81,11 @@ split_other (x ∷ ks) before k h =
     let q = split_other ks before k h.1 in
     ((p.0, q.0), (p.1, q.1))
 
-found_none : {X : Type 0} (b : Bool) (x : X) (o : Option X) → cond b (Some x) o ≡ None → (b ≡ false) × (o ≡ None)
-found_none true x o e = absurd (cc e)
-found_none false x o e = (refl, e)
-
 module _ {X K : Type 0} (same : K → K → Bool) (key : X → K) (self : (a b : K) → a ≡ b → same a b ≡ true) where
   fresh : (before : List K) (xs : List X) → first_repeated same key before xs ≡ None → AllOther (map key xs) before × AreApart (map key xs)
   fresh before [] e = (tt, tt)
   fresh before (x ∷ xs) e =
-      let p = found_none (list_any (same (key x)) before) x (first_repeated same key (before ++ key x ∷ []) xs) e in
+      let p = cond_none (list_any (same (key x)) before) x (first_repeated same key (before ++ key x ∷ []) xs) e in
       let rest = fresh (before ++ key x ∷ []) xs p.1 in
       let q = split_other (map key xs) before (key x) rest.0 in
       ((other_than same self (key x) before p.0, q.0), (q.1, rest.1))

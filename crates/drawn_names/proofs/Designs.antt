@@ -33,6 +33,7 @@ use Rattle.drawn.specs.Drawn.{Drawn, nameless}
 use Rattle.unroll.specs.Drawn.{drawn_of, names_in}
 use Rattle.unroll.specs.Limits.{counts_of, first_passed, unrolled, within}
 use Rattle.unroll.specs.declared.counted.Counted.{Counted}
+use Rattle.unroll.proofs.NameLists.{All-in_cycles}
 use Rattle.slack_report.specs.Entry.{IsName}
 use Rattle.reading.specs.declared.refusal_place.RefusalPlace.{RefusalPlace}
 use Rattle.reading.specs.declared.refusal_place.RefusalPlace.TheVariants.{Design, File}
@@ -46,7 +47,7 @@ use Rattle.reading.proofs.LoneSheets.{lone_is}
 use Rattle.reading.proofs.Opens.{at_gave, each_keeps, gave, opening_then}
 use Rattle.drawn_names.specs.Law.{DrawnNamesDiffer, DrawnNamesHaveForm, DrawnRangesHaveForm}
 use Rattle.drawn_names.proofs.Apart.{AreApart, Every, MarksApart, apart_at, cycles_apart}
-use Rattle.drawn_names.proofs.Rows.{Demands, DemandsDrawn, cycles_hold, link_rows_hold, rows_hold, wires_hold}
+use Rattle.drawn_names.proofs.Rows.{Demands, DemandsDrawn, link_rows_hold, rows_hold, wires_hold}
 use Rattle.drawn_names.proofs.Steps.{result_then}
 use Rattle.drawn_names.proofs.Sheets.{AreMarked, HasMarks, HoldsMarks, IsFormed, IsMarked, sheet_by_holds, sheets_hold, with_sheet_holds}
 use Rattle.drawn_names.proofs.Netlists.{IsNamedNetlist, lone_holds, netlist_holds}
@@ -79,7 +80,7 @@ record IsNamedDesign (d : Composed) : Type 0 where
 
 drawn_holds : (d : Composed) → IsNamedDesign d → All IsName (drawn_of d).names
 drawn_holds d named =
-    cycles_hold IsName (names_in d.parts d.sheets) d.cycles (λ cycle less. names_hold d.parts d.sheets cycle named.parts named.sheets (omega (arith, less, named.cycles)))
+    All-in_cycles IsName (names_in d.parts d.sheets) d.cycles (λ cycle less. names_hold d.parts d.sheets cycle named.parts named.sheets (omega (arith, less, named.cycles)))
 
 -- ---- designs
 

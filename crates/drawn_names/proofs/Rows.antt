@@ -1,8 +1,8 @@
 -- The ends of requirements.
-use Rattle.std.proofs.Common.{◌≡◌, ◌<◌, ◌+◌, ℕ, zero, suc, Bool, true, false, if◌then◌else◌, List, [], ◌∷◌, ◌++◌, length, map, All, Option, Some, None, IfSome, unwrap_or, Ok, Err, subst, arith}
-use Rattle.std.specs.List.{cons_option, filter_map}
-use Rattle.std.proofs.lemmas.List.Elements.{All-append, All-cons, All-head, All-map, All-nil, All-push, All-tail, All-weaker}
-use Rattle.itv_base.specs.Range.{Ends, IsRange}
+use Rattle.std.proofs.Common.{◌≡◌, ◌+◌, ℕ, Bool, true, false, if◌then◌else◌, List, [], ◌∷◌, ◌++◌, length, map, All, Option, Some, None, IfSome, unwrap_or, Ok, Err, subst}
+use Rattle.std.specs.List.{filter_map}
+use Rattle.std.proofs.lemmas.List.Elements.{All-append, All-head, All-map, All-nil, All-push, All-tail, All-weaker}
+use Rattle.itv_base.specs.Range.{IsRange}
 use Rattle.itv_base.specs.Reading.{walk}
 use Rattle.label_grammar.specs.declared.label.Kind.{Kind}
 use Rattle.label_grammar.specs.declared.label.Kind.TheVariants.{Lin, Late, Early, Req, Ask}
@@ -12,6 +12,7 @@ use Rattle.sheet.specs.declared.row.SheetRow.{SheetRow}
 use Rattle.sheet.specs.SheetContents as sheet
 use Rattle.sheet.specs.Links.{Link, is_full, link_rows, open_ends, row_by}
 use Rattle.sheet.specs.Whole.{IsWhole, IsWholeKind, IsWholeRow}
+use Rattle.sheet.proofs.WholeSheets.{range_whole, All-filter_map}
 use Rattle.netlist.specs.Whole.{IsWholeWire}
 use Rattle.netlist.specs.declared.part.Part.{Part}
 use Rattle.netlist.specs.declared.wire.Wire.{Wire}
@@ -20,26 +21,13 @@ use Rattle.compose.specs.declared.fault.JoinFault.{JoinFault}
 use Rattle.compose.specs.declared.fault.JoinFault.TheVariants.{TooManyCauses}
 use Rattle.compose.specs.Wires.{ends_of, wire_link, wire_links, with_wire}
 use Rattle.unroll.specs.Cycle.{part_rows, row_behind, rows_of}
-use Rattle.unroll.specs.Cycles.{in_cycles, row_exists, row_in, rows_in}
+use Rattle.unroll.specs.Cycles.{row_exists, row_in, rows_in}
+use Rattle.unroll.proofs.NameLists.{All-in_cycles}
 use Rattle.drawn.specs.declared.row.Row.{Row}
 use Rattle.slack_report.specs.Entry.{IsKind}
 use Rattle.drawn_names.proofs.Steps.{result_then}
 
 -- ---- lists
-
-cons_keeps : {Y : Type 0} (P : Y → Type 0) (o : Option Y) (ys : List Y) → IfSome o P → All P ys → All P (cons_option o ys)
-cons_keeps P None ys p all = all
-cons_keeps P (Some y) ys p all = All-cons P y ys p all
-
--- a fact of what each element gives, if the elements have the fact that it needs
-pub all_given : {X Y : Type 0} (Q : X → Type 0) (P : Y → Type 0) (h : X → Option Y) → ((x : X) → Q x → IfSome (h x) P) → (xs : List X) → All Q xs → All P (filter_map h xs)
-all_given Q P h each [] all = All-nil P
-all_given Q P h each (x ∷ xs) all = cons_keeps P (h x) (filter_map h xs) (each x (All-head Q x xs all)) (all_given Q P h each xs (All-tail Q x xs all))
-
--- a fact of the elements of all cycles
-pub cycles_hold : {X : Type 0} (P : X → Type 0) (each : ℕ → List X) (n : ℕ) → ((cycle : ℕ) → cycle < n → All P (each cycle)) → All P (in_cycles each n)
-cycles_hold P each zero holds = All-nil P
-cycles_hold P each (suc n) holds = All-append P (in_cycles each n) (each n) (cycles_hold P each n (λ cycle less. holds cycle (omega arith))) (holds n (omega arith))
 
 -- ---- rows of links
 
@@ -59,13 +47,9 @@ row_by_holds link Req range = range
 row_by_holds link Ask range = tt
 
 pub link_rows_hold : (links : List Link) → All HasRange links → All Demands (link_rows links)
-link_rows_hold links all = all_given HasRange Demands (λ link. row_by link link.label.kind) (λ link range. row_by_holds link link.label.kind range) links all
+link_rows_hold links all = All-filter_map HasRange Demands (λ link. row_by link link.label.kind) (λ link range. row_by_holds link link.label.kind range) links all
 
 -- ---- wires
-
-range_of : (ends : Option Ends) → IfSome ends IsRange → IsRange (unwrap_or ends open_ends)
-range_of None range = (tt, tt, tt)
-range_of (Some ends) range = range
 
 abbrev IsPushed : Bool → JoinFault → List Link → Link → List Link → Type 0
 IsPushed b fault done link last = (if b then Err fault else Ok (done ++ link ∷ [])) ≡ Ok last
@@ -83,7 +67,7 @@ with_wire_holds : (parts : List Part) (sheets : List sheet.SheetContents) (n : �
 with_wire_holds parts sheets n done last None whole all is = let same : done ≡ last = cc is in subst (All HasRange) same all
 with_wire_holds parts sheets n done last (Some wire) whole all is =
     let (ends, are_ends, rest) = result_then (ends_of parts sheets n wire) _ last is in
-    pushed (is_full done (wire_link sheets n wire ends)) (TooManyCauses n) done last (wire_link sheets n wire ends) all (range_of wire.range whole.ends) rest
+    pushed (is_full done (wire_link sheets n wire ends)) (TooManyCauses n) done last (wire_link sheets n wire ends) all (range_whole wire.range whole.ends) rest
 
 wires_walk : (parts : List Part) (sheets : List sheet.SheetContents) (n : ℕ) (done last : List Link) (wires : List (Option Wire)) → All IsWholeIf wires → All HasRange done
     → walk (with_wire parts sheets) n done wires ≡ Ok last → All HasRange last
@@ -127,5 +111,5 @@ row_if false row demands = tt
 
 pub rows_hold : (marks : ℕ) (d : Composed) → All IsWhole d.sheets → All Demands d.rows → All DemandsDrawn (rows_in marks (rows_of d) d.cycles)
 rows_hold marks d whole demands =
-    cycles_hold DemandsDrawn (λ cycle. filter_map (row_in marks cycle) (rows_of d)) d.cycles (λ cycle less.
-    all_given Demands DemandsDrawn (row_in marks cycle) (λ row is. row_if (row_exists cycle row) _ is) (rows_of d) (rows_of_hold d whole demands))
+    All-in_cycles DemandsDrawn (λ cycle. filter_map (row_in marks cycle) (rows_of d)) d.cycles (λ cycle less.
+    All-filter_map Demands DemandsDrawn (row_in marks cycle) (λ row is. row_if (row_exists cycle row) _ is) (rows_of d) (rows_of_hold d whole demands))

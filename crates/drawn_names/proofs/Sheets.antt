@@ -1,7 +1,7 @@
 -- The marks of sheets.
 use Rattle.std.proofs.Common.{◌≡◌, ℕ, Bool, true, false, if◌then◌else◌, List, [], ◌∷◌, map, cond, All, Option, Some, None, Result, Ok, refl, ap, subst, nat_eq, position}
 use Rattle.std.specs.Prelude.{IsTrue, IfSome}
-use Rattle.std.specs.List.{cons_option, filter_map, flat_map, enumerate_from}
+use Rattle.std.specs.List.{filter_map, flat_map, enumerate_from}
 use Rattle.std.proofs.lemmas.List.Elements.{All-append, All-cons, All-head, All-nil, All-tail, All-weaker}
 use Rattle.itv_base.specs.Characters.{is_mark}
 use Rattle.wavejson.specs.Drawing.{Drawing}
@@ -19,6 +19,7 @@ use Rattle.sheet.specs.Sheet.{grade_named, read_marks, read_pins, sheet_at, shee
 use Rattle.compose.specs.Sheets.{key_of, same_key}
 use Rattle.compose.specs.declared.sheet_key.SheetKey.{SheetKey}
 use Rattle.sheet.specs.Whole.{IsWhole}
+use Rattle.sheet.proofs.WholeSheets.{more_hold}
 use Rattle.plan.specs.Plan.{NamedSheets, sheet_among, sheets_on}
 use Rattle.reading.specs.Design.{with_sheet}
 use Rattle.std.proofs.lemmas.Bool.{eq-eqb}
@@ -38,13 +39,9 @@ HasMarks sheet = AreMarks sheet.marks
 
 -- ---- lists that are read element by element
 
-cons_holds : {Y : Type 0} (P : Y → Type 0) (o : Option Y) (ys : List Y) → IfSome o P → All P ys → All P (cons_option o ys)
-cons_holds P None ys p all = all
-cons_holds P (Some y) ys p all = All-cons P y ys p all
-
 pub all_filtered : {X Y : Type 0} (P : Y → Type 0) (h : X → Option Y) → ((x : X) → IfSome (h x) P) → (xs : List X) → All P (filter_map h xs)
 all_filtered P h each [] = All-nil P
-all_filtered P h each (x ∷ xs) = cons_holds P (h x) (filter_map h xs) (each x) (all_filtered P h each xs)
+all_filtered P h each (x ∷ xs) = more_hold P (h x) (filter_map h xs) (each x) (all_filtered P h each xs)
 
 pub all_flat : {X Y : Type 0} (P : Y → Type 0) (f : X → List Y) → ((x : X) → All P (f x)) → (xs : List X) → All P (flat_map f xs)
 all_flat P f each [] = All-nil P

@@ -2,6 +2,6 @@
 //! ensure that every line of a report can be printed and read back.
 #![tactic(auto)]
 
-mod law;
+mod laws;
 
-pub use law::{drawn_names_differ, drawn_names_have_form, drawn_ranges_have_form};
+pub use laws::{drawn_names_differ, drawn_names_have_form, drawn_ranges_have_form};

@@ -9,12 +9,11 @@ use Rattle.falling.specs.Cap.{cap, far_line, widest_end}
 use Rattle.falling.specs.Gaps.{IsWithinCap}
 use Rattle.falling.specs.Kinds.{negated, negated_times}
 use Rattle.falling.proofs.Near.{below_or_not}
-use Rattle.falling.proofs.NegatedNets.{widest-negated}
+use Rattle.falling.proofs.NegatedNets.{widest-negated, net_negated}
 use Rattle.falling.proofs.Negating.{get_or-negated, length-mapped, satisfies_from, satisfies_turns}
 use Rattle.falling.proofs.Removed.{narrowed}
 use Rattle.falling.proofs.Within.{IsNarrowed, at_event, cap_is, narrowed_by, narrowed_is, room_within, satisfies_narrowed, separation_within_cap, times_near_source}
 use Rattle.edge_clauses.specs.Lines.{Goal}
-use Rattle.edge_clauses.proofs.NegatedNet.{net_negated}
 
 -- times that a proof of the goal refutes
 pub record IsBetween (net : Net) (goal : Goal) (times : List ℤ) : Type 0 where

@@ -22,7 +22,7 @@ start_is_checking net check are_limits in_from in_to is_start = record {
   lines = ([], sym is_start);
 }
 
-led_in : (net : Net) (goal other : Goal) (lines : List ClauseLine) (after : State) → other ≡ goal → ProofLeads net goal (starting net goal.from) lines after
+pub led_in : (net : Net) (goal other : Goal) (lines : List ClauseLine) (after : State) → other ≡ goal → ProofLeads net goal (starting net goal.from) lines after
     → ProofLeads net other (starting net other.from) lines after
 led_in net goal other lines after same leads = subst (λ (g : Goal). ProofLeads net g (starting net g.from) lines after) (sym same) leads
 

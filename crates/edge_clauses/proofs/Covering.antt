@@ -5,12 +5,14 @@ use Rattle.std.proofs.lemmas.Int.{ints}
 use Rattle.std.proofs.lemmas.List.Elements.{All-append, All-push}
 use Rattle.std.proofs.lemmas.Option.{same_Some, slice_get-get_or}
 use Rattle.itv_base.specs.declared.names.EventId.{EventId}
+use Rattle.itv_base.proofs.Options.{some_and}
+use Rattle.itv_base.proofs.Integers.{through}
 use Rattle.event_graph.specs.declared.edge.Edge.{Edge}
 use Rattle.event_graph.specs.Edges.{Meets}
 use Rattle.event_graph.specs.Network.{Net}
 use Rattle.event_graph.specs.Satisfying.{Satisfies}
 use Rattle.event_graph.specs.Times.{time_of}
-use Rattle.falling.proofs.Bounding.{AreAbove, past_end, set_at, some_and}
+use Rattle.falling.proofs.Bounding.{AreAbove, past_end, set_at}
 use Rattle.edge_clauses.specs.Lines.{Assume, Block, ClauseLine, Close, Excludes, Fall, Forces, Frame, GivesLeast, GivesMost, Goal, IsClauseLoop, IsCovered, IsEdgeRefuted, IsEnded, IsLine, IsLow, Know, LetsFall, LetsRise, Loop, ProofLeads, Rise, State, StepsTo, Walks, frame_in, refuting, with_frame_in}
 use Rattle.edge_clauses.proofs.Anys.{any_element}
 use Rattle.edge_clauses.proofs.Between.{IsBetween}
@@ -34,7 +36,7 @@ pub record Keeps (times : List ℤ) (state : State) : Type 0 where
 
 -- ---- bounds
 
-within_or_past : (i n : ℕ) → (i < n) ⊎ (n ≤ i)
+pub within_or_past : (i n : ℕ) → (i < n) ⊎ (n ≤ i)
 within_or_past i n = grind arith
 
 above_set : (values times : List ℤ) (event : EventId) (value : ℤ) → AreAbove values times → time_of times event ≤ℤ value → AreAbove (set values event.0 value) times
@@ -65,13 +67,10 @@ below_set values times event value below most =
       ];
     }
 
-at_least : (a b c : ℤ) → a ≤ℤ b → b ≤ℤ c → a ≤ℤ c
-at_least a b c p q = omega (arith, ints)
-
 -- a time that the frame calls low is no later than the event
 low_holds : (goal : Goal) (times : List ℤ) (frame : Frame) (event : EventId) (time : ℤ) → Covers times frame → goal.claim <ℤ time_of times goal.to → IsLow goal frame event time
     → time ≤ℤ time_of times event
-low_holds goal times frame event time covers above (inl low) = at_least time (time_of frame.low event) (time_of times event) low (covers.low.each event.0)
+low_holds goal times frame event time covers above (inl low) = through time (time_of frame.low event) (time_of times event) low (covers.low.each event.0)
 low_holds goal times frame event time covers above (inr (is, low)) =
     subst (λ (x : EventId). time ≤ℤ time_of times x) (sym is) (beyond time goal.claim (time_of times goal.to) low above) where
       beyond : (time claim at : ℤ) → time ≤ℤ (claim +ℤ pos 1) → claim <ℤ at → time ≤ℤ at

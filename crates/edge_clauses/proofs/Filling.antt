@@ -7,13 +7,12 @@ use Rattle.itv_base.specs.declared.names.RuleKind.{RuleKind}
 use Rattle.itv_base.specs.declared.names.RuleKind.TheVariants.{Lin, Late, Early}
 use Rattle.itv_base.specs.declared.names.Side.{Side}
 use Rattle.itv_base.specs.declared.text.NoMemory.{NoMemory}
+use Rattle.itv_base.proofs.Options.{mapped_some, then_some, some_and}
 use Rattle.event_graph.specs.declared.cause.Cause.{Cause}
 use Rattle.event_graph.specs.declared.edge.Edge.{Edge}
 use Rattle.event_graph.specs.Edges.{choice_side, edge, side_edge}
 use Rattle.event_graph.specs.Network.{Constraint, Net, cause_at, cause_count_of}
 use Rattle.event_graph.specs.Proof.{HasChoice}
-use Rattle.falling.proofs.Between.{mapped_some}
-use Rattle.falling.proofs.Bounding.{some_and}
 use Rattle.edge_clauses.specs.declared.basis.Basis.{Basis}
 use Rattle.edge_clauses.specs.declared.basis.Basis.TheVariants.{ByEdge, Either, ByChoice, ByKept}
 use Rattle.edge_clauses.specs.Checking.{HasNoClause}
@@ -68,16 +67,12 @@ pub cause_edge : (net : Net) (number cause : ℕ) (side : Side) (k : Constraint)
 cause_edge net number cause side k at =
     ap (λ (o : Option Constraint). option_and_then (λ (c : Constraint). option_and_then (side_edge side c.target) (slice_get c.causes cause)) o) at
 
-then_is : {X Y : Type 0} (f : X → Option Y) (o : Option X) (y : Y) → option_and_then f o ≡ Some y → (x : X) × (o ≡ Some x) × (f x ≡ Some y)
-then_is f None y e = absurd (cc)
-then_is f (Some x) y e = (x, refl, e)
-
 -- one more edge
 pub sides_more : (net : Net) (number cause : ℕ) (side : Side) (k : Constraint) (e : Edge) (room next : List Edge) → slice_get net.constraints number ≡ Some k
     → edge net (record { constraint = number; cause = cause; side = side }) ≡ Some e → next ≡ room ++ e ∷ []
     → map (side_edge side k.target) (take cause k.causes) ≡ map Some room → map (side_edge side k.target) (take (cause + 1) k.causes) ≡ map Some next
 sides_more net number cause side k e room next at is_edge is_next so_far =
-    let (x, at_x, made) = then_is (side_edge side k.target) (slice_get k.causes cause) e (sym (cause_edge net number cause side k at) ∙ is_edge) in
+    let (x, at_x, made) = then_some (side_edge side k.target) (slice_get k.causes cause) e (sym (cause_edge net number cause side k at) ∙ is_edge) in
     ap (map (side_edge side k.target)) (take_more k.causes cause x (slice_get_within k.causes cause x at_x) ∙ ap (λ (c : Cause). take cause k.causes ++ c ∷ []) (get_or_from_slice_get k.causes cause x x at_x))
     ∙ (map-append (side_edge side k.target) (take cause k.causes) (x ∷ [])
     ∙ (ap (λ (es : List (Option Edge)). es ++ side_edge side k.target x ∷ []) so_far

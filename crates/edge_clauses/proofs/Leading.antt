@@ -6,7 +6,7 @@ use Rattle.event_graph.specs.Network.{Net}
 use Rattle.falling.specs.DerivationEnds.{AreLimits}
 use Rattle.edge_clauses.specs.Checking.{Checking, TakesLine}
 use Rattle.edge_clauses.specs.Lines.{ClauseLine, Goal, ProofLeads, State, claiming, starting}
-use Rattle.edge_clauses.proofs.Checked.{leads_more, raised_keeps_checking, start_is_checking, taken_line_keeps_checking}
+use Rattle.edge_clauses.proofs.Checked.{leads_more, raised_keeps_checking, start_is_checking, taken_line_keeps_checking, led_in}
 use Rattle.edge_clauses.proofs.Proving.{claim_can_rise}
 use Rattle.edge_clauses.specs.declared.line.StoredLine.{StoredLine}
 use Rattle.edge_clauses.specs.Proofs.{IsProving, line_of, lines_of}
@@ -24,17 +24,13 @@ start_proving net check lines from to claim are_limits is_goal is_start in_from 
       lines = sym at_start;
     })
 
-led_as : (net : Net) (goal other : Goal) (lines : List ClauseLine) (after : State) → other ≡ goal → ProofLeads net goal (starting net goal.from) lines after
-    → ProofLeads net other (starting net other.from) lines after
-led_as net goal other lines after same leads = subst (λ (g : Goal). ProofLeads net g (starting net g.from) lines after) (sym same) leads
-
 -- a line that is taken comes after the others
 pub taken_proving : (net : Net) (check next : Checking) (lines : List StoredLine) (line : StoredLine) → IsProving net (record { check = check; lines = lines })
     → TakesLine net check (line_of line) next → IsProving net (record { check = next; lines = lines ++ line ∷ [] })
 taken_proving net check next lines line proving takes = record {
   checking = taken_line_keeps_checking net check next (line_of line) proving.checking takes;
   lines = subst (λ (ls : List ClauseLine). ProofLeads net next.goal (starting net next.goal.from) ls next.state) (sym (map-append line_of lines (line ∷ [])))
-      (led_as net check.goal next.goal (lines_of lines ++ line_of line ∷ []) next.state takes.goal
+      (led_in net check.goal next.goal (lines_of lines ++ line_of line ∷ []) next.state takes.goal
       (leads_more net check.goal (starting net check.goal.from) (lines_of lines) check.state (line_of line) next.state proving.lines takes.line));
 }
 
@@ -45,6 +41,6 @@ pub raised_proving : (net : Net) (old new : Checking) (lines : List StoredLine) 
 raised_proving net old new lines claim proving more same_limits is_goal same_state = record {
   checking = raised_keeps_checking net old new claim proving.checking more same_limits is_goal same_state;
   lines = subst (λ (s : State). ProofLeads net new.goal (starting net new.goal.from) (lines_of lines) s) (sym same_state)
-      (led_as net (claiming old.goal claim) new.goal (lines_of lines) old.state is_goal
+      (led_in net (claiming old.goal claim) new.goal (lines_of lines) old.state is_goal
       (claim_can_rise net old.goal claim (starting net old.goal.from) (lines_of lines) old.state more proving.lines));
 }

@@ -1,5 +1,4 @@
 pub mod Anys
-pub mod NegatedNet
 pub mod Between
 pub mod Edges
 pub mod Meeting

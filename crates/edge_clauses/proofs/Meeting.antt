@@ -1,20 +1,18 @@
 -- Satisfying times meet the clause of every basis.
-use Rattle.std.proofs.Common.{◌≡◌, inl, inr, ℤ, neg_ℤ, ◌+ℤ◌, ◌-ℤ◌, ◌≤ℤ◌, List, [], ◌∷◌, map, All, Any, Option, Some, None, IfSome, option_map, slice_get, sym, subst, arith}
-use Rattle.std.proofs.lemmas.Int.{ints}
+use Rattle.std.proofs.Common.{◌≡◌, inl, inr, ℤ, List, [], ◌∷◌, map, All, Any, Option, Some, IfSome, slice_get, sym, subst}
 use Rattle.itv_base.specs.declared.names.EventId.{EventId}
 use Rattle.itv_base.specs.declared.names.RuleKind.{RuleKind}
 use Rattle.itv_base.specs.declared.names.RuleKind.TheVariants.{Lin, Late, Early}
 use Rattle.itv_base.specs.declared.names.Side.{Side}
+use Rattle.itv_base.proofs.Options.{some_and}
 use Rattle.event_graph.specs.declared.cause.Cause.{Cause}
 use Rattle.event_graph.specs.declared.edge.Edge.{Edge}
 use Rattle.event_graph.specs.Edges.{Meets, choice_side, edge, side_edge}
 use Rattle.event_graph.specs.Network.{Net}
 use Rattle.event_graph.specs.Proof.{HasChoice}
 use Rattle.event_graph.specs.Satisfying.{Holds, HoldsAs, IsAfter, IsBefore, Satisfies}
-use Rattle.event_graph.specs.Times.{time_of}
 use Rattle.event_graph.proofs.ByEdges.{satisfying_meets_always}
-use Rattle.event_graph.proofs.EdgesMet.{All-found}
-use Rattle.falling.proofs.Bounding.{some_and}
+use Rattle.event_graph.proofs.EdgesMet.{All-found, lower_met, upper_met}
 use Rattle.edge_clauses.proofs.Anys.{any_cases, any_head, any_none, any_tail, any_weaker}
 use Rattle.edge_clauses.specs.declared.basis.Basis.{Basis}
 use Rattle.edge_clauses.specs.declared.basis.Basis.TheVariants.{ByEdge, Either, ByChoice, ByKept}
@@ -29,28 +27,14 @@ MeetsClause times c = Any (Meets times) c
 abbrev MeetsSide : List ℤ → Side → EventId → Cause → Type 0
 MeetsSide times side target c = IfSome (side_edge side target c) (Meets times)
 
-before_met : (times : List ℤ) (target event : EventId) (high : Option ℤ) → IfSome high (λ h. time_of times target ≤ℤ (time_of times event +ℤ h))
-    → IfSome (option_map (λ h. record { from = event; to = target; weight = h }) high) (Meets times)
-before_met times target event None h = tt
-before_met times target event (Some high) h = moved (time_of times event) (time_of times target) high h where
-  moved : (from to weight : ℤ) → to ≤ℤ (from +ℤ weight) → (to -ℤ from) ≤ℤ weight
-  moved from to weight h = omega (arith, ints)
-
-after_met : (times : List ℤ) (target event : EventId) (low : Option ℤ) → IfSome low (λ l. (time_of times event +ℤ l) ≤ℤ time_of times target)
-    → IfSome (option_map (λ l. record { from = target; to = event; weight = neg_ℤ l }) low) (Meets times)
-after_met times target event None h = tt
-after_met times target event (Some low) h = moved (time_of times event) (time_of times target) low h where
-  moved : (from to low : ℤ) → (from +ℤ low) ≤ℤ to → (from -ℤ to) ≤ℤ neg_ℤ low
-  moved from to low h = omega (arith, ints)
-
 -- times that hold a latest or earliest constraint meet the choice side of some cause
 some_side : (kind : RuleKind) (times : List ℤ) (target : EventId) (causes : List Cause) → HasChoice kind → HoldsAs kind times target causes
     → Any (MeetsSide times (choice_side kind) target) causes
 some_side Lin times target causes choice h = absurd choice
 some_side Late times target causes choice h =
-    any_weaker (IsBefore times target) _ causes (λ c before. before_met times target c.event c.range.high before) h.1
+    any_weaker (IsBefore times target) _ causes (λ c before. upper_met times target c.event c.range.high before) h.1
 some_side Early times target causes choice h =
-    any_weaker (IsAfter times target) _ causes (λ c after. after_met times target c.event c.range.low after) h.1
+    any_weaker (IsAfter times target) _ causes (λ c after. lower_met times target c.event c.range.low after) h.1
 
 -- a cause whose side is met gives a met edge, where each cause has an edge on that side
 side_met : (times : List ℤ) (side : Side) (target : EventId) (causes : List Cause) (c : Clause) → map (side_edge side target) causes ≡ map Some c

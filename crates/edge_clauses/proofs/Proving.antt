@@ -1,29 +1,26 @@
 -- What a proof by clauses shows.
-use Rattle.std.proofs.Common.{◌≡◌, ◌<◌, ◌≤◌, ◌⊎◌, inl, inr, ℕ, zero, suc, ℤ, pos, neg_ℤ, ◌+ℤ◌, ◌≤ℤ◌, ◌<ℤ◌, List, [], ◌∷◌, length, replicate, sym, ◌∙◌, refl, subst, arith}
+use Rattle.std.proofs.Common.{◌≡◌, ◌<◌, ◌≤◌, inl, inr, ℕ, zero, suc, ℤ, pos, neg_ℤ, ◌+ℤ◌, ◌≤ℤ◌, ◌<ℤ◌, List, [], ◌∷◌, length, replicate, sym, ◌∙◌, refl, subst, arith}
 use Rattle.std.proofs.Math.ListN.{length-set}
 use Rattle.std.proofs.lemmas.Int.{ints}
 use Rattle.itv_base.specs.declared.names.EventId.{EventId}
+use Rattle.itv_base.proofs.Options.{some_and}
 use Rattle.event_graph.specs.declared.edge.Edge.{Edge}
 use Rattle.event_graph.specs.Edges.{Meets}
 use Rattle.event_graph.specs.Network.{Net}
 use Rattle.event_graph.specs.Times.{separation}
 use Rattle.falling.specs.Cap.{cap, far_line}
 use Rattle.falling.specs.Kinds.{negated, negated_times}
-use Rattle.falling.proofs.Bounding.{AreAbove, past_end, replicated, set_at, some_and, start_above}
+use Rattle.falling.proofs.Bounding.{AreAbove, past_end, replicated, set_at, start_above}
 use Rattle.falling.proofs.Near.{below_or_not}
-use Rattle.falling.proofs.NegatedNets.{inconsistent_from, widest-negated}
+use Rattle.falling.proofs.NegatedNets.{inconsistent_from, widest-negated, net_negated}
 use Rattle.falling.proofs.Negating.{satisfies_turns, separation-negated}
 use Rattle.edge_clauses.specs.Lines.{Assume, ClauseLine, Close, Fall, Forces, Frame, Goal, IsClauseProof, IsEdgeRefuted, IsEnded, IsLine, IsLow, Know, LetsFall, LetsRise, Loop, Rise, State, claiming, frame_of, starting, starting_lows}
 use Rattle.edge_clauses.proofs.Anys.{all_none}
 use Rattle.edge_clauses.proofs.Between.{IsBetween, between, between_near}
-use Rattle.edge_clauses.proofs.NegatedNet.{net_negated}
 use Rattle.edge_clauses.specs.Clauses.{Clause}
 use Rattle.edge_clauses.specs.Laws.{ClaimCanRise, ClauseProofBounds, ClauseProofOfNothing, NegatedProofBounds, NegatedProofOfNothing, ProofAndTimesClose}
-use Rattle.edge_clauses.proofs.Covering.{Keeps, lead_keeps, over_fails}
+use Rattle.edge_clauses.proofs.Covering.{Keeps, lead_keeps, over_fails, within_or_past}
 use Rattle.edge_clauses.proofs.Meeting.{MeetsClause}
-
-within_or_past : (i n : ℕ) → (i < n) ⊎ (n ≤ i)
-within_or_past i n = grind arith
 
 length-lows : (net : Net) (from : EventId) → length (starting_lows net from) ≡ net.events
 length-lows net from = length-set (replicate net.events (neg_ℤ (pos (cap net)))) from.0 (pos 0) ∙ length-rep net.events (neg_ℤ (pos (cap net))) where

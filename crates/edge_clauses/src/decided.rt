@@ -31,7 +31,7 @@ pub fn decide(net: &Network, checker: &ClauseChecker, times: &[i64]) -> ProofVer
     ensures verdict { IsVerdict net.now checker.now.goal times.now result }
     ensures nothing { result ≡ Open → SaysNothing net.now checker.now times.now }
 {
-    let _events = net.events();
+    net.is_whole();
     if !checker.is_over() {
         return ProofVerdict::Open;
     }

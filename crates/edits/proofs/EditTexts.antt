@@ -1,10 +1,9 @@
 -- A line is read as an edit if and only if it spells this edit.
-use Rattle.std.proofs.Common.{◌≡◌, ℕ, ℤ, Bool, true, false, List, [], ◌∷◌, ◌++◌, length, Option, Some, None, Result, Ok, Err, refl, sym, ap, subst, ◌∙◌, arith, append_assoc, codes, if◌then◌else◌, leb, ◌&&◌}
+use Rattle.std.proofs.Common.{◌≡◌, ℕ, ℤ, Bool, true, false, List, [], ◌∷◌, ◌++◌, length, Option, Some, None, Result, Ok, Err, refl, sym, ap, subst, ◌∙◌, append_assoc, codes, if◌then◌else◌, leb, ◌&&◌}
 use Rattle.std.specs.List.{list_all}
 use Rattle.std.specs.Char.{is_ascii_graphic}
 use Rattle.std.specs.Str.{IsUtf8, is_utf8}
 use Rattle.std.proofs.lemmas.Bool.{and_parts}
-use Rattle.std.proofs.lemmas.Bool.Decides.{nat_tests}
 use Rattle.std.proofs.lemmas.Str.{is_utf8-from_IsUtf8}
 use Rattle.itv_base.specs.Characters.{is_name, is_name_byte}
 use Rattle.itv_base.specs.Numerals.{end_text, number_text}
@@ -18,7 +17,7 @@ use Rattle.label_grammar.specs.declared.label.LabelFault.{LabelFault}
 use Rattle.label_grammar.specs.declared.label.LabelFault.TheVariants as labels
 use Rattle.label_grammar.proofs.StandingRange.{range_again_all, range_takes_all}
 use Rattle.line_words.specs.Lines.{line_of}
-use Rattle.line_words.proofs.Plain.{ArePlain, all_weaker, end_plain, is_plain, line_is_text, number_plain, plain_append}
+use Rattle.line_words.proofs.Plain.{ArePlain, all_weaker, end_plain, is_plain, line_is_text, number_plain, plain_append, name_byte_plain}
 use Rattle.drawn.specs.Drawn.{Drawn}
 use Rattle.numbers.specs.declared.drawn_number.DrawnNumber.TheVariants as numbers
 use Rattle.edits.specs.declared.edit.RangeEdit.{RangeEdit}
@@ -76,9 +75,6 @@ edit_takes drawn n line e h = text_takes drawn n line (is_utf8 line) e h
 plain_range : (low high : Option ℤ) → is_plain (91 ∷ (end_text low ++ (44 ∷ (end_text high ++ (93 ∷ []))))) ≡ true
 plain_range low high =
     plain_append (end_text low) (44 ∷ (end_text high ++ (93 ∷ []))) (end_plain low) (plain_append (end_text high) (93 ∷ []) (end_plain high) refl)
-
-name_byte_plain : (b : ℕ) → is_name_byte b ≡ true → is_ascii_graphic b ≡ true
-name_byte_plain b h = grind (arith, nat_tests)
 
 name_plain : (name : List ℕ) → is_name name ≡ true → is_plain name ≡ true
 name_plain name h =

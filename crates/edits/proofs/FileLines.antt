@@ -2,8 +2,6 @@
 use Rattle.std.proofs.Common.{◌≡◌, ◌==◌, ◌+◌, ◌<◌, ℕ, Bool, true, false, cond, List, [], ◌∷◌, ◌++◌, length, All, Some, None, Result, Ok, Err, IfOk, IsErrAnd, if◌then◌else◌, refl, sym, ap, subst, ◌∙◌, arith, append_assoc, append-nil, length-append}
 use Rattle.std.specs.List.{after_first, before_first, onto_first, position_or_len, slice_split}
 use Rattle.std.specs.Str.{IsUtf8, is_utf8}
-use Rattle.std.proofs.lemmas.List.Splits.{slice_split_first, slice_split_none}
-use Rattle.std.proofs.lemmas.List.Sums.{fails_before_first}
 use Rattle.std.proofs.lemmas.List.Elements.{All-cons}
 use Rattle.std.proofs.lemmas.Str.{IsUtf8-from_is_utf8, is_utf8-from_IsUtf8}
 use Rattle.itv_base.specs.Reading.{◌>>=◌, AgreesWith, IsReadingFault, UnlessTrue}
@@ -11,6 +9,7 @@ use Rattle.itv_base.specs.Range.{Ends}
 use Rattle.label_grammar.specs.Ends.{judged_alone, only_ends}
 use Rattle.label_grammar.specs.Reading.{ends_of}
 use Rattle.line_words.specs.Lines.{is_feed}
+use Rattle.line_words.proofs.Cutting.{cut_is, uncut_is}
 use Rattle.drawn.specs.Drawn.{Drawn}
 use Rattle.edits.specs.declared.edit.RangeEdit.{RangeEdit}
 use Rattle.edits.specs.declared.fault.EditsFault.{EditsFault}
@@ -53,13 +52,6 @@ edit_ranged drawn n text rest s range is ranged =
     ap (edit_named drawn n) is ∙ ap (λ (o : Result Ends EditsFault). o >>= λ r. edit_there drawn n (record { subject = s; range = r })) ranged
 
 -- ---- the first line of a text
-
-cut_is : (text line behind : List ℕ) → position_or_len is_feed text < length text → line ≡ before_first is_feed text → behind ≡ after_first is_feed text
-    → slice_split is_feed text ≡ line ∷ slice_split is_feed behind
-cut_is text line behind h first rest = slice_split_first is_feed text 0 h ∙ rw (first, rest) refl
-
-uncut_is : (text : List ℕ) → position_or_len is_feed text ≡ length text → slice_split is_feed text ≡ text ∷ []
-uncut_is text h = slice_split_none is_feed text (λ k d within. fails_before_first is_feed text k d (omega arith))
 
 -- a text has at least one part
 abbrev HasPart : List (List ℕ) → Type 0

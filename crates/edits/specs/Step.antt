@@ -1,3 +1,2 @@
 -- Words of private contracts.
-pub mod EditsFile
 pub mod Named

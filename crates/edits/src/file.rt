@@ -1,18 +1,18 @@
 //! Reading a file of edits.
 
 ghost use Rattle.std.specs.Prelude.{◌≡◌, ◌≤◌, List, All, IfOk, count_by, length};
-ghost use Rattle.std.specs.List.{position_or_len, slice_split};
+ghost use Rattle.std.specs.List.{slice_split};
 ghost use Rattle.itv_base.specs.Reading.{AgreesWith};
 ghost use Rattle.line_words.specs.Lines.{is_feed};
 ghost use Rattle.edits.specs.Subject.{IsThere};
 ghost use Rattle.edits.specs.EditsFile.{edits_from, edits_of, is_ended, is_memory, line_count};
-ghost use Rattle.edits.specs.Step.EditsFile.{Cuts};
 ghost use Rattle.edits.specs.declared.edit.RangeEdit.{RangeEdit};
 
 use crate::edit::{Edits, RangeEdit};
 use crate::fault::EditsFault;
 use crate::line::read_edit;
 use drawn::DrawnNetwork;
+use line_words::cut_line;
 use std::alloc::Global;
 
 /// The most bytes of a file of edits.
@@ -81,22 +81,4 @@ fn read_lines(alloc: Global, drawn: &DrawnNetwork, bytes: &[u8]) -> Result<Edits
         return Err(EditsFault::Line(edits.len() as u64 + 1));
     }
     Ok(Edits::from(edits))
-}
-
-// The first line of a text, and the text after the end of this line, or `None` where no line ends.
-fn cut_line(text: &[u8]) -> Option<(&[u8], &[u8])>
-    ensures { Cuts text.now result }
-{
-    let len = line_len(text);
-    if len == text.len() {
-        return None;
-    }
-    Some((&text[..len], &text[len + 1..]))
-}
-
-fn line_len(text: &[u8]) -> usize
-    ensures len { result ≡ position_or_len is_feed text.now }
-    ensures within { result ≤ length text.now }
-{
-    text.iter().take_while(|b| **b != b'\n').count()
 }

@@ -6,6 +6,8 @@ use Rattle.itv_base.specs.declared.names.RuleKind.{RuleKind}
 use Rattle.itv_base.specs.declared.names.RuleKind.TheVariants.{Lin, Late, Early}
 use Rattle.itv_base.specs.declared.names.Side.{Side}
 use Rattle.itv_base.specs.declared.names.Side.TheVariants.{Lower, Upper}
+use Rattle.itv_base.proofs.Options.{if_some}
+use Rattle.itv_base.proofs.Lists.{found_below}
 use Rattle.event_graph.specs.declared.cause.Cause.{Cause}
 use Rattle.event_graph.specs.declared.edge.Edge.{Edge}
 use Rattle.event_graph.specs.Network.{Constraint, Net}
@@ -13,7 +15,7 @@ use Rattle.event_graph.specs.Satisfying.{Holds, HoldsAs}
 use Rattle.event_graph.specs.Edges.{IsAlways, Meets, choice_side, edge, holds_always, side_edge}
 use Rattle.event_graph.specs.Proof.{HasChoice}
 use Rattle.event_graph.specs.Laws.{HoldsByEdges, MeetsAlwaysOf, MeetsSomeChoice, NoRootIsInconsistent, RootBoundEncloses, SatisfyingIsMeetingAlways, SatisfyingMeetsAlways, SingleCauseIsLinear}
-use Rattle.event_graph.proofs.EdgesMet.{All-found, Allows, allows_side, always_allows, at_some, cause_of, edge-at, found_below, meets_side, met_if_some}
+use Rattle.event_graph.proofs.EdgesMet.{All-found, Allows, allows_side, always_allows, at_some, cause_of, edge-at, meets_side}
 
 -- an always-edge of a constraint that is there is on a side that always holds
 always_of : (net : Net) (name : EdgeName) (k : Constraint) → slice_get net.constraints name.constraint ≡ Some k → IsAlways net name
@@ -48,7 +50,7 @@ allowed_always : (net : Net) (number : ℕ) (k : Constraint) (times : List ℤ) 
 allowed_always net number k times side cause c at_k at_c always meets =
     let name : EdgeName = record { constraint = number; cause = cause; side = side } in
     allowed_by_edge net name k c times at_k at_c
-    (met_if_some (edge net name) (Meets times) (λ e is_edge. meets name e refl (is_always net name k e at_k is_edge always) is_edge))
+    (if_some (edge net name) (Meets times) (λ e is_edge. meets name e refl (is_always net name k e at_k is_edge always) is_edge))
 
 all_allowed : (net : Net) (number : ℕ) (k : Constraint) (times : List ℤ) (side : Side) → slice_get net.constraints number ≡ Some k
     → IsTrue (holds_always k.kind (length k.causes) side) → MeetsAlwaysOf times net number → All (Allows side times k.target) k.causes
@@ -105,7 +107,7 @@ pub single_cause_is_linear : SingleCauseIsLinear
 single_cause_is_linear net number k times is_net at_k single = (
   (λ h side.
       let name : EdgeName = record { constraint = number; cause = 0; side = side } in
-      met_if_some (edge net name) (Meets times)
+      if_some (edge net name) (Meets times)
       (λ e is_edge. holds_always_edges net number k times at_k h name e refl
       (is_always net name k e at_k is_edge (single_always k.kind (length k.causes) side single)) is_edge)),
   (λ both. holds_from_edges k.kind net number k times refl at_k
@@ -139,7 +141,7 @@ single_holds net number k times at_k single meets =
     let name : EdgeName = record { constraint = number; cause = 0; side = choice_side k.kind } in (
       0,
       omega arith,
-      met_if_some (edge net name) (Meets times)
+      if_some (edge net name) (Meets times)
           (λ e is_edge. meets name e refl (is_always net name k e at_k is_edge (single_always k.kind (length k.causes) (choice_side k.kind) single)) is_edge),
     ))
 

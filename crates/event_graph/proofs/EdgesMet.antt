@@ -1,7 +1,6 @@
 -- Times that meet the edges of a constraint.
-use Rattle.std.proofs.Common.{◌≡◌, ◌<◌, ℕ, zero, suc, ℤ, neg_ℤ, ◌+ℤ◌, ◌≤ℤ◌, IsTrue, List, [], ◌∷◌, All, Any, length, get_or, take, ◌+◌, ◌++◌, Option, Some, None, IfSome, option_map, option_and_then, slice_get, sym, ap, ◌∙◌, refl, subst, arith}
+use Rattle.std.proofs.Common.{◌≡◌, ℕ, ℤ, neg_ℤ, ◌+ℤ◌, ◌≤ℤ◌, IsTrue, List, All, Any, length, get_or, ◌+◌, Option, Some, None, IfSome, option_map, option_and_then, slice_get, sym, ap, ◌∙◌, refl, subst, arith}
 use Rattle.std.proofs.lemmas.Int.{ints}
-use Rattle.std.proofs.lemmas.List.{take_more}
 use Rattle.std.proofs.lemmas.Option.{get_or_from_slice_get, slice_get_within}
 use Rattle.itv_base.specs.declared.names.EdgeName.{EdgeName}
 use Rattle.itv_base.specs.declared.names.EventId.{EventId}
@@ -16,21 +15,17 @@ use Rattle.event_graph.specs.Satisfying.{HoldsAs, IsAfter, IsBefore}
 use Rattle.event_graph.specs.Times.{time_of}
 use Rattle.event_graph.specs.Edges.{Meets, edge, holds_always, side_edge}
 
--- the first elements of a list, and one more
-pub take_next : {A : Type 0} (xs : List A) (i : ℕ) (x : A) → slice_get xs i ≡ Some x → take (i + 1) xs ≡ take i xs ++ x ∷ []
-take_next xs i x at = take_more xs i x (slice_get_within xs i x at) ∙ ap (λ y. take i xs ++ y ∷ []) (get_or_from_slice_get xs i x x at)
-
 -- what a side of a cause asks of the times
 abbrev pub Allows : Side → List ℤ → EventId → Cause → Type 0
 Allows Lower times target c = IsAfter times target c
 Allows Upper times target c = IsBefore times target c
 
-lower_met : (times : List ℤ) (target event : EventId) (low : Option ℤ) → IfSome low (λ l. (time_of times event +ℤ l) ≤ℤ time_of times target)
+pub lower_met : (times : List ℤ) (target event : EventId) (low : Option ℤ) → IfSome low (λ l. (time_of times event +ℤ l) ≤ℤ time_of times target)
     → IfSome (option_map (λ l. record { from = target; to = event; weight = neg_ℤ l }) low) (Meets times)
 lower_met times target event None h = tt
 lower_met times target event (Some l) h = omega (arith, ints)
 
-upper_met : (times : List ℤ) (target event : EventId) (high : Option ℤ) → IfSome high (λ h. time_of times target ≤ℤ (time_of times event +ℤ h))
+pub upper_met : (times : List ℤ) (target event : EventId) (high : Option ℤ) → IfSome high (λ h. time_of times target ≤ℤ (time_of times event +ℤ h))
     → IfSome (option_map (λ h. record { from = event; to = target; weight = h }) high) (Meets times)
 upper_met times target event None h = tt
 upper_met times target event (Some l) h = omega (arith, ints)
@@ -73,19 +68,9 @@ cause_of net name k e at_k h = cause_of_edge k name e (slice_get k.causes name.c
 pub at_some : {X : Type 0} (P : X → Type 0) (o : Option X) (x : X) → o ≡ Some x → IfSome o P → P x
 at_some {X = X} P o x is h = let Q : Option X → Type 0 = λ v. IfSome v P in subst Q is h
 
-pub met_if_some : {X : Type 0} (o : Option X) (P : X → Type 0) → ((x : X) → o ≡ Some x → P x) → IfSome o P
-met_if_some None P h = tt
-met_if_some (Some x) P h = h x refl
-
 -- what holds of each element holds of an element that is found
 pub All-found : {X : Type 0} (P : X → Type 0) (xs : List X) (i : ℕ) (x : X) → slice_get xs i ≡ Some x → All P xs → P x
 All-found P xs i x at_x h = subst P (get_or_from_slice_get xs i x x at_x) (h i x (slice_get_within xs i x at_x))
-
--- each place of a list has an element
-pub found_below : {X : Type 0} (xs : List X) (i : ℕ) → i < length xs → (x : X) × (slice_get xs i ≡ Some x)
-found_below [] i within = absurd (omega arith)
-found_below (x ∷ xs) zero within = (x, refl)
-found_below (x ∷ xs) (suc i) within = found_below xs i (omega arith)
 
 -- in a list of one element, what holds of some element holds of this one
 only_one : (P : Cause → Type 0) (causes : List Cause) (i : ℕ) (c : Cause) → length causes ≡ 1 → slice_get causes i ≡ Some c → Any P causes → P c

@@ -17,3 +17,5 @@ pub mod Rising
 pub mod Spelling
 pub mod RangeSet
 pub mod EventLists
+pub mod Causes
+pub mod Sizes

@@ -1,9 +1,10 @@
 -- A network with another range for one cause.
 use Rattle.std.proofs.Common.{◌≡◌, ◌<◌, ◌↔◌, ℕ, zero, suc, IsTrue, IsSome, List, [], ◌∷◌, All, length, get_or, set, Bool, Option, Some, None, slice_get, sym, ap, ◌∙◌, refl, subst, arith}
-use Rattle.std.proofs.lemmas.Option.{get_or_from_slice_get, slice_get-get_or, slice_get_within}
-use Rattle.std.proofs.lemmas.List.{get_or-set_same, length-set, set-get_or}
+use Rattle.std.proofs.lemmas.Option.{get_or_from_slice_get, slice_get-get_or}
+use Rattle.std.proofs.lemmas.List.{length-set, set-get_or}
 use Rattle.std.proofs.lemmas.List.Elements.{All-set}
 use Rattle.itv_base.specs.Range.{Ends}
+use Rattle.itv_base.proofs.Lists.{slice_get_set}
 use Rattle.event_graph.specs.declared.cause.Cause.{Cause}
 use Rattle.event_graph.specs.Laws.{RangeSetAgain}
 use Rattle.event_graph.specs.Network.{AreEnds, Constraint, IsCauseCount, IsConstraint, IsNet, Net, cause_at, causes_with, constraints_with, with_range}
@@ -80,12 +81,6 @@ pub cause_there : (net : Net) (number cause : ℕ) (c : Constraint) (result : Bo
 cause_there net number cause c result within at told = rw (here net.constraints number c within at) told
 
 -- ---- the range that was there set again
-
-slice_get_set : {A : Type 0} (xs : List A) (i : ℕ) (x y : A) → slice_get xs i ≡ Some y → slice_get (set xs i x) i ≡ Some x
-slice_get_set xs i x y at =
-    let within : i < length xs = slice_get_within xs i y at in
-    let within_set : i < length (set xs i x) = omega (arith, length-set xs i x) in
-    slice_get-get_or (set xs i x) i x within_set ∙ ap Some (get_or-set_same xs i x x within)
 
 set_at : {A : Type 0} (xs : List A) (i : ℕ) (x : A) → slice_get xs i ≡ Some x → set xs i x ≡ xs
 set_at xs i x at = ap (set xs i) (sym (get_or_from_slice_get xs i x x at)) ∙ set-get_or xs i x

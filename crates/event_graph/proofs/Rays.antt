@@ -1,8 +1,9 @@
 -- Raised times, and what a ray shows.
-use Rattle.std.proofs.Common.{◌≡◌, ◌+◌, ◌<◌, ℕ, zero, suc, ℤ, pos, negsuc, unsigned_abs, ◌+ℤ◌, ◌-ℤ◌, ◌≤ℤ◌, Bool, true, false, List, [], ◌∷◌, length, get_or, Some, slice_get, sym, ap, ◌∙◌, refl, arith}
+use Rattle.std.proofs.Common.{◌≡◌, ◌+◌, ◌<◌, ℕ, zero, suc, ℤ, pos, unsigned_abs, ◌+ℤ◌, ◌-ℤ◌, ◌≤ℤ◌, Bool, true, false, List, [], ◌∷◌, length, get_or, Some, slice_get, sym, ap, ◌∙◌, refl, arith, ◌⊎◌, inl, inr}
 use Rattle.std.proofs.lemmas.Int.{ints}
 use Rattle.std.proofs.lemmas.Option.{same_Some, slice_get_within}
 use Rattle.itv_base.specs.declared.names.EventId.{EventId}
+use Rattle.itv_base.proofs.Integers.{at_most_abs}
 use Rattle.event_graph.specs.Times.{raised, separation, time_of}
 use Rattle.event_graph.specs.Laws.{RayIsUnbounded}
 
@@ -27,10 +28,6 @@ get_or-raised_out (is_in ∷ set) by [] k here = refl
 get_or-raised_out (is_in ∷ set) by (time ∷ times) zero here = rw (same_Some is_in false here) refl
 get_or-raised_out (is_in ∷ set) by (time ∷ times) (suc k) here = get_or-raised_out set by times k here
 
-pub at_most_abs : (z : ℤ) → z ≤ℤ pos (unsigned_abs z)
-at_most_abs (pos n) = omega (arith, ints)
-at_most_abs (negsuc n) = omega (arith, ints)
-
 -- raising the set raises the separation by as much
 pub separation-raised : (set : List Bool) (by : ℕ) (times : List ℤ) (from to : EventId) → slice_get set from.0 ≡ Some false → slice_get set to.0 ≡ Some true
     → to.0 < length times → separation (raised set by times) from to ≡ separation times from to +ℤ pos by
@@ -47,3 +44,11 @@ ray_is_unbounded net from to times set ray value =
     let reached : separation (raised set by times) from to ≡ separation times from to +ℤ pos by = separation-raised set by times from to ray.lacks ray.holds within in
     let most : (value -ℤ separation times from to) ≤ℤ pos (unsigned_abs (value -ℤ separation times from to)) = at_most_abs _ in
     (raised set by times, ray.satisfies by, rw reached (omega (arith, ints)))
+
+pub raised_at : (set : List Bool) (by : ℕ) (times : List ℤ) (k : ℕ) (d : ℤ) → k < length times
+    → (get_or (raised set by times) k d ≡ get_or times k d) ⊎ (get_or (raised set by times) k d ≡ get_or times k d +ℤ pos by)
+raised_at [] by times k d h = inl refl
+raised_at (is_in ∷ set) by [] k d h = absurd (omega arith)
+raised_at (true ∷ set) by (time ∷ times) zero d h = inr refl
+raised_at (false ∷ set) by (time ∷ times) zero d h = inl refl
+raised_at (is_in ∷ set) by (time ∷ times) (suc k) d h = raised_at set by times k d (omega arith)

@@ -13,7 +13,7 @@ value_of_negated a b value e = omega (arith, ints)
 below_negated : (a b value : ℤ) → value ≤ℤ (b -ℤ a) → (a -ℤ b) ≤ℤ neg_ℤ value
 below_negated a b value h = omega (arith, ints)
 
-above_value : (a b value : ℤ) → (a -ℤ b) ≤ℤ neg_ℤ value → value ≤ℤ (b -ℤ a)
+pub above_value : (a b value : ℤ) → (a -ℤ b) ≤ℤ neg_ℤ value → value ≤ℤ (b -ℤ a)
 above_value a b value h = omega (arith, ints)
 
 pub least_is_reversed_greatest : LeastIsReversedGreatest

@@ -1,15 +1,17 @@
 -- Constraints that hold however far the events of a set are raised.
-use Rattle.std.proofs.Common.{◌≡◌, ◌+◌, ◌<◌, ◌≤◌, ◌⊎◌, inl, inr, ℕ, zero, suc, ℤ, pos, unsigned_abs, ◌+ℤ◌, ◌-ℤ◌, ◌≤ℤ◌, ◌↔◌, Bool, true, false, cond, if◌then◌else◌, IsSome, List, [], ◌∷◌, All, Any, length, get_or, Option, Some, None, IfSome, sym, ◌∙◌, refl, subst, arith}
+use Rattle.std.proofs.Common.{◌≡◌, ◌+◌, ◌<◌, ◌≤◌, inl, inr, ℕ, zero, suc, ℤ, pos, unsigned_abs, ◌+ℤ◌, ◌-ℤ◌, ◌≤ℤ◌, ◌↔◌, Bool, true, false, cond, if◌then◌else◌, IsSome, List, [], ◌∷◌, All, Any, length, get_or, Option, Some, None, IfSome, sym, ◌∙◌, refl, subst, arith}
 use Rattle.std.proofs.lemmas.Int.{ints}
 use Rattle.itv_base.specs.declared.names.EventId.{EventId}
 use Rattle.itv_base.specs.declared.names.RuleKind.{RuleKind}
 use Rattle.itv_base.specs.declared.names.RuleKind.TheVariants.{Lin, Late, Early}
+use Rattle.itv_base.proofs.Bools.{true_or_false}
+use Rattle.itv_base.proofs.Integers.{at_most_abs}
 use Rattle.event_graph.specs.declared.cause.Cause.{Cause}
 use Rattle.event_graph.specs.Network.{Constraint, Net}
 use Rattle.event_graph.specs.Satisfying.{HoldsAs, IsAfter, IsBefore, Satisfies}
 use Rattle.event_graph.specs.Step.Rising.{Stays, StaysAfter, StaysAs, StaysBefore, is_in}
 use Rattle.event_graph.specs.Times.{raised, time_of}
-use Rattle.event_graph.proofs.Rays.{at_most_abs, length-raised}
+use Rattle.event_graph.proofs.Rays.{length-raised}
 
 -- by how much a time is raised
 abbrev pub rise : Bool → ℕ → ℕ
@@ -126,10 +128,6 @@ module _ (end : Cause → Option ℤ) (u v : Cause → ℤ → ℤ) (in_u in_v :
       (k, c, within, here, kept_here (end c) (u c) (v c) (in_u c) (in_v c) (kept c) holds)
 
 -- ---- one cause
-
-true_or_false : (b : Bool) → (b ≡ true) ⊎ (b ≡ false)
-true_or_false true = inl refl
-true_or_false false = inr refl
 
 after_apart : (o : Option ℤ) (a b low_at high_at : ℤ) (r s : ℕ) → low_at ≡ a +ℤ pos r → high_at ≡ b +ℤ pos s → IfSome o (λ low. (low_at +ℤ low) ≤ℤ high_at)
     → IfSome o (λ low. ((a +ℤ low) +ℤ pos r) ≤ℤ (b +ℤ pos s))

@@ -24,10 +24,10 @@ before_same None a b a' b' same h = tt
 before_same (Some l) a b a' b' same h = omega (arith, ints)
 
 -- if all elements have R, and P and R together give Q, then Q holds of all elements, or of some, if P does
-all_follow : (P Q R : Cause → Type 0) (xs : List Cause) → All R xs → ((x : Cause) → R x → P x → Q x) → All P xs → All Q xs
+pub all_follow : (P Q R : Cause → Type 0) (xs : List Cause) → All R xs → ((x : Cause) → R x → P x → Q x) → All P xs → All Q xs
 all_follow P Q R xs in' follows h = λ k d within. follows (get_or xs k d) (in' k d within) (h k d within)
 
-any_follows : (P Q R : Cause → Type 0) (xs : List Cause) → All R xs → ((x : Cause) → R x → P x → Q x) → Any P xs → Any Q xs
+pub any_follows : (P Q R : Cause → Type 0) (xs : List Cause) → All R xs → ((x : Cause) → R x → P x → Q x) → Any P xs → Any Q xs
 any_follows P Q R xs in' follows (k, x, within, here, h) = (k, x, within, here, follows x (subst R here (in' k x within)) h)
 
 holds_same_as : (kind : RuleKind) (events : ℕ) (times others : List ℤ) (target : EventId) (causes : List Cause) → SameSeparations events times others
@@ -58,7 +58,7 @@ satisfies_same net times others is_net count same h = record {
       (h.each k d within);
 }
 
-length-shifted : (times : List ℤ) (by : ℤ) → length (shifted times by) ≡ length times
+pub length-shifted : (times : List ℤ) (by : ℤ) → length (shifted times by) ≡ length times
 length-shifted times by = length-map times (λ time. time +ℤ by)
 
 separation-shifted : (times : List ℤ) (by : ℤ) → SameSeparations (length times) times (shifted times by)

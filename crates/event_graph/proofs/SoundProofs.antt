@@ -1,5 +1,5 @@
 -- What a proof shows of satisfying times.
-use Rattle.std.proofs.Common.{◌≡◌, ◌+◌, ◌<◌, ◌≤◌, ℕ, zero, suc, ℤ, pos, ◌≤ℤ◌, ◌<ℤ◌, ◌⊎◌, inl, inr, List, [], ◌∷◌, ◌++◌, All, length, Option, Some, None, IsSomeAnd, slice_get, sym, ap, ◌∙◌, refl, subst, arith}
+use Rattle.std.proofs.Common.{◌≡◌, ◌+◌, ◌<◌, ◌≤◌, ℕ, zero, suc, ℤ, pos, ◌≤ℤ◌, ◌<ℤ◌, ◌⊎◌, inl, inr, List, [], ◌∷◌, ◌++◌, All, length, Some, slice_get, sym, ap, ◌∙◌, refl, subst, arith}
 use Rattle.std.proofs.lemmas.Int.{ints, by_lt_z}
 use Rattle.std.proofs.lemmas.Bool.{cases_eq}
 use Rattle.std.proofs.lemmas.Option.{same_Some}
@@ -7,6 +7,7 @@ use Rattle.std.proofs.lemmas.List.Elements.{All-cons, All-contains, All-head, Al
 use Rattle.itv_base.specs.declared.names.EdgeName.{EdgeName}
 use Rattle.itv_base.specs.declared.names.EventId.{EventId}
 use Rattle.itv_base.specs.declared.names.Side.{Side}
+use Rattle.itv_base.proofs.Options.{some_and}
 use Rattle.event_graph.specs.declared.edge.Edge.{Edge}
 use Rattle.event_graph.specs.Network.{Constraint, Net}
 use Rattle.event_graph.specs.Satisfying.{Holds, Satisfies}
@@ -44,11 +45,6 @@ some-append_left times net (x ∷ xs) ys (inr h) = inr (some-append_left times n
 some-append_right : (times : List ℤ) (net : Net) (xs ys : List Case) → SomeCovers times net ys → SomeCovers times net (xs ++ ys)
 some-append_right times net [] ys h = h
 some-append_right times net (x ∷ xs) ys h = inr (some-append_right times net xs ys h)
-
--- the value that is there, and what holds of it
-some_and : {X : Type 0} (o : Option X) (P : X → Type 0) → IsSomeAnd o P → (x : X) × (o ≡ Some x) × P x
-some_and None P h = absurd h
-some_and (Some x) P h = (x, refl, h)
 
 -- the choice that the times meet is among those that a split tries
 cases_covered : (times : List ℤ) (net : Net) (chosen : Case) (number cause count met : ℕ) → cause ≤ met → met < cause + count

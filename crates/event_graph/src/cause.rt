@@ -1,11 +1,12 @@
 //! Causes of constraints.
 
-ghost use Rattle.std.specs.Prelude.{◌≡◌, ◌<◌, ◌↔◌, neg_ℤ, ◌+ℤ◌, IsTrue, IfSome, length, All};
+ghost use Rattle.std.specs.Prelude.{◌≡◌, ◌<◌, ◌↔◌, ◌+ℤ◌, IsTrue, IfSome, length, All};
 ghost use Rattle.itv_base.specs.Range.{IsEnd};
 ghost use Rattle.event_graph.specs.Network.{AreEnds};
 ghost use Rattle.event_graph.specs.Times.{IsTime};
 
 use crate::edge::Edge;
+use crate::negated::negated_weight;
 use itv_base::{EventId, Range, Side};
 
 /// A cause of a constraint: an event, and the range of the delay from it to the target, in picoseconds.
@@ -88,7 +89,7 @@ impl Cause {
             Side::Lower => Some(Edge {
                 from: target,
                 to: self.event,
-                weight: negated(self.range.low()?),
+                weight: negated_weight(self.range.low()?),
             }),
         }
     }
@@ -111,13 +112,4 @@ fn delayed(time: i64, delay: i64) -> i64
     ensures { result ≡ time +ℤ delay }
 {
     time + delay
-}
-
-// Minus an end of a range.
-fn negated(end: i64) -> i64
-    requires { IsEnd (Some end) }
-    ensures value { result ≡ neg_ℤ end }
-    ensures within { IsEnd (Some result) }
-{
-    -end
 }

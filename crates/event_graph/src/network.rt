@@ -59,6 +59,13 @@ impl Network {
         self.events
     }
 
+    /// Says the invariant, for a caller that needs it and not the number of events. It does nothing.
+    pub fn is_whole(&self)
+        ensures net { IsNet self.now }
+    {
+        self.events();
+    }
+
     /// The number of constraints.
     pub fn len(&self) -> u32
         ensures count { result ≡ length self.now.constraints }
@@ -159,8 +166,9 @@ impl Network {
         }
     }
 
-    // Adds a constraint of any kind.
-    fn push(
+    /// Adds a constraint of any kind. A linear one has one cause, and the others have 1 to [`MAX_CAUSES`]. All events are of the
+    /// network. Returns `Full` as [`Network::push_linear`] does. After a refusal the network is unchanged.
+    pub fn push(
         &mut self,
         alloc: Global,
         kind: RuleKind,

@@ -5,28 +5,18 @@ ghost use Rattle.event_graph.specs.declared.push_fault.PushFault.TheVariants.{No
 
 use itv_base::NoMemory as OutOfMemory;
 use std::alloc::{AllocError, AllocFailed};
-use std::error::Error;
-use std::fmt;
+use thiserror::Error;
 
 /// Why a constraint was not added to a network.
-#[derive(Clone, Copy, Debug)]
+#[derive(Clone, Copy, Debug, Error)]
 pub enum PushFault {
     /// The network is full: it has this many constraints, the most that it may have.
+    #[error("the network has {0} constraints already")]
     Full(u32),
     /// There was not enough memory.
+    #[error("out of memory")]
     NoMemory,
 }
-
-impl fmt::Display for PushFault {
-    fn fmt<W: fmt::Write>(&self, f: &mut fmt::Formatter<W>) -> fmt::Result {
-        match self {
-            PushFault::Full(count) => write!(f, "the network has {count} constraints already"),
-            PushFault::NoMemory => write!(f, "out of memory"),
-        }
-    }
-}
-
-impl Error for PushFault {}
 
 impl From<AllocError> for PushFault {
     ghost from_gives = { λ _ e. e ≡ NoMemory };

@@ -5,20 +5,12 @@ ghost use Rattle.itv_base.specs.Outside.{FaultCounted};
 ghost use Rattle.event_graph.specs.Proof.{Loop, Path, ProofLine, Split};
 
 use itv_base::EdgeName;
-use std::error::Error;
-use std::fmt;
+use thiserror::Error;
 
 /// A line of a proof was not written whole.
-#[derive(Clone, Copy, Debug)]
+#[derive(Clone, Copy, Debug, Error)]
+#[error("a line of a proof could not be written")]
 pub struct ScribeFailed;
-
-impl fmt::Display for ScribeFailed {
-    fn fmt<W: fmt::Write>(&self, f: &mut fmt::Formatter<W>) -> fmt::Result {
-        write!(f, "a line of a proof could not be written")
-    }
-}
-
-impl Error for ScribeFailed {}
 
 /// Takes the lines of a proof, one after another. Each call writes its line, or fails. After a failure the scribe has
 /// some front of the line at its end, and its count of faults rose.

@@ -4,6 +4,7 @@ use Rattle.std.specs.Prelude.{IfSome}
 use Rattle.std.specs.Global.{Vec}
 use Rattle.itv_base.specs.declared.names.EdgeName.{EdgeName}
 use Rattle.itv_base.specs.declared.names.EventId.{EventId}
+use Rattle.itv_base.proofs.Integers.{neg_twice, no_neg}
 use Rattle.event_graph.specs.Bounds.{IsGreatest}
 use Rattle.event_graph.specs.Network.{Net}
 use Rattle.event_graph.specs.RootBound.{IsRootBound}
@@ -26,11 +27,10 @@ use Rattle.extremes.specs.declared.found.Greatest.TheVariants as separations
 use Rattle.explained.specs.Answers.{AreRowBounds, Explains, IsBehind, IsBoundFound, IsBoundShown, bound_of}
 use Rattle.explained.specs.declared.bound.BoundFound.{BoundFound}
 use Rattle.explained.specs.declared.bound.BoundFound.TheVariants.{Closed, Unbounded, Within}
-use Rattle.explained.specs.declared.pair.Pair.{Pair}
+use Rattle.event_graph.specs.declared.pair.Pair.{Pair}
 use Rattle.explained.specs.declared.pair_found.PairFound.{PairFound}
 use Rattle.explained.specs.declared.pair_found.PairFound.TheVariants.{Searched, Limited}
 use Rattle.explained.specs.Step.Bounding.{IsBehindPair, IsExplained, IsGreatestBy, IsGreatestFoundBy, IsPairFound, greatest_bound, pair_bound, reversed_found}
-use Rattle.explained.proofs.Numbers.{neg_neg, no_neg}
 use Rattle.explained.proofs.Shown.{greatest_shown, least_shown}
 
 -- ---- what is found of a pair
@@ -125,7 +125,7 @@ greatest_of net word row (bounds.Within limit attained) is = (is.root, is.rests)
 least_of : (net : Net) (word : FindingWord) (row : Row) (most value : Bound) → IsGreatestBy net word (record { from = row.to; to = row.from }) value
     → IsBoundOf net word row (least_by most) (reversed value)
 least_of net word row most (bounds.Closed value) is =
-    (is.0, (least_is_reversed_greatest net row.from row.to (neg_ℤ value)).1 (subst (IsGreatest net row.to row.from) (sym (neg_neg value)) is.1))
+    (is.0, (least_is_reversed_greatest net row.from row.to (neg_ℤ value)).1 (subst (IsGreatest net row.to row.from) (sym (neg_twice value)) is.1))
 least_of net word row most bounds.Unbounded is = is.0
 least_of net word row most (bounds.Within limit attained) is = (subst (IsRootBound net row.to row.from) (no_neg limit) is.root, attained_turned word attained is.rests)
 
@@ -138,7 +138,7 @@ behind_greatest net row (Within limit attained) is = is
 -- and by the reversed pair behind a least bound
 behind_least : (net : Net) (word : FindingWord) (row : Row) (most : Bound) (found : BoundFound) → IsGreatestBy net word (record { from = row.to; to = row.from }) (bound_of found)
     → IsBehindPair net (record { from = row.to; to = row.from }) found → IsBehind net row (least_by most) (reversed_found found)
-behind_least net word row most (Closed value chain) by is = subst (λ z. Explains net row.to row.from z chain.items) (sym (neg_neg value)) is
+behind_least net word row most (Closed value chain) by is = subst (λ z. Explains net row.to row.from z chain.items) (sym (neg_twice value)) is
 behind_least net word row most (Unbounded set) by is = is
 behind_least net word row most (Within limit attained) by is = (least_holds net word row.from row.to (bounds.Within limit attained) by).1
 

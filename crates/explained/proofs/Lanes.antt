@@ -14,7 +14,7 @@ use Rattle.explained.specs.Answers.{AreRowBounds, AreRowsFound, HasRowTimes, IsA
 use Rattle.explained.specs.Apart.{net_apart}
 use Rattle.explained.specs.declared.bound.BoundFound.{BoundFound}
 use Rattle.explained.specs.declared.desk.Desk.{Desk}
-use Rattle.explained.specs.declared.pair.Pair.{Pair}
+use Rattle.event_graph.specs.declared.pair.Pair.{Pair}
 use Rattle.explained.specs.declared.row.RowFound.{RowFound}
 use Rattle.explained.specs.Step.Bounding.{IsExplained, reversed_found}
 use Rattle.explained.specs.declared.searches.Searches.{Searches}

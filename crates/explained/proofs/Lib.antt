@@ -1,5 +1,4 @@
 pub mod Wider
-pub mod Numbers
 pub mod Shown
 pub mod Behind
 pub mod Standing

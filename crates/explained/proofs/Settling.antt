@@ -66,7 +66,7 @@ fewer_next true c apart others some fewer = times_some (choices_of c.kind (lengt
 fewer_next false c apart others some fewer = mul-le-mul_left (choices_of c.kind (length c.causes)) fewer
 
 -- without some constraints there are no more choices
-fewer_choices : (events : ℕ) (cs : List Constraint) (os : List (List Origin)) → All (IsConstraint events) cs → cause_choices (constraints_apart cs os) ≤ cause_choices cs
+pub fewer_choices : (events : ℕ) (cs : List Constraint) (os : List (List Origin)) → All (IsConstraint events) cs → cause_choices (constraints_apart cs os) ≤ cause_choices cs
 fewer_choices events [] os all = omega arith
 fewer_choices events (c ∷ cs) [] all = omega arith
 fewer_choices events (c ∷ cs) (drew ∷ os) all =

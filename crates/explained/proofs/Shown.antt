@@ -10,7 +10,7 @@ use Rattle.right_report.specs.Right.ReportState.{greatest, least_by}
 use Rattle.drawn.specs.declared.row.Row.{Row}
 use Rattle.explained.specs.Answers.{IsBoundShown}
 use Rattle.explained.specs.Step.Bounding.{IsGreatestShown}
-use Rattle.explained.proofs.Numbers.{neg_neg}
+use Rattle.itv_base.proofs.Integers.{neg_twice}
 
 -- a greatest bound of a pair is a bound of a row
 pub greatest_shown : (net : Net) (budget : ℕ) (row : Row) (value : Bound) → IsGreatestShown net budget (record { from = row.from; to = row.to }) value → IsBoundShown net budget row greatest value
@@ -26,4 +26,4 @@ least_shown net budget row most (bounds.Closed value) shown = λ is. absurd (cc 
 least_shown net budget row most bounds.Unbounded shown = λ is. absurd (cc is)
 least_shown net budget row most (bounds.Within limit None) shown = λ is. ([], refl)
 least_shown net budget row most (bounds.Within limit (Some attained)) shown =
-    λ is. (shown.0, subst (λ z. IsStoppedProof net (BoundGoal row.to row.from z) shown.0 budget) (sym (neg_neg attained)) shown.1)
+    λ is. (shown.0, subst (λ z. IsStoppedProof net (BoundGoal row.to row.from z) shown.0 budget) (sym (neg_twice attained)) shown.1)

@@ -3,9 +3,10 @@ use Rattle.std.proofs.Common.{◌≡◌, ◌<◌, ◌≤◌, ◌+◌, ℕ, zero,
 use Rattle.std.specs.Prelude.{IsSomeAnd, if◌then◌else◌}
 use Rattle.std.proofs.lemmas.List.{length-map, length-take-le, take_all}
 use Rattle.std.proofs.lemmas.Option.{get_or_from_slice_get}
-use Rattle.event_graph.proofs.EdgesMet.{All-found, found_below, take_next}
+use Rattle.event_graph.proofs.EdgesMet.{All-found}
 use Rattle.event_graph.proofs.Ends.{HasOwnEnds, all_own, ends_of_all}
 use Rattle.itv_base.specs.declared.names.EdgeName.{EdgeName}
+use Rattle.itv_base.proofs.Lists.{found_below, take_get}
 use Rattle.origin.specs.declared.origin.Origin.{Origin}
 use Rattle.event_graph.specs.declared.edge.Edge.{Edge}
 use Rattle.event_graph.specs.Edges.{IsAlways, Meets, edge, holds_always}
@@ -58,7 +59,7 @@ apart_next : (cs : List Constraint) (os : List (List Origin)) (k : ℕ) (c : Con
     → slice_get os k ≡ Some drew
     → constraints_apart (take (k + 1) cs) (take (k + 1) os) ≡ one_more (keeps_order drew) (constraints_apart (take k cs) (take k os)) c
 apart_next cs os k c drew same at_c at_drew =
-    rw (take_next cs k c at_c, take_next os k drew at_drew) (apart-append (take k cs) (take k os) c drew (same_front k cs os same))
+    rw (take_get cs k c at_c, take_get os k drew at_drew) (apart-append (take k cs) (take k os) c drew (same_front k cs os same))
 
 -- the network apart of the first constraints
 abbrev pub front_apart : Net → List (List Origin) → ℕ → Net
@@ -131,7 +132,7 @@ pub whole_next : (net : Net) (origins : List (List Origin)) (k : ℕ) → Origin
     → IsWhole net origins k → IsWhole net origins (k + 1)
 whole_next net origins k fit within order whole =
     let n = order_next net origins k false (slice_get net.constraints k) (slice_get origins k) refl refl (fit_length net origins fit) within order in
-    n.2 ∙ (ap (λ cs. cs ++ n.0 ∷ []) whole ∙ sym (take_next net.constraints k n.0 n.1))
+    n.2 ∙ (ap (λ cs. cs ++ n.0 ∷ []) whole ∙ sym (take_get net.constraints k n.0 n.1))
 
 pub whole_apart : (drawn : Drawn) (k : ℕ) → OriginsFit drawn.net drawn.origins → length drawn.net.constraints ≤ k → IsWhole drawn.net drawn.origins k
     → net_apart drawn ≡ drawn.net

@@ -1,8 +1,8 @@
 //! What is found of a bound.
 
-ghost use Rattle.std.specs.Prelude.{◌≡◌, neg_ℤ};
-ghost use Rattle.event_graph.specs.Times.{IsTime};
+ghost use Rattle.std.specs.Prelude.{◌≡◌};
 
+use event_graph::negated_time;
 use itv_base::EdgeName;
 use requirements::Bound;
 
@@ -54,23 +54,14 @@ impl BoundFound {
     {
         match self {
             BoundFound::Closed { value, chain } => BoundFound::Closed {
-                value: negated(value),
+                value: negated_time(value),
                 chain,
             },
             BoundFound::Unbounded { set } => BoundFound::Unbounded { set },
             BoundFound::Within { limit, attained } => BoundFound::Within {
-                limit: limit.map(negated),
-                attained: attained.map(negated),
+                limit: limit.map(negated_time),
+                attained: attained.map(negated_time),
             },
         }
     }
-}
-
-// Minus a number of picoseconds.
-fn negated(value: i64) -> i64
-    requires { IsTime value }
-    ensures value { result ≡ neg_ℤ value }
-    ensures within { IsTime result }
-{
-    -value
 }

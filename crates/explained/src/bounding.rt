@@ -7,10 +7,9 @@ ghost use Rattle.explained.specs.Answers.{AreRowBounds};
 ghost use Rattle.explained.specs.Step.Bounding.{IsPairFound};
 ghost use Rattle.explained.specs.Step.Standing.{IsSearchable, KeepsFinding};
 
-use crate::pair::Pair;
 use crate::pair_found::PairFound;
 use crate::searches::Searches;
-use event_graph::Network;
+use event_graph::{Network, Pair};
 use itv_base::NoMemory;
 use requirements::BothBounds;
 use slack_report::FindingWord;

@@ -9,11 +9,10 @@ ghost use Rattle.explained.specs.Step.Standing.{IsSearchable, KeepsFinding};
 
 use crate::bound::BoundFound;
 use crate::bounding::search_pair;
-use crate::pair::Pair;
 use crate::pair_found::PairFound;
 use crate::searches::Searches;
 use chains::Chains;
-use event_graph::Network;
+use event_graph::{Network, Pair};
 use extremes::Greatest;
 use itv_base::NoMemory;
 use slack_report::FindingWord;

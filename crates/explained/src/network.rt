@@ -36,8 +36,7 @@ pub fn explain(alloc: Global, drawn: &DrawnNetwork, budget: u64) -> Result<Netwo
     ensures settles { IfOk result (λ found. SettlesWithin drawn.now.net budget found.finding found.rows.items) }
     ensures times { IfOk result (λ found. All HasRowTimes found.rows.items) }
 {
-    // The drawn network is within its limits.
-    let _events = drawn.network().events();
+    drawn.network().is_whole();
     let mut desk = Desk::new(alloc, drawn, budget)?;
     let found = explain_with(alloc, drawn, &mut desk);
     drop(desk);

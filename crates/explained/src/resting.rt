@@ -10,8 +10,8 @@ ghost use Rattle.explained.specs.Step.Resting.{AreBoundsApart};
 
 use crate::bounding::both_bounds;
 use crate::desk::Apart;
-use crate::pair::Pair;
 use drawn::Row;
+use event_graph::Pair;
 use itv_base::{NoMemory, Range, RowKind};
 use requirements::{BothBounds, Verdict, judge};
 use std::alloc::Global;

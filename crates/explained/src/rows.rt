@@ -7,10 +7,10 @@ ghost use Rattle.explained.specs.Step.Standing.{HasFound, IsDeskFor, IsReady, Ke
 
 use crate::desk::{Desk, settle_apart};
 use crate::explaining::explain_greatest;
-use crate::pair::Pair;
 use crate::resting::bounds_apart;
 use crate::row::RowFound;
 use drawn::{DrawnNetwork, Row};
+use event_graph::Pair;
 use itv_base::NoMemory;
 use requirements::BothBounds;
 use slack_report::FindingWord;

@@ -4,12 +4,12 @@ use Rattle.std.specs.Prelude.{IsSomeAnd}
 use Rattle.std.proofs.lemmas.List.{get_or-replicate, length-append}
 use Rattle.std.proofs.lemmas.List.Elements.{All-push}
 use Rattle.std.proofs.lemmas.Option.{get_or_from_slice_get}
-use Rattle.event_graph.proofs.EdgesMet.{found_below}
 use Rattle.event_graph.specs.Bounds.{IsInconsistent}
 use Rattle.event_graph.specs.Network.{Constraint, Net, with_constraint}
 use Rattle.event_graph.specs.Satisfying.{Holds, Satisfies}
 use Rattle.chains.specs.Named.{IsContradiction, IsIn}
 use Rattle.extremes.specs.Step.{AllowsAll}
+use Rattle.itv_base.proofs.Lists.{found_below}
 
 -- the constraints of a set among the first ones, in a network of their own
 pub record ArePart (net : Net) (set : List Bool) (count : ℕ) (part : Net) : Type 0 where

@@ -1,20 +1,21 @@
 -- What the searches for greatest separations find.
-use Rattle.std.proofs.Common.{◌≡◌, ◌^◌, ◌≤ℤ◌, ◌-ℤ◌, ℕ, zero, suc, ℤ, pos, neg_ℤ, Bool, List, [], ◌∷◌, All, get_or, Option, Some, None, refl, sym, subst, arith, rules, to_z, of_z, w64}
-use Rattle.std.specs.Prelude.{IfSome}
+use Rattle.std.proofs.Common.{◌≡◌, ◌^◌, ◌≤ℤ◌, ◌-ℤ◌, ℕ, zero, suc, ℤ, pos, neg_ℤ, Bool, List, [], ◌∷◌, All, get_or, Option, refl, sym, subst, arith, rules, to_z, of_z, w64}
 use Rattle.std.specs.Global.{Vec}
 use Rattle.std.proofs.lemmas.Int.{ints, to_z-of_z}
 use mir.Val.{SFits}
 use Rattle.itv_base.specs.declared.names.EventId.{EventId}
-use Rattle.event_graph.specs.Limits.{IsReach}
 use Rattle.event_graph.specs.Network.{Net}
 use Rattle.event_graph.specs.Proof.{IsStoppedProof}
 use Rattle.event_graph.specs.Proof.{Bound as BoundGoal}
 use Rattle.event_graph.specs.Satisfying.{Satisfies}
 use Rattle.event_graph.specs.Times.{IsTime, separation, time_of}
+use Rattle.event_graph.proofs.Sizes.{limit_time}
 use Rattle.falling.specs.Cap.{IsNearValue}
 use Rattle.falling.specs.declared.view.View.{View}
+use Rattle.falling.proofs.Near.{near_times}
 use Rattle.branch.specs.Answers.{Evidence, IsClosedAt, IsEnclosedBy, IsShownUnbounded, PairSearch}
 use Rattle.branch.specs.Work.{IsClose}
+use Rattle.branch.proofs.Close.{separation_time, time_close}
 use Rattle.settle.specs.ShownAnswer.{IsSettledAt, IsSettledUnbounded}
 use Rattle.edge_clauses.specs.declared.line.StoredLine.{StoredLine}
 use Rattle.extremes.specs.Found.{CanRise, IsAttainedBy, IsLeftOpen}
@@ -23,26 +24,6 @@ use Rattle.extremes.specs.declared.found.Greatest.TheVariants.{Closed, Unbounded
 use Rattle.extremes.specs.Step.{IsFoundBy, IsSettledBy}
 
 -- ---- numbers
-
-close_time : (time : ℤ) → IsClose time → IsTime time
-close_time time h = (omega (arith, ints, h.0, h.1), omega (arith, ints, h.0, h.1))
-
-close_at : (times : List ℤ) (k : ℕ) → All IsClose times → IsClose (get_or times k (pos 0))
-close_at [] k close = (omega (arith, ints), omega (arith, ints))
-close_at (time ∷ times) zero close = close 0 (pos 0) (omega arith)
-close_at (time ∷ times) (suc k) close = close_at times k (λ j d within. close (suc j) d (omega arith))
-
-close_separation : (times : List ℤ) (from to : EventId) → All IsClose times → IsTime (separation times from to)
-close_separation times from to close = between (time_of times from) (time_of times to) (close_at times from.0 close) (close_at times to.0 close)
-  where
-    between : (a b : ℤ) → IsClose a → IsClose b → IsTime (b -ℤ a)
-    between a b h k = (omega (arith, ints, h.0, h.1, k.0, k.1), omega (arith, ints, h.0, h.1, k.0, k.1))
-
-near_time : (time : ℤ) → IsNearValue time → IsTime time
-near_time time h = (omega (arith, ints, h.0, h.1), omega (arith, ints, h.0, h.1))
-
-pub near_times : (times : List ℤ) → All IsNearValue times → All IsTime times
-near_times times near = λ k d inside. near_time (get_or times k d) (near k d inside)
 
 near_at : (times : List ℤ) (k : ℕ) → All IsNearValue times → IsNearValue (get_or times k (pos 0))
 near_at [] k near = (omega (arith, ints), omega (arith, ints))
@@ -54,13 +35,6 @@ near_separation times from to near = between (time_of times from) (time_of times
   where
     between : (a b : ℤ) → IsNearValue a → IsNearValue b → IsTime (b -ℤ a)
     between a b h k = (omega (arith, ints, h.0, h.1, k.0, k.1), omega (arith, ints, h.0, h.1, k.0, k.1))
-
-reach_time : (sum : ℤ) → IsReach sum → IsTime sum
-reach_time sum h = (omega (arith, ints, h.0, h.1), omega (arith, ints, h.0, h.1))
-
-pub limit_time : (limit : Option ℤ) → IfSome limit IsReach → IfSome limit IsTime
-limit_time None h = tt
-limit_time (Some sum) h = reach_time sum h
 
 -- a time has 64 bits
 time_kept : (time : ℤ) → IsTime time → time ≡ to_z w64 (of_z w64 time)
@@ -79,8 +53,8 @@ closed_by_cases search value left closed sat close = record {
   satisfies = sat;
   attains = closed.attained;
   count = sat.count;
-  within = λ k d inside. close_time (get_or left.times k d) (close k d inside);
-  value_within = subst IsTime closed.attained (close_separation left.times search.from search.to close);
+  within = λ k d inside. time_close (get_or left.times k d) (close k d inside);
+  value_within = subst IsTime closed.attained (separation_time left.times search.from search.to close);
 }
 
 pub closed_found : (search : PairSearch) (value : ℤ) (left : Evidence) (times : Vec ℤ) → times.items ≡ left.times → IsClosedAt search value left → Satisfies left.times search.net
@@ -101,7 +75,7 @@ unbounded_found search left set same shown sat = record {
 pub open_found : (search : PairSearch) (limit : Option ℤ) (attained : ℤ) (left : Evidence) → IsEnclosedBy search limit attained left → Satisfies left.times search.net → All IsClose left.times
     → IsFoundBy search.net search.budget search.from search.to (Open limit (to_z w64 (of_z w64 attained)))
 open_found search limit attained left enclosed sat close =
-    let within : IsTime attained = subst IsTime enclosed.attains (close_separation left.times search.from search.to close) in
+    let within : IsTime attained = subst IsTime enclosed.attains (separation_time left.times search.from search.to close) in
     let stopped = subst (λ n. IsStoppedProof search.net (BoundGoal search.from search.to attained) left.lines n) enclosed.used enclosed.stopped in
     let shown : IsLeftOpen search.net search.budget search.from search.to limit attained = record {
       root = enclosed.root;

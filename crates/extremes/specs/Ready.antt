@@ -9,7 +9,6 @@ use Rattle.branch.specs.declared.work.TheConstants.{MAX_START}
 use Rattle.chains.specs.Named.{IsRefuting}
 use Rattle.settle.specs.ShownAnswer.{IsMadeFor as IsSettlerFor}
 use Rattle.settle.specs.declared.run_turns.RunTurns.{RunTurns}
-use Rattle.extremes.specs.Found.{IsFindingOpen}
 use Rattle.extremes.specs.declared.extremes.Extremes.{Extremes}
 
 -- a time is no less than 0 and no greater than the greatest separation that a search by cases may start from
@@ -37,16 +36,16 @@ pub record IsReady (net : Net) (extremes : Extremes) : Type 0 where
   pub begins : extremes.work.known ≡ None → IsSome extremes.start
 
 -- Where a search by cases found that no times satisfy, the marked constraints are those that its proof names. Where a search by clauses did, there is a
--- guess, and the search by cases left the finding open.
-abbrev pub IsMarkedOrGuessed : Net → ℕ → List Bool → Option (Vec Bool) → Type 0
-IsMarkedOrGuessed net budget marks None = IsRefuting net marks
-IsMarkedOrGuessed net budget marks (Some guess) = (length guess.items ≡ length net.constraints) × IsFindingOpen net budget
+-- guess.
+abbrev pub IsMarkedOrGuessed : Net → List Bool → Option (Vec Bool) → Type 0
+IsMarkedOrGuessed net marks None = IsRefuting net marks
+IsMarkedOrGuessed net marks (Some guess) = length guess.items ≡ length net.constraints
 
 -- the network was found inconsistent
 pub record IsContradicted (net : Net) (extremes : Extremes) : Type 0 where
   pub made : IsFor net extremes
   pub none : IsInconsistent net
-  pub shown : IsMarkedOrGuessed net extremes.budget extremes.marking extremes.guess
+  pub shown : IsMarkedOrGuessed net extremes.marking extremes.guess
 
 -- the turns of a run after a search: each search may take as many as before, and there are no more left
 pub record AreTurnsOf (old new : RunTurns) : Type 0 where

@@ -63,8 +63,7 @@ fn begin_at(net: &Network, times: Vec<i64>) -> ClauseFinding
     requires near { All IsNearValue times.items }
     ensures finding { IsClauseFinding net.now result }
 {
-    // The call also gives the invariant: the network is within its limits.
-    let _events = net.events();
+    net.is_whole();
     match start_of(times) {
         Some(start) => ClauseFinding::Start(start),
         None => ClauseFinding::Open,

@@ -1,6 +1,7 @@
 //! The two searches of a network.
 
-ghost use Rattle.std.specs.Prelude.{◌≡◌, ◌<◌, ◌≤◌, ℤ, false, Some, None, List, IfOk, IfSome, IsSome};
+ghost use Rattle.std.specs.Prelude.{◌≡◌, ◌<◌, ◌≤◌, ℤ, false, Some, None, List, IfOk, IfSome, IsSome, IsSomeAnd, length};
+ghost use Rattle.event_graph.specs.Bounds.{IsInconsistent};
 ghost use Rattle.event_graph.specs.Edges.{cause_choices};
 ghost use Rattle.event_graph.specs.RootBound.{IsRootBound, MeetsAlways};
 ghost use Rattle.event_graph.specs.Times.{IsTime};
@@ -19,6 +20,9 @@ use event_graph::Network;
 use itv_base::{EventId, NoMemory};
 use settle::{RunTurns, Settler};
 use std::alloc::Global;
+
+// The cases of a first search. Where few cases are not enough, a search by clauses mostly is, and takes less time than many cases.
+const FIRST_CASES: u64 = 8;
 
 /// The memory for both searches of a network, how many cases a search may close, and how many turns searches by clauses may take. Every call needs the
 /// network that it was made for.
@@ -76,10 +80,10 @@ impl Extremes {
         self.turns
     }
 
-    /// Looks for times that satisfy the network: by cases, and by clauses where the budget was spent. If it was found consistent, greatest
-    /// separations can be found; if it was found inconsistent, the constraints that contradict each other. The answer is open only where the search
-    /// by cases used the budget up; so it is not where the budget is no less than the number of cause choices. It is open too where a search by
-    /// clauses found times, and they are so far apart that no search by cases could start from them.
+    /// Looks for times that satisfy the network: by few cases, then by clauses, and by as many cases as the budget allows where clauses gave up. If it was
+    /// found consistent, greatest separations can be found; if it was found inconsistent, the constraints that contradict each other. The answer is open
+    /// only where a search by cases used the budget up; so it is not where the budget is no less than the number of cause choices. Times that clauses
+    /// found count as none where they are so far apart that no search by cases could start from them.
     pub fn find(&mut self, alloc: Global, net: &Network) -> Result<Consistency, NoMemory>
         requires made { IsFor net.now self.old }
         ensures made { IsFor net.now self.new }
@@ -91,44 +95,66 @@ impl Extremes {
         ensures open { IfOk result (λ found. found ≡ Consistency.Open → IsFindingOpen net.now self.old.budget) }
         ensures settles { IfOk result (λ found. cause_choices net.now.constraints ≤ self.old.budget → found ≡ Consistency.Open → ⊥) }
     {
-        match self.search_cases(net) {
-            Consistency::Open => self.search_clauses(alloc, net),
-            found => Ok(found),
+        self.start = None;
+        self.guess = None;
+        let few = self.few_cases();
+        match self.search_cases(net, few) {
+            Consistency::Consistent => Ok(Consistency::Consistent),
+            Consistency::Inconsistent => Ok(Consistency::Inconsistent),
+            Consistency::Open => self.search_clauses(alloc, net, few),
         }
     }
 
-    // Looks for times that satisfy the network by cases. If some do, they are known. If none do, the constraints are marked that the proof names.
-    fn search_cases(&mut self, net: &Network) -> Consistency
+    // How many cases a search closes before clauses are asked.
+    fn few_cases(&self) -> u64
+        requires some { 0 < self.now.budget }
+        ensures some { 0 < result }
+        ensures within { result ≤ self.now.budget }
+    {
+        self.budget.min(FIRST_CASES)
+    }
+
+    // Looks for times that satisfy the network by at most so many cases. If some do, they are known. If none do, the constraints are marked that the
+    // proof names.
+    fn search_cases(&mut self, net: &Network, cases: u64) -> Consistency
         requires made { IsFor net.now self.old }
+        requires cases { 0 < cases }
         ensures made { IsFor net.now self.new }
         ensures budget { self.new.budget ≡ self.old.budget }
         ensures turns { self.new.turns ≡ self.old.turns }
         ensures finding { IsConsistency net.now result }
         ensures known { result ≡ Consistency.Consistent → IsSome self.new.work.known }
         ensures marks { result ≡ Consistency.Inconsistent → IsRefuting net.now self.new.marking }
-        ensures guess { self.new.guess ≡ None }
-        ensures open { result ≡ Consistency.Open → IsFindingOpen net.now self.old.budget }
-        ensures settles { cause_choices net.now.constraints ≤ self.old.budget → result ≡ Consistency.Open → ⊥ }
+        ensures guess { self.new.guess ≡ self.old.guess }
+        ensures open { result ≡ Consistency.Open → IsFindingOpen net.now cases }
+        ensures settles { cause_choices net.now.constraints ≤ cases → result ≡ Consistency.Open → ⊥ }
     {
-        self.start = None;
-        self.guess = None;
         self.marking.begin();
-        match find(&mut self.work, net, self.budget, &mut self.marking) {
+        match find(&mut self.work, net, cases, &mut self.marking) {
             Ok(found) => consistency_of(found),
             Err(ScribeFailed) => unreachable!(),
         }
     }
 
-    // Looks for times that satisfy the network by clauses.
-    fn search_clauses(&mut self, alloc: Global, net: &Network) -> Result<Consistency, NoMemory>
+    // Looks for times that satisfy the network by clauses, after few cases left it open.
+    fn search_clauses(
+        &mut self,
+        alloc: Global,
+        net: &Network,
+        few: u64,
+    ) -> Result<Consistency, NoMemory>
         requires made { IsFor net.now self.old }
-        requires open { IsFindingOpen net.now self.old.budget }
+        requires open { IsFindingOpen net.now few }
+        requires below { cause_choices net.now.constraints ≤ few → ⊥ }
+        requires guess { self.old.guess ≡ None }
         ensures made { IsFor net.now self.new }
         ensures budget { self.new.budget ≡ self.old.budget }
         ensures turns { AreTurnsOf self.old.turns self.new.turns }
         ensures finding { IfOk result (IsConsistency net.now) }
         ensures ready { IfOk result (λ found. found ≡ Consistency.Consistent → IsReady net.now self.new) }
         ensures contradicted { IfOk result (λ found. found ≡ Consistency.Inconsistent → IsContradicted net.now self.new) }
+        ensures open { IfOk result (λ found. found ≡ Consistency.Open → IsFindingOpen net.now self.old.budget) }
+        ensures settles { IfOk result (λ found. cause_choices net.now.constraints ≤ self.old.budget → found ≡ Consistency.Open → ⊥) }
     {
         match find_by_clauses(alloc, net, &self.settler, &mut self.turns)? {
             ClauseFinding::Start(times) => {
@@ -139,13 +165,37 @@ impl Extremes {
                 self.guess = Some(named);
                 Ok(Consistency::Inconsistent)
             }
-            ClauseFinding::Open => Ok(Consistency::Open),
+            ClauseFinding::Open => Ok(self.search_all_cases(net, few)),
+        }
+    }
+
+    // Looks for times that satisfy the network by as many cases as the budget allows, after few cases left it open. If these are as many, it is left open
+    // without a search.
+    fn search_all_cases(&mut self, net: &Network, few: u64) -> Consistency
+        requires made { IsFor net.now self.old }
+        requires open { IsFindingOpen net.now few }
+        requires below { cause_choices net.now.constraints ≤ few → ⊥ }
+        ensures made { IsFor net.now self.new }
+        ensures budget { self.new.budget ≡ self.old.budget }
+        ensures turns { self.new.turns ≡ self.old.turns }
+        ensures finding { IsConsistency net.now result }
+        ensures known { result ≡ Consistency.Consistent → IsSome self.new.work.known }
+        ensures marks { result ≡ Consistency.Inconsistent → IsRefuting net.now self.new.marking }
+        ensures guess { self.new.guess ≡ self.old.guess }
+        ensures open { result ≡ Consistency.Open → IsFindingOpen net.now self.old.budget }
+        ensures settles { cause_choices net.now.constraints ≤ self.old.budget → result ≡ Consistency.Open → ⊥ }
+    {
+        if few == self.budget {
+            Consistency::Open
+        } else {
+            self.search_cases(net, self.budget)
         }
     }
 
     /// A flag for each constraint of a network that was found inconsistent: whether it is in a set of constraints that contradict each other by
-    /// themselves. Where the search by cases found it, the set has just the constraints that its proof names. Otherwise it has the constraints that a
-    /// proof by clauses names, if a search of these constraints alone finds no times, and else all constraints.
+    /// themselves. Where clauses found it, as many cases as the budget allows are searched. Where a search by cases finds it, the set has just the
+    /// constraints that its proof names. Otherwise it has the constraints that a proof by clauses names, if a search of these constraints alone finds no
+    /// times, and else all constraints.
     pub fn contradiction(&mut self, alloc: Global, net: &Network) -> Result<Vec<bool>, NoMemory>
         requires contradicted { IsContradicted net.now self.old }
         ensures made { IsFor net.now self.new }
@@ -155,13 +205,56 @@ impl Extremes {
     {
         match &self.guess {
             None => Ok(Vec::from_slice(alloc, self.marking.marks())?),
-            Some(guess) => confirmed(alloc, net, guess, &mut self.turns),
+            Some(_) => self.name_by_cases(alloc, net),
         }
     }
 
-    /// Finds the greatest separation of a pair of events of a network that was found consistent: by cases, and by clauses where the budget was spent.
-    /// Where times were found by clauses, clauses come first. The answer is open only where the search by cases used the budget up; so it is not where
-    /// the budget is no less than the number of cause choices.
+    // Constraints that contradict each other by themselves, after clauses found that no times satisfy: those of a proof by cases where the budget allows one.
+    fn name_by_cases(&mut self, alloc: Global, net: &Network) -> Result<Vec<bool>, NoMemory>
+        requires made { IsFor net.now self.old }
+        requires none { IsInconsistent net.now }
+        requires guess { IsSomeAnd self.old.guess (λ guess. length guess.items ≡ length net.now.constraints) }
+        ensures made { IsFor net.now self.new }
+        ensures budget { self.new.budget ≡ self.old.budget }
+        ensures turns { AreTurnsOf self.old.turns self.new.turns }
+        ensures set { IfOk result (λ set. IsContradictionFound net.now self.old.budget set.items) }
+    {
+        match self.search_cases(net, self.budget) {
+            Consistency::Consistent => unreachable!(),
+            Consistency::Inconsistent => self.marked(alloc, net),
+            Consistency::Open => self.guessed(alloc, net),
+        }
+    }
+
+    // The constraints that a proof by cases names.
+    fn marked(&self, alloc: Global, net: &Network) -> Result<Vec<bool>, NoMemory>
+        requires marks { IsRefuting net.now self.now.marking }
+        requires count { length self.now.marking ≡ length net.now.constraints }
+        ensures set { IfOk result (λ set. IsContradictionFound net.now self.now.budget set.items) }
+    {
+        Ok(Vec::from_slice(alloc, self.marking.marks())?)
+    }
+
+    // The constraints of the guess, or all, after a search by cases left the finding open.
+    fn guessed(&mut self, alloc: Global, net: &Network) -> Result<Vec<bool>, NoMemory>
+        requires made { IsFor net.now self.old }
+        requires none { IsInconsistent net.now }
+        requires guess { IsSomeAnd self.old.guess (λ guess. length guess.items ≡ length net.now.constraints) }
+        requires open { IsFindingOpen net.now self.old.budget }
+        ensures made { IsFor net.now self.new }
+        ensures budget { self.new.budget ≡ self.old.budget }
+        ensures turns { AreTurnsOf self.old.turns self.new.turns }
+        ensures set { IfOk result (λ set. IsContradictionFound net.now self.old.budget set.items) }
+    {
+        match &self.guess {
+            Some(guess) => confirmed(alloc, net, guess, &mut self.turns),
+            None => unreachable!(),
+        }
+    }
+
+    /// Finds the greatest separation of a pair of events of a network that was found consistent: by few cases, then by clauses, and by as many cases as
+    /// the budget allows where clauses gave up. The answer is open only where a search by cases used the budget up; so it is not where the budget is no
+    /// less than the number of cause choices.
     pub fn greatest(
         &mut self,
         alloc: Global,
@@ -179,54 +272,82 @@ impl Extremes {
         ensures open { IfOk result (IsOpenShown net.now self.old.budget from to) }
         ensures settles { IfOk result (λ found. cause_choices net.now.constraints ≤ self.old.budget → is_open found ≡ false) }
     {
-        if self.work.has_known() {
-            self.cases_first(alloc, net, from, to)
+        let few = self.few_cases();
+        let first = self.greatest_by_cases(alloc, net, from, to, few)?;
+        if first.is_open() {
+            self.greatest_past_few(alloc, net, from, to, few, first)
         } else {
-            self.clauses_first(alloc, net, from, to)
+            Ok(first)
         }
     }
 
-    // Finds the greatest separation of a pair by cases from the known times, and by clauses where that is left open.
-    fn cases_first(
+    // Finds the greatest separation of a pair by at most so many cases: from the known times, and else from times that clauses found.
+    fn greatest_by_cases(
         &mut self,
         alloc: Global,
         net: &Network,
         from: EventId,
         to: EventId,
+        cases: u64,
     ) -> Result<Greatest, NoMemory>
         requires ready { IsReady net.now self.old }
-        requires known { IsSome self.old.work.known }
         requires from { from.0 < net.now.events }
         requires to { to.0 < net.now.events }
+        requires cases { 0 < cases }
         ensures ready { IsReady net.now self.new }
         ensures budget { self.new.budget ≡ self.old.budget }
-        ensures turns { AreTurnsOf self.old.turns self.new.turns }
-        ensures found { IfOk result (IsFoundBy net.now self.old.budget from to) }
+        ensures turns { self.new.turns ≡ self.old.turns }
+        ensures found { IfOk result (IsFoundBy net.now cases from to) }
     {
-        let found = greatest_from_known(alloc, &mut self.work, net, from, to, self.budget)?;
-        match found {
-            Greatest::Open { limit, attained } => {
-                match greatest_by_clauses(alloc, net, &self.settler, from, to, &mut self.turns)? {
-                    None => Ok(Greatest::Open { limit, attained }),
-                    Some(settled) => Ok(settled),
-                }
-            }
-            found => Ok(found),
+        if self.work.has_known() {
+            greatest_from_known(alloc, &mut self.work, net, from, to, cases)
+        } else {
+            self.from_start(alloc, net, from, to, cases)
         }
     }
 
-    // Finds the greatest separation of a pair by clauses, and by cases from times that clauses found where that is left open.
-    fn clauses_first(
+    // Finds the greatest separation of a pair by at most so many cases, from times that clauses found.
+    fn from_start(
         &mut self,
         alloc: Global,
         net: &Network,
         from: EventId,
         to: EventId,
+        cases: u64,
     ) -> Result<Greatest, NoMemory>
         requires ready { IsReady net.now self.old }
         requires start { IsSome self.old.start }
         requires from { from.0 < net.now.events }
         requires to { to.0 < net.now.events }
+        requires cases { 0 < cases }
+        ensures ready { IsReady net.now self.new }
+        ensures budget { self.new.budget ≡ self.old.budget }
+        ensures turns { self.new.turns ≡ self.old.turns }
+        ensures found { IfOk result (IsFoundBy net.now cases from to) }
+    {
+        match &self.start {
+            Some(times) => {
+                greatest_from_start(alloc, &mut self.work, net, from, to, times, cases)
+            }
+            None => unreachable!(),
+        }
+    }
+
+    // Finds the greatest separation of a pair by clauses, after few cases found the first answer. Where clauses give up, it searches by as many cases as
+    // the budget allows.
+    fn greatest_past_few(
+        &mut self,
+        alloc: Global,
+        net: &Network,
+        from: EventId,
+        to: EventId,
+        few: u64,
+        first: Greatest,
+    ) -> Result<Greatest, NoMemory>
+        requires ready { IsReady net.now self.old }
+        requires from { from.0 < net.now.events }
+        requires to { to.0 < net.now.events }
+        requires first { IsFoundBy net.now few from to first }
         ensures ready { IsReady net.now self.new }
         ensures budget { self.new.budget ≡ self.old.budget }
         ensures turns { AreTurnsOf self.old.turns self.new.turns }
@@ -234,39 +355,34 @@ impl Extremes {
     {
         match greatest_by_clauses(alloc, net, &self.settler, from, to, &mut self.turns)? {
             Some(settled) => Ok(settled),
-            None => self.cases_at_last(alloc, net, from, to),
+            None => self.greatest_at_last(alloc, net, from, to, few, first),
         }
     }
 
-    // Finds the greatest separation of a pair by cases from times that clauses found.
-    fn cases_at_last(
+    // Finds the greatest separation of a pair by as many cases as the budget allows. If few cases are as many, their answer is this one.
+    fn greatest_at_last(
         &mut self,
         alloc: Global,
         net: &Network,
         from: EventId,
         to: EventId,
+        few: u64,
+        first: Greatest,
     ) -> Result<Greatest, NoMemory>
         requires ready { IsReady net.now self.old }
-        requires start { IsSome self.old.start }
         requires from { from.0 < net.now.events }
         requires to { to.0 < net.now.events }
+        requires first { IsFoundBy net.now few from to first }
         ensures ready { IsReady net.now self.new }
         ensures budget { self.new.budget ≡ self.old.budget }
         ensures turns { self.new.turns ≡ self.old.turns }
         ensures found { IfOk result (IsFoundBy net.now self.old.budget from to) }
     {
-        match &self.start {
-            Some(times) => greatest_from_start(
-                alloc,
-                &mut self.work,
-                net,
-                from,
-                to,
-                times,
-                self.budget,
-            ),
-            None => unreachable!(),
+        if few == self.budget {
+            return Ok(first);
         }
+        drop(first);
+        self.greatest_by_cases(alloc, net, from, to, self.budget)
     }
 
     /// The greatest separation of a pair of events over the times that meet the always-edges alone, in picoseconds: a limit of its greatest

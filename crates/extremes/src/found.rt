@@ -1,5 +1,8 @@
 //! What is found.
 
+ghost use Rattle.std.specs.Prelude.{◌≡◌};
+ghost use Rattle.extremes.specs.Found.{is_open};
+
 /// Whether some times satisfy a network.
 #[derive(Clone, Copy, PartialEq, Eq)]
 pub enum Consistency {
@@ -20,4 +23,16 @@ pub enum Greatest {
     Unbounded { set: Vec<bool> },
     /// The budget and the turns were spent before it was known. It is at most `limit`, if that is a number, and satisfying times attain `attained`.
     Open { limit: Option<i64>, attained: i64 },
+}
+
+impl Greatest {
+    /// Whether it was left open.
+    pub fn is_open(&self) -> bool
+        ensures { result ≡ is_open self.now }
+    {
+        match self {
+            Greatest::Closed { .. } | Greatest::Unbounded { .. } => false,
+            Greatest::Open { .. } => true,
+        }
+    }
 }

@@ -1,5 +1,5 @@
 -- Which pieces may follow in the text of a job, and which lines begin what comes next.
-use Rattle.std.proofs.Common.{◌≡◌, ◌+◌, ◌||◌, ◌≤◌, ℕ, zero, suc, ℤ, Bool, true, false, List, [], ◌∷◌, ◌++◌, drop, length, map, Option, Some, slice_get, refl, sym, subst, ap, add-one, arith}
+use Rattle.std.proofs.Common.{◌≡◌, ◌+◌, ◌||◌, ◌≤◌, ℕ, zero, suc, ℤ, Bool, true, false, List, [], ◌∷◌, ◌++◌, drop, length, map, refl, sym, subst, ap, arith}
 use Rattle.itv_base.specs.Outside.{SinkState}
 use Rattle.event_graph.specs.Network.{Net}
 use Rattle.falling.specs.declared.answer.Fallen.{Fallen}
@@ -99,18 +99,6 @@ job_of drawn wanted view net same v = record { net_is = sym same; view = subst (
 pub record RowsTold (drawn : Drawn) (wanted : Wanted) (number : ℕ) (spent : Bool) (desk : Desk) (old now : SinkState) : Type 0 where
   pub set : IsSet drawn.net desk
   pub pieces : (view : View) → IsViewOf drawn.net view → WrotePieces (asked drawn view wanted) at_rows (before_rows spent number (drop number drawn.rows)) old now
-
--- the next row
-pub rows_more : (rows : List Row) (number : ℕ) (row : Row) → slice_get rows number ≡ Some row → drop number rows ≡ row ∷ drop (number + 1) rows
-rows_more rows number row e = rw add-one (more rows number row e)
-  where
-    more : (rows : List Row) (number : ℕ) (row : Row) → slice_get rows number ≡ Some row → drop number rows ≡ row ∷ drop (suc number) rows
-    more [] number row e = absurd (cc e)
-    more (x ∷ rows) zero row e = one x row rows e
-      where
-        one : (x row : Row) (rows : List Row) → ◌≡◌ {A = Option Row} (Some x) (Some row) → x ∷ rows ≡ row ∷ rows
-        one x row rows e = ap (λ (r : Row). r ∷ rows) (cc e)
-    more (x ∷ rows) (suc number) row e = more rows number row e
 
 -- no row is left
 pub rows_none : (rows : List Row) (number : ℕ) → length rows ≤ number → drop number rows ≡ []

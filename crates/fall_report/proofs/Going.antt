@@ -17,7 +17,7 @@ reads-append : (job : Job) (xs ys : List (List ℕ)) (here mid last : TextState)
 reads-append job [] ys here mid last e reads = subst (λ (at : TextState). PiecesLead job at ys last) (sym e) reads
 reads-append job (x ∷ xs) ys here mid last (next, may, rest) reads = (next, may, reads-append job xs ys next mid last rest reads)
 
-zero-≤ : (n : ℕ) → 0 ≤ n
+pub zero-≤ : (n : ℕ) → 0 ≤ n
 zero-≤ n = omega arith
 
 -- no lines begin every derivation

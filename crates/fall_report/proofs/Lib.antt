@@ -1,5 +1,4 @@
 pub mod Pieces
-pub mod Negation
 pub mod Moving
 pub mod Viewing
 pub mod Going

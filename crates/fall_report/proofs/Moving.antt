@@ -1,10 +1,8 @@
 -- Values within the greatest cap, as the code reads and stores them.
-use Rattle.std.proofs.Common.{◌≡◌, ℤ, pos, negsuc, List, All, subst, sym, arith, w64}
+use Rattle.std.proofs.Common.{◌≡◌, ℤ, pos, negsuc, subst, sym, arith, w64}
 use Rattle.std.proofs.lemmas.Int.{ints, to_z-of_z}
-use Rattle.std.proofs.lemmas.List.Elements.{All-weaker}
 use Rattle.std.specs.Prelude.{FitsSigned}
 use mir.Val.{to_z, of_z}
-use Rattle.event_graph.specs.Times.{IsTime}
 use Rattle.falling.specs.Cap.{IsNearValue}
 
 fits_near : (time : ℤ) → IsNearValue time → FitsSigned w64 time
@@ -17,9 +15,3 @@ read_near time near = to_z-of_z w64 time (fits_near time near)
 -- a near value is stored as it is
 pub near_stored : (value : ℤ) → IsNearValue value → IsNearValue (to_z w64 (of_z w64 value))
 near_stored value near = subst IsNearValue (sym (read_near value near)) near
-
-near_time : (value : ℤ) → IsNearValue value → IsTime value
-near_time value near = (omega (arith, ints, near.0, near.1), omega (arith, ints, near.0, near.1))
-
-pub near_times : (values : List ℤ) → All IsNearValue values → All IsTime values
-near_times values near = All-weaker IsNearValue IsTime near_time values near

@@ -3,6 +3,7 @@ use Rattle.std.proofs.Common.{◌≡◌, ◌<◌, ◌≤◌, ℕ, ℤ, pos, neg_
 use Rattle.std.proofs.lemmas.Int.{ints}
 use Rattle.std.proofs.lemmas.List.Elements.{All-weaker}
 use Rattle.itv_base.specs.declared.names.EventId.{EventId}
+use Rattle.itv_base.proofs.Integers.{neg_twice, below_none as no_events}
 use Rattle.event_graph.specs.Bounds.{IsGreatest, IsRay}
 use Rattle.event_graph.specs.Limits.{IsPrintedTime}
 use Rattle.event_graph.specs.Network.{IsNet, Net}
@@ -21,7 +22,7 @@ use Rattle.falling.specs.Fallen.{asked_of}
 use Rattle.falling.specs.Solving.{AnswersAs, IsDerivationAs, IsNegationOf}
 use Rattle.falling.proofs.Bounding.{length-starting}
 use Rattle.falling.proofs.Negating.{all_map, length-mapped, negated_twice, satisfies_turns, time_of-negated}
-use Rattle.falling.proofs.NegatedNets.{HasTimes, limits_negated, satisfying_near}
+use Rattle.falling.proofs.NegatedNets.{HasTimes, limits_negated, satisfying_near, net_negated}
 use Rattle.falling.proofs.Views.{one_view}
 use Rattle.slack_report.specs.declared.words.Which.{Which}
 use Rattle.slack_report.specs.declared.words.Which.TheVariants.{Max, Min}
@@ -36,7 +37,7 @@ use Rattle.fall_report.specs.Text.{consistent}
 use Rattle.falling.specs.View.{IsViewOf}
 use Rattle.falling.specs.Cap.{IsNearValue}
 use Rattle.fall_report.specs.View.{seen, source, target, times_seen}
-use Rattle.fall_report.proofs.Negation.{is_net_negated}
+use Rattle.fall_report.proofs.Going.{zero-≤}
 
 -- ---- views
 
@@ -71,7 +72,7 @@ near_negated values near = all_map neg_ℤ IsNearValue IsNearValue values (λ va
 near_by_negation : (net : Net) (limits : Limits) (to : EventId) (lines : List FallLine) (values times : List ℤ) → IsNet net → AreLimits net limits → to.0 < net.events
     → IsDerivation (negated net) to lines values → times ≡ negated_times values → Satisfies times net → All IsNearValue values
 near_by_negation net limits to lines values times is_net limited in_to d turn satisfied =
-    satisfying_near (negated net) to lines values (is_net_negated net is_net) in_to (limits_negated net limits limited).small d
+    satisfying_near (negated net) to lines values (net_negated net is_net) in_to (limits_negated net limits limited).small d
     (subst (λ ts. Satisfies ts (negated net)) (ap negated_times turn ∙ negated_twice values) (satisfies_turns net times satisfied))
 
 -- the times of an answer that has times, and its number
@@ -122,9 +123,6 @@ at_itself time value e = omega (arith, ints)
 
 minus_zero : (time value : ℤ) → time ≡ value → value ≡ pos 0 → neg_ℤ time ≡ pos 0
 minus_zero time value e z = omega (arith, ints)
-
-no_events : {m n : ℕ} → m < n → n ≡ 0 → ⊥
-no_events some none = omega arith
 
 -- the finding of a network with events in a view, from the answer for event 0 and event 0
 finding_in : (net : Net) (negation : Option Net) (turns : ℕ) (lines : List FallLine) (times : List ℤ) (ray : List Bool) (fallen : Fallen) (view : View) → 0 < net.events
@@ -194,12 +192,9 @@ found_empty net times is_net none count = (times, none_satisfied net times is_ne
 none_within : (i : ℕ) → i < 0 → ⊥
 none_within i within = omega arith
 
-no_lines : (turns : ℕ) → 0 ≤ turns
-no_lines turns = omega arith
-
 pub shows_empty : (net : Net) (turns : ℕ) (times : List ℤ) → IsNet net → net.events ≡ 0 → length times ≡ net.events → ShowsFinding net turns [] (consistent times)
 shows_empty net turns times is_net none count = (
-  no_lines turns,
+  zero-≤ turns,
   λ view v.
       let values : List ℤ = starting_values (seen view net) first_event in
       let empty : length values ≡ 0 = length-starting (seen view net) first_event ∙ events_seen view net ∙ none in record {
@@ -232,9 +227,6 @@ not_unbounded net negation turns lines times ray fallen a is = go negation (subs
     go (Some n) a = no_ray net first_event times ray a.raised
 
 -- ---- bounds
-
-neg_twice : (value : ℤ) → neg_ℤ (neg_ℤ value) ≡ value
-neg_twice value = omega (arith, ints)
 
 shown_twice : (which : Which) (value : ℤ) → shown_by which (shown_by which value) ≡ value
 shown_twice Max value = refl

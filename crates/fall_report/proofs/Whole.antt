@@ -1,7 +1,6 @@
 -- The whole text of the job, and a front of it if a put failed.
 use Rattle.std.proofs.Common.{◌≡◌, ℕ, Bool, List, [], ◌++◌, refl, sym, ap, ◌∙◌, append-nil}
 use Rattle.std.specs.List.{concat}
-use Rattle.std.specs.Prelude.{OnErr, Result, Ok, Err}
 use Rattle.itv_base.specs.Outside.{CutShort, SinkState, grown}
 use Rattle.itv_base.proofs.Written.{cut_then, grown-append}
 use Rattle.fall_report.specs.FallText.{fall_text}
@@ -56,7 +55,3 @@ module _ (drawn : Drawn) (view : View) (turns : ℕ) (cert : Bool) (v : IsViewOf
   )
 
 -- ---- clauses
-
-pub on_err : {B E : Type 0} (P : Type 0) (result : Result B E) → P → OnErr result P
-on_err P (Ok x) p = tt
-on_err P (Err e) p = p

@@ -3,6 +3,7 @@ use Rattle.std.proofs.Common.{◌≡◌, ◌*◌, ◌<◌, ◌⊎◌, inl, inr, 
 use Rattle.std.proofs.lemmas.Int.{ints}
 use Rattle.std.proofs.lemmas.Option.{same_Some, slice_get_within}
 use Rattle.itv_base.specs.declared.names.EventId.{EventId}
+use Rattle.itv_base.proofs.Integers.{lt_from_test, le_from_no_test, no_test_from_le, test_from_lt}
 use Rattle.event_graph.specs.Network.{IsNet, Net}
 use Rattle.event_graph.specs.Times.{time_of}
 use Rattle.falling.specs.declared.line.FallLine.{FallLine}
@@ -17,7 +18,6 @@ use Rattle.falling.proofs.Bounding.{ended_is_inconsistent}
 use Rattle.falling.proofs.Climbing.{level_below_far}
 use Rattle.falling.proofs.Closing.{gap_is_ray, settled_closes}
 use Rattle.falling.proofs.Counting.{length-derived, not_ended_is_short}
-use Rattle.falling.proofs.Removed.{is_lt}
 
 pub closed_answer : (net : Net) (from to : EventId) (turns : ℕ) (lines : List FallLine) (values : List ℤ) (value : ℤ) → IsNet net → IsPlain net → from.0 < net.events → to.0 < net.events
     → HasSettled net from turns lines values → value ≡ time_of values to → time_of values to <ℤ pos (far_line net) → IsClosedAt net from to value lines values
@@ -47,18 +47,6 @@ spent_answer net from turns lines values is_net in_from spent = record {
   few = subst (λ n. n < enough_turns net) spent.count (not_ended_is_short net from lines values is_net in_from spent.derivation spent.not_ended);
 }
 
-not_above_of : (level value : ℤ) → value ≤ℤ level → int_lt level value ≡ false
-not_above_of level value le = by_test (int_lt level value) refl where
-  by_test : (t : Bool) → int_lt level value ≡ t → t ≡ false
-  by_test true e = absurd (omega (arith, ints))
-  by_test false e = refl
-
-above_from : (level value : ℤ) → int_lt level value ≡ true → level <ℤ value
-above_from level value e = omega (arith, ints)
-
-not_above_from : (level value : ℤ) → int_lt level value ≡ false → value ≤ℤ level
-not_above_from level value e = omega (arith, ints)
-
 -- values with a gap above a level: the values beyond the level are apart
 apart_at : (width : ℕ) (level : ℤ) (values : List ℤ) (flags : List Bool) → IsGapAt (pos width) level values → HaveAbove level values flags → IsApartBy width flags values
 apart_at width level values flags gap marked low high at_low at_high =
@@ -66,7 +54,7 @@ apart_at width level values flags gap marked low high at_low at_high =
     let in_high : high.0 < length values = omega (arith, slice_get_within flags high.0 true at_high, marked.count) in
     let is_low : int_lt level (time_of values low) ≡ false = same_Some _ _ (sym (marked.each low.0 in_low) ∙ at_low) in
     let is_high : int_lt level (time_of values high) ≡ true = same_Some _ _ (sym (marked.each high.0 in_high) ∙ at_high) in
-    apart_of level (time_of values low) (time_of values high) (not_above_from level (time_of values low) is_low) (above_from level (time_of values high) is_high)
+    apart_of level (time_of values low) (time_of values high) (le_from_no_test level (time_of values low) is_low) (lt_from_test level (time_of values high) is_high)
     (gap high.0 (pos 0) in_high) where
       apart_of : (level low high : ℤ) → low ≤ℤ level → level <ℤ high → (high ≤ℤ level) ⊎ ((level +ℤ pos width) <ℤ high) → (low +ℤ pos width) <ℤ high
       apart_of level low high le less (inl not) = absurd (omega (arith, ints))
@@ -79,8 +67,8 @@ unbounded_answer net from to turns lines values width level flags is_net plain i
     let closes = settled_closes net from to lines values is_net plain in_from in_to settled.derivation settled.not_ended settled.settled in
     let count : length values ≡ net.events = length-derived net from lines values is_net settled.derivation in
     let below : level <ℤ pos (far_line net) = level_below_far net level (omega arith) high in
-    let holds : int_lt level (time_of values to) ≡ true = is_lt level (time_of values to) (beyond level (pos (far_line net)) (time_of values to) below far) in
-    let lacks : int_lt level (time_of values from) ≡ false = not_above_of level (time_of values from) (at_most level (time_of values from) closes.1 low) in
+    let holds : int_lt level (time_of values to) ≡ true = test_from_lt level (time_of values to) (beyond level (pos (far_line net)) (time_of values to) below far) in
+    let lacks : int_lt level (time_of values from) ≡ false = no_test_from_le level (time_of values from) (at_most level (time_of values from) closes.1 low) in
     record {
       satisfies = closes.0;
       raised = gap_is_ray net from to flags values is_net closes.0 (marked.count ∙ count) (marked.each to.0 (omega arith) ∙ ap Some holds)

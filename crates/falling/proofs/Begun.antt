@@ -1,7 +1,8 @@
 -- A checker that was begun, and its first faults.
-use Rattle.std.proofs.Common.{◌≡◌, ◌<◌, ◌⊎◌, inl, inr, ◌↔◌, ℤ, Bool, true, false, IsTrue, List, [], ◌∷◌, ◌++◌, sym, ap, ◌∙◌, refl, subst, arith}
+use Rattle.std.proofs.Common.{◌≡◌, ◌<◌, inl, inr, ◌↔◌, ℤ, Bool, false, IsTrue, List, [], ◌∷◌, ◌++◌, sym, ap, ◌∙◌, subst, arith}
 use Rattle.std.proofs.Math.ListN.{length-set}
 use Rattle.itv_base.specs.declared.names.EventId.{EventId}
+use Rattle.itv_base.proofs.Bools.{true_or_false}
 use Rattle.event_graph.specs.Network.{IsNet, Net}
 use Rattle.falling.specs.declared.fault.FallCheckFault.{FallCheckFault}
 use Rattle.falling.specs.declared.fault.FallCheckFault.TheVariants.{AfterEnd, NotLower, NoEdge, NoLate, WrongValue}
@@ -27,10 +28,6 @@ not_true b is_false is_true = cc
 pub open_checker : (net : Net) (check : Checking) → IsBegun net check → check.ended ≡ false → IsEnded net check.source check.values → ⊥
 open_checker net check begun goes_on ended = not_true check.ended goes_on (begun.ended.1 ended)
 
-ends_or_not : (b : Bool) → (b ≡ true) ⊎ (b ≡ false)
-ends_or_not true = inl refl
-ends_or_not false = inr refl
-
 abbrev pub checking : Limits → EventId → List ℤ → Bool → Checking
 checking limits source values ended = record { limits = limits; source = source; values = values; ended = ended }
 
@@ -48,7 +45,7 @@ begun_after net check line values ended is_net begun goes_on allowed is ends =
       lines = (lines.0 ++ line ∷ [], leads_more net check.source (starting_values net check.source) lines.0 check.values line lines.1 not_ended allowed);
       ended = (
         (λ is_true. ended_after net check.source check.values line check.limits.lowest least (omega (arith, begun.made.count)) (ends.0 is_true)),
-        (λ has_ended. elim (ends_or_not ended) [
+        (λ has_ended. elim (true_or_false ended) [
           | inl yes' ↦ yes'
           | inr no' ↦ absurd (not_ended_after net check.source check.values line check.limits.lowest least (omega (arith, begun.made.count, begun.source)) not_ended
               (λ e. not_true ended no' (ends.1 e)) has_ended)

@@ -1,10 +1,10 @@
 -- Edges lead between events of the network.
-use Rattle.std.proofs.Common.{◌≡◌, ◌<◌, ℕ, Option, Some, None, option_map, option_and_then, slice_get, refl, subst}
-use Rattle.std.proofs.lemmas.Option.{same_Some}
+use Rattle.std.proofs.Common.{◌≡◌, ◌<◌, ℕ, Some, slice_get, subst}
 use Rattle.itv_base.specs.declared.names.EdgeName.{EdgeName}
 use Rattle.itv_base.specs.declared.names.EventId.{EventId}
 use Rattle.itv_base.specs.declared.names.Side.{Side}
 use Rattle.itv_base.specs.declared.names.Side.TheVariants.{Lower, Upper}
+use Rattle.itv_base.proofs.Options.{mapped_some, then_some}
 use Rattle.event_graph.specs.declared.cause.Cause.{Cause}
 use Rattle.event_graph.specs.declared.edge.Edge.{Edge}
 use Rattle.event_graph.specs.Edges.{edge, side_edge}
@@ -15,15 +15,6 @@ use Rattle.event_graph.proofs.EdgesMet.{All-found}
 pub record IsBetween (events : ℕ) (e : Edge) : Type 0 where
   pub from : e.from.0 < events
   pub to : e.to.0 < events
-
--- an option that maps to a value
-pub mapped_some : {X Y : Type 0} (f : X → Y) (o : Option X) (y : Y) → option_map f o ≡ Some y → (x : X) × (o ≡ Some x) × (f x ≡ y)
-mapped_some f None y e = absurd (cc)
-mapped_some f (Some x) y e = (x, refl, same_Some (f x) y e)
-
-pub then_some : {X Y : Type 0} (f : X → Option Y) (o : Option X) (y : Y) → option_and_then f o ≡ Some y → (x : X) × (o ≡ Some x) × (f x ≡ Some y)
-then_some f None y e = absurd (cc)
-then_some f (Some x) y e = (x, refl, e)
 
 ends_of : (events : ℕ) (side : Side) (target : EventId) (c : Cause) (e : Edge) → target.0 < events → c.event.0 < events → side_edge side target c ≡ Some e → IsBetween events e
 ends_of events Upper target c e in_target in_cause is =

@@ -6,6 +6,7 @@ use Rattle.event_graph.specs.Network.{Net}
 use Rattle.falling.specs.Cap.{cap, cap_limit, far_line, widest_end}
 use Rattle.falling.specs.Step.Rays.{IsClimbed, IsStepTo, above}
 use Rattle.falling.proofs.Within.{room_below}
+use Rattle.itv_base.proofs.Lists.{default_same}
 
 -- a truth as a number
 abbrev as_number : Bool → ℕ
@@ -71,11 +72,6 @@ mul_most (suc a) (suc b) w le = let rest : a * w ≤ b * w = mul_most a b w (ome
 
 high_of : (level next w : ℤ) (width steps more : ℕ) → w ≡ pos width → level ≤ℤ pos (steps * width) → next ≤ℤ (level +ℤ w) → steps * width + width ≤ more * width → next ≤ℤ pos (more * width)
 high_of level next w width steps more is high most le = omega (arith, ints)
-
-default_same : (xs : List ℤ) (i : ℕ) (d e : ℤ) → i < length xs → get_or xs i d ≡ get_or xs i e
-default_same [] i d e within = absurd (omega arith)
-default_same (x ∷ xs) zero d e within = refl
-default_same (x ∷ xs) (suc i) d e within = default_same xs i d e (omega arith)
 
 -- what a step to a value gives
 step_up : (net : Net) (values : List ℤ) (w level next : ℤ) (i : ℕ) → w ≡ pos (widest_end net) → i < length values → get_or values i (pos 0) ≡ next → level <ℤ next

@@ -1,18 +1,17 @@
 -- The negated causes and constraints so far.
-use Rattle.std.proofs.Common.{◌≡◌, ◌+◌, ◌<◌, ◌≤◌, ℕ, zero, suc, List, [], ◌∷◌, ◌++◌, All, length, take, map, Option, Some, None, OnOk, Result, Ok, Err, option_map, slice_get, sym, ap, ◌∙◌, refl, subst, add-one, arith}
-use Rattle.itv_base.specs.declared.limits.TheConstants.{MAX_CAUSES}
+use Rattle.std.proofs.Common.{◌≡◌, ◌+◌, ◌<◌, ◌≤◌, ℕ, zero, suc, List, [], ◌∷◌, ◌++◌, All, length, take, map, Option, Some, None, OnOk, Result, Ok, Err, option_map, slice_get, sym, ap, ◌∙◌, refl, subst, add-one}
 use Rattle.itv_base.specs.declared.names.EventId.{EventId}
 use Rattle.itv_base.specs.declared.names.RuleKind.{RuleKind}
 use Rattle.itv_base.specs.declared.names.RuleKind.TheVariants.{Lin, Late, Early}
+use Rattle.itv_base.proofs.Options.{mapped_some}
+use Rattle.itv_base.proofs.Lists.{found_below}
 use Rattle.event_graph.specs.declared.cause.Cause.{Cause}
-use Rattle.event_graph.specs.Network.{Constraint, IsCauseCount, IsConstraint, IsNet, Net, cause_at, cause_count_of, linear, with_constraint}
-use Rattle.event_graph.proofs.EdgesMet.{All-found, found_below}
+use Rattle.event_graph.specs.Network.{Constraint, IsCauseCount, IsConstraint, IsNet, Net, cause_at, cause_count_of, with_constraint}
+use Rattle.event_graph.proofs.EdgesMet.{All-found}
 use Rattle.falling.specs.Kinds.{negated, negated_cause, negated_constraint, negated_kind}
 use Rattle.falling.specs.Step.Kinds.{AreNegatedCauses}
-use Rattle.falling.specs.Step.Turns.{IsOfKind}
-use Rattle.falling.proofs.Between.{mapped_some}
 use Rattle.falling.proofs.Negating.{all_map, length-mapped}
-use Rattle.falling.proofs.Tried.{cause_of_at, kind_of}
+use Rattle.falling.proofs.Tried.{cause_of_at}
 use Rattle.falling.proofs.Widths.{take_all}
 
 take_next : {X Y : Type 0} (f : X → Y) (xs : List X) (i : ℕ) (x : X) → slice_get xs i ≡ Some x → map f (take (suc i) xs) ≡ map f (take i xs) ++ f x ∷ []
@@ -40,34 +39,29 @@ pub on_ok : {T E : Type 0} (r : Result T E) (P Q : Type 0) → (P → Q) → OnO
 on_ok (Ok x) P Q follows h = follows h
 on_ok (Err e) P Q follows h = h
 
--- what a network asks of a constraint of negated causes
-pub record ArePushable (net : Net) (t : EventId) (cs : List Cause) : Type 0 where
-  pub target : t.0 < net.events
-  pub causes : All (λ (c : Cause). c.event.0 < net.events) cs
-  pub some : 1 ≤ length cs
-  pub most : length cs ≤ MAX_CAUSES
+pub count_turns : (kind : RuleKind) (count : ℕ) → IsCauseCount kind count → IsCauseCount (negated_kind kind) count
+count_turns Lin count h = h
+count_turns Late count h = h
+count_turns Early count h = h
 
-counts_of : (kind : RuleKind) (count : ℕ) → (kind ≡ Lin → ⊥) → IsCauseCount kind count → (1 ≤ count) × (count ≤ MAX_CAUSES)
-counts_of Lin count not h = absurd (not refl)
-counts_of Late count not h = h
-counts_of Early count not h = h
-
-pub pushable : (net : Net) (number : ℕ) (kind : RuleKind) (t : EventId) (cs : List Cause) → IsNet net → IsOfKind net number kind → (kind ≡ Lin → ⊥)
-    → option_map (λ (c : Constraint). c.target) (slice_get net.constraints number) ≡ Some t → AreNegatedCauses net number cs → ArePushable net t cs
-pushable net number kind t cs is_net is_kind not is_target are =
-    let (k, at_k, same_kind) = kind_of net number kind is_kind in
+-- the negation of a constraint has as many causes as its kind may have, on events of the network
+pub negated_fits : (net : Net) (number : ℕ) (kind : RuleKind) (t : EventId) (cs : List Cause) → IsNet net
+    → option_map (λ (c : Constraint). c.kind) (slice_get net.constraints number) ≡ Some kind
+    → option_map (λ (c : Constraint). c.target) (slice_get net.constraints number) ≡ Some t → AreNegatedCauses net number cs
+    → IsConstraint net.events (record { kind = negated_kind kind; target = t; causes = cs })
+negated_fits net number kind t cs is_net is_kind is_target are =
+    let (k, at_k, same_kind) = mapped_some (λ (c : Constraint). c.kind) (slice_get net.constraints number) kind is_kind in
     let (j, at_j, same_target) = mapped_some (λ (c : Constraint). c.target) (slice_get net.constraints number) t is_target in
     let is : IsConstraint net.events k = All-found (IsConstraint net.events) net.constraints number k at_k is_net.constraints in
     let is_j : IsConstraint net.events j = All-found (IsConstraint net.events) net.constraints number j at_j is_net.constraints in
     let made : cs ≡ map negated_cause k.causes = are k at_k in
-    let counts = counts_of k.kind (length k.causes) (λ e. not (sym same_kind ∙ e)) is.count in
     let same_length : length cs ≡ length k.causes = ap length made ∙ length-mapped negated_cause k.causes in
+    let counts : IsCauseCount kind (length k.causes) = subst (λ (r : RuleKind). IsCauseCount r (length k.causes)) same_kind is.count in
     record {
       target = subst (λ (x : EventId). x.0 < net.events) same_target is_j.target;
       causes = subst (All (λ (c : Cause). c.event.0 < net.events)) (sym made)
           (all_map negated_cause (λ (c : Cause). c.event.0 < net.events) (λ (c : Cause). c.event.0 < net.events) k.causes (λ c h. h) is.causes);
-      some = omega (arith, same_length, counts.0);
-      most = omega (arith, same_length, counts.1);
+      count = subst (IsCauseCount (negated_kind kind)) (sym same_length) (count_turns kind (length k.causes) counts);
     }
 
 abbrev of_parts : RuleKind → EventId → List Cause → Constraint
@@ -77,47 +71,25 @@ constraint_is : (kind : RuleKind) (t : EventId) (cs : List Cause) (other_kind : 
     → of_parts kind t cs ≡ of_parts other_kind other others
 constraint_is kind t cs other_kind other others p q r = rw (p, q, r) refl
 
-only_cause : (cs : List Cause) (c : Cause) → length cs ≡ 1 → slice_get cs 0 ≡ Some c → cs ≡ c ∷ []
-only_cause [] c single at_c = absurd (omega arith)
-only_cause (d ∷ []) c single at_c = ap (λ x. x ∷ []) (same_of d c at_c) where
-  same_of : (a b : Cause) → Some a ≡ Some b → a ≡ b
-  same_of a b e = cc
-only_cause (d ∷ e ∷ cs) c single at_c = absurd (omega arith)
+kind_at : (o : Option Constraint) (k : Constraint) (kind : RuleKind) → o ≡ Some k → option_map (λ (x : Constraint). x.kind) o ≡ Some kind → k.kind ≡ kind
+kind_at None k kind e h = absurd (cc)
+kind_at (Some j) k kind e h = cc
 
-single_of : (kind : RuleKind) (count : ℕ) → kind ≡ Lin → IsCauseCount kind count → count ≡ 1
-single_of Lin count e h = h
-single_of Late count e h = absurd (cc)
-single_of Early count e h = absurd (cc)
+target_at : (o : Option Constraint) (k : Constraint) (t : EventId) → o ≡ Some k → option_map (λ (x : Constraint). x.target) o ≡ Some t → k.target ≡ t
+target_at None k t e h = absurd (cc)
+target_at (Some j) k t e h = cc
 
--- the negation of a linear constraint
-pub linear_negated : (net : Net) (number : ℕ) (k : Constraint) (t : EventId) (c made : Cause) → IsNet net → slice_get net.constraints number ≡ Some k → IsOfKind net number Lin
-    → option_map (λ (x : Constraint). x.target) (slice_get net.constraints number) ≡ Some t → cause_at net number 0 ≡ Some c → made ≡ negated_cause c
-    → linear made.event t made.range ≡ negated_constraint k
-linear_negated net number k t c made is_net at_k is_kind is_target at_c is_made =
-    let is : IsConstraint net.events k = All-found (IsConstraint net.events) net.constraints number k at_k is_net.constraints in
-    let same_kind : k.kind ≡ Lin = kind_at (slice_get net.constraints number) k at_k is_kind in
-    let same_target : k.target ≡ t = target_at (slice_get net.constraints number) k t at_k is_target in
-    let only : k.causes ≡ c ∷ [] = only_cause k.causes c (single_of k.kind (length k.causes) same_kind is.count) (cause_of_at net number 0 k c at_k at_c) in
-    constraint_is Lin t (made ∷ []) (negated_kind k.kind) k.target (map negated_cause k.causes) (sym (ap negated_kind same_kind)) (sym same_target)
-    (ap (λ x. x ∷ []) is_made ∙ sym (ap (map negated_cause) only)) where
-      kind_at : (o : Option Constraint) (k : Constraint) → o ≡ Some k → option_map (λ (x : Constraint). x.kind) o ≡ Some Lin → k.kind ≡ Lin
-      kind_at None k e h = absurd (cc)
-      kind_at (Some j) k e h = cc
-
-      target_at : (o : Option Constraint) (k : Constraint) (t : EventId) → o ≡ Some k → option_map (λ (x : Constraint). x.target) o ≡ Some t → k.target ≡ t
-      target_at None k t e h = absurd (cc)
-      target_at (Some j) k t e h = cc
-
--- a linear constraint was added
-pub linear_added : {T E : Type 0} (r : Result T E) (net : Net) (number : ℕ) (t : EventId) (c made : Cause) (before after : Net) → IsNet net → IsOfKind net number Lin
-    → option_map (λ (x : Constraint). x.target) (slice_get net.constraints number) ≡ Some t → cause_at net number 0 ≡ Some c → made ≡ negated_cause c
-    → OnOk r (after ≡ with_constraint before (linear made.event t made.range))
+-- the negation of a constraint was added
+pub negated_added : {T E : Type 0} (r : Result T E) (net : Net) (number : ℕ) (kind : RuleKind) (t : EventId) (cs : List Cause) (before after : Net)
+    → option_map (λ (x : Constraint). x.kind) (slice_get net.constraints number) ≡ Some kind → option_map (λ (x : Constraint). x.target) (slice_get net.constraints number) ≡ Some t
+    → AreNegatedCauses net number cs → OnOk r (after ≡ with_constraint before (of_parts (negated_kind kind) t cs))
     → OnOk r ((k : Constraint) → slice_get net.constraints number ≡ Some k → after.constraints ≡ before.constraints ++ negated_constraint k ∷ [])
-linear_added r net number t c made before after is_net is_kind is_target at_c is_made added =
-    on_ok r (after ≡ with_constraint before (linear made.event t made.range))
+negated_added r net number kind t cs before after is_kind is_target are added =
+    on_ok r (after ≡ with_constraint before (of_parts (negated_kind kind) t cs))
     ((k : Constraint) → slice_get net.constraints number ≡ Some k → after.constraints ≡ before.constraints ++ negated_constraint k ∷ [])
     (λ is k at_k.
-    ap (λ (n : Net). n.constraints) is ∙ ap (λ (x : Constraint). before.constraints ++ x ∷ []) (linear_negated net number k t c made is_net at_k is_kind is_target at_c is_made)) added
+    ap (λ (n : Net). n.constraints) is ∙ ap (λ (x : Constraint). before.constraints ++ x ∷ []) (constraint_is (negated_kind kind) t cs (negated_kind k.kind) k.target (map negated_cause k.causes)
+    (sym (ap negated_kind (kind_at (slice_get net.constraints number) k kind at_k is_kind))) (sym (target_at (slice_get net.constraints number) k t at_k is_target)) (are k at_k))) added
 
 abbrev net_of : ℕ → List Constraint → Net
 net_of events ks = record { events = events; constraints = ks }

@@ -4,6 +4,7 @@ use Rattle.std.proofs.Math.ListN.{length-set}
 use Rattle.std.proofs.lemmas.List.{get_or_default}
 use Rattle.std.proofs.lemmas.Int.{ints}
 use Rattle.itv_base.specs.declared.names.EventId.{EventId}
+use Rattle.itv_base.proofs.Options.{some_and}
 use Rattle.event_graph.specs.Edges.{edge}
 use Rattle.event_graph.specs.Network.{IsConstraint, IsNet, Net}
 use Rattle.event_graph.specs.Times.{time_of}
@@ -15,7 +16,7 @@ use Rattle.falling.specs.Cap.{cap, enough_turns, far_line}
 use Rattle.falling.specs.Derivation.{IsLineAllowed, IsDerivation, IsDue, IsEnded, DerivationLeads, fallen, starting_values}
 use Rattle.falling.specs.Laws.{NotEndedIsShort}
 use Rattle.falling.proofs.Between.{edge_between}
-use Rattle.falling.proofs.Bounding.{length-starting, replicated, set_at, some_and}
+use Rattle.falling.proofs.Bounding.{length-starting, replicated, set_at}
 use Rattle.falling.proofs.Near.{below_or_not}
 use Rattle.falling.proofs.Removed.{IsNaturalPart, natural_part, natural_part_is}
 

@@ -5,6 +5,7 @@ use Rattle.std.proofs.lemmas.Int.{ints}
 use Rattle.itv_base.specs.declared.names.EventId.{EventId}
 use Rattle.event_graph.specs.Network.{IsNet, Net}
 use Rattle.event_graph.specs.Times.{time_of}
+use Rattle.event_graph.proofs.Causes.{same_event}
 use Rattle.falling.specs.declared.line.FallLine.{FallLine}
 use Rattle.falling.specs.Cap.{IsNearValue, cap, cap_limit, far_line}
 use Rattle.falling.specs.DerivationEnds.{IsSpent}
@@ -32,14 +33,6 @@ leads_more net from values (first ∷ lines) after line leads goes_on allowed = 
 pub length-more : (lines : List FallLine) (line : FallLine) → length (lines ++ line ∷ []) ≡ length lines + 1
 length-more [] line = refl
 length-more (first ∷ lines) line = grind (arith, length-more lines line)
-
-default_same : (xs : List ℤ) (i : ℕ) (d e : ℤ) → i < length xs → get_or xs i d ≡ get_or xs i e
-default_same [] i d e within = absurd (omega arith)
-default_same (x ∷ xs) zero d e within = refl
-default_same (x ∷ xs) (suc i) d e within = default_same xs i d e (omega arith)
-
-same_event : (a b : EventId) → a.0 ≡ b.0 → a ≡ b
-same_event a b e = ap (λ (n : ℕ). record { 0 = n }) e
 
 -- a line that does not end a derivation keeps it from its end
 pub not_ended_after : (net : Net) (from : EventId) (values : List ℤ) (line : FallLine) (lowest : ℤ) → lowest ≡ neg_ℤ (pos (far_line net)) → from.0 < length values

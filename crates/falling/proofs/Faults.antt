@@ -3,6 +3,7 @@ use Rattle.std.proofs.Common.{◌≡◌, ℤ, ◌+ℤ◌, ◌≤ℤ◌, ◌<ℤ�
 use Rattle.std.proofs.lemmas.Int.{ints}
 use Rattle.std.proofs.lemmas.Option.{same_Some}
 use Rattle.itv_base.specs.declared.names.EventId.{EventId}
+use Rattle.itv_base.proofs.Options.{some_and, and_some}
 use Rattle.event_graph.specs.declared.cause.Cause.{Cause}
 use Rattle.event_graph.specs.declared.edge.Edge.{Edge}
 use Rattle.event_graph.specs.Edges.{edge}
@@ -15,8 +16,6 @@ use Rattle.falling.specs.declared.line.Reason.TheVariants.{ByEdge, ByLatest}
 use Rattle.falling.specs.Checking.{IsNoReason}
 use Rattle.falling.specs.Derivation.{IsDue, IsLatestHigh}
 use Rattle.falling.specs.Laws.{FaultForbids}
-use Rattle.falling.proofs.Bounding.{some_and}
-use Rattle.falling.proofs.Settling.{at_is}
 
 -- the greatest value of some causes is at least each value that a cause attains
 least_of : (values : List ℤ) (causes : List Cause) (a b : ℤ) → IsLatestHigh values causes a → IsLatestHigh values causes b → b ≤ℤ a
@@ -50,10 +49,10 @@ same_due net values event a b (ByLatest number) is_a is_b =
 no_reason : (net : Net) (values : List ℤ) (event : EventId) (value : ℤ) (reason : Reason) (fault : FallCheckFault) → IsNoReason net event reason fault → IsDue net values event value reason → ⊥
 no_reason net values event value (ByEdge name) fault none due =
     let (e, at_e, (to_e, value_e)) = some_and (edge net name) _ due.1 in
-    none.1 (due.0, at_is (edge net name) _ e at_e to_e)
+    none.1 (due.0, and_some (edge net name) _ e at_e to_e)
 no_reason net values event value (ByLatest number) fault none due =
     let (k, at_k, (of_k, latest_k)) = some_and (slice_get net.constraints number) _ due in
-    none.1 (at_is (slice_get net.constraints number) _ k at_k of_k)
+    none.1 (and_some (slice_get net.constraints number) _ k at_k of_k)
 
 not_lower : (current value time : ℤ) → current ≡ time → current ≤ℤ value → value <ℤ time → ⊥
 not_lower current value time is least lower = omega (arith, ints)

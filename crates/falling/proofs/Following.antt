@@ -7,6 +7,7 @@ use Rattle.std.proofs.lemmas.List.Elements.{All-nil, All-push, All-same, Contain
 use Rattle.itv_base.specs.declared.names.EdgeName.{EdgeName}
 use Rattle.itv_base.specs.declared.names.Side.{Side}
 use Rattle.itv_base.specs.declared.names.Side.TheVariants.{Lower, Upper}
+use Rattle.itv_base.proofs.Options.{then_some}
 use Rattle.event_graph.specs.declared.edge.Edge.{Edge}
 use Rattle.event_graph.specs.Edges.{edge}
 use Rattle.event_graph.specs.Network.{IsNet, Net, cause_count_of}
@@ -14,7 +15,6 @@ use Rattle.event_graph.specs.EventLists.{at_event}
 use Rattle.event_graph.proofs.EventLists.{each_at, empty_at, set_at}
 use Rattle.falling.specs.Agenda.{AreFollowers, AreLists, HasName}
 use Rattle.falling.specs.Step.Agenda.{Grows, HasCause}
-use Rattle.falling.proofs.Between.{then_some}
 use Rattle.falling.proofs.Tried.{cause_below}
 
 pub grows_on : (net : Net) (old mid new : List (List ℕ)) → Grows net old mid → Grows net mid new → Grows net old new

@@ -2,14 +2,16 @@
 use Rattle.std.proofs.Common.{◌≡◌, ◌<◌, ◌≤◌, ◌⊎◌, inl, inr, ℕ, zero, suc, ℤ, pos, negsuc, neg_ℤ, unsigned_abs, ◌+ℤ◌, ◌-ℤ◌, ◌≤ℤ◌, ◌<ℤ◌, Bool, true, false, if◌then◌else◌, int_le, List, [], ◌∷◌, All, Any, length, get_or, Option, Some, None, IfSome, ◌∙◌, refl, subst, arith}
 use Rattle.std.proofs.lemmas.Int.{ints}
 use Rattle.std.proofs.lemmas.List.{get_or-map, length-map}
+use Rattle.std.proofs.lemmas.List.Elements.{All-weaker}
 use Rattle.itv_base.specs.declared.names.EventId.{EventId}
 use Rattle.itv_base.specs.declared.names.RuleKind.{RuleKind}
 use Rattle.itv_base.specs.declared.names.RuleKind.TheVariants.{Lin, Late, Early}
 use Rattle.event_graph.specs.declared.cause.Cause.{Cause}
 use Rattle.event_graph.specs.Network.{Constraint, IsConstraint, IsNet, Net}
 use Rattle.event_graph.specs.Satisfying.{HoldsAs, IsAfter, IsBefore, Satisfies}
-use Rattle.event_graph.specs.Times.{separation, time_of}
-use Rattle.falling.specs.Cap.{end_size, widest_end, widest_of, widest_of_causes}
+use Rattle.event_graph.specs.Times.{separation, time_of, IsTime}
+use Rattle.event_graph.proofs.Shifting.{all_follow, any_follows}
+use Rattle.falling.specs.Cap.{end_size, widest_end, widest_of, widest_of_causes, IsNearValue}
 use Rattle.falling.specs.Gaps.{IsGapBeyond, with_gap}
 use Rattle.falling.specs.Laws.{GapCanBeSet}
 
@@ -106,13 +108,6 @@ ends_within net number i d c there within =
     let of_all : widest_of_causes (get_or net.constraints number d).causes ≤ widest_of net.constraints = causes_within net.constraints number d there in
     record { low = omega arith; high = omega arith }
 
--- what follows for each cause that is there follows for all causes, and for some cause
-all_kept : (P Q R : Cause → Type 0) (causes : List Cause) → All R causes → ((c : Cause) → R c → P c → Q c) → All P causes → All Q causes
-all_kept P Q R causes at_all follows h = λ i d within. follows (get_or causes i d) (at_all i d within) (h i d within)
-
-any_kept : (P Q R : Cause → Type 0) (causes : List Cause) → All R causes → ((c : Cause) → R c → P c → Q c) → Any P causes → Any Q causes
-any_kept P Q R causes at_all follows (i, c, within, here, h) = (i, c, within, here, follows c (subst R here (at_all i c within)) h)
-
 -- a cause between events below a number, with its ends within a width
 abbrev IsNearCause : ℕ → ℕ → Cause → Type 0
 IsNearCause width events c = (c.event.0 < events) × IsWithin width c
@@ -124,10 +119,10 @@ holds_kept kind width events times others target causes keeps in_target in_cause
     λ c near h. after_kept width c.range.low _ _ _ _ near.1.low (keeps c.event target near.0 in_target) (keeps target c.event in_target near.0) h in
     let before : (c : Cause) → IsNearCause width events c → IsBefore times target c → IsBefore others target c =
     λ c near h. before_kept width c.range.high _ _ _ _ near.1.high (keeps c.event target near.0 in_target) (keeps target c.event in_target near.0) h in
-    let all_after : All (IsAfter times target) causes → All (IsAfter others target) causes = all_kept _ _ _ causes in_causes after in
-    let all_before : All (IsBefore times target) causes → All (IsBefore others target) causes = all_kept _ _ _ causes in_causes before in
-    let any_after : Any (IsAfter times target) causes → Any (IsAfter others target) causes = any_kept _ _ _ causes in_causes after in
-    let any_before : Any (IsBefore times target) causes → Any (IsBefore others target) causes = any_kept _ _ _ causes in_causes before in
+    let all_after : All (IsAfter times target) causes → All (IsAfter others target) causes = all_follow _ _ _ causes in_causes after in
+    let all_before : All (IsBefore times target) causes → All (IsBefore others target) causes = all_follow _ _ _ causes in_causes before in
+    let any_after : Any (IsAfter times target) causes → Any (IsAfter others target) causes = any_follows _ _ _ causes in_causes after in
+    let any_before : Any (IsBefore times target) causes → Any (IsBefore others target) causes = any_follows _ _ _ causes in_causes before in
     elim kind as (λ k. HoldsAs k times target causes → HoldsAs k others target causes) [
       | Lin ↦ λ h. (all_after h.0, all_before h.1)
       | Late ↦ λ h. (all_after h.0, any_before h.1)
@@ -188,3 +183,9 @@ gap_can_be_set net times lower upper gap is_net h beyond least =
     let width : ℕ = widest_end net in
     satisfies_kept net times (with_gap times lower upper gap) is_net (length-map times _ ∙ h.count)
     (keeps_in _ _ _ _ _ h.count (keeps_with_gap (widest_end net) times lower upper gap beyond least)) h
+
+pub near_time : (time : ℤ) → IsNearValue time → IsTime time
+near_time time h = (omega (arith, ints, h.0, h.1), omega (arith, ints, h.0, h.1))
+
+pub near_times : (values : List ℤ) → All IsNearValue values → All IsTime values
+near_times values near = All-weaker IsNearValue IsTime near_time values near

@@ -1,12 +1,15 @@
 -- The negation of a network, and what its answers say of the network.
 use Rattle.std.proofs.Common.{◌≡◌, ◌+◌, ◌*◌, ◌<◌, ◌≤◌, ◌⊎◌, inl, inr, ℕ, zero, suc, ℤ, pos, negsuc, neg_ℤ, unsigned_abs, max, ◌+ℤ◌, Bool, true, false, not, List, [], ◌∷◌, All, length, map, Option, Some, None, option_map, slice_get, sym, ap, ◌∙◌, refl, subst, arith}
 use Rattle.std.proofs.lemmas.Int.{ints}
+use Rattle.std.proofs.lemmas.Option.{slice_get-map}
 use Rattle.itv_base.specs.declared.names.EventId.{EventId}
 use Rattle.itv_base.specs.declared.names.RuleKind.TheVariants.{Early}
+use Rattle.itv_base.specs.Range.{IsEnd}
+use Rattle.itv_base.proofs.Options.{mapped_some, then_some}
 use Rattle.event_graph.specs.declared.cause.Cause.{Cause}
 use Rattle.event_graph.specs.Bounds.{IsInconsistent, IsRay}
 use Rattle.event_graph.specs.Limits.{weight_limit}
-use Rattle.event_graph.specs.Network.{Constraint, IsNet, Net}
+use Rattle.event_graph.specs.Network.{Constraint, IsNet, Net, IsConstraint, AreEnds, cause_at}
 use Rattle.event_graph.specs.Satisfying.{Satisfies}
 use Rattle.event_graph.specs.Times.{raised, shifted}
 use Rattle.event_graph.proofs.Shifting.{shift_keeps_satisfying}
@@ -24,7 +27,8 @@ use Rattle.falling.specs.Solving.{AnswersByNegation, IsClosedByNegation, IsIncon
 use Rattle.falling.proofs.Bounding.{ended_is_inconsistent}
 use Rattle.falling.proofs.Choosing.{first_choice-negated}
 use Rattle.falling.proofs.Deriving.{derived_most, near_values}
-use Rattle.falling.proofs.Negating.{length-mapped, negation_reverses_greatest, satisfies_from, satisfies_turns, separation-negated}
+use Rattle.falling.proofs.Negating.{length-mapped, negation_reverses_greatest, satisfies_from, satisfies_turns, separation-negated, all_map}
+use Rattle.falling.proofs.Collecting.{count_turns}
 
 size-negated : (end : Option ℤ) → end_size (option_map neg_ℤ end) ≡ end_size end
 size-negated None = refl
@@ -185,3 +189,36 @@ has_times fallen (inr is) = rw is tt
 pub no_times : (fallen : Fallen) → (fallen ≡ Inconsistent) ⊎ (fallen ≡ Spent) → HasTimes fallen → ⊥
 no_times fallen (inl is) has = subst HasTimes is has
 no_times fallen (inr is) has = subst HasTimes is has
+
+pub end_negated : (end : Option ℤ) → IsEnd end → IsEnd (option_map neg_ℤ end)
+end_negated None h = tt
+end_negated (Some value) h = (omega (arith, ints), omega (arith, ints))
+
+pub constraint_negated : (events : ℕ) (k : Constraint) → IsConstraint events k → IsConstraint events (negated_constraint k)
+constraint_negated events k is = record {
+  target = is.target;
+  causes = all_map negated_cause (λ (c : Cause). c.event.0 < events) (λ (c : Cause). c.event.0 < events) k.causes (λ c h. h) is.causes;
+  count = rw (length-mapped negated_cause k.causes) (count_turns k.kind (length k.causes) is.count);
+}
+
+-- an element of a list that was mapped
+pub mapped_at : {X Y : Type 0} (f : X → Y) (xs : List X) (i : ℕ) (y : Y) → slice_get (map f xs) i ≡ Some y → (x : X) × (slice_get xs i ≡ Some x) × (f x ≡ y)
+mapped_at f xs i y at = mapped_some f (slice_get xs i) y (sym (slice_get-map f xs i) ∙ at)
+
+pub ends_negated : (net : Net) (number cause : ℕ) (c : Cause) → IsNet net → cause_at (negated net) number cause ≡ Some c → AreEnds c.range
+ends_negated net number cause c is_net at =
+    let (turned, at_turned, rest) = then_some _ (slice_get (negated net).constraints number) c at in
+    let (k, at_k, is_turned) = mapped_at negated_constraint net.constraints number turned at_turned in
+    let at_cause : slice_get (negated_constraint k).causes cause ≡ Some c = subst (λ (t : Constraint). slice_get t.causes cause ≡ Some c) (sym is_turned) rest in
+    let (d, at_d, is_c) = mapped_at negated_cause k.causes cause c at_cause in
+    let there : cause_at net number cause ≡ Some d = rw (at_k, at_d) refl in
+    let ends : AreEnds d.range = is_net.ends number cause d there in
+    subst (λ (x : Cause). AreEnds x.range) is_c (end_negated d.range.high ends.1, end_negated d.range.low ends.0)
+
+pub net_negated : (net : Net) → IsNet net → IsNet (negated net)
+net_negated net is_net = record {
+  events = is_net.events;
+  constraints = all_map negated_constraint (IsConstraint net.events) (IsConstraint net.events) net.constraints (constraint_negated net.events) is_net.constraints;
+  count = rw (length-mapped negated_constraint net.constraints) is_net.count;
+  ends = λ number cause c at. ends_negated net number cause c is_net at;
+}

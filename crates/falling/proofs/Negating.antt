@@ -4,15 +4,13 @@ use Rattle.std.proofs.lemmas.Int.{ints}
 use Rattle.itv_base.specs.declared.names.EventId.{EventId}
 use Rattle.itv_base.specs.declared.names.RuleKind.{RuleKind}
 use Rattle.itv_base.specs.declared.names.RuleKind.TheVariants.{Lin, Late, Early}
+use Rattle.itv_base.proofs.Integers.{neg_twice}
 use Rattle.event_graph.specs.declared.cause.Cause.{Cause}
 use Rattle.event_graph.specs.Network.{Net}
 use Rattle.event_graph.specs.Satisfying.{Holds, HoldsAs, IsAfter, IsBefore, Satisfies}
 use Rattle.event_graph.specs.Times.{separation, time_of}
 use Rattle.falling.specs.Kinds.{negated, negated_cause, negated_constraint, negated_kind, negated_times}
 use Rattle.falling.specs.Laws.{NegationKeepsSatisfying, NegationReversesGreatest, NegationReversesUnbounded}
-
-pub neg_twice : (z : ℤ) → neg_ℤ (neg_ℤ z) ≡ z
-neg_twice z = omega (arith, ints)
 
 -- the negated times of events, also past the end, where both are 0
 pub get_or-negated : (times : List ℤ) (i : ℕ) → get_or (negated_times times) i (pos 0) ≡ neg_ℤ (get_or times i (pos 0))

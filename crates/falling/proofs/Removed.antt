@@ -2,6 +2,7 @@
 use Rattle.std.proofs.Common.{◌≡◌, ◌+◌, ◌*◌, ◌<◌, ◌≤◌, ◌⊎◌, inl, inr, ℕ, zero, suc, ℤ, pos, negsuc, ◌+ℤ◌, ◌-ℤ◌, ◌≤ℤ◌, ◌<ℤ◌, Bool, true, false, ◌&&◌, ◌||◌, if◌then◌else◌, int_le, int_lt, List, [], ◌∷◌, length, get_or, refl, arith}
 use Rattle.std.proofs.lemmas.Int.{ints}
 use Rattle.falling.proofs.Near.{IsKept, below_or_not}
+use Rattle.itv_base.proofs.Integers.{test_from_le, test_from_lt}
 
 -- whether a number is from a time on by less than a width
 abbrev pub covers : ℕ → ℤ → ℤ → Bool
@@ -78,21 +79,9 @@ removed_stays width times base k (suc n) le covered = elim (or_same k n le) [
   or_same : (k n : ℕ) → k ≤ suc n → (k ≡ suc n) ⊎ (k ≤ n)
   or_same k n le = grind arith
 
-pub is_le : (a b : ℤ) → a ≤ℤ b → int_le a b ≡ true
-is_le a b h = by_test (int_le a b) refl where
-  by_test : (t : Bool) → int_le a b ≡ t → t ≡ true
-  by_test true e = refl
-  by_test false e = absurd (omega (arith, ints))
-
-pub is_lt : (a b : ℤ) → a <ℤ b → int_lt a b ≡ true
-is_lt a b h = by_test (int_lt a b) refl where
-  by_test : (t : Bool) → int_lt a b ≡ t → t ≡ true
-  by_test true e = refl
-  by_test false e = absurd (omega (arith, ints))
-
 -- a time covers the numbers from it on
 covers_from : (width : ℕ) (time z : ℤ) → time ≤ℤ z → z <ℤ (time +ℤ pos width) → covers width time z ≡ true
-covers_from width time z least less = rw (is_le time z least, is_lt z (time +ℤ pos width) less) refl
+covers_from width time z least less = rw (test_from_le time z least, test_from_lt z (time +ℤ pos width) less) refl
 
 or_left : (a b : Bool) → a ≡ true → (a || b) ≡ true
 or_left a b e = rw e refl

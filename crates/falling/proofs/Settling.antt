@@ -7,6 +7,7 @@ use Rattle.itv_base.specs.declared.names.EventId.{EventId}
 use Rattle.itv_base.specs.declared.names.RuleKind.{RuleKind}
 use Rattle.itv_base.specs.declared.names.RuleKind.TheVariants.{Lin, Late, Early}
 use Rattle.itv_base.specs.declared.names.Side.TheVariants.{Lower, Upper}
+use Rattle.itv_base.proofs.Options.{if_some, some_at, and_some}
 use Rattle.event_graph.specs.declared.cause.Cause.{Cause}
 use Rattle.event_graph.specs.declared.edge.Edge.{Edge}
 use Rattle.event_graph.specs.Edges.{IsAlways, Meets, edge, holds_always, side_edge}
@@ -15,7 +16,7 @@ use Rattle.event_graph.specs.Network.{Constraint, IsCauseCount, IsConstraint, Ne
 use Rattle.event_graph.specs.Proof.{HasChoice}
 use Rattle.event_graph.specs.Times.{time_of}
 use Rattle.event_graph.proofs.ByEdges.{holds_by_edges}
-use Rattle.event_graph.proofs.EdgesMet.{edge-at, met_if_some}
+use Rattle.event_graph.proofs.EdgesMet.{edge-at}
 use Rattle.falling.specs.declared.line.Reason.TheVariants.{ByEdge, ByLatest}
 use Rattle.falling.specs.Derivation.{IsDueByEdge, IsDueByLatest, IsLatestHigh, IsFixedPoint}
 use Rattle.falling.specs.Kinds.{is_choice}
@@ -23,14 +24,11 @@ use Rattle.falling.specs.Laws.{SettledSatisfies}
 use Rattle.falling.proofs.Choosing.{not_choice}
 use Rattle.falling.proofs.Near.{below_or_not}
 
-pub at_is : {X : Type 0} (o : Option X) (P : X → Type 0) (x : X) → o ≡ Some x → P x → IsSomeAnd o P
-at_is o P x is h = rw is h
-
 -- settled values meet the always-edges
 settled_meets : (net : Net) (values : List ℤ) (name : EdgeName) (e : Edge) → IsFixedPoint net values → IsAlways net name → edge net name ≡ Some e → Meets values e
 settled_meets net values name e settled always is_edge = elim (below_or_not (time_of values e.from +ℤ e.weight) (time_of values e.to)) [
   | inl lower ↦
-      let due : IsDueByEdge net values e.to (time_of values e.from +ℤ e.weight) name = (always, at_is (edge net name) _ e is_edge (refl, refl)) in
+      let due : IsDueByEdge net values e.to (time_of values e.from +ℤ e.weight) name = (always, and_some (edge net name) _ e is_edge (refl, refl)) in
       absurd (settled (record { event = e.to; value = time_of values e.from +ℤ e.weight; reason = ByEdge name }) (record { due = due; lower = lower }))
   | inr met ↦ met_of (time_of values e.from) (time_of values e.to) e.weight met
 ] where
@@ -38,13 +36,6 @@ settled_meets net values name e settled always is_edge = elim (below_or_not (tim
   met_of a b w h = omega (arith, ints)
 
 -- ---- the greatest of the causes' values with their high ends
-
--- a finite end
-finite_of : (high : Option ℤ) → IsSome high → (h : ℤ) × (high ≡ Some h)
-finite_of None some = absurd (none_is some) where
-  none_is : IsSome {T = ℤ} None → ⊥
-  none_is some = cc
-finite_of (Some h) some = (h, refl)
 
 all_cons : (P : Cause → Type 0) (c : Cause) (cs : List Cause) → P c → All P cs → All P (c ∷ cs)
 all_cons P c cs first rest = at_each where
@@ -80,7 +71,7 @@ pub latest_one : (values : List ℤ) (c : Cause) (cs : List Cause) (h : ℤ) →
     → IsLatestHigh values (c ∷ cs) (time_of values c.event +ℤ h)
 latest_one values c cs h is rest = record {
   most = all_cons (IsMost values (time_of values c.event +ℤ h)) c cs (if_is c.range.high _ h is (omega (arith, ints))) rest;
-  attained = any_here (IsAttained values (time_of values c.event +ℤ h)) c cs (at_is c.range.high _ h is refl);
+  attained = any_here (IsAttained values (time_of values c.event +ℤ h)) c cs (and_some c.range.high _ h is refl);
 }
 
 latest_more : (values : List ℤ) (c : Cause) (cs : List Cause) (h value : ℤ) → c.range.high ≡ Some h → IsLatestHigh values cs value
@@ -104,10 +95,10 @@ latest_more values c cs h value is latest = elim (below_or_not value (time_of va
 
 pub has_latest : (values : List ℤ) (c : Cause) (cs : List Cause) → All (λ (x : Cause). IsSome x.range.high) (c ∷ cs) → (value : ℤ) × IsLatestHigh values (c ∷ cs) value
 has_latest values c [] finite =
-    let (h, is) = finite_of c.range.high (finite 0 c (omega arith)) in
+    let (h, is) = some_at c.range.high (finite 0 c (omega arith)) in
     (time_of values c.event +ℤ h, latest_one values c [] h is (none_all (IsMost values (time_of values c.event +ℤ h))))
 has_latest values c (d ∷ cs) finite =
-    let (h, is) = finite_of c.range.high (finite 0 c (omega arith)) in
+    let (h, is) = some_at c.range.high (finite 0 c (omega arith)) in
     let (value, latest) = has_latest values d cs (λ i x within. finite (suc i) x (omega arith)) in
     latest_more values c (d ∷ cs) h value is latest
 
@@ -150,7 +141,7 @@ latest_choice net number k values at_k is_late some settled = elim (open_or_fini
       let least : time_of values k.target ≤ℤ value = elim (below_or_not value (time_of values k.target)) [
         | inl lower ↦
             let due : IsDueByLatest net values k.target value number =
-            at_is (slice_get net.constraints number) _ k at_k (record { kind = is_late; target = refl; finite = finite }, latest) in
+            and_some (slice_get net.constraints number) _ k at_k (record { kind = is_late; target = refl; finite = finite }, latest) in
             absurd (settled (record { event = k.target; value = value; reason = ByLatest number }) (record { due = due; lower = lower }))
         | inr at_least ↦ at_least
       ] in
@@ -172,8 +163,8 @@ early_choice net number k values at_k is_early single settled =
     let name : EdgeName = record { constraint = number; cause = 0; side = Lower } in (
       0,
       omega arith,
-      met_if_some (edge net name) (Meets values) (λ e is_edge.
-          settled_meets net values name e settled (rw is_edge refl, at_is (slice_get net.constraints number) _ k at_k (always_of k.kind (length k.causes) is_early single)) is_edge),
+      if_some (edge net name) (Meets values) (λ e is_edge.
+          settled_meets net values name e settled (rw is_edge refl, and_some (slice_get net.constraints number) _ k at_k (always_of k.kind (length k.causes) is_early single)) is_edge),
     ) where
       always_of : (kind : RuleKind) (count : ℕ) → kind ≡ Early → count ≡ 1 → IsTrue (holds_always kind count Lower)
       always_of Lin count is single = refl

@@ -6,6 +6,7 @@ use Rattle.itv_base.specs.declared.names.RuleKind.{RuleKind}
 use Rattle.itv_base.specs.declared.names.RuleKind.TheVariants.{Lin, Late, Early}
 use Rattle.itv_base.specs.declared.names.Side.{Side}
 use Rattle.itv_base.specs.declared.names.Side.TheVariants.{Lower, Upper}
+use Rattle.itv_base.proofs.Options.{some_and, and_some}
 use Rattle.event_graph.specs.declared.cause.Cause.{Cause}
 use Rattle.event_graph.specs.declared.edge.Edge.{Edge}
 use Rattle.event_graph.specs.Edges.{edge, holds_always, side_edge}
@@ -15,8 +16,7 @@ use Rattle.event_graph.proofs.EdgesMet.{cause_of}
 use Rattle.falling.specs.declared.line.Reason.TheVariants.{ByEdge, ByLatest}
 use Rattle.falling.specs.Derivation.{IsLatestHigh}
 use Rattle.falling.specs.Step.Turns.{IsConstraintTried, IsOfKind, IsSideTried, IsTried}
-use Rattle.falling.proofs.Bounding.{some_and}
-use Rattle.falling.proofs.Settling.{IsMost, at_is, is_some, latest_one, none_all}
+use Rattle.falling.proofs.Settling.{IsMost, is_some, latest_one, none_all}
 use Rattle.falling.proofs.Tried.{kind_of}
 
 -- the upper side of a latest constraint always holds only for a single cause
@@ -66,7 +66,7 @@ upper_tried net values number is_late tried name is_number is_upper event value 
     let (from, to, high) = upper_is name.side k.target c e is_upper made in
     let causes : k.causes ≡ c ∷ [] = only_cause k.causes name.cause c (single_late k.kind (length k.causes) name.side late is_upper holds) at_c in
     tried event value (record {
-      due = at_is (slice_get net.constraints number) _ k (ap (slice_get net.constraints) (sym is_number) ∙ at_k) (
+      due = and_some (slice_get net.constraints number) _ k (ap (slice_get net.constraints) (sym is_number) ∙ at_k) (
         record {
           kind = late;
           target = sym to ∙ meets.0;

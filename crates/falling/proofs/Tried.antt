@@ -6,28 +6,18 @@ use Rattle.itv_base.specs.declared.names.EdgeName.{EdgeName}
 use Rattle.itv_base.specs.declared.names.RuleKind.{RuleKind}
 use Rattle.itv_base.specs.declared.names.RuleKind.TheVariants.{Lin, Late, Early}
 use Rattle.itv_base.specs.declared.names.Side.{Side}
+use Rattle.itv_base.proofs.Options.{and_some, some_at, mapped_some, then_some, some_and}
 use Rattle.event_graph.specs.declared.cause.Cause.{Cause}
 use Rattle.event_graph.specs.declared.edge.Edge.{Edge}
 use Rattle.event_graph.specs.Edges.{edge}
-use Rattle.event_graph.specs.Network.{Constraint, IsCauseCount, IsConstraint, IsNet, Net, cause_at, cause_count_of, named_causes}
+use Rattle.event_graph.specs.Network.{Constraint, IsConstraint, IsNet, Net, cause_at, cause_count_of, named_causes}
 use Rattle.event_graph.specs.Times.{time_of}
 use Rattle.event_graph.proofs.EdgesMet.{All-found, cause_of}
+use Rattle.event_graph.proofs.Causes.{cause_is, count_most, counted_is}
 use Rattle.falling.specs.declared.line.Reason.{Reason}
 use Rattle.falling.specs.declared.line.Reason.TheVariants.{ByEdge, ByLatest}
 use Rattle.falling.specs.Derivation.{IsLatestHigh, IsFixedPoint}
 use Rattle.falling.specs.Step.Turns.{HasOpenHigh, IsConstraintTried, IsHighOf, IsOfKind, IsLatestValue, IsSideTried, IsTried, constraint_of}
-use Rattle.falling.proofs.Between.{mapped_some, then_some}
-use Rattle.falling.proofs.Bounding.{some_and}
-
--- the causes of a constraint are no more than the causes that it names, or one
-pub named_most : (kind : RuleKind) (count : ℕ) → IsCauseCount kind count → count ≤ max (named_causes kind count) 1
-named_most Lin count h = omega arith
-named_most Late count h = omega arith
-named_most Early count h = omega arith
-
--- a number that an option maps to
-pub counted_is : (f : Constraint → ℕ) (o : Option Constraint) (k : Constraint) (count : ℕ) → option_map f o ≡ Some count → o ≡ Some k → f k ≡ count
-counted_is f o k count counted is = same_Some (f k) count (rw is at counted)
 
 -- a loop over the named causes, or over one cause, has seen the cause of each edge that is there
 pub cause_below : (net : Net) (number : ℕ) (name : EdgeName) (e : Edge) (count : ℕ) → IsNet net → name.constraint ≡ number → edge net name ≡ Some e
@@ -37,7 +27,7 @@ cause_below net number name e count is_net is_number is_edge counted =
     let (c, at_c, made) = cause_of net name k e at_k is_edge in
     let is : IsConstraint net.events k = All-found (IsConstraint net.events) net.constraints name.constraint k at_k is_net.constraints in
     let within : name.cause < length k.causes = slice_get_within k.causes name.cause c at_c in
-    let most : length k.causes ≤ max (cause_count_of k) 1 = named_most k.kind (length k.causes) is.count in
+    let most : length k.causes ≤ max (cause_count_of k) 1 = count_most k.kind (length k.causes) is.count in
     let same : cause_count_of k ≡ count = counted_is cause_count_of (slice_get net.constraints number) k count counted (ap (slice_get net.constraints) (sym is_number) ∙ at_k) in
     subst (λ n. name.cause < max n 1) same (omega arith)
 
@@ -94,13 +84,6 @@ pub record IsLatestSoFar (net : Net) (values : List ℤ) (number count : ℕ) (v
   pub most : (k : ℕ) (c : Cause) → k < count → cause_at net number k ≡ Some c → IsSomeAnd (high_value values c) (λ here. here ≤ℤ value)
   pub attained : (k : ℕ) × (c : Cause) × (k < count) × (cause_at net number k ≡ Some c) × (high_value values c ≡ Some value)
 
-pub some_at : {X : Type 0} (o : Option X) → IsSome o → (x : X) × (o ≡ Some x)
-some_at None some = absurd (cc)
-some_at (Some x) some = (x, refl)
-
-and_is : {X : Type 0} (o : Option X) (P : X → Type 0) (x : X) → o ≡ Some x → P x → IsSomeAnd o P
-and_is o P x is h = rw is h
-
 -- the first cause alone
 pub first_of : (net : Net) (values : List ℤ) (number : ℕ) (value : ℤ) → IsSome (cause_at net number 0) → IsHighOf net values number 0 (Some value) → IsLatestSoFar net values number 1 value
 first_of net values number value some high =
@@ -109,7 +92,7 @@ first_of net values number value some high =
       most = λ k d below at_d.
           let first : k ≡ 0 = omega arith in
           let is : Some value ≡ high_value values d = high d (sym (ap (cause_at net number) first) ∙ at_d) in
-          and_is (high_value values d) (λ here. here ≤ℤ value) value (sym is) (omega (arith, ints));
+          and_some (high_value values d) (λ here. here ≤ℤ value) value (sym is) (omega (arith, ints));
       attained = (0, c, omega arith, at_c, sym (high c at_c));
     }
 
@@ -123,7 +106,7 @@ next_of net values number count before here value some high le_before le_here ei
         | inl earlier ↦ raised (high_value values d) before value le_before (so_far.most k d earlier at_d)
         | inr last ↦
             let is : Some here ≡ high_value values d = high d (sym (ap (cause_at net number) last) ∙ at_d) in
-            and_is (high_value values d) (λ x. x ≤ℤ value) here (sym is) le_here
+            and_some (high_value values d) (λ x. x ≤ℤ value) here (sym is) le_here
       ];
       attained = elim either [
         | inl old ↦
@@ -151,10 +134,6 @@ open_of net values number i some high =
 pub if_none_then : {X : Type 0} (o : Option X) (P : Type 0) → P → IfNone o P
 if_none_then None P h = h
 if_none_then (Some x) P h = tt
-
--- a cause of a list is a cause of the constraint
-pub cause_is : (net : Net) (number i : ℕ) (k : Constraint) (c : Cause) → slice_get net.constraints number ≡ Some k → slice_get k.causes i ≡ Some c → cause_at net number i ≡ Some c
-cause_is net number i k c at_k at_c = rw (at_k, at_c) refl
 
 pub cause_of_at : (net : Net) (number i : ℕ) (k : Constraint) (c : Cause) → slice_get net.constraints number ≡ Some k → cause_at net number i ≡ Some c → slice_get k.causes i ≡ Some c
 cause_of_at net number i k c at_k at_c = rw at_k at at_c
@@ -197,4 +176,4 @@ latest_value_of net values number named count value is_net is_late counted all s
     let (k, at_k, is_kind) = kind_of net number Late is_late in
     let same : cause_count_of k ≡ named = counted_is cause_count_of (slice_get net.constraints number) k named counted at_k in
     let most : length k.causes ≤ count = omega (arith, late_count k.kind (length k.causes) is_kind) in
-    and_is (slice_get net.constraints number) _ k at_k (latest_all net values number count k value at_k most so_far)
+    and_some (slice_get net.constraints number) _ k at_k (latest_all net values number count k value at_k most so_far)

@@ -9,6 +9,7 @@ use Rattle.std.proofs.lemmas.List.Elements.{All-contains}
 use Rattle.itv_base.specs.declared.names.EdgeName.{EdgeName}
 use Rattle.itv_base.specs.declared.names.EventId.{EventId}
 use Rattle.itv_base.specs.declared.names.Side.TheVariants.{Upper}
+use Rattle.itv_base.proofs.Options.{some_and, and_some}
 use Rattle.event_graph.specs.declared.cause.Cause.{Cause}
 use Rattle.event_graph.specs.declared.edge.Edge.{Edge}
 use Rattle.event_graph.specs.Edges.{edge}
@@ -21,8 +22,6 @@ use Rattle.falling.specs.Agenda.{Agenda, IsAgendaFor}
 use Rattle.falling.specs.Step.Agenda.{AreOthersTried, IsPending}
 use Rattle.falling.specs.Derivation.{IsLatestHigh}
 use Rattle.falling.specs.Step.Turns.{IsConstraintTried, IsFirstOf, IsTried, IsTurnLine}
-use Rattle.falling.proofs.Bounding.{some_and}
-use Rattle.falling.proofs.Settling.{at_is}
 
 -- no edge of the constraint of a number starts at the event
 abbrev pub StartsNone : Net → EventId → ℕ → Type 0
@@ -53,7 +52,7 @@ edge_before net values event value name lower none tried target due allowed =
     let (e, is_edge, meets) = some_and (edge net name) _ allowed.due.1 in
     let same : time_of (set values event.0 value) e.from ≡ time_of values e.from = other_time values event e.from value (none name e refl is_edge) in
     tried target due (record {
-      due = (allowed.due.0, at_is (edge net name) _ e is_edge (meets.0, meets.1 ∙ ap (λ z. z +ℤ e.weight) same));
+      due = (allowed.due.0, and_some (edge net name) _ e is_edge (meets.0, meets.1 ∙ ap (λ z. z +ℤ e.weight) same));
       lower = below_of due _ _ allowed.lower (time_falls values event target value lower);
     })
 
@@ -85,7 +84,7 @@ latest_before : (net : Net) (values : List ℤ) (event : EventId) (value : ℤ) 
 latest_before net values event value number lower none tried target due allowed =
     let (k, at_k, both) = some_and (slice_get net.constraints number) _ allowed.due in
     tried target due (record {
-      due = at_is (slice_get net.constraints number) _ k at_k (both.0, latest_high_before values (set values event.0 value) k.causes due (same_at k at_k) both.1);
+      due = and_some (slice_get net.constraints number) _ k at_k (both.0, latest_high_before values (set values event.0 value) k.causes due (same_at k at_k) both.1);
       lower = below_of due _ _ allowed.lower (time_falls values event target value lower);
     }) where
       same_high : (o : Option ℤ) (a b : ℤ) → ((high : ℤ) → o ≡ Some high → a ≡ b) → IfSome o (λ _. a ≡ b)

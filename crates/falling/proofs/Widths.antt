@@ -3,8 +3,10 @@ use Rattle.std.proofs.Common.{◌≡◌, ◌+◌, ◌<◌, ◌≤◌, ℕ, zero,
 use Rattle.event_graph.specs.declared.cause.Cause.{Cause}
 use Rattle.event_graph.specs.Network.{Constraint, IsConstraint, IsNet, Net, cause_at, cause_count_of}
 use Rattle.event_graph.proofs.EdgesMet.{All-found}
+use Rattle.event_graph.proofs.Causes.{count_most, counted_is}
 use Rattle.falling.specs.Cap.{end_size, widest_of, widest_of_causes}
-use Rattle.falling.proofs.Tried.{cause_of_at, counted_is, named_most, some_at}
+use Rattle.falling.proofs.Tried.{cause_of_at}
+use Rattle.itv_base.proofs.Options.{some_at}
 
 -- the wider end of a cause
 abbrev pub cause_size : Cause → ℕ
@@ -65,7 +67,7 @@ pub all_seen : (net : Net) (number count i : ℕ) (k : Constraint) → IsNet net
 all_seen net number count i k is_net counted at_k past =
     let is : IsConstraint net.events k = All-found (IsConstraint net.events) net.constraints number k at_k is_net.constraints in
     let same : cause_count_of k ≡ count = counted_is cause_count_of (slice_get net.constraints number) k count counted at_k in
-    let most : length k.causes ≤ max (cause_count_of k) 1 = named_most k.kind (length k.causes) is.count in
+    let most : length k.causes ≤ max (cause_count_of k) 1 = count_most k.kind (length k.causes) is.count in
     let past_named : max (cause_count_of k) 1 ≤ i = subst (λ n. max n 1 ≤ i) (sym same) past in
     omega arith
 

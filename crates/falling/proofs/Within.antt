@@ -20,7 +20,7 @@ pub at_event : (width : ℕ) (times : List ℤ) (base less : ℤ) (i : ℕ) (d :
     → get_or (narrowed_by width times base less) i d ≡ narrowed width times base (get_or times i (pos 0)) -ℤ less
 at_event width times base less i d within = get_or-map (λ (time : ℤ). narrowed width times base time -ℤ less) times i (pos 0) d within
 
-kept_less : (width : ℕ) (old a b less : ℤ) → IsKept width old (b -ℤ a) → IsKept width old ((b -ℤ less) -ℤ (a -ℤ less))
+pub kept_less : (width : ℕ) (old a b less : ℤ) → IsKept width old (b -ℤ a) → IsKept width old ((b -ℤ less) -ℤ (a -ℤ less))
 kept_less width old a b less kept = record {
   near = λ m n. let same : (b -ℤ a) ≡ old = kept.near m n in omega (arith, ints);
   wide = λ m. let least : pos width ≤ℤ (b -ℤ a) = kept.wide m in omega (arith, ints);

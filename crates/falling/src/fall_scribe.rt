@@ -6,20 +6,12 @@ ghost use Rattle.falling.specs.declared.line.FallLine.{FallLine};
 ghost use Rattle.falling.specs.declared.line.Reason.TheVariants.{ByEdge, ByLatest};
 
 use itv_base::{EdgeName, EventId};
-use std::error::Error;
-use std::fmt;
+use thiserror::Error;
 
 /// A line of a derivation was not noted whole.
-#[derive(Clone, Copy, Debug)]
+#[derive(Clone, Copy, Debug, Error)]
+#[error("a line of a derivation could not be noted")]
 pub struct FallScribeFailed;
-
-impl fmt::Display for FallScribeFailed {
-    fn fmt<W: fmt::Write>(&self, f: &mut fmt::Formatter<W>) -> fmt::Result {
-        write!(f, "a line of a derivation could not be noted")
-    }
-}
-
-impl Error for FallScribeFailed {}
 
 /// Takes the lines of a derivation, one after another. Each call notes its line, or fails: then the notes have
 /// some front of the line at their end, and their count of faults rose.

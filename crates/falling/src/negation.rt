@@ -1,12 +1,11 @@
 //! The network that negated times satisfy.
 
-ghost use Rattle.std.specs.Prelude.{◌≡◌, ◌<◌, ◌++◌, ◌∷◌, [], neg_ℤ, option_map, IfOk, OnOk, length, slice_get, Some};
-ghost use Rattle.itv_base.specs.Range.{IsEnd};
+ghost use Rattle.std.specs.Prelude.{◌≡◌, ◌<◌, ◌++◌, ◌∷◌, [], IfOk, OnOk, length, slice_get, Some};
 ghost use Rattle.event_graph.specs.Network.{Constraint, IsNet};
-ghost use Rattle.falling.specs.Kinds.{negated, negated_cause, negated_constraint, negated_ends};
+ghost use Rattle.falling.specs.Kinds.{negated, negated_cause, negated_constraint, negated_ends, negated_kind};
 ghost use Rattle.falling.specs.Step.Kinds.{AreNegatedCauses};
 
-use event_graph::{Cause, Network, PushFault};
+use event_graph::{Cause, Network, PushFault, negated_end};
 use itv_base::{NoMemory, Range, RuleKind};
 use std::alloc::Global;
 
@@ -40,13 +39,18 @@ fn push_negated(
 {
     let causes = negated_causes(alloc, net, number)?;
     let target = net.target(number);
-    match net.kind(number) {
-        RuleKind::Lin => {
-            let cause = negated(net.cause(number, 0));
-            negation.push_linear(alloc, cause.event, target, cause.range)
-        }
-        RuleKind::Late => negation.push_early(alloc, target, &causes),
-        RuleKind::Early => negation.push_late(alloc, target, &causes),
+    let kind = negated_kind(net.kind(number));
+    negation.push(alloc, kind, target, &causes)
+}
+
+// The kind of the constraint that negated times meet.
+fn negated_kind(kind: RuleKind) -> RuleKind
+    ensures { result ≡ negated_kind kind }
+{
+    match kind {
+        RuleKind::Lin => RuleKind::Lin,
+        RuleKind::Late => RuleKind::Early,
+        RuleKind::Early => RuleKind::Late,
     }
 }
 
@@ -81,16 +85,5 @@ fn negated_range(range: Range) -> Range
     match Range::new(negated_end(range.high()), negated_end(range.low())) {
         Ok(range) => range,
         Err(_) => unreachable!(),
-    }
-}
-
-// Minus an end, if it is not open.
-fn negated_end(end: Option<i64>) -> Option<i64>
-    requires { IsEnd end }
-    ensures { result ≡ option_map neg_ℤ end }
-{
-    match end {
-        None => None,
-        Some(value) => Some(-value),
     }
 }

@@ -23,11 +23,11 @@ IsReadingFault-first is_memory reading f fault h = IsReadingFault-on is_memory r
 -- ---- walks along a list
 
 -- the next element
-drop-next : {X : Type 0} (xs : List X) (k : ℕ) (x : X) → k < length xs → x ≡ get_or xs k x → drop k xs ≡ x ∷ drop (k + 1) xs
+pub drop-next : {X : Type 0} (xs : List X) (k : ℕ) (x : X) → k < length xs → x ≡ get_or xs k x → drop k xs ≡ x ∷ drop (k + 1) xs
 drop-next xs k x h is = drop-cons xs k x h ∙ ap (λ y. y ∷ drop (suc k) xs) (sym is) ∙ ap (λ j. x ∷ drop j xs) (sym (add-one k))
 
 -- the next element, seen by a view
-next_at : {V X : Type 0} (f : V → X) (xs : List V) (k : ℕ) (v : V) → k < length xs → v ≡ get_or xs k v → drop k (map f xs) ≡ f v ∷ drop (k + 1) (map f xs)
+pub next_at : {V X : Type 0} (f : V → X) (xs : List V) (k : ℕ) (v : V) → k < length xs → v ≡ get_or xs k v → drop k (map f xs) ≡ f v ∷ drop (k + 1) (map f xs)
 next_at f xs k v h is = rw (drop-map, drop-map, add-one, drop-cons xs k v h) (ap (λ x. f x ∷ map f (drop (suc k) xs)) (sym is))
 
 -- one element more was taken

@@ -9,3 +9,6 @@ pub mod Lists
 pub mod Ranges
 pub mod Runs
 mod Streams
+pub mod Options
+pub mod Bools
+pub mod Integers

@@ -1,18 +1,15 @@
 -- Ends that are a range.
-use Rattle.std.proofs.Common.{◌≡◌, Bool, true, false, ◌||◌, Option, Some, None, IfSome, refl, arith}
+use Rattle.std.proofs.Common.{◌≡◌, false, Option, Some, None, IfSome, arith}
 use Rattle.std.specs.Prelude.{ℤ, ◌≤ℤ◌}
 use Rattle.std.proofs.lemmas.Int.{ints}
 use Rattle.itv_base.specs.Range.{Ends, IsEnd, IsRange, has_wide, is_above, is_reversed, is_wide}
+use Rattle.itv_base.proofs.Bools.{both_false}
 
-both_false : (a b : Bool) → (a || b) ≡ false → (a ≡ false) × (b ≡ false)
-both_false true b e = absurd cc
-both_false false b e = (refl, e)
-
-is_end : (end : Option ℤ) → is_wide end ≡ false → IsEnd end
+pub is_end : (end : Option ℤ) → is_wide end ≡ false → IsEnd end
 is_end None narrow = tt
 is_end (Some value) narrow = grind (arith, ints)
 
-is_ordered : (low high : Option ℤ) → is_above low high ≡ false → IfSome low (λ l. IfSome high (λ h. l ≤ℤ h))
+pub is_ordered : (low high : Option ℤ) → is_above low high ≡ false → IfSome low (λ l. IfSome high (λ h. l ≤ℤ h))
 is_ordered None high ordered = tt
 is_ordered (Some low) None ordered = tt
 is_ordered (Some low) (Some high) ordered = grind (arith, ints)

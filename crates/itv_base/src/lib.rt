@@ -40,4 +40,4 @@ pub use sink::{PutFailed, Sink, put_all};
 pub use sink_mem::SinkMem;
 pub use sink_out::SinkOut;
 pub use text::{NoMemory, Text};
-pub use texts::Texts;
+pub use texts::{Texts, copied_texts};

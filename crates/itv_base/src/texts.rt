@@ -61,3 +61,14 @@ impl Texts {
         self.items.as_slice()
     }
 }
+
+/// A copy of texts.
+pub fn copied_texts(alloc: Global, texts: &Texts) -> Result<Texts, NoMemory>
+    ensures copy { IfOk result (λ copy. copy ≡ texts.now) }
+{
+    let mut copy = Texts::new(alloc)?;
+    for k in 0..texts.len() {
+        copy.push(alloc, texts.get(k).as_text())?;
+    }
+    Ok(copy)
+}

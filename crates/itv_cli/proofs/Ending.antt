@@ -1,7 +1,8 @@
 -- How a run ends, and what its end says.
-use Rattle.std.proofs.Common.{◌≡◌, ◌<◌, ◌∙◌, inl, inr, List, ℕ, Option, Some, None, IfSome, Result, Ok, Err, refl, sym, ap, subst, arith}
+use Rattle.std.proofs.Common.{◌≡◌, ◌<◌, ◌∙◌, inl, inr, List, ℕ, Option, Some, None, Result, Ok, Err, refl, sym, ap, subst, arith}
 use Rattle.std.specs.Bool.{⊤}
 use Rattle.itv_base.specs.Outside.{Files, ShelfState, SinkState, Puts, FaultCounted}
+use Rattle.itv_base.proofs.Options.{if_some}
 use Rattle.jobs.specs.JobWrote.{JobWrote}
 use Rattle.jobs.specs.declared.answer.Answer.{Answer}
 use Rattle.jobs.specs.declared.answer.Answer.TheVariants as answers
@@ -76,26 +77,22 @@ unworked call asked stops.NoMemory result is o s = rw s.0 (record { sink = s.1; 
 
 -- ---- which end comes, from what the ends say
 
-task_is : (a b : Task) → task a ≡ task b → a ≡ b
+pub task_is : (a b : Task) → task a ≡ task b → a ≡ b
 task_is a b e = cc
 
 same_task : (call : Call) (asked other : Task) → taken call.words ≡ task asked → taken call.words ≡ task other → other ≡ asked
 same_task call asked other is also = task_is other asked (sym also ∙ is)
 
-when_some : {X : Type 0} (o : Option X) (P : X → Type 0) → ((x : X) → o ≡ Some x → P x) → IfSome o P
-when_some None P h = tt
-when_some (Some x) P h = h x refl
-
 -- the files decide the end where the reading gave something
 decide_ready : (made : Option Files) (old new : ShelfState) (asked : Task) (given : Ready) (outcome : Outcome) → ReadsOver made old new asked (ready given) → OutcomeBy (ready given) outcome
     → FilesDecide made old.files asked outcome
 decide_ready None old new asked given outcome h by =
-    when_some old.files (λ files. OutcomeBy (end_over files (opening asked)) outcome) (λ files e. subst (λ end. OutcomeBy end outcome) (sym (told_ready old files (opening asked) given e h.0)) by)
+    if_some old.files (λ files. OutcomeBy (end_over files (opening asked)) outcome) (λ files e. subst (λ end. OutcomeBy end outcome) (sym (told_ready old files (opening asked) given e h.0)) by)
 decide_ready (Some files) old new asked given outcome h by = subst (λ end. OutcomeBy end outcome) h.0 by
 
 decide_refused : (made : Option Files) (old new : ShelfState) (asked : Task) (place : RefusalPlace) (why : Refusal) → ReadsOver made old new asked (refused place why) → FilesDecide made old.files asked Refused
 decide_refused None old new asked place why h =
-    when_some old.files (λ files. OutcomeBy (end_over files (opening asked)) Refused) (λ files e. subst (λ end. OutcomeBy end Refused) (sym (told_refused old files (opening asked) place why e h.0)) refl)
+    if_some old.files (λ files. OutcomeBy (end_over files (opening asked)) Refused) (λ files e. subst (λ end. OutcomeBy end Refused) (sym (told_refused old files (opening asked) place why e h.0)) refl)
 decide_refused (Some files) old new asked place why h = subst (λ end. OutcomeBy end Refused) h.0 refl
 
 decide_unread : (made : Option Files) (old new : ShelfState) (asked : Task) (place : RefusalPlace) (name : List ℕ) → ¬ (FaultCounted old.faults new.faults) → ReadsOver made old new asked (unread place name)

@@ -1,4 +1,4 @@
-mod Ending
+pub mod Ending
 mod Deciding
 mod Fetching
 mod Forms

@@ -145,7 +145,7 @@ fn answer_bounds<K: Sink>(
         (MayHaveWritten (ready.Searched drawn.now (SearchJob.Bounds cert) budget)) (K.state sink.old) (K.state sink.new) result }
 {
     // The call also gives the invariant: the network is within its limits. So no search closes more cases than there are cause choices.
-    let _events = drawn.network().events();
+    drawn.network().is_whole();
     let summary = write_bounds(alloc, drawn, budget, cert, sink)?;
     Ok(answer_of(summary.end))
 }
@@ -170,8 +170,7 @@ fn answer_redraw<K: Sink>(
     ensures works { JobWrote (Answers (ready.Searched drawn.now SearchJob.Redraw budget))
         (MayHaveWritten (ready.Searched drawn.now SearchJob.Redraw budget)) (K.state sink.old) (K.state sink.new) result }
 {
-    // As in job bounds.
-    let _events = drawn.network().events();
+    drawn.network().is_whole();
     let answer = write_redraw(alloc, drawn, budget, sink)?;
     Ok(answer)
 }
@@ -188,8 +187,7 @@ fn answer_generated<K: Sink>(
     ensures works { JobWrote (Answers (ready.Generated drawn.now size budget)) (MayHaveWritten (ready.Generated drawn.now size budget))
         (K.state sink.old) (K.state sink.new) result }
 {
-    // As in job bounds.
-    let _events = drawn.network().events();
+    drawn.network().is_whole();
     let answer = write_summary(alloc, drawn, size, budget, sink)?;
     Ok(answer)
 }

@@ -5,7 +5,9 @@
 #![tactic(auto)]
 
 mod ends;
+mod texts;
 mod values;
 
 pub use ends::{EndPair, ends_by};
+pub use texts::{owned_text, strings_in};
 pub use values::{list_at, list_of, name_of, text_at, whole_at};

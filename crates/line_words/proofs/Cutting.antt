@@ -1,10 +1,11 @@
 -- Cutting a text at its line ends.
-use Rattle.std.proofs.Common.{◌≡◌, ℕ, Bool, true, false, cond, List, [], ◌∷◌, ◌++◌, refl, sym, ap, ◌∙◌}
-use Rattle.std.specs.List.{AllByRecursion, slice_split, onto_first}
+use Rattle.std.proofs.Common.{◌≡◌, ℕ, Bool, true, false, cond, List, [], ◌∷◌, ◌++◌, refl, sym, ap, ◌∙◌, ◌<◌, length, arith}
+use Rattle.std.specs.List.{AllByRecursion, slice_split, onto_first, after_first, before_first, position_or_len}
 use Rattle.std.proofs.lemmas.Bool.{both_ways}
-use Rattle.std.proofs.lemmas.List.Splits.{slice_split_at, slice_split_none}
+use Rattle.std.proofs.lemmas.List.Splits.{slice_split_at, slice_split_none, slice_split_first}
 use Rattle.std.proofs.lemmas.List.Elements.{All-from_recursion}
 use Rattle.std.proofs.Common.{append_assoc}
+use Rattle.std.proofs.lemmas.List.Sums.{fails_before_first}
 use Rattle.line_words.specs.Lines.{ended, is_feed}
 
 -- the text has no line end in it
@@ -47,3 +48,10 @@ split_line line rest h =
 -- a text without a line end is one part
 pub split_last : (line : List ℕ) → IsLine line → slice_split is_feed line ≡ line ∷ []
 split_last line h = slice_split_none is_feed line (All-from_recursion (λ b. is_feed b ≡ false) line h)
+
+pub cut_is : (text line behind : List ℕ) → position_or_len is_feed text < length text → line ≡ before_first is_feed text → behind ≡ after_first is_feed text
+    → slice_split is_feed text ≡ line ∷ slice_split is_feed behind
+cut_is text line behind h first rest = slice_split_first is_feed text 0 h ∙ rw (first, rest) refl
+
+pub uncut_is : (text : List ℕ) → position_or_len is_feed text ≡ length text → slice_split is_feed text ≡ text ∷ []
+uncut_is text h = slice_split_none is_feed text (λ k d within. fails_before_first is_feed text k d (omega arith))

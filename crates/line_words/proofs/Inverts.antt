@@ -6,6 +6,7 @@ use Rattle.std.proofs.lemmas.Bool.{and_parts, eqb-true, eq-eqb}
 use Rattle.std.proofs.lemmas.Option.{same_Some}
 use Rattle.std.proofs.lemmas.List.Elements.{All-from_recursion, recursion_from_All}
 use Rattle.line_words.specs.Words.{◌>>=◌, Word, behind_word, is_word, keyed, many, one, only_word, or_else, two, two_words, when}
+use Rattle.itv_base.proofs.Options.{mapped_some}
 
 -- What is read is spelled so and has the form. What has the form is read from its spelling.
 pub record Inverts {W A : Type 0} (read : W → Option A) (spell : A → W) (Form : A → Type 0) : Type 0 where
@@ -17,10 +18,6 @@ pub record Inverts {W A : Type 0} (read : W → Option A) (spell : A → W) (For
 pub bind_some : {A B : Type 0} (o : Option A) (f : A → Option B) (y : B) → (o >>= f) ≡ Some y → (x : A) × (o ≡ Some x) × (f x ≡ Some y)
 bind_some None f y e = absurd (cc)
 bind_some (Some x) f y e = (x, refl, e)
-
-pub map_some : {A B : Type 0} (f : A → B) (o : Option A) (y : B) → option_map f o ≡ Some y → (x : A) × (o ≡ Some x) × (f x ≡ y)
-map_some f None y e = absurd (cc)
-map_some f (Some x) y e = (x, refl, same_Some (f x) y e)
 
 pub when_some : {A : Type 0} (test : Bool) (o : Option A) (y : A) → when test o ≡ Some y → (test ≡ true) × (o ≡ Some y)
 when_some true o y e = (refl, e)
@@ -147,4 +144,4 @@ many_inverts read spell Form i = record {
 pub either_takes : {A B : Type 0} (f : B → A) (read : List Word → Option B) (other : Option A) (words : List Word) (x : A) (P : A → Type 0)
     → or_else (option_map f (read words)) other ≡ Some x → ((y : B) → read words ≡ Some y → P (f y)) → (other ≡ Some x → P x) → P x
 either_takes f read other words x P e here there =
-    or_cases_some (option_map f (read words)) other x (P x) e (λ h. let m = map_some f (read words) x h in subst P m.2 (here m.0 m.1)) there
+    or_cases_some (option_map f (read words)) other x (P x) e (λ h. let m = mapped_some f (read words) x h in subst P m.2 (here m.0 m.1)) there

@@ -5,3 +5,4 @@ pub mod Plain
 pub mod Printing
 pub mod Looping
 pub mod Inverting
+pub mod Putting

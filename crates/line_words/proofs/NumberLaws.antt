@@ -9,9 +9,10 @@ use Rattle.itv_base.specs.Numerals.{end_text, is_numeral, number_text, signed_te
 use Rattle.itv_base.proofs.Cuts.{stripped_some}
 use Rattle.itv_base.proofs.Numbers.{numeral_is}
 use Rattle.itv_base.proofs.Numerals.{numeral-text, text-value, value-text}
+use Rattle.itv_base.proofs.Options.{mapped_some}
 use Rattle.line_words.specs.Words.{Word, is_word, or_else, when}
 use Rattle.line_words.specs.Numbers.{IsLong, IsLongOrOpen, long_in, negative_in, number_in, open_in, positive_in}
-use Rattle.line_words.proofs.Inverts.{Inverts, last_some, map_some, or_cases_some, when_some}
+use Rattle.line_words.proofs.Inverts.{Inverts, last_some, or_cases_some, when_some}
 
 pub number_inverts : (limit : ℕ) → Inverts (number_in limit) number_text (λ n. n ≤ limit)
 number_inverts limit = record {
@@ -96,7 +97,7 @@ open_takes : (word : Word) (end : Option ℤ) → open_in word ≡ Some end → 
 unfolding open_in
 open_takes word end e =
     or_cases_some (option_map (λ value. Some value) (long_in word)) (when (is_word word (codes "*")) (Some None)) end _ e
-    (λ h. let m = map_some (λ (value : ℤ). Some value) (long_in word) end h in
+    (λ h. let m = mapped_some (λ (value : ℤ). Some value) (long_in word) end h in
     subst (λ o. (word ≡ end_text o) × IsLongOrOpen o) m.2 (long_takes word m.0 m.1))
     (λ h. last_some word (codes "*") None end (λ o. (word ≡ end_text o) × IsLongOrOpen o) h (λ is. (is, tt)))
 

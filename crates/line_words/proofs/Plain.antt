@@ -11,6 +11,7 @@ use Rattle.std.proofs.lemmas.Str.{IsUtf8-from_ascii}
 use Rattle.itv_base.specs.Cuts.{is_space}
 use Rattle.itv_base.specs.Numerals.{end_text, number_text, signed_text}
 use Rattle.itv_base.proofs.Numerals.{digits-text}
+use Rattle.itv_base.specs.Characters.{is_name_byte}
 use Rattle.line_words.specs.Words.{Word, split_words}
 use Rattle.line_words.specs.Lines.{is_feed, line_of}
 use Rattle.line_words.proofs.Cutting.{IsLine}
@@ -123,3 +124,6 @@ signed_plain (negsuc n) = number_plain (suc n)
 pub end_plain : (end : Option ℤ) → is_plain (end_text end) ≡ true
 end_plain None = refl
 end_plain (Some value) = signed_plain value
+
+pub name_byte_plain : (b : ℕ) → is_name_byte b ≡ true → is_ascii_graphic b ≡ true
+name_byte_plain b h = grind (arith, nat_tests)

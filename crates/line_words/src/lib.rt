@@ -4,12 +4,14 @@
 #![tactic(auto)]
 
 mod buffer;
+mod cut;
 pub mod laws;
 mod numbers;
 mod put;
 mod words;
 
 pub use buffer::LineBuffer;
+pub use cut::{cut_line, line_len};
 pub use numbers::{long_in, number_in, open_in, short_in};
 pub use put::{put_spaced, put_words};
 pub use words::{behind_word, only_word, split_words, two_words};

@@ -1,5 +1,5 @@
 -- What a clean end says.
-use Rattle.std.proofs.Common.{◌≡◌, ◌==◌, ◌<◌, ◌+◌, ℕ, Bool, true, false, ◌&&◌, List, [], ◌∷◌, ◌++◌, length, All, refl, sym, subst, arith, inl, inr, ◌⊎◌}
+use Rattle.std.proofs.Common.{◌≡◌, ◌==◌, ◌<◌, ◌+◌, ℕ, Bool, true, false, List, [], ◌∷◌, ◌++◌, length, All, refl, sym, subst, arith, inl, inr, ◌⊎◌}
 use Rattle.std.specs.Prelude.{if◌then◌else◌, count_by}
 use Rattle.std.specs.List.{AllZip, flat_map, list_all}
 use Rattle.std.proofs.lemmas.Bool.{eqb-true}
@@ -20,23 +20,19 @@ use Rattle.lint_report.specs.declared.row_seen.RowSeen.{RowSeen}
 use Rattle.lint_report.specs.Clean.{CleanHasSearchedAll, HasSearchedAll, IsRowKnown}
 use Rattle.lint_report.specs.Found.{AreRowsSeen, IsLintFound, IsRowSeen, has_order, is_row_open}
 use Rattle.lint_report.specs.Lines.{contradiction_lines, drawing_line, is_end_open, is_silenced, lines_of, narrow_lines, open_ends_line, other_lines, rests_on_order, row_place, row_line, row_lines}
+use Rattle.itv_base.proofs.Bools.{both_true}
 
 -- ---- lists of which all pass
-
-and_both : (a b : Bool) → (a && b) ≡ true → (a ≡ true) × (b ≡ true)
-and_both true true e = (refl, refl)
-and_both true false e = absurd (cc e)
-and_both false b e = absurd (cc e)
 
 all_parts : {X : Type 0} (p : X → Bool) (xs ys : List X) → list_all p (xs ++ ys) ≡ true → (list_all p xs ≡ true) × (list_all p ys ≡ true)
 all_parts p [] ys e = (refl, e)
 all_parts p (x ∷ xs) ys e =
-    let first = and_both (p x) (list_all p (xs ++ ys)) e in
+    let first = both_true (p x) (list_all p (xs ++ ys)) e in
     let rest = all_parts p xs ys first.1 in
     (rw (first.0, rest.0) refl, rest.1)
 
 not_one : {X : Type 0} (p : X → Bool) (x : X) → p x ≡ false → list_all p (x ∷ []) ≡ true → ⊥
-not_one p x fails e = absurd (cc (sym (and_both (p x) true e).0, fails))
+not_one p x fails e = absurd (cc (sym (both_true (p x) true e).0, fails))
 
 module _ (plan : Planned) (d : Composed) (network : Drawn) where
   abbrev silenced : Line → Bool

@@ -4,6 +4,7 @@ use Rattle.std.specs.Prelude.{IfSome, IsSomeAnd, if◌then◌else◌, int_le}
 use Rattle.std.proofs.lemmas.Int.{ints}
 use Rattle.itv_base.specs.Range.{Ends}
 use Rattle.itv_base.specs.declared.names.EventId.{EventId}
+use Rattle.itv_base.proofs.Integers.{le_from_test}
 use Rattle.event_graph.specs.Bounds.{IsGreatest}
 use Rattle.event_graph.specs.Network.{Net}
 use Rattle.event_graph.specs.Times.{separation, time_of}
@@ -52,9 +53,6 @@ seen_settles seen.Open settled is = absurd (cc settled)
 
 -- ---- a side
 
-at_most : (a b : ℤ) → int_le a b ≡ true → a ≤ℤ b
-at_most a b h = omega (arith, ints)
-
 not_at_most : (a b : ℤ) → int_le a b ≡ false → b <ℤ a
 not_at_most a b h = omega (arith, ints)
 
@@ -62,7 +60,7 @@ closed_kept : (net : Net) (from to : EventId) (end value : ℤ) → IsGreatest n
     → KeepsBelow net from to (Some end) (if fits then kept.All else kept.NotAll)
 closed_kept net from to end value is true e = λ times sat.
     let most : separation times from to ≤ℤ value = is.most times sat in
-    let below : value ≤ℤ end = at_most value end e in
+    let below : value ≤ℤ end = le_from_test value end e in
     omega (arith, ints)
 closed_kept net from to end value is false e = (is.attained.0, is.attained.1, rw is.attained.2 (not_at_most value end e))
 

@@ -1,4 +1,3 @@
-pub mod Putting
 pub mod Keeping
 pub mod Searching
 pub mod Lining

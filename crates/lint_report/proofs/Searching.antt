@@ -1,23 +1,20 @@
 -- Searches of the network apart and of rows.
-use Rattle.std.proofs.Common.{◌≡◌, ◌≤ℤ◌, ◌≤◌, ◌<◌, ◌+◌, ◌*◌, ℕ, ℤ, Bool, true, false, ◌||◌, List, [], ◌∷◌, ◌++◌, All, get_or, length, take, refl, sym, subst, ap, ◌∙◌, arith}
-use Rattle.std.specs.Prelude.{if◌then◌else◌}
+use Rattle.std.proofs.Common.{◌≡◌, ◌≤ℤ◌, ◌≤◌, ◌<◌, ◌+◌, ℕ, ℤ, false, ◌||◌, List, [], ◌∷◌, ◌++◌, All, get_or, length, take, refl, sym, subst, ap, ◌∙◌, arith}
 use Rattle.std.specs.List.{AllZip}
-use Rattle.std.proofs.Math.Nat.{mul_comm, mul-le-mul_left}
 use Rattle.std.proofs.lemmas.List.{take_more, take_all}
-use Rattle.std.proofs.lemmas.List.Elements.{All-head, All-push, All-tail}
+use Rattle.std.proofs.lemmas.List.Elements.{All-push}
 use Rattle.itv_base.specs.declared.names.EventId.{EventId}
-use Rattle.event_graph.specs.Edges.{cause_choices, choices_of}
-use Rattle.event_graph.specs.Network.{Constraint, IsConstraint, IsNet, Net}
+use Rattle.event_graph.specs.Edges.{cause_choices}
+use Rattle.event_graph.specs.Network.{IsNet, Net}
 use Rattle.event_graph.specs.Satisfying.{Satisfies}
 use Rattle.event_graph.specs.Times.{separation}
-use Rattle.event_graph.proofs.Products.{choices_of-some}
 use Rattle.chains.specs.Chain.{AreBest, IsChain}
-use Rattle.origin.specs.declared.origin.Origin.{Origin}
 use Rattle.drawn.specs.Drawn.{Drawn}
 use Rattle.drawn.specs.declared.row.Row.{Row}
-use Rattle.explained.specs.Apart.{constraints_apart, keeps_order, net_apart}
+use Rattle.explained.specs.Apart.{net_apart}
 use Rattle.explained.specs.Answers.{Explains}
 use Rattle.explained.proofs.Wider.{apart_is_wider}
+use Rattle.explained.proofs.Settling.{fewer_choices}
 use Rattle.extremes.specs.Found.{IsAttainedBy, IsConsistency}
 use Rattle.extremes.specs.declared.found.Consistency.TheVariants as consistency
 use Rattle.lint_report.specs.declared.row_seen.RowSeen.{RowSeen}
@@ -27,27 +24,12 @@ use Rattle.lint_report.specs.Step.Searching.{IsRowEnough, IsRowSearch}
 
 -- ---- cause choices of the network apart
 
-times_some : (factor apart choices : ℕ) → 1 ≤ factor → apart ≤ choices → apart ≤ factor * choices
-times_some factor apart choices some fewer = omega (arith, mul-le-mul_left choices some, mul_comm choices factor, fewer)
-
-fewer_next : (keeps : Bool) (c : Constraint) (apart others : List Constraint) → 1 ≤ choices_of c.kind (length c.causes) → cause_choices apart ≤ cause_choices others
-    → cause_choices (if keeps then apart else c ∷ apart) ≤ cause_choices (c ∷ others)
-fewer_next true c apart others some fewer = times_some (choices_of c.kind (length c.causes)) (cause_choices apart) (cause_choices others) some fewer
-fewer_next false c apart others some fewer = mul-le-mul_left (choices_of c.kind (length c.causes)) fewer
-
-fewer_of : (events : ℕ) (cs : List Constraint) (os : List (List Origin)) → All (IsConstraint events) cs → cause_choices (constraints_apart cs os) ≤ cause_choices cs
-fewer_of events [] os all = omega arith
-fewer_of events (c ∷ cs) [] all = omega arith
-fewer_of events (c ∷ cs) (drew ∷ os) all =
-    fewer_next (keeps_order drew) c (constraints_apart cs os) cs (choices_of-some c.kind (length c.causes) (All-head (IsConstraint events) c cs all).count)
-    (fewer_of events cs os (All-tail (IsConstraint events) c cs all))
-
 -- a budget that is enough for the drawn network is enough for the network apart
 pub enough_apart : (network : Drawn) (net : Net) (budget : ℕ) → IsNet network.net → net ≡ net_apart network → cause_choices network.net.constraints ≤ budget
     → cause_choices net.constraints ≤ budget
 enough_apart network net budget is_net is enough =
     let fewer : cause_choices (net_apart network).constraints ≤ cause_choices network.net.constraints =
-    fewer_of network.net.events network.net.constraints network.origins is_net.constraints in
+    fewer_choices network.net.events network.net.constraints network.origins is_net.constraints in
     let here : cause_choices net.constraints ≤ cause_choices network.net.constraints =
     subst (λ (n : Net). cause_choices n.constraints ≤ cause_choices network.net.constraints) (sym is) fewer in
     omega (arith, here, enough)

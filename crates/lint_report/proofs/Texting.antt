@@ -4,10 +4,10 @@ use Rattle.std.specs.Prelude.{if◌then◌else◌, codes, ◌||◌}
 use Rattle.std.specs.List.{filter, flat_map, list_any}
 use Rattle.std.proofs.lemmas.Int.{ints}
 use Rattle.std.proofs.lemmas.List.{at_drop_more}
-use Rattle.std.proofs.lemmas.List.Concat.{flat_map-append}
 use Rattle.itv_base.specs.Numerals.{number_text, signed_text}
 use Rattle.line_words.specs.Lines.{spaced}
 use Rattle.line_words.specs.Words.{Word}
+use Rattle.line_words.proofs.Putting.{spaced_two}
 use Rattle.lint_report.specs.Text.{both_words, stroke_between, word_if_any}
 
 -- ---- pieces
@@ -19,10 +19,6 @@ one_spaced word = refl
 -- a word of two pieces after a space
 pub two_spaced : (first other : Word) → spaced first ++ spaced other ≡ spaced (first ++ (32 ∷ other))
 two_spaced first other = refl
-
--- words and then more words
-pub words_more : (words more : List Word) → flat_map spaced words ++ flat_map spaced more ≡ flat_map spaced (words ++ more)
-words_more words more = sym (flat_map-append spaced words more)
 
 -- ---- bytes that can be printed
 
@@ -80,8 +76,8 @@ module _ (p : ℕ → Bool) where
 pub both_spaced : (first other : List ℕ)
     → flat_map spaced (word_if_any first) ++ (flat_map spaced (stroke_between first other) ++ flat_map spaced (word_if_any other)) ≡ flat_map spaced (both_words first other)
 both_spaced first other =
-    ap (λ rest. flat_map spaced (word_if_any first) ++ rest) (words_more (stroke_between first other) (word_if_any other))
-    ∙ words_more (word_if_any first) (stroke_between first other ++ word_if_any other)
+    ap (λ rest. flat_map spaced (word_if_any first) ++ rest) (spaced_two (stroke_between first other) (word_if_any other))
+    ∙ spaced_two (word_if_any first) (stroke_between first other ++ word_if_any other)
 
 -- ---- numbers
 

@@ -53,8 +53,7 @@ pub fn contradicts_by_order(
     ensures order { IfOk result (ContradictsByOrder drawn.now) }
     ensures settles { IfOk result (λ by. cause_choices drawn.now.net.constraints ≤ budget → is_order_open by ≡ false) }
 {
-    // The drawn network is within its limits.
-    let _events = drawn.network().events();
+    drawn.network().is_whole();
     match network_apart(alloc, drawn)? {
         None => Ok(ByOrder::No),
         Some(net) => find_order(alloc, drawn, &net, budget),
@@ -124,8 +123,7 @@ fn find_in(
     ensures apart { IfOk result (IsApartFor drawn.now) }
     ensures enough { IfOk result (λ apart. cause_choices drawn.now.net.constraints ≤ budget → IsApartEnough drawn.now apart) }
 {
-    // The drawn network is within its limits.
-    let _events = drawn.network().events();
+    drawn.network().is_whole();
     let mut extremes = Extremes::new(alloc, &net, budget, run_turns(budget))?;
     match extremes.find(alloc, &net) {
         Ok(found) => Ok(found_apart(drawn, net, extremes, found)),
@@ -180,8 +178,7 @@ pub fn passes_by_order(
     ensures enough { IfOk result (λ _. IsApartEnough drawn.now apart.old → IsApartEnough drawn.now apart.new) }
     ensures settles { IfOk result (λ by. IsApartEnough drawn.now apart.old → is_order_open by ≡ false) }
 {
-    // The drawn network is within its limits.
-    let _events = drawn.network().events();
+    drawn.network().is_whole();
     match apart {
         WithoutOrder::Same => Ok(ByOrder::No),
         WithoutOrder::Ready(search) => passes_apart(alloc, drawn, row, range, search),

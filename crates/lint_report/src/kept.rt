@@ -1,11 +1,11 @@
 //! Whether all satisfying times keep a range.
 
-ghost use Rattle.std.specs.Prelude.{◌≡◌, neg_ℤ, option_map};
-ghost use Rattle.itv_base.specs.Range.{IsEnd};
+ghost use Rattle.std.specs.Prelude.{◌≡◌};
 ghost use Rattle.lint_report.specs.Step.Keeping.{extent_by, extent_of, kept_below, kept_both, kept_in, order_by_finding, order_by_kept};
 
 use crate::by_order::ByOrder;
 use crate::pair_seen::PairSeen;
+use event_graph::negated_end;
 use extremes::{Consistency, Greatest};
 use itv_base::Range;
 
@@ -54,19 +54,8 @@ pub fn kept_in(range: Range, found: Extent, reversed: Extent) -> RangeKept
     ensures kept { result ≡ kept_in range found reversed }
 {
     let high = range.high();
-    let low = negated(range.low());
+    let low = negated_end(range.low());
     kept_both(kept_below(high, found), kept_below(low, reversed))
-}
-
-// Minus an end of a range.
-fn negated(end: Option<i64>) -> Option<i64>
-    requires { IsEnd end }
-    ensures { result ≡ option_map neg_ℤ end }
-{
-    match end {
-        None => None,
-        Some(value) => Some(-value),
-    }
 }
 
 // Whether all separations of a pair keep below an end.

@@ -13,6 +13,7 @@ use Rattle.slack_report.specs.declared.words.EndWord.TheVariants.{Pass, Fail, In
 use Rattle.margin_report.specs.Margin.{IsNumberFound}
 use Rattle.margin_report.specs.Step.{AreFoundIf, AreFoundOf, EndsByOf, is_decided, word_of}
 use Rattle.margin_report.specs.declared.number_found.NumberFound.{NumberFound}
+use Rattle.margins.proofs.Standing.{pairs_push}
 
 -- the word of what was found of the network, and what was found of the numbers
 pub ending_by : (drawn : Drawn) (budget : ℕ) (seen : List NumberSeen) (as_one : Bool) (base : NetFound) (found : List NumberFound) → IsNetFound drawn base
@@ -76,12 +77,6 @@ zip_at R [] ys k x d y e all within is_x is_y = absurd (omega (arith, within))
 zip_at R (a ∷ xs) [] k x d y e all within is_x is_y = absurd all
 zip_at R (a ∷ xs) (b ∷ ys) zero x d y e all within is_x is_y = subst (R x) (sym is_y) (subst (λ z. R z b) (sym is_x) all.0)
 zip_at R (a ∷ xs) (b ∷ ys) (suc k) x d y e all within is_x is_y = zip_at R xs ys k x d y e all.1 (omega (arith, within)) is_x is_y
-
-pairs_push : {A B : Type 0} (R : A → B → Type 0) (xs : List A) (ys : List B) (x : A) (y : B) → AllZip R xs ys → R x y → AllZip R (xs ++ x ∷ []) (ys ++ y ∷ [])
-pairs_push R [] [] x y pairs one = (one, tt)
-pairs_push R [] (b ∷ ys) x y pairs one = absurd pairs
-pairs_push R (a ∷ xs) [] x y pairs one = absurd pairs
-pairs_push R (a ∷ xs) (b ∷ ys) x y pairs one = (pairs.0, pairs_push R xs ys x y pairs.1 one)
 
 -- one pair more
 pub pairs_next : {A B : Type 0} (R : A → B → Type 0) (xs : List A) (ys zs : List B) (k : ℕ) (x : A) (y : B) → k < length xs → x ≡ get_or xs k x → AllZip R (take k xs) ys

@@ -1,5 +1,5 @@
 -- The line of a margin in its pieces, and the lines of numbers one after another.
-use Rattle.std.proofs.Common.{◌≡◌, ◌+◌, ◌<◌, ◌≤◌, ℕ, zero, suc, List, [], ◌∷◌, ◌++◌, length, get_or, drop, refl, sym, ap, ◌∙◌, arith, add-one, append-nil, append_assoc, drop-cons}
+use Rattle.std.proofs.Common.{◌≡◌, ◌+◌, ◌<◌, ◌≤◌, ℕ, zero, suc, List, [], ◌∷◌, ◌++◌, length, get_or, drop, refl, sym, ap, ◌∙◌, arith, append-nil, append_assoc}
 use Rattle.std.specs.Prelude.{zip}
 use Rattle.std.specs.List.{flat_map}
 use Rattle.std.proofs.lemmas.Grind.{flat_map-append}
@@ -11,6 +11,7 @@ use Rattle.moves.specs.declared.number_seen.NumberSeen.{NumberSeen}
 use Rattle.margin_report.specs.Step.{numbers_text}
 use Rattle.margin_report.specs.Text.{margin_line, margins_of}
 use Rattle.margin_report.specs.declared.number_found.NumberFound.{NumberFound}
+use Rattle.itv_base.proofs.Lists.{drop_one}
 
 -- ---- a line
 
@@ -33,9 +34,6 @@ line_is which amount number range row note start a b c d e end is_a is_b is_c is
     ∙ ap (λ l. start ++ ended l) (sym (words_are which amount number range row note))
 
 -- ---- numbers
-
-drop_one : {A : Type 0} (xs : List A) (i : ℕ) (x d : A) → i < length xs → x ≡ get_or xs i d → drop i xs ≡ x ∷ drop (i + 1) xs
-drop_one xs i x d h e = rw (e, add-one) (drop-cons xs i d h)
 
 -- the lines of the number at a place stand after a text
 pub numbers_step : (noted : NotesKept) (whole text next : List ℕ) (seen : List NumberSeen) (found : List NumberFound) (k : ℕ) (s d : NumberSeen) (f e : NumberFound) → k < length seen → k < length found

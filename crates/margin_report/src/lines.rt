@@ -11,12 +11,13 @@ ghost use Rattle.margin_report.specs.Text.{margin_line, margins_of, number_note,
 ghost use Rattle.moves.specs.declared.span.SpanFound.{SpanFound as Span};
 
 use crate::number_found::NumberFound;
-use crate::words::{add, add_drawn, add_number, add_range, add_signed, add_some, add_spaced};
+use crate::words::{add_drawn, add_some};
 use itv_base::NoMemory;
 use moves::{Margin, NumberSeen, SpanFound};
 use notes::Notes;
 use numbers::DrawnNumber;
 use origin::Origin;
+use slack_report::{add_number, add_piece, add_range, add_signed, add_spaced};
 
 /// Adds the lines of the numbers of which something is found, which are the first ones.
 pub fn add_numbers<N: Notes>(
@@ -94,12 +95,12 @@ fn add_line<N: Notes>(
 ) -> Result<(), NoMemory>
     ensures { OnOk result (text.new.items ≡ text.old.items ++ margin_line (N.noted notes.now) seen.now (which.now, margin)) }
 {
-    add(text, which.as_bytes())?;
+    add_piece(text, which.as_bytes())?;
     add_amount(text, margin)?;
     add_seen(text, seen)?;
     add_row(text, margin)?;
     add_some(text, note_of(notes, &seen.number))?;
-    add(text, b"\n")?;
+    add_piece(text, b"\n")?;
     Ok(())
 }
 

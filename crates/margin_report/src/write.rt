@@ -8,16 +8,16 @@ ghost use Rattle.margin_report.specs.Margin.{AnswersMargin};
 ghost use Rattle.margin_report.specs.Step.{IsListOf};
 ghost use Rattle.margin_report.specs.Text.{margin_text};
 
-use crate::ending::{add_ending, end_of, finding_word};
+use crate::ending::{end_of, finding_word};
 use crate::finding::{MarginFound, find_margins};
 use crate::lines::add_numbers;
 use crate::open::are_left_open;
-use crate::words::{add, add_spaced};
 use drawn::DrawnNetwork;
 use itv_base::{Listing, NoMemory, Sink};
 use jobs::{Answer, Unanswered, answer_of};
 use moves::{NumberSeen, numbers_of};
 use notes::Notes;
+use slack_report::{add_ending, add_piece, add_spaced};
 use std::alloc::Global;
 
 /// Writes how far each end of each number of a drawn network may be moved before a requirement breaks, and for a number with one value between which values no
@@ -102,9 +102,9 @@ fn text_of<N: Notes>(
     ensures { IfOk result (λ text. text.items ≡ margin_text (N.noted notes.now) found.now.word seen.now found.now.numbers.items) }
 {
     let mut text = Vec::new(alloc);
-    add(&mut text, b"itv margin 1\nfinding")?;
+    add_piece(&mut text, b"itv margin 1\nfinding")?;
     add_spaced(&mut text, finding_word(found.word))?;
-    add(&mut text, b"\n")?;
+    add_piece(&mut text, b"\n")?;
     add_numbers(&mut text, notes, seen, &found.numbers)?;
     add_ending(&mut text, end_of(found.word, are_left_open(&found.numbers)))?;
     Ok(text)

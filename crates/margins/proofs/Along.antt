@@ -6,10 +6,10 @@ use Rattle.std.proofs.lemmas.List.{drop_all}
 use Rattle.std.proofs.lemmas.List.Elements.{All-head, All-tail}
 use Rattle.std.proofs.lemmas.Option.{same_Some, slice_get-get_or}
 use Rattle.itv_base.specs.declared.names.Side.{Side}
+use Rattle.itv_base.proofs.Lists.{found_below}
 use Rattle.origin.specs.declared.origin.Origin.{Origin}
 use Rattle.event_graph.specs.declared.cause.Cause.{Cause}
 use Rattle.event_graph.specs.Network.{Constraint, IsNet}
-use Rattle.event_graph.proofs.EdgesMet.{found_below}
 use Rattle.event_graph.proofs.Ends.{HasOwnEnds, all_own}
 use Rattle.drawn.specs.Drawn.{Drawn, OriginsFit, name_of}
 use Rattle.numbers.specs.Numbers.{origins_of, part_of_target}

@@ -4,5 +4,5 @@ mod Along
 mod Widening
 mod Opening
 mod Deciding
-mod Standing
+pub mod Standing
 mod Measures

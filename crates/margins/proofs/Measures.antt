@@ -1,16 +1,12 @@
 -- How far two moves are apart, as a measure.
-use Rattle.std.proofs.Common.{◌<◌, ℕ, ℤ, pos, negsuc, ◌-ℤ◌, ◌≤ℤ◌, ◌<ℤ◌, arith}
+use Rattle.std.proofs.Common.{◌<◌, ℕ, ℤ, ◌-ℤ◌, ◌≤ℤ◌, ◌<ℤ◌, arith}
 use Rattle.std.specs.Prelude.{unsigned_abs}
 use Rattle.std.proofs.lemmas.Int.{ints}
+use Rattle.itv_base.proofs.Integers.{abs_less}
 
 -- how far the second number is above the first
 abbrev pub apart : ℤ → ℤ → ℕ
 apart least most = unsigned_abs (most -ℤ least)
-
-abs_less : (a b : ℤ) → pos 0 ≤ℤ a → a <ℤ b → unsigned_abs a < unsigned_abs b
-abs_less (pos a) (pos b) low less = omega (arith, ints, less)
-abs_less (pos a) (negsuc b) low less = absurd (omega (arith, ints, less))
-abs_less (negsuc a) b low less = absurd (omega (arith, ints, low))
 
 pub closer : (least most next last : ℤ) → next ≤ℤ last → (last -ℤ next) <ℤ (most -ℤ least) → apart next last < apart least most
 closer least most next last order less = abs_less (last -ℤ next) (most -ℤ least) (omega (arith, ints, order)) less

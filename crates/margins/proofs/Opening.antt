@@ -21,9 +21,9 @@ use Rattle.moves.specs.Step.{IsConsistent, bare_drawn, cause_moved, opened_at}
 use Rattle.moves.specs.declared.net_found.NetFound.{NetFound}
 use Rattle.moves.specs.declared.net_found.NetFound.TheVariants as nets
 use Rattle.moves.proofs.Each.{moved_by_nothing}
-use Rattle.moves.proofs.Lists.{all_own, each_related}
+use Rattle.moves.proofs.Lists.{each_related}
 use Rattle.moves.proofs.Moved.{choices_kept}
-use Rattle.moves.proofs.Widened.{higher_same, lower_same}
+use Rattle.moves.proofs.Widened.{same_cause, same_constraint}
 use Rattle.margins.specs.Step.{IsNetOf}
 use Rattle.margins.proofs.Widening.{open_holds, some_open}
 
@@ -64,12 +64,6 @@ found_drawn drawn net rows found same_net same_rows h =
     (subst (λ (n : Net). IsNetFound (bare_drawn n drawn.rows) found) same_net (subst (λ (rs : List Row). IsNetFound (bare_drawn net rs) found) same_rows h))
 
 -- ---- many ends open
-
-same_cause : (c : Cause) → IsWiderCause c c
-same_cause c = record { event = refl; low = lower_same c.range.low; high = higher_same c.range.high }
-
-same_constraint : (k : Constraint) → IsWiderConstraint k k
-same_constraint k = record { kind = refl; target = refl; causes = all_own IsWiderCause same_cause k.causes }
 
 draws_one : (number : DrawnNumber) (part : List ℕ) (o : Origin) → any_draws (number ∷ []) part o ≡ true → draws number part o ≡ true
 draws_one number part o is = first (draws number part o) is

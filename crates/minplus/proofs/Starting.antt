@@ -10,13 +10,12 @@ use lib.Signed.{◌≤ℤ◌}
 use Rattle.itv_base.specs.Range.{IsEnd}
 use Rattle.itv_base.specs.declared.limits.TheConstants.{END_LIMIT}
 use Rattle.itv_base.specs.declared.names.EdgeName.{EdgeName}
-use Rattle.itv_base.specs.declared.names.RuleKind.{RuleKind}
-use Rattle.itv_base.specs.declared.names.RuleKind.TheVariants.{Lin, Late, Early}
 use Rattle.itv_base.specs.declared.names.Side.TheVariants.{Lower, Upper}
 use Rattle.event_graph.specs.declared.edge.Edge.{Edge}
-use Rattle.event_graph.specs.Network.{IsCauseCount, IsConstraint, IsNet, Net, cause_count_of, named_causes}
+use Rattle.event_graph.specs.Network.{IsConstraint, IsNet, Net, cause_count_of, named_causes}
 use Rattle.event_graph.proofs.EdgesMet.{All-found, cause_of}
 use Rattle.event_graph.specs.Times.{separation}
+use Rattle.event_graph.proofs.Causes.{cause_within}
 use Rattle.minplus.specs.Rows.{IsEntry, IsSmall, entry_at}
 use Rattle.minplus.specs.Matrix.{IsSquare, cells}
 use Rattle.minplus.specs.Step.Entries.{BoundsAlways, Entries, HoldsEdges, IsEdgeHeld, IsPresent}
@@ -124,12 +123,6 @@ causes_more net old new constraint count before falls here cause below =
       | inl same ↦ subst (HoldsCause net new constraint) (sym same) here
       | inr apart ↦ cause_by_less net old new constraint cause falls (before cause (omega arith))
     ]
-
--- the number of a cause is below the number of causes, or the constraint is linear and the cause is its one cause
-cause_within : (kind : RuleKind) (cause length count : ℕ) → cause < length → IsCauseCount kind length → named_causes kind length ≡ count → cause < max count 1
-cause_within Lin cause length count below is named = omega arith
-cause_within Late cause length count below is named = omega arith
-cause_within Early cause length count below is named = omega arith
 
 -- the edges of all causes of a constraint are held
 pub all_causes : (net : Net) (entries : Entries) (constraint count : ℕ) → IsNet net → option_map cause_count_of (slice_get net.constraints constraint) ≡ Some count

@@ -4,22 +4,17 @@ use Rattle.std.specs.Prelude.{unwrap_or}
 use Rattle.std.proofs.lemmas.Option.{same_Some}
 use Rattle.itv_base.specs.declared.limits.TheConstants.{MAX_CAUSES}
 use Rattle.itv_base.specs.declared.names.EventId.{EventId}
-use Rattle.itv_base.specs.declared.names.RuleKind.{RuleKind}
-use Rattle.itv_base.specs.declared.names.RuleKind.TheVariants.{Lin, Late, Early}
+use Rattle.itv_base.proofs.Lists.{found_below}
 use Rattle.origin.specs.declared.origin.Origin.{Origin}
-use Rattle.event_graph.proofs.EdgesMet.{All-found, found_below}
+use Rattle.event_graph.proofs.EdgesMet.{All-found}
 use Rattle.event_graph.specs.declared.cause.Cause.{Cause}
-use Rattle.event_graph.specs.Network.{Constraint, IsCauseCount, IsConstraint, IsNet, Net, cause_at}
+use Rattle.event_graph.specs.Network.{Constraint, IsConstraint, IsNet, Net, cause_at}
+use Rattle.event_graph.proofs.Causes.{few_causes}
 use Rattle.drawn.specs.Drawn.{Drawn, OriginsFit}
 use Rattle.numbers.specs.Numbers.{origins_of}
 use Rattle.moves.specs.Step.{causes_at}
 
 -- ---- a constraint within the limits
-
-count_few : (kind : RuleKind) (n : ℕ) → IsCauseCount kind n → n ≤ MAX_CAUSES
-count_few Lin n is = subst (λ m. m ≤ MAX_CAUSES) (sym is) (omega arith)
-count_few Late n is = is.1
-count_few Early n is = is.1
 
 pub target_by : (net : Net) (k : ℕ) (target : EventId) (o : Option Constraint) → slice_get net.constraints k ≡ o → option_map (λ (c : Constraint). c.target) o ≡ Some target → IsNet net
     → target.0 < net.events
@@ -57,7 +52,7 @@ same_count drawn k fit = lengths_at drawn.origins drawn.net.constraints k fit
 
 few_by : (net : Net) (k : ℕ) (o : Option Constraint) → slice_get net.constraints k ≡ o → IsNet net → length (unwrap_or (option_map (λ (c : Constraint). c.causes) o) []) ≤ MAX_CAUSES
 few_by net k None at within = omega arith
-few_by net k (Some c) at within = count_few c.kind (length c.causes) (All-found (IsConstraint net.events) net.constraints k c at within.constraints).count
+few_by net k (Some c) at within = few_causes c.kind (length c.causes) (All-found (IsConstraint net.events) net.constraints k c at within.constraints).count
 
 -- a constraint has few causes
 pub causes_few : (net : Net) (k : ℕ) → IsNet net → length (causes_at net k) ≤ MAX_CAUSES

@@ -1,10 +1,10 @@
 -- Lists whose elements are changed one by one, by the elements of another list.
-use Rattle.std.proofs.Common.{◌≡◌, ◌≤◌, ◌+◌, ℕ, zero, suc, Bool, ◌||◌, List, [], ◌∷◌, ◌++◌, length, map, take, zip, Option, Some, None, option_map, slice_get, refl, ap, subst, ◌∙◌, arith}
-use Rattle.std.specs.List.{AllZip, list_any}
+use Rattle.std.proofs.Common.{◌≡◌, ◌≤◌, ◌+◌, ℕ, zero, suc, List, [], ◌∷◌, ◌++◌, length, map, take, zip, Option, Some, None, option_map, slice_get, refl, ap, subst, ◌∙◌, arith}
+use Rattle.std.specs.List.{AllZip}
 use Rattle.std.specs.Option.{option_map_or}
 use Rattle.std.proofs.lemmas.Option.{same_Some}
-use Rattle.event_graph.proofs.EdgesMet.{take_next}
 use Rattle.moves.specs.Moving.{each_by}
+use Rattle.itv_base.proofs.Lists.{take_get}
 
 -- ---- an element
 
@@ -37,7 +37,7 @@ each_push f (w ∷ xs) (z ∷ ys) x y same = ap (λ zs. f w z ∷ zs) (each_push
 
 pub each_next : {X Y : Type 0} (f : X → Y → X) (xs : List X) (ys : List Y) (k : ℕ) (x : X) (y : Y) → length ys ≡ length xs → slice_get xs k ≡ Some x → slice_get ys k ≡ Some y
     → each_by f (take (k + 1) xs) (take (k + 1) ys) ≡ each_by f (take k xs) (take k ys) ++ f x y ∷ []
-each_next f xs ys k x y same at_x at_y = rw (take_next xs k x at_x, take_next ys k y at_y) (each_push f (take k xs) (take k ys) x y (same_front k xs ys same))
+each_next f xs ys k x y same at_x at_y = rw (take_get xs k x at_x, take_get ys k y at_y) (each_push f (take k xs) (take k ys) x y (same_front k xs ys same))
 
 pub each_length : {X Y : Type 0} (f : X → Y → X) (xs : List X) (ys : List Y) → length (each_by f xs ys) ≡ length xs
 each_length f [] ys = refl
@@ -117,7 +117,3 @@ zip_short (x ∷ xs) [] = omega arith
 zip_short (x ∷ xs) (y ∷ ys) = let rest : length (zip xs ys) ≤ length ys = zip_short xs ys in omega (arith, rest)
 
 -- ---- some element
-
-pub list_any-map : {X Y : Type 0} (p : Y → Bool) (f : X → Y) (xs : List X) → list_any p (map f xs) ≡ list_any (λ x. p (f x)) xs
-list_any-map p f [] = refl
-list_any-map p f (x ∷ xs) = ap (λ b. p (f x) || b) (list_any-map p f xs)

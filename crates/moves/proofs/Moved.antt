@@ -5,8 +5,8 @@ use Rattle.std.proofs.lemmas.List.{length-map, length-take-le, take_all}
 use Rattle.std.proofs.lemmas.Option.{same_Some, slice_get_within}
 use Rattle.itv_base.specs.Range.{Ends, IsRange}
 use Rattle.itv_base.specs.declared.limits.TheConstants.{MAX_CONSTRAINTS}
+use Rattle.itv_base.proofs.Lists.{found_below}
 use Rattle.origin.specs.declared.origin.Origin.{Origin}
-use Rattle.event_graph.proofs.EdgesMet.{found_below}
 use Rattle.event_graph.specs.Edges.{cause_choices, choices_of}
 use Rattle.event_graph.specs.declared.cause.Cause.{Cause}
 use Rattle.event_graph.specs.Network.{Constraint, IsNet, Net, with_constraint}

@@ -5,7 +5,8 @@ use Rattle.std.proofs.lemmas.List.{map_push, take_all}
 use Rattle.std.proofs.lemmas.List.Elements.{All-map}
 use Rattle.std.proofs.lemmas.Option.{same_Some, slice_get-get_or, slice_get-map}
 use Rattle.itv_base.specs.Range.{Ends}
-use Rattle.event_graph.proofs.EdgesMet.{All-found, take_next}
+use Rattle.itv_base.proofs.Lists.{take_get}
+use Rattle.event_graph.proofs.EdgesMet.{All-found}
 use Rattle.event_graph.specs.Network.{Net}
 use Rattle.drawn.specs.Drawn.{Drawn, IsRowOf, name_of}
 use Rattle.drawn.specs.declared.row.Row.{Row}
@@ -20,7 +21,7 @@ pub rows_more : (F : Row → Row) (rows given : List Row) (k : ℕ) (row moved :
 rows_more F rows given k row moved old new same at is before pushed =
     let own : slice_get rows k ≡ Some row = subst (λ (xs : List Row). slice_get xs k ≡ Some row) same at in
     pushed ∙ (ap (λ (xs : List Row). xs ++ moved ∷ []) before ∙ (ap (λ (x : Row). map F (take k rows) ++ x ∷ []) is
-    ∙ (sym (map_push F (take k rows) row) ∙ ap (λ (xs : List Row). map F xs) (sym (take_next rows k row own)))))
+    ∙ (sym (map_push F (take k rows) row) ∙ ap (λ (xs : List Row). map F xs) (sym (take_get rows k row own)))))
 
 pub rows_whole : (F : Row → Row) (rows : List Row) (k : ℕ) (items : List Row) → length rows ≤ k → items ≡ map F (take k rows) → items ≡ map F rows
 rows_whole F rows k items all is = is ∙ ap (λ (xs : List Row). map F xs) (take_all k rows all)

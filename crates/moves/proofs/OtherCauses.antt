@@ -1,15 +1,14 @@
 -- Constraints as they are drawn, with other causes.
-use Rattle.std.proofs.Common.{◌≡◌, ◌<◌, ℕ, List, [], ◌∷◌, length, map, get_or, IsSomeAnd, Option, Some, None, option_map, slice_get, refl, sym, ap, subst, ◌∙◌, arith}
+use Rattle.std.proofs.Common.{◌≡◌, ◌<◌, ℕ, List, [], ◌∷◌, length, map, IsSomeAnd, Option, Some, None, option_map, slice_get, refl, sym, ap, subst, ◌∙◌}
 use Rattle.std.specs.Prelude.{unwrap_or}
 use Rattle.std.proofs.lemmas.List.{length-map}
 use Rattle.std.proofs.lemmas.List.Elements.{All-cons, All-head, All-nil, All-tail}
 use Rattle.std.proofs.lemmas.Option.{same_Some}
 use Rattle.itv_base.specs.declared.names.EventId.{EventId}
 use Rattle.itv_base.specs.declared.names.RuleKind.{RuleKind}
-use Rattle.itv_base.specs.declared.names.RuleKind.TheVariants.{Lin}
 use Rattle.event_graph.proofs.EdgesMet.{All-found}
 use Rattle.event_graph.specs.declared.cause.Cause.{Cause}
-use Rattle.event_graph.specs.Network.{Constraint, IsCauseCount, IsConstraint, IsNet, Net, linear, with_constraint}
+use Rattle.event_graph.specs.Network.{Constraint, IsCauseCount, IsConstraint, IsNet, Net, with_constraint}
 use Rattle.moves.specs.Step.{AreOn, HasEventsOf}
 
 abbrev events_in : List Cause → List EventId
@@ -63,12 +62,3 @@ pub added : (net : Net) (k : ℕ) (kind : RuleKind) (target : EventId) (causes :
     → option_map (λ (c : Constraint). c.target) (slice_get net.constraints k) ≡ Some target → new ≡ with_constraint old (record { kind = kind; target = target; causes = causes })
     → IsSomeAnd (slice_get net.constraints k) (λ c. new ≡ with_constraint old (record c { causes = causes }))
 added net k kind target causes old new is_kind is_target is = added_by kind target causes old new (slice_get net.constraints k) is_kind is_target is
-
--- a linear constraint has a single cause
-pub single_added : (target : EventId) (cause : Cause) (causes : List Cause) (old new : Net) → length causes ≡ 1 → cause ≡ get_or causes 0 cause
-    → new ≡ with_constraint old (linear cause.event target cause.range) → new ≡ with_constraint old (record { kind = Lin; target = target; causes = causes })
-single_added target cause [] old new single read is = absurd (omega (arith, single))
-single_added target cause (x ∷ []) old new single read is =
-    let with : Cause → Net = λ c. with_constraint old (record { kind = Lin; target = target; causes = c ∷ [] }) in
-    is ∙ ap with read
-single_added target cause (x ∷ (y ∷ rest)) old new single read is = absurd (omega (arith, single))

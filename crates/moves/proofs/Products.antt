@@ -2,6 +2,7 @@
 use Rattle.std.proofs.Common.{◌≡◌, ℕ, zero, suc, ℤ, pos, negsuc, ◌+ℤ◌, ◌-ℤ◌, ◌≤ℤ◌, sym, ap, ◌∙◌, arith}
 use Rattle.std.proofs.lemmas.Int.{ints}
 use lib.IntN.{◌*ℤ◌, suc_ℤ, pred_ℤ, suc_ℤ-*ℤ, pred_ℤ-*ℤ, zero-*ℤ, suc_ℤ-+ℤ, pred_ℤ-+ℤ, +ℤ_idl}
+use Rattle.itv_base.proofs.Integers.{through}
 
 up_one : (a b : ℤ) → (suc_ℤ a +ℤ b) ≡ suc_ℤ (a +ℤ b)
 up_one a b = suc_ℤ-+ℤ a b
@@ -79,9 +80,6 @@ rises (suc n) a b le = rise _ _ _ _ a b (suc_ℤ-*ℤ (pos n) a) (suc_ℤ-*ℤ (
 pub falls : (n : ℕ) (a b : ℤ) → a ≤ℤ b → (negsuc n *ℤ b) ≤ℤ (negsuc n *ℤ a)
 falls zero a b le = fall _ _ _ _ b a (pred_ℤ-*ℤ (pos 0) b) (pred_ℤ-*ℤ (pos 0) a) (flat _ _ (zero-*ℤ b) (zero-*ℤ a)) le
 falls (suc n) a b le = fall _ _ _ _ b a (pred_ℤ-*ℤ (negsuc n) b) (pred_ℤ-*ℤ (negsuc n) a) (falls n a b le) le
-
-pub through : (x y z : ℤ) → x ≤ℤ y → y ≤ℤ z → x ≤ℤ z
-through x y z le more = omega (arith, ints, le, more)
 
 -- what is at most a multiple of two numbers is at most that multiple of each number between them
 pub above_between : (k least most v x : ℤ) → least ≤ℤ v → v ≤ℤ most → x ≤ℤ (k *ℤ least) → x ≤ℤ (k *ℤ most) → x ≤ℤ (k *ℤ v)

@@ -4,7 +4,6 @@ use Rattle.std.specs.Prelude.{unwrap_or}
 use Rattle.std.proofs.lemmas.List.{take_all}
 use Rattle.std.proofs.lemmas.List.Sums.{fold_push}
 use Rattle.origin.specs.declared.origin.Origin.{Origin}
-use Rattle.event_graph.proofs.EdgesMet.{found_below, take_next}
 use Rattle.event_graph.specs.declared.cause.Cause.{Cause}
 use Rattle.event_graph.specs.Network.{Constraint}
 use Rattle.drawn.specs.Drawn.{Drawn, OriginsFit, name_of}
@@ -15,12 +14,13 @@ use Rattle.moves.specs.Listed.{all_numbers_of, numbers_of, with_cause, with_caus
 use Rattle.moves.specs.Step.{causes_at}
 use Rattle.moves.proofs.Lists.{zip_at, zip_short}
 use Rattle.moves.proofs.Moved.{fit_length}
+use Rattle.itv_base.proofs.Lists.{found_below, take_get}
 
 -- a fold over the first elements, and one more
 fold_next : {A B : Type 0} (f : B → A → B) (start old new : B) (xs : List A) (k : ℕ) (x : A) → slice_get xs k ≡ Some x → old ≡ fold f start (take k xs) → new ≡ f old x
     → new ≡ fold f start (take (k + 1) xs)
 fold_next f start old new xs k x at before is =
-    is ∙ (ap (λ b. f b x) before ∙ (sym (fold_push f start (take k xs) x) ∙ ap (λ ys. fold f start ys) (sym (take_next xs k x at))))
+    is ∙ (ap (λ b. f b x) before ∙ (sym (fold_push f start (take k xs) x) ∙ ap (λ ys. fold f start ys) (sym (take_get xs k x at))))
 
 -- the first causes of a constraint, and one more
 pub seen_more : (drawn : Drawn) (constraint k : ℕ) (part : List ℕ) (origins : List Origin) (c : Cause) (o : Origin) (start old new : List NumberSeen)

@@ -48,10 +48,10 @@ opened_holds Upper by range = (lower_same range.low, tt)
 
 -- ---- networks
 
-same_cause : (c : Cause) → IsWiderCause c c
+pub same_cause : (c : Cause) → IsWiderCause c c
 same_cause c = record { event = refl; low = lower_same c.range.low; high = higher_same c.range.high }
 
-same_constraint : (k : Constraint) → IsWiderConstraint k k
+pub same_constraint : (k : Constraint) → IsWiderConstraint k k
 same_constraint k = record { kind = refl; target = refl; causes = all_own IsWiderCause same_cause k.causes }
 
 module _ (less more : Ends → Ends) (within : (range : Ends) → IsWithinRange (less range) (more range)) where

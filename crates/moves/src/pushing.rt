@@ -3,12 +3,12 @@
 ghost use Rattle.std.specs.Prelude.{◌≡◌, ◌<◌, IsSomeAnd, OnOk, length, slice_get};
 ghost use Rattle.itv_base.specs.declared.limits.TheConstants.{MAX_CONSTRAINTS};
 ghost use Rattle.event_graph.specs.Network.{with_constraint};
-ghost use Rattle.moves.specs.Step.{AreOn, HasEventsOf};
+ghost use Rattle.moves.specs.Step.{HasEventsOf};
 
 use crate::reading::{kind_of, read_drawn, target_of};
 use drawn::DrawnNetwork;
 use event_graph::{Cause, Network};
-use itv_base::{EventId, NoMemory, RuleKind};
+use itv_base::{NoMemory, RuleKind};
 use std::alloc::Global;
 
 /// Adds a constraint of a drawn network to another network, with other causes on the same events. Both networks have as many events, and there is room for
@@ -29,33 +29,8 @@ pub fn push_with(
 {
     read_drawn(drawn);
     let target = target_of(drawn, constraint);
-    match kind_of(drawn, constraint) {
-        RuleKind::Lin => push_single(alloc, target, causes, grown),
-        RuleKind::Late => match grown.push_late(alloc, target, causes) {
-            Ok(()) => Ok(()),
-            Err(_) => Err(NoMemory),
-        },
-        RuleKind::Early => match grown.push_early(alloc, target, causes) {
-            Ok(()) => Ok(()),
-            Err(_) => Err(NoMemory),
-        },
-    }
-}
-
-// Adds a linear constraint with its single cause.
-fn push_single(
-    alloc: Global,
-    target: EventId,
-    causes: &[Cause],
-    grown: &mut Network,
-) -> Result<(), NoMemory>
-    requires target { target.0 < grown.old.events }
-    requires causes { AreOn grown.old.events causes.now }
-    requires single { length causes.now ≡ 1 }
-    ensures added { OnOk result (grown.new ≡ with_constraint grown.old (record { kind = RuleKind.Lin; target = target; causes = causes.now })) }
-{
-    let cause = causes[0];
-    match grown.push_linear(alloc, cause.event, target, cause.range) {
+    let kind: RuleKind = kind_of(drawn, constraint);
+    match grown.push(alloc, kind, target, causes) {
         Ok(()) => Ok(()),
         Err(_) => Err(NoMemory),
     }

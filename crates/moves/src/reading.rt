@@ -18,7 +18,7 @@ pub fn read_drawn(drawn: &DrawnNetwork)
     ensures net { IsNet drawn.now.net }
     ensures fit { OriginsFit drawn.now.net drawn.now.origins }
 {
-    drawn.network().events();
+    drawn.network().is_whole();
     drawn.origins();
 }
 

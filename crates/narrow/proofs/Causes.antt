@@ -1,15 +1,14 @@
 -- Causes and targets of a drawn network.
-use Rattle.std.proofs.Common.{◌≡◌, ◌<◌, ◌≤◌, ℕ, Bool, true, false, ◌&&◌, List, [], length, map, Option, Some, None, refl, sym, subst, ap, ◌∙◌, arith}
+use Rattle.std.proofs.Common.{◌≡◌, ◌<◌, ◌≤◌, ℕ, Bool, true, false, ◌&&◌, List, [], length, map, Option, Some, None, refl, sym, subst, ap, ◌∙◌}
 use Rattle.std.specs.Prelude.{option_map, slice_get, unwrap_or}
 use Rattle.std.proofs.lemmas.List.Elements.{All-contains}
 use Rattle.std.proofs.lemmas.Option.{slice_get-map}
 use Rattle.itv_base.specs.declared.names.EdgeName.{EdgeName}
 use Rattle.itv_base.specs.declared.names.EventId.{EventId}
-use Rattle.itv_base.specs.declared.names.RuleKind.{RuleKind}
-use Rattle.itv_base.specs.declared.names.RuleKind.TheVariants.{Lin, Late, Early}
 use Rattle.itv_base.specs.declared.limits.TheConstants.{MAX_CAUSES}
 use Rattle.origin.specs.declared.origin.Origin.{Origin}
-use Rattle.event_graph.specs.Network.{Constraint, IsCauseCount, IsConstraint, IsNet, Net}
+use Rattle.event_graph.specs.Network.{Constraint, IsConstraint, IsNet, Net}
+use Rattle.event_graph.proofs.Causes.{few_causes as few_by}
 use Rattle.drawn.specs.Drawn.{Drawn, OriginsFit, name_of}
 use Rattle.narrow.specs.Ends.{cause_count, part_at}
 use Rattle.narrow.proofs.Tables.{place_contains}
@@ -39,11 +38,6 @@ part_known drawn name target is =
     ap (option_map (λ (c : Constraint). (name_of drawn c.target).part)) found.1 ∙ ap (λ t. Some ((name_of drawn t).part)) found.2
 
 -- ---- numbers of causes
-
-few_by : (kind : RuleKind) (count : ℕ) → IsCauseCount kind count → count ≤ MAX_CAUSES
-few_by Lin count is = omega (arith, is)
-few_by Late count is = is.1
-few_by Early count is = is.1
 
 -- a constraint has few causes
 pub few_causes : (net : Net) (origins : List (List Origin)) (k : ℕ) (drew : List Origin) → IsNet net → OriginsFit net origins → slice_get origins k ≡ Some drew → length drew ≤ MAX_CAUSES

@@ -35,7 +35,7 @@ fn push_ends(
     ensures there { OnOk result (All (HasEnd drawn.now) names.new.items) }
 {
     // The call also gives the invariant: a constraint has at most 64 causes.
-    let _events = drawn.network().events();
+    drawn.network().is_whole();
     let causes = drawn.origins().get(u64::from(constraint)).len();
     for cause in 0..causes as u32 {
         push_end(drawn, constraint, cause, Side::Upper, names)?;

@@ -37,7 +37,7 @@ pub fn source_of(drawn: &DrawnNetwork, name: EdgeName) -> EndKey<'_>
 {
     let net = drawn.network();
     // The call also gives the invariant: each target is an event.
-    let _events = net.events();
+    net.is_whole();
     let target = net.target(name.constraint);
     EndKey {
         part: drawn.name(target).part,

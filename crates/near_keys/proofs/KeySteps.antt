@@ -1,5 +1,5 @@
 -- Known keys, near keys and stray keys, and the keys of members read one by one.
-use Rattle.std.proofs.Common.{◌≡◌, ℕ, ◌-◌, ◌≤◌, ◌<◌, ◌||◌, Bool, true, false, List, [], ◌∷◌, ◌++◌, length, map, filter, take, get_or, String, string_bytes, Bor, refl, ap, sym, ◌∙◌, arith}
+use Rattle.std.proofs.Common.{◌≡◌, ℕ, ◌-◌, ◌≤◌, ◌<◌, true, false, List, [], ◌∷◌, ◌++◌, length, map, filter, take, get_or, String, string_bytes, Bor, refl, ap, sym, ◌∙◌, arith}
 use Rattle.std.specs.Prelude.{◌==◌}
 use Rattle.std.specs.List.{flat_map, list_any}
 use Rattle.std.specs.Str.{bytes_eq}
@@ -14,6 +14,7 @@ use Rattle.near_keys.specs.NearKeys.{small, ends_in_s, without_s, stem, is_known
 use Rattle.near_keys.specs.StrayKeys.{stray_if}
 use Rattle.near_keys.specs.declared.key_place.KeyPlace.{KeyPlace}
 use Rattle.near_keys.specs.declared.stray_key.StrayKey.{StrayKey}
+use Rattle.itv_base.proofs.Lists.{list_any-map}
 
 -- ---- one final `s`
 
@@ -32,10 +33,6 @@ module _ (text : List ℕ) (some : 1 ≤ length text) where
   without_s-kept is = rw (ends-small, is) refl
 
 -- ---- known keys
-
-list_any-map : {X Y : Type 0} (p : Y → Bool) (f : X → Y) (xs : List X) → list_any p (map f xs) ≡ list_any (λ x. p (f x)) xs
-list_any-map p f [] = refl
-list_any-map p f (x ∷ xs) = ap (λ b. p (f x) || b) (list_any-map p f xs)
 
 module _ (known : List (Bor (List ℕ))) (key : List ℕ) where
   -- a key is known if it is one of the known keys

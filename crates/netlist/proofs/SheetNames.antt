@@ -6,10 +6,7 @@ use Rattle.std.proofs.lemmas.List.Elements.{All-cons, All-head, All-nil, All-tai
 use Rattle.std.proofs.lemmas.Slice.Eq.{bytes_eq-Decides}
 use Rattle.netlist.specs.declared.part.Part.{Part}
 use Rattle.netlist.specs.Netlist.{names_from, sheet_names, with_name}
-
-front : {X : Type 0} (P : X → Type 0) (xs ys : List X) → All P (xs ++ ys) → All P xs
-front P [] ys all = All-nil P
-front P (x ∷ xs) ys all = All-cons P x xs (All-head P x (xs ++ ys) all) (front P xs ys (All-tail P x (xs ++ ys) all))
+use Rattle.itv_base.proofs.Lists.{All-front}
 
 last : {X : Type 0} (P : X → Type 0) (xs : List X) (y : X) → All P (xs ++ y ∷ []) → P y
 last P [] y all = All-head P y [] all
@@ -32,7 +29,7 @@ module _ (P : List ℕ → Type 0) where
 
   names_hold : (names : List (List ℕ)) (name : List ℕ) (b : Bool) → All P (cond b names (names ++ name ∷ [])) → All P names
   names_hold names name true all = all
-  names_hold names name false all = front P names (name ∷ []) all
+  names_hold names name false all = All-front P names (name ∷ []) all
 
   -- what holds of the names before the parts and of the names of their sheets holds of the names before the parts
   before_hold : (names : List (List ℕ)) (parts : List Part) → All P (names_from names parts) → All P names

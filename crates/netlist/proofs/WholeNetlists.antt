@@ -32,11 +32,11 @@ use Rattle.netlist.specs.Whole.{IsNetlist, IsWholeNet, IsWholeWire}
 
 -- ---- answers
 
-IfOk-any : {A F : Type 0} (read : Result A F) → IfOk read (λ _. Unit {0})
+pub IfOk-any : {A F : Type 0} (read : Result A F) → IfOk read (λ _. Unit {0})
 IfOk-any (Ok x) = tt
 IfOk-any (Err fault) = tt
 
-IfOk-ok_or : {A F : Type 0} (P : A → Type 0) (o : Option A) (fault : F) → IfSome o P → IfOk (ok_or o fault) P
+pub IfOk-ok_or : {A F : Type 0} (P : A → Type 0) (o : Option A) (fault : F) → IfSome o P → IfOk (ok_or o fault) P
 IfOk-ok_or P None fault h = tt
 IfOk-ok_or P (Some x) fault h = h
 

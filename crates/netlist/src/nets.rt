@@ -11,9 +11,8 @@ ghost use Rattle.itv_base.specs.Reading.{AgreesWith, walk};
 use crate::fault::NetlistFault;
 use crate::pin_net::{Nets, PinNet};
 use crate::pins::read_pins;
-use crate::tree::owned;
 use itv_base::{Range, RangeFault};
-use json_tree::{EndPair, ends_by, list_of, text_at};
+use json_tree::{EndPair, ends_by, list_of, owned_text, text_at};
 use serde_json::Value;
 use std::alloc::Global;
 
@@ -45,7 +44,7 @@ fn read_net(alloc: Global, n: u64, element: &Value) -> Result<PinNet, NetlistFau
         return Err(NetlistFault::Net(n));
     };
     let delay = range_of(n, ends)?;
-    let name = owned(alloc, text_at(element, "name"))?;
+    let name = owned_text(alloc, text_at(element, "name"))?;
     Ok(PinNet { name, pins, delay })
 }
 

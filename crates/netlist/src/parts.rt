@@ -9,9 +9,8 @@ ghost use Rattle.itv_base.specs.Reading.{AgreesWith, walk};
 
 use crate::fault::NetlistFault;
 use crate::part::{Part, Parts};
-use crate::tree::owned;
 use itv_base::{NoMemory, Text, is_name};
-use json_tree::{name_of, text_at};
+use json_tree::{name_of, owned_text, text_at};
 use serde_json::Value;
 use std::alloc::Global;
 
@@ -66,7 +65,7 @@ fn read_part(alloc: Global, version: u32, element: &Value) -> Result<Option<Part
     Ok(Some(Part {
         name: Text::from_text(alloc, name)?,
         sheet: Text::from_text(alloc, sheet)?,
-        grade: owned(alloc, grade)?,
+        grade: owned_text(alloc, grade)?,
     }))
 }
 

@@ -13,11 +13,11 @@ use crate::nets::read_nets;
 use crate::part::Parts;
 use crate::parts::read_parts;
 use crate::sheet_names::names_of_sheets;
-use crate::tree::{list_if, texts_of};
+use crate::tree::list_if;
 use crate::wires::read_wires;
 use crate::{Nets, Wires};
 use itv_base::{MAX_PARTS, MAX_SHEET_NAMES, Texts};
-use json_tree::list_at;
+use json_tree::{list_at, strings_in};
 use near_keys::stray_in_netlist;
 use serde_json::Value;
 use std::alloc::Global;
@@ -102,6 +102,6 @@ fn edges_of(alloc: Global, tree: &Value) -> Result<Texts, NetlistFault>
     ensures { AgreesWith is_memory (λ edges. edges) result (edges_of (view tree.now)) }
 {
     let list = list_if(tree, "edges", NetlistFault::EdgesNotList)?;
-    let texts = texts_of(alloc, list)?;
+    let texts = strings_in(alloc, list)?;
     Ok(texts)
 }

@@ -8,9 +8,9 @@ ghost use Rattle.netlist.specs.Netlist.{seen_wire, wire_at, with_wire};
 ghost use Rattle.itv_base.specs.Reading.{AgreesWith, walk};
 
 use crate::fault::NetlistFault;
-use crate::tree::owned;
 use crate::wire::{Wire, Wires};
 use itv_base::Text;
+use json_tree::owned_text;
 use label_grammar::{WireText, read_label, read_wire};
 use serde_json::Value;
 use std::alloc::Global;
@@ -64,7 +64,7 @@ fn wire_of(alloc: Global, n: u64, text: &str) -> Result<Option<Wire>, NetlistFau
         to_mark,
         kind: label.kind,
         shift: label.shift,
-        tag: owned(alloc, label.tag)?,
+        tag: owned_text(alloc, label.tag)?,
         range: label.range,
     }))
 }

@@ -5,4 +5,4 @@
 
 mod notes;
 
-pub use notes::{NoNotes, Notes};
+pub use notes::Notes;

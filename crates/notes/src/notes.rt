@@ -20,22 +20,3 @@ pub trait Notes {
     fn grade(&self, part: &str, origin: Origin) -> &str
         ensures grade { result.now ≡ (noted self.now).grade part.now origin };
 }
-
-/// Keeps no notes.
-#[derive(Clone, Copy)]
-pub struct NoNotes;
-
-impl Notes for NoNotes {
-    ghost use Rattle.std.specs.Prelude.{[]};
-
-    ghost noted = { λ _. record { note = λ _ _. []; grade = λ _ _. [] } };
-
-    fn note(&self, _part: &str, _origin: Origin) -> &str {
-        ""
-    }
-
-    // A grade is kept as little as a note.
-    fn grade(&self, part: &str, origin: Origin) -> &str {
-        self.note(part, origin)
-    }
-}

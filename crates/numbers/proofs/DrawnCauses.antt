@@ -86,7 +86,7 @@ module _ (test : Origin → Bool) (constraint : ℕ) (origins : List Origin) whe
       (ap (λ (x : Option Origin). option_map_or test x false) (slice_get-get_or origins n d within) ∙ sym is) in
       grows ∙ (ap (λ xs. xs ++ one b) before ∙ (append_assoc front (causes_among test constraint origins n) (one b) ∙ ap (λ xs. front ++ xs) (sym step)))
 
-some_within : (test : Origin → Bool) (origins : List Origin) (cause : ℕ) (o : Option Origin) → slice_get origins cause ≡ o → option_map_or test o false ≡ true → cause < length origins
+pub some_within : (test : Origin → Bool) (origins : List Origin) (cause : ℕ) (o : Option Origin) → slice_get origins cause ≡ o → option_map_or test o false ≡ true → cause < length origins
 some_within test origins cause None at is = absurd (cc is)
 some_within test origins cause (Some x) at is = slice_get_within origins cause x at
 

@@ -6,6 +6,7 @@ use Rattle.std.proofs.lemmas.Bool.{cases_eq}
 use Rattle.std.proofs.lemmas.List.{take_more}
 use Rattle.std.proofs.lemmas.Option.{same_Some, slice_get-get_or, slice_get_within}
 use Rattle.itv_base.specs.Range.{Ends}
+use Rattle.itv_base.proofs.Lists.{slice_get_set}
 use Rattle.event_graph.specs.declared.cause.Cause.{Cause}
 use Rattle.event_graph.specs.Network.{Constraint, Net, cause_at, causes_with, constraints_with, with_range}
 use Rattle.drawn.specs.Drawn.{Drawn}
@@ -16,11 +17,6 @@ use Rattle.numbers.specs.Numbers.{causes_of, draws_cause, with_ranges}
 use Rattle.numbers.proofs.DrawnCauses.{before_again, before_takes, none_in}
 
 -- ---- lists
-
-set_same : {A : Type 0} (xs : List A) (i : ℕ) (x y : A) → slice_get xs i ≡ Some y → slice_get (set xs i x) i ≡ Some x
-set_same [] i x y at = absurd (cc at)
-set_same (z ∷ xs) zero x y at = refl
-set_same (z ∷ xs) (suc i) x y at = set_same xs i x y at
 
 set_other : {A : Type 0} (xs : List A) (i j : ℕ) (x : A) → (i ≡ j → ⊥) → slice_get (set xs i x) j ≡ slice_get xs j
 set_other [] i j x other = refl
@@ -54,7 +50,7 @@ module _ (range : Ends) where
 
   causes_same_by : (causes : List Cause) (i : ℕ) (o : Option Cause) → slice_get causes i ≡ o → slice_get (causes_with causes i range o) i ≡ option_map ranged o
   causes_same_by causes i None at = at
-  causes_same_by causes i (Some c) at = set_same causes i (record c { range = range }) c at
+  causes_same_by causes i (Some c) at = slice_get_set causes i (record c { range = range }) c at
 
   causes_same : (causes : List Cause) (i : ℕ) → slice_get (causes_with causes i range (slice_get causes i)) i ≡ option_map ranged (slice_get causes i)
   causes_same causes i = causes_same_by causes i (slice_get causes i) refl
@@ -73,7 +69,7 @@ module _ (range : Ends) where
   same_by : (cs : List Constraint) (k i : ℕ) (o : Option Constraint) → slice_get cs k ≡ o
       → of_cause i (slice_get (constraints_with cs k i range o) k) ≡ option_map ranged (of_cause i o)
   same_by cs k i None at = ap (of_cause i) at
-  same_by cs k i (Some c) at = ap (of_cause i) (set_same cs k (edited_constraint i c) c at) ∙ causes_same c.causes i
+  same_by cs k i (Some c) at = ap (of_cause i) (slice_get_set cs k (edited_constraint i c) c at) ∙ causes_same c.causes i
 
   -- a cause that gets another range has it
   range_same : (net : Net) (k i : ℕ) → cause_at (with_range net k i range) k i ≡ option_map ranged (cause_at net k i)
@@ -83,7 +79,7 @@ module _ (range : Ends) where
       → of_cause j (slice_get (constraints_with cs k i range o) k) ≡ of_cause j o
   other_cause cs k i j None at other = ap (of_cause j) at
   other_cause cs k i j (Some c) at other =
-      ap (of_cause j) (set_same cs k (edited_constraint i c) c at) ∙ causes_other c.causes i j (slice_get c.causes i) other
+      ap (of_cause j) (slice_get_set cs k (edited_constraint i c) c at) ∙ causes_other c.causes i j (slice_get c.causes i) other
 
   other_constraint : (cs : List Constraint) (k i l : ℕ) (o : Option Constraint) → (k ≡ l → ⊥) → slice_get (constraints_with cs k i range o) l ≡ slice_get cs l
   other_constraint cs k i l None other = refl

@@ -1,29 +1,18 @@
 -- The causes that a number draws are causes of the network.
-use Rattle.std.proofs.Common.{◌≡◌, ◌<◌, ◌≤◌, ℕ, zero, suc, Bool, true, false, IsSome, List, [], ◌∷◌, length, get_or, map, All, Option, Some, None, slice_get, refl, sym, ap, subst, ◌∙◌, arith}
+use Rattle.std.proofs.Common.{◌≡◌, ◌<◌, ◌≤◌, ℕ, zero, suc, true, IsSome, List, [], ◌∷◌, length, get_or, map, All, Some, slice_get, refl, sym, ap, subst, ◌∙◌, arith}
 use Rattle.std.specs.Prelude.{unwrap_or}
-use Rattle.std.specs.Option.{option_and_then, option_map_or}
+use Rattle.std.specs.Option.{option_and_then}
 use Rattle.std.proofs.lemmas.List.Elements.{All-head, All-tail, Contains-get_or}
-use Rattle.std.proofs.lemmas.Option.{slice_get_within}
 use Rattle.itv_base.specs.declared.limits.TheConstants.{MAX_CAUSES}
-use Rattle.itv_base.specs.declared.names.RuleKind.{RuleKind}
-use Rattle.itv_base.specs.declared.names.RuleKind.TheVariants.{Lin, Late, Early}
+use Rattle.itv_base.proofs.Lists.{there_in}
 use Rattle.origin.specs.declared.origin.Origin.{Origin}
-use Rattle.event_graph.specs.Network.{Constraint, IsCauseCount, IsConstraint, IsNet, Net}
+use Rattle.event_graph.specs.Network.{Constraint, IsConstraint, IsNet, Net}
+use Rattle.event_graph.proofs.Causes.{few_causes}
 use Rattle.drawn.specs.Drawn.{Drawn, OriginsFit}
 use Rattle.numbers.specs.declared.cause_name.CauseName.{CauseName}
 use Rattle.numbers.specs.declared.drawn_number.DrawnNumber.{DrawnNumber}
 use Rattle.numbers.specs.Numbers.{IsCauseOf, causes_before, causes_of, draws, draws_cause, origins_of, part_of_target}
-use Rattle.numbers.proofs.DrawnCauses.{before_takes}
-
-there_in : {A : Type 0} (xs : List A) (i : ℕ) → i < length xs → IsSome (slice_get xs i)
-there_in [] i within = absurd (omega (arith, within))
-there_in (x ∷ xs) zero within = refl
-there_in (x ∷ xs) (suc i) within = there_in xs i (omega (arith, within))
-
-count_few : (kind : RuleKind) (n : ℕ) → IsCauseCount kind n → n ≤ MAX_CAUSES
-count_few Lin n is = subst (λ m. m ≤ MAX_CAUSES) (sym is) (omega arith)
-count_few Late n is = is.1
-count_few Early n is = is.1
+use Rattle.numbers.proofs.DrawnCauses.{before_takes, some_within}
 
 module _ (events : ℕ) where
   -- what draws the causes of a constraint: as many as it has causes
@@ -33,7 +22,7 @@ module _ (events : ℕ) where
   few_at (own ∷ origins) [] k fit all = absurd (cc fit)
   few_at (own ∷ origins) (c ∷ cs) zero fit all =
       let same : length own ≡ length c.causes = cc fit in
-      subst (λ n. n ≤ MAX_CAUSES) (sym same) (count_few c.kind (length c.causes) (All-head (IsConstraint events) c cs all).count)
+      subst (λ n. n ≤ MAX_CAUSES) (sym same) (few_causes c.kind (length c.causes) (All-head (IsConstraint events) c cs all).count)
   few_at (own ∷ origins) (c ∷ cs) (suc k) fit all =
       let rest : map length origins ≡ map (λ (d : Constraint). length d.causes) cs = cc fit in
       few_at origins cs k rest (All-tail (IsConstraint events) c cs all)
@@ -61,15 +50,11 @@ few_read drawn k at net origins got given same_net is same fits e found lent =
     let own : got ≡ origins_of drawn k = rw there refl in
     subst (λ (xs : List Origin). length xs ≤ MAX_CAUSES) (sym (lent ∙ own)) (origins_few drawn k (subst IsNet same_net is) (subst (OriginsFit drawn.net) same fits))
 
-drawn_within : (test : Origin → Bool) (own : List Origin) (i : ℕ) (o : Option Origin) → slice_get own i ≡ o → option_map_or test o false ≡ true → i < length own
-drawn_within test own i None at is = absurd (cc is)
-drawn_within test own i (Some x) at is = slice_get_within own i x at
-
 -- a cause that a number draws is there
 pub drawn_there : (drawn : Drawn) (number : DrawnNumber) (name : CauseName) → OriginsFit drawn.net drawn.origins → draws_cause drawn number name ≡ true → IsCauseOf drawn.net name
 drawn_there drawn number name fit is =
     there_at drawn.origins drawn.net.constraints name.constraint name.cause fit
-    (drawn_within (draws number (part_of_target drawn name.constraint)) (origins_of drawn name.constraint) name.cause
+    (some_within (draws number (part_of_target drawn name.constraint)) (origins_of drawn name.constraint) name.cause
     (slice_get (origins_of drawn name.constraint) name.cause) refl is)
 
 pub causes_there : (drawn : Drawn) (number : DrawnNumber) → OriginsFit drawn.net drawn.origins → All (IsCauseOf drawn.net) (causes_of drawn number)

@@ -38,8 +38,7 @@ fn part_of_target(drawn: &DrawnNetwork, constraint: u32) -> &str
     ensures part { result.now ≡ part_of_target drawn.now constraint }
 {
     let net = drawn.network();
-    // The network is within its limits.
-    let _events = net.events();
+    net.is_whole();
     drawn.name(net.target(constraint)).part
 }
 
@@ -49,8 +48,7 @@ fn origins_of(drawn: &DrawnNetwork, constraint: u32) -> &[Origin]
     ensures origins { result.now ≡ origins_of drawn.now constraint }
     ensures few { length result.now ≤ MAX_CAUSES }
 {
-    // The network is within its limits.
-    let _events = drawn.network().events();
+    drawn.network().is_whole();
     drawn.origins().get(u64::from(constraint)).as_slice()
 }
 

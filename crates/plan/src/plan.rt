@@ -47,12 +47,18 @@ impl Plan {
         requires sheets { IsPlan (record { netlist = netlist; sheets = sheets.entries }) }
         ensures plan { IfOk result (λ plan. plan ≡ record { netlist = netlist; sheets = sheets.entries }) }
     {
-        let places = places_of(alloc, netlist.parts().as_slice(), &sheets)?;
-        Ok(Plan {
-            netlist,
-            sheets,
-            places,
-        })
+        match places_of(alloc, netlist.parts().as_slice(), &sheets) {
+            Ok(places) => Ok(Plan {
+                netlist,
+                sheets,
+                places,
+            }),
+            Err(NoMemory) => {
+                drop(netlist);
+                drop(sheets);
+                Err(NoMemory)
+            }
+        }
     }
 
     /// The netlist.

@@ -4,7 +4,6 @@ use Rattle.std.specs.Prelude.{IsSomeAnd}
 use Rattle.std.proofs.lemmas.List.{take_all}
 use Rattle.std.proofs.lemmas.List.Elements.{All-nil, All-push}
 use Rattle.std.proofs.lemmas.Option.{slice_get-get_or}
-use Rattle.event_graph.proofs.EdgesMet.{take_next}
 use Rattle.event_graph.specs.Edges.{cause_choices}
 use Rattle.event_graph.specs.Network.{Net}
 use Rattle.drawn.specs.declared.row.Row.{Row}
@@ -17,6 +16,7 @@ use Rattle.probing.specs.Step.{IsNotedFor, IsRowLookedAt, passes_unless}
 use Rattle.probing.specs.declared.noting.ProbeNotes.{ProbeNotes}
 use Rattle.probing.specs.declared.side.SideFound.{SideFound}
 use Rattle.probing.specs.declared.side.SideFound.TheVariants.{Meets, Exceeds, Open}
+use Rattle.itv_base.proofs.Lists.{take_get}
 
 -- no satisfying times break the requirement of a row
 abbrev pub IsMetRow : Net → Row → Type 0
@@ -48,7 +48,7 @@ module _ (net : Net) (rows : List Row) (most : ℕ) (extremes next : Extremes) (
     ready = ready;
     budget = same ∙ looked.budget;
     fits = fits;
-    met = λ closed. subst (All (IsMetRow net)) (sym (take_next rows count row at)) (All-push (IsMetRow net) (take count rows) row (looked.met closed) met);
+    met = λ closed. subst (All (IsMetRow net)) (sym (take_get rows count row at)) (All-push (IsMetRow net) (take count rows) row (looked.met closed) met);
     settled = looked.settled;
   }
 

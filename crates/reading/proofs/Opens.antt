@@ -1,7 +1,7 @@
 -- Readings step by step, and their results over known files.
-use Rattle.std.proofs.Common.{◌≡◌, ℕ, ◌+◌, ◌<◌, ◌≤◌, Bool, true, false, cond, List, [], ◌∷◌, length, take, drop, get_or, All, Option, Some, None, IsNone, option_map, Result, Ok, Err, IsErrAnd, refl, sym, ap, ◌∙◌, subst, inl, inr}
+use Rattle.std.proofs.Common.{◌≡◌, ℕ, ◌+◌, ◌≤◌, Bool, true, false, cond, List, [], ◌∷◌, length, take, drop, All, Option, Some, None, IsNone, option_map, Result, Ok, Err, IsErrAnd, refl, sym, ap, ◌∙◌, subst, inl, inr}
 use Rattle.std.specs.Option.{option_map_or}
-use Rattle.std.proofs.lemmas.List.{drop_all, drop_more}
+use Rattle.std.proofs.lemmas.List.{drop_all}
 use Rattle.std.proofs.lemmas.List.Elements.{All-cons, All-nil}
 use Rattle.std.proofs.lemmas.Option.{none-some, same_Some}
 use Rattle.itv_base.specs.Outside.{Files, ShelfState, HasFront, file_of}
@@ -94,10 +94,6 @@ module _ {A X : Type 0} (v : X → A) (whole rest : FileReading A) where
   -- the rest ends the whole
   pub resumes_end : (old now new : ShelfState) (r : Result X Stop) → Resumes old now whole rest → Opens v now new rest r → Opens v old new whole r
   resumes_end old now new r done h = end_on old new r done.goes_on (subst (λ state. Opens v state new rest r) done.same h)
-
--- the next element of a list
-pub next_item : {X : Type 0} (xs : List X) (k : ℕ) (x : X) → k < length xs → x ≡ get_or xs k x → drop k xs ≡ x ∷ drop (k + 1) xs
-next_item xs k x within is = drop_more xs k x within ∙ ap (λ y. y ∷ drop (k + 1) xs) (sym is)
 
 -- the elements of a list, one by one
 module _ {A X : Type 0} (step : ℕ → A → X → FileReading A) (old now new : ShelfState) (whole : FileReading A) (xs : List X) (number k : ℕ) (x : X) (done : A)

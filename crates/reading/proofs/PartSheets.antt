@@ -1,10 +1,11 @@
 -- Each part has its sheet among the sheets that were read.
-use Rattle.std.proofs.Common.{◌≡◌, ℕ, ◌&&◌, Bool, true, false, cond, if◌then◌else◌, List, [], ◌∷◌, All, Option, Some, None, IsSome, refl, sym, subst}
+use Rattle.std.proofs.Common.{◌≡◌, ℕ, Bool, true, false, cond, if◌then◌else◌, List, [], ◌∷◌, All, Option, Some, None, IsSome, refl, sym, subst}
 use Rattle.std.specs.Prelude.{is_none}
 use Rattle.std.specs.Str.{bytes_eq}
 use Rattle.std.proofs.lemmas.List.Elements.{All-cons, All-nil, All-weaker}
 use Rattle.std.proofs.lemmas.Slice.Eq.{bytes_eq-Decides}
 use Rattle.itv_base.specs.Outside.{ShelfState}
+use Rattle.itv_base.proofs.Bools.{other_false}
 use Rattle.wavejson.specs.Drawing.{Drawing, diagram_of}
 use Rattle.grades.specs.declared.grade.Grade.{Grade}
 use Rattle.sheet.specs.SheetContents.{SheetContents}
@@ -73,10 +74,6 @@ some_if : {A : Type 0} (o : Option A) → is_none o ≡ false → IsSome o
 some_if None is = absurd (cc is)
 some_if (Some x) is = refl
 
-both_of : (a b : Bool) → a ≡ true → (a && b) ≡ false → b ≡ false
-both_of true b is none = none
-both_of false b is none = absurd (cc is)
-
 module _ (shelf : ShelfState) (place : RefusalPlace) (name : List ℕ) (grades : Option (List Grade)) (drawing : Drawing) where
   -- a part that is drawn on the file has its sheet after it
   part_brings : (n : ℕ) (sheets more : NamedSheets) (part : Part) → RunsTo shelf (with_part place name grades drawing n sheets part) (ready more) → part.sheet ≡ name → IsThere (key_of part) more
@@ -89,7 +86,7 @@ module _ (shelf : ShelfState) (place : RefusalPlace) (name : List ℕ) (grades :
           subst (IsThere (key_of part)) (gave shelf (with_sheet sheets (key_of part) sheet) more rest) (sheet_added sheets (key_of part) sheet)
       by false known came =
           let same : bytes_eq name part.sheet ≡ true = (bytes_eq-Decides name part.sheet).1 (sym named) in
-          subst (IsThere (key_of part)) (gave shelf sheets more came) (some_if (sheet_among sheets (key_of part)) (both_of (bytes_eq name part.sheet) (is_none (sheet_among sheets (key_of part))) same known))
+          subst (IsThere (key_of part)) (gave shelf sheets more came) (some_if (sheet_among sheets (key_of part)) (other_false (bytes_eq name part.sheet) (is_none (sheet_among sheets (key_of part))) same known))
 
   part_keeps : (key : SheetKey) (n : ℕ) (sheets more : NamedSheets) (part : Part) → IsThere key sheets → RunsTo shelf (with_part place name grades drawing n sheets part) (ready more) → IsThere key more
   part_keeps key n sheets more part there comes = by (is_unread sheets name part) comes

@@ -24,7 +24,9 @@ pub fn open_design<H: Shelf>(alloc: Global, name: &str, shelf: &mut H) -> Result
         (design_at name.now) result }
 {
     let plan = open_plan(alloc, name, shelf)?;
-    draw_plan(alloc, &plan)
+    let drawn = draw_plan(alloc, &plan);
+    drop(plan);
+    drawn
 }
 
 /// What a plan draws, or the first fault of its joins, or else the first limit that it passes.
@@ -37,7 +39,9 @@ pub fn draw_plan(alloc: Global, plan: &Plan) -> Result<DrawnNetwork, Stop>
         Ok(design) => design,
         Err(fault) => return Err(join_stop(RefusalPlace::Design, fault)),
     };
-    match unroll(alloc, &design) {
+    let unrolled = unroll(alloc, &design);
+    drop(design);
+    match unrolled {
         Ok(drawn) => Ok(drawn),
         Err(fault) => Err(limit_stop(RefusalPlace::Design, fault)),
     }

@@ -18,6 +18,7 @@ use Rattle.redraw.proofs.Distinct.{Has, has_from, has_to}
 use Rattle.redraw.proofs.Ordered.{Every, every_in_order, sorted_in_order}
 use Rattle.redraw.proofs.Past.{stays_above, stays_below}
 use Rattle.redraw.proofs.Rows.{at_row}
+use Rattle.redraw.proofs.Same.{up_of}
 
 -- the time of an event in a list
 abbrev timed_in : List Timed → EventId → ℤ
@@ -70,9 +71,6 @@ none_drawn width = record { old_least = omega (arith, ints); new_least = omega (
 
 abbrev IsDrawnAs : ℤ → ℤ → Type 0
 IsDrawnAs old new = IsDrawnBy widest_gap old new
-
-up_of : (a b : ℤ) → a ≤ℤ b → pos 0 ≤ℤ (b -ℤ a)
-up_of a b h = omega (arith, ints)
 
 next_drawn : (last : Timed) (before : DrawnEvent) (x : Timed) → last.time ≤ℤ x.time → IsDrawnAs (x.time -ℤ last.time) ((next_stand last before x).time -ℤ before.time)
 next_drawn last before x le =

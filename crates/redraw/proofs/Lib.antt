@@ -5,7 +5,7 @@ mod Holding
 pub mod Stands
 pub mod Pieces
 pub mod Ordered
-mod Same
+pub mod Same
 pub mod Rows
 pub mod Distinct
 pub mod Farther

@@ -1,13 +1,15 @@
 -- Narrowed times keep near separations, and have no gap beyond the width.
-use Rattle.std.proofs.Common.{◌≡◌, ◌+◌, ◌<◌, ◌≤◌, ◌⊎◌, inl, inr, ℕ, zero, suc, ℤ, pos, negsuc, ◌+ℤ◌, ◌-ℤ◌, ◌≤ℤ◌, ◌<ℤ◌, Bool, true, false, ◌&&◌, ◌||◌, if◌then◌else◌, int_le, int_lt, List, [], ◌∷◌, All, length, fold, get_or, ◌∙◌, refl, sym, ap, subst, arith}
+use Rattle.std.proofs.Common.{◌≡◌, ◌+◌, ◌<◌, ◌≤◌, ◌⊎◌, inl, inr, ℕ, zero, suc, ℤ, pos, negsuc, ◌+ℤ◌, ◌-ℤ◌, ◌≤ℤ◌, ◌<ℤ◌, Bool, true, false, ◌&&◌, ◌||◌, if◌then◌else◌, int_le, List, [], ◌∷◌, All, length, fold, get_or, ◌∙◌, refl, ap, arith}
 use Rattle.std.specs.List.{list_any}
 use Rattle.std.proofs.lemmas.Int.{ints}
 use Rattle.std.proofs.lemmas.List.{get_or-map, length-map}
 use Rattle.falling.proofs.Near.{IsKept, KeepsNear}
 use Rattle.falling.proofs.Removed.{IsGrown, IsNaturalPart, covers, is_covered, kept_narrowed, natural_part_is, none_or_one, removed, removed_grows}
 use Rattle.falling.proofs.Removed as fall
+use Rattle.falling.proofs.Within.{kept_less}
 use Rattle.redraw.specs.Narrowing.{AreNeighbours, follow_count, follows, least, lesser, narrowed, narrowed_time, natural_part}
 use Rattle.redraw.specs.Laws.{NarrowingIsByGaps}
+use Rattle.itv_base.proofs.Integers.{no_test_from_le}
 
 -- ---- the numbers that follow a time are the numbers that are not removed
 
@@ -77,11 +79,6 @@ narrowed_is : (width : ℕ) (times : List ℤ) (time : ℤ) → least times ≤�
 narrowed_is width times time below =
     rw (natural_same (time -ℤ least times)) (counted width times (least times) time (fall.natural_part (time -ℤ least times)) (natural_part_is (time -ℤ least times)) below)
 
-kept_less : (width : ℕ) (old a b less : ℤ) → IsKept width old (b -ℤ a) → IsKept width old ((b -ℤ less) -ℤ (a -ℤ less))
-kept_less width old a b less kept =
-    let same : ((b -ℤ less) -ℤ (a -ℤ less)) ≡ (b -ℤ a) = omega (arith, ints) in
-    subst (λ (z : ℤ). IsKept width old z) (sym same) kept
-
 pub narrowed_at : (width : ℕ) (times : List ℤ) (i : ℕ) (d : ℤ) → i < length times
     → get_or (narrowed width times) i d ≡ fall.narrowed width times (least times) (get_or times i (pos 0)) -ℤ least times
 unfolding narrowed
@@ -118,12 +115,6 @@ removed_all width times base k (suc n) le bare = elim (or_same k n le) [
   or_same : (k n : ℕ) → k ≤ suc n → (k ≡ suc n) ⊎ (k ≤ n)
   or_same k n le = grind arith
 
-not_lt : (a b : ℤ) → b ≤ℤ a → int_lt a b ≡ false
-not_lt a b h = by_test (int_lt a b) refl where
-  by_test : (t : Bool) → int_lt a b ≡ t → t ≡ false
-  by_test true e = absurd (omega (arith, ints))
-  by_test false e = refl
-
 not_le : (a b : ℤ) → b <ℤ a → int_le a b ≡ false
 not_le a b h = by_test (int_le a b) refl where
   by_test : (t : Bool) → int_le a b ≡ t → t ≡ false
@@ -135,7 +126,7 @@ and_false true = refl
 and_false false = refl
 
 not_before : (width : ℕ) (time z : ℤ) → (time +ℤ pos width) ≤ℤ z → covers width time z ≡ false
-not_before width time z h = rw (not_lt z (time +ℤ pos width) h) (and_false (int_le time z))
+not_before width time z h = rw (no_test_from_le z (time +ℤ pos width) h) (and_false (int_le time z))
 
 not_after : (width : ℕ) (time z : ℤ) → z <ℤ time → covers width time z ≡ false
 not_after width time z h = rw (not_le time z h) refl

@@ -2,6 +2,8 @@
 use Rattle.std.proofs.Common.{◌≡◌, ◌+◌, ◌<◌, inl, inr, ℕ, ℤ, pos, ◌+ℤ◌, ◌-ℤ◌, ◌≤ℤ◌, ◌<ℤ◌, Bool, true, false, if◌then◌else◌, int_le, int_lt, List, [], ◌∷◌, length, map, fold, ◌∙◌, refl, sym, ap, arith}
 use Rattle.std.proofs.lemmas.Int.{ints}
 use Rattle.itv_base.specs.declared.names.EventId.{EventId}
+use Rattle.itv_base.proofs.Bools.{same_test}
+use Rattle.itv_base.proofs.Integers.{test_from_lt}
 use Rattle.event_graph.specs.Times.{separation, time_of}
 use Rattle.falling.proofs.Near.{IsKept, KeepsNear, below_or_not, keeps_in}
 use Rattle.drawn.specs.declared.row.Row.{Row}
@@ -22,17 +24,6 @@ IsAt n times x = (x.event.0 < n) × (x ≡ timed_at times x.event)
 abbrev moved_to : List ℤ → Timed → Timed
 moved_to others x = timed_at others x.event
 
-same_test : (a b : Bool) → (a ≡ true → b ≡ true) → (b ≡ true → a ≡ true) → a ≡ b
-same_test true b f g = sym (f refl)
-same_test false true f g = g refl
-same_test false false f g = refl
-
-is_lt : (a b : ℤ) → a <ℤ b → int_lt a b ≡ true
-is_lt a b h = by_test (int_lt a b) refl where
-  by_test : (t : Bool) → int_lt a b ≡ t → t ≡ true
-  by_test true e = refl
-  by_test false e = absurd (omega (arith, ints))
-
 -- which of two events comes later does not change
 later_from : (width : ℕ) (a b a' b' : ℤ) → 0 < width → IsKept width (b -ℤ a) (b' -ℤ a') → a <ℤ b → a' <ℤ b'
 later_from width a b a' b' some kept h = elim (below_or_not (pos width) (b -ℤ a)) [
@@ -51,8 +42,8 @@ later_back width a b a' b' back h = elim (below_or_not a b) [
 
 later_kept : (a b a' b' : ℤ) → IsKept widest_gap (b -ℤ a) (b' -ℤ a') → IsKept widest_gap (a -ℤ b) (a' -ℤ b') → int_lt a' b' ≡ int_lt a b
 later_kept a b a' b' kept back =
-    same_test (int_lt a' b') (int_lt a b) (λ e. is_lt a b (later_back widest_gap a b a' b' back (lt_of a' b' e)))
-    (λ e. is_lt a' b' (later_from widest_gap a b a' b' (omega arith) kept (lt_of a b e))) where
+    same_test (int_lt a' b') (int_lt a b) (λ e. test_from_lt a b (later_back widest_gap a b a' b' back (lt_of a' b' e)))
+    (λ e. test_from_lt a' b' (later_from widest_gap a b a' b' (omega arith) kept (lt_of a b e))) where
       lt_of : (x y : ℤ) → int_lt x y ≡ true → x <ℤ y
       lt_of x y e = omega (arith, ints)
 
@@ -105,7 +96,7 @@ separation_at : (a b : Timed) (times : List ℤ) → a ≡ timed_at times a.even
 separation_at a b times at_a at_b =
     ap (λ (z : Timed). z.time -ℤ a.time) at_b ∙ ap (λ (z : Timed). time_of times b.event -ℤ z.time) at_a
 
-up_of : (a b : ℤ) → a ≤ℤ b → pos 0 ≤ℤ (b -ℤ a)
+pub up_of : (a b : ℤ) → a ≤ℤ b → pos 0 ≤ℤ (b -ℤ a)
 up_of a b h = omega (arith, ints)
 
 gap_same : (n : ℕ) (times others : List ℤ) (last x : Timed) → KeepsNear widest_gap n times others → IsAt n times last → IsAt n times x → last.time ≤ℤ x.time

@@ -1,5 +1,5 @@
 -- The text of a drawing in a file is read as a design.
-use Rattle.std.proofs.Common.{◌≡◌, ◌≤◌, ◌<◌, ◌+◌, ℕ, List, [], length, take, Option, Some, true, false, nat_lt, ◌∙◌, refl, ap, arith, rules}
+use Rattle.std.proofs.Common.{◌≡◌, ◌≤◌, ◌<◌, ◌+◌, ℕ, List, [], length, take, Option, Some, true, ◌∙◌, refl, ap, arith}
 use Rattle.std.specs.Option.{option_map_or}
 use Rattle.std.specs.Str.{is_utf8}
 use Rattle.std.proofs.lemmas.List.{take_all}
@@ -22,7 +22,7 @@ use Rattle.reading.specs.FileReading.{FileReading, gives, ◌>>=◌, ready, end_
 use Rattle.redraw.specs.declared.drawn_event.DrawnEvent.{DrawnEvent}
 use Rattle.redraw.specs.Drawing.{Lane, sketch_of}
 use Rattle.redraw.proofs.Ordered.{Every}
-use Rattle.redraw_design.proofs.Lone.{design_drawn, design_is, unrolled_is}
+use Rattle.redraw_design.proofs.Lone.{design_drawn, design_is, unrolled_is, not_passed}
 use Rattle.redraw_read.proofs.Sheets.{IsDrawable, sheet_drawn, sheet_is}
 use Rattle.redraw_read.proofs.Tree.{diagram_is, sketch_tree}
 
@@ -47,9 +47,6 @@ tree_gives name from to ends ss file h long =
 
 -- ---- the file
 
-not_long : (limit n : ℕ) → n ≤ limit → nat_lt limit n ≡ false
-not_long limit n h = search rules
-
 -- the reading after the bytes of the file
 abbrev next_of : List ℕ → List ℕ → FileReading Drawn
 next_of file bytes = ((within_limit (File 0) FILE_LIMIT bytes >>= (λ bytes. tree_at (File 0) bytes)) >>= (λ tree. tree_planned file tree)) >>= (λ plan. drawn_at plan.netlist plan.sheets)
@@ -57,7 +54,7 @@ next_of file bytes = ((within_limit (File 0) FILE_LIMIT bytes >>= (λ bytes. tre
 bytes_give : (files : Files) (file bytes : List ℕ) (tree : Data) (drawn : Drawn) → length bytes ≤ FILE_LIMIT → is_utf8 bytes ≡ true → read bytes ≡ Some tree
     → tree_drawn file tree ≡ gives drawn → end_over files (next_of file bytes) ≡ ready drawn
 unfolding tree_at
-bytes_give files file bytes tree drawn short utf8 reads draws = rw (not_long FILE_LIMIT (length bytes) short, utf8, reads, draws) refl
+bytes_give files file bytes tree drawn short utf8 reads draws = rw (not_passed FILE_LIMIT (length bytes) short, utf8, reads, draws) refl
 
 pub file_gives : (files : Files) (file text : List ℕ) (tree : Data) (drawn : Drawn) → file_of files file ≡ Some text → length text ≤ FILE_LIMIT → is_utf8 text ≡ true → read text ≡ Some tree
     → tree_drawn file tree ≡ gives drawn → end_over files (design_at file) ≡ ready drawn

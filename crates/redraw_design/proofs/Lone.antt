@@ -106,7 +106,7 @@ rows_are name from to ends ss = ap (λ r. r ∷ []) (row_of (0 + length (marks_f
 
 -- ---- within the limits
 
-not_passed : (a b : ℕ) → b ≤ a → nat_lt a b ≡ false
+pub not_passed : (a b : ℕ) → b ≤ a → nat_lt a b ≡ false
 not_passed a b h = search rules
 
 none_passed : (e c : ℕ) → e ≤ MOST_DRAWN → c ≤ MOST_DRAWN → first_passed (counts_by e c 1 0) ≡ None

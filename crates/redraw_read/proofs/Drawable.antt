@@ -1,19 +1,19 @@
 -- The drawn events of a row can be drawn and read.
-use Rattle.std.proofs.Common.{◌≡◌, ◌+◌, ◌<◌, ◌≤◌, ℕ, ℤ, pos, ◌-ℤ◌, ◌≤ℤ◌, Bool, true, false, not, int_lt, List, [], ◌∷◌, ◌++◌, length, bytes_eq, Option, Some, None, IfSome, ◌∙◌, refl, sym, arith}
+use Rattle.std.proofs.Common.{◌≡◌, ◌+◌, ◌<◌, ◌≤◌, ℕ, ℤ, pos, ◌-ℤ◌, ◌≤ℤ◌, Bool, true, false, not, List, [], ◌∷◌, ◌++◌, length, bytes_eq, None, ◌∙◌, refl, sym, arith}
 use Rattle.std.specs.List.{list_any}
 use Rattle.std.proofs.lemmas.Bool.{or_from}
 use Rattle.std.proofs.lemmas.Int.{ints}
 use Rattle.std.proofs.lemmas.List.Folds.{list_any-append}
 use Rattle.std.proofs.lemmas.Slice.Eq.{bytes_eq-Decides}
 use Rattle.itv_base.specs.Names.{Name}
-use Rattle.itv_base.specs.Range.{Ends, IsEnd, IsRange, is_above, is_wide}
-use Rattle.itv_base.specs.declared.limits.TheConstants.{END_LIMIT}
+use Rattle.itv_base.specs.Range.{Ends, IsRange, is_wide}
 use Rattle.itv_base.specs.declared.names.EventId.{EventId}
 use Rattle.label_grammar.specs.declared.label.Kind.{Kind}
 use Rattle.label_grammar.specs.declared.label.Kind.TheVariants.{Lin, Req}
 use Rattle.label_grammar.specs.Label.{IsProper, is_ask, version_1}
 use Rattle.sheet.specs.Lanes.{first_repeated}
 use Rattle.slack_report.specs.Text.{name_word}
+use Rattle.slack_report.proofs.RangeWord.{test_from_order, test_from_end}
 use Rattle.redraw.specs.declared.drawn_event.DrawnEvent.{DrawnEvent}
 use Rattle.redraw.specs.declared.drawn_event.Timed.{Timed}
 use Rattle.redraw.specs.declared.drawn_event.TheConstants.{MOST_DRAWN}
@@ -30,21 +30,6 @@ use Rattle.redraw_read.proofs.Sheets.{IsDrawable}
 
 -- ---- labels
 
-not_below : (a b : ℤ) → b ≤ℤ a → int_lt a b ≡ false
-not_below a b h = by_test (int_lt a b) refl where
-  by_test : (t : Bool) → int_lt a b ≡ t → t ≡ false
-  by_test true e = absurd (omega (arith, ints))
-  by_test false e = refl
-
-not_wide : (end : Option ℤ) → IsEnd end → is_wide end ≡ false
-not_wide None h = refl
-not_wide (Some value) h = or_from _ _ (not_below value _ h.0) (not_below END_LIMIT value h.1)
-
-not_above : (low high : Option ℤ) → IfSome low (λ l. IfSome high (λ h. l ≤ℤ h)) → is_above low high ≡ false
-not_above None high h = refl
-not_above (Some l) None h = refl
-not_above (Some l) (Some r) h = not_below r l h
-
 asks_range : (b : Bool) → b ≡ false → true ≡ not b
 asks_range true e = e
 asks_range false e = refl
@@ -52,8 +37,8 @@ asks_range false e = refl
 pub range_proper : (kind : Kind) (ends : Ends) → is_ask kind ≡ false → IsRange ends → IsProper version_1 (range_label kind ends)
 range_proper kind ends asks h = record {
   loose = record { shift = omega arith; tag = tt; ends = asks_range (is_ask kind) asks; form = refl };
-  narrow = or_from (is_wide ends.low) (is_wide ends.high) (not_wide ends.low h.0) (not_wide ends.high h.1);
-  ordered = not_above ends.low ends.high h.2;
+  narrow = or_from (is_wide ends.low) (is_wide ends.high) (test_from_end ends.low h.0) (test_from_end ends.high h.1);
+  ordered = test_from_order ends.low ends.high h.2;
 }
 
 pub exact_range : (d : ℤ) → pos 0 ≤ℤ d → d ≤ℤ pos widest_gap → IsRange (exactly d)

@@ -5,6 +5,7 @@ use Rattle.itv_base.specs.declared.row_kind.RowKind.{RowKind}
 use Rattle.itv_base.specs.declared.row_kind.RowKind.TheVariants as kinds
 use Rattle.event_graph.specs.Proof.{ProofLine}
 use Rattle.event_graph.specs.Times.{IsTime}
+use Rattle.event_graph.proofs.Sizes.{printed_times}
 use Rattle.requirements.specs.declared.bound.Bound.{Bound}
 use Rattle.requirements.specs.declared.bound.Bound.TheVariants as bounds
 use Rattle.requirements.specs.declared.verdict.Verdict.{Verdict}
@@ -23,9 +24,9 @@ use Rattle.right_report.specs.declared.tally.ReportTally.{ReportTally}
 use Rattle.right_report.specs.Right.LineClaims.{BreaksEnd}
 use Rattle.right_report.specs.Right.Following.{LineClaims, MayBound, MayFind, MayFollow, LinesLead}
 use Rattle.right_report.specs.ReportContents.{end_in}
+use Rattle.right_report.proofs.Ending.{same_ending}
 use Rattle.bounds_report.specs.Reports.{IsWrittenReport}
 use Rattle.bounds_report.specs.Written.{written}
-use Rattle.bounds_report.proofs.Printed.{times_printed}
 use Rattle.redraw_report.specs.Failed.{Failed, IsBroken, Scan, found_by, scan_start, scanned, failed_verdict, with_line}
 use Rattle.redraw_report.specs.Laws.{FailIsShown}
 
@@ -217,7 +218,7 @@ step drawn most known (at_verdict current range least most_bound) line next scan
 step drawn most known (at_past current range least most_bound) line next scan m h =
     moved drawn scan line (times m.0) next (behind_past current range least most_bound (verdict_of range least most_bound)) m.1 m.3 (
       rest_is drawn.rows current.later current.row current.number h.0.rest,
-      past_seen drawn current range (verdict_of range least most_bound) m.0 scan h.0 h.1 h.2 h.3 (times_printed m.0 m.2.0) m.2.1.0 m.2.1.1,
+      past_seen drawn current range (verdict_of range least most_bound) m.0 scan h.0 h.1 h.2 h.3 (printed_times m.0 m.2.0) m.2.1.0 m.2.1.1,
     )
 step drawn most known (at_slack tally number later range least most_bound) line next scan m h =
     moved drawn scan line (slack (slack_of range least most_bound)) next (at_row tally number later) m.0 m.1 h
@@ -240,9 +241,6 @@ found_of : (drawn : Drawn) (fails : Bool) (scan : Scan) → fails ≡ true → M
 found_of drawn fails scan e (inl m) = absurd (cc (e, m.0))
 found_of drawn fails scan e (inr m) = m.1
 
-same_word : (a b : EndWord) → ending a ≡ ending b → a ≡ b
-same_word a b e = cc e
-
 no_finding : (claims : LineClaims) (lines : List ProofLine) (word : EndWord) (next : ReportState) → MayFind claims lines (ending word) next → ⊥
 no_finding claims lines word next (inl m) = cc m.1
 no_finding claims lines word next (inr m) = cc m.1
@@ -262,7 +260,7 @@ ended drawn most known (at_finding lines) word next scan m h e = absurd (no_find
 ended drawn most known at_known word next scan m h e = absurd (cc m.1)
 ended drawn most known (at_rows found) word next scan m h e = absurd (cc m.0)
 ended drawn most known (at_row tally number []) word next scan m h e =
-    (m.1, found_of drawn tally.fails scan (fails_by tally.fails tally.found tally.within (sym (same_word word (end_word tally) m.0) ∙ e)) h.1)
+    (m.1, found_of drawn tally.fails scan (fails_by tally.fails tally.found tally.within (sym (same_ending word (end_word tally) m.0) ∙ e)) h.1)
 ended drawn most known (at_row tally number (r ∷ later)) word next scan m h e = absurd (cc m.0)
 ended drawn most known (at_bound current side lines) word next scan m h e = absurd (no_bound (written drawn.net most false known) current side lines word next m)
 ended drawn most known (at_times current side value) word next scan m h e = absurd (cc m.1)
@@ -270,7 +268,7 @@ ended drawn most known (at_raise current side list) word next scan m h e = absur
 ended drawn most known (at_verdict current range least most_bound) word next scan m h e = absurd (cc m.0)
 ended drawn most known (at_past current range least most_bound) word next scan m h e = absurd (cc m.1)
 ended drawn most known (at_slack tally number later range least most_bound) word next scan m h e = absurd (cc m.0)
-ended drawn most known (at_end other) word next scan m h e = absurd (h (sym (same_word word other m.0) ∙ e))
+ended drawn most known (at_end other) word next scan m h e = absurd (h (sym (same_ending word other m.0) ∙ e))
 ended drawn most known at_last word next scan m h e = absurd m
 
 nothing_behind : (claims : LineClaims) (drawn : Drawn) (lines : List Entry) (scan : Scan) → LinesLead claims drawn at_last lines at_last → scanned scan lines ≡ scan

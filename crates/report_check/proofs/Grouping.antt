@@ -12,6 +12,7 @@ use Rattle.drawn.specs.Drawn.{Drawn}
 use Rattle.right_report.specs.Right.Following.{MayFollow, LinesLead}
 use Rattle.right_report.specs.Checked.{checked}
 use Rattle.right_report.specs.Wrong.{IsFine, IsFirstWrong, IsLineRefused, Takes, goal_ahead, goal_by, proof_so_far}
+use Rattle.right_report.proofs.FirstWrong.{reads_front}
 use Rattle.report_check.specs.declared.proof_group.ProofGroup.{ProofGroup}
 use Rattle.report_check.specs.declared.proof_group.ProofGroup.TheVariants as groups
 use Rattle.report_check.specs.declared.stage.Stage.{Stage}
@@ -19,16 +20,9 @@ use Rattle.report_check.specs.Step.Groups.{ChecksFor, IsWholeFor, behind_lines, 
 use Rattle.report_check.specs.Step.Stages.{Decides, at_of, is_proof}
 use Rattle.report_check.specs.Step.CheckWalks.{IsWrongFrom, CheckLeads, StepsOn}
 use Rattle.report_check.proofs.Leading.{end_wrong, leads_then, line_leads, line_wrong}
+use Rattle.itv_base.proofs.Options.{some_and}
 
 -- ---- reading proof lines
-
-pub reads_front : (net : Net) (goal : ProofGoal) (lines more : List ProofLine) (cases left : List Case) → proofs.ProofLeaves net goal cases (lines ++ more) left
-    → (mid : List Case) × proofs.ProofLeaves net goal cases lines mid
-reads_front net goal [] more cases left h = (cases, refl)
-reads_front net goal (line ∷ lines) more [] left h = absurd h
-reads_front net goal (Split number ∷ lines) more (chosen ∷ cases) left h = let r = reads_front net goal lines more (cases_of net chosen number ++ cases) left h.1 in (r.0, (h.0, r.1))
-reads_front net goal (Path names ∷ lines) more (chosen ∷ cases) left h = let r = reads_front net goal lines more cases left h.1 in (r.0, (h.0, r.1))
-reads_front net goal (Loop names ∷ lines) more (chosen ∷ cases) left h = let r = reads_front net goal lines more cases left h.1 in (r.0, (h.0, r.1))
 
 -- the same lines lead to the same list of open cases
 pub reads_same : (net : Net) (goal : ProofGoal) (lines : List ProofLine) (cases a b : List Case) → proofs.ProofLeaves net goal cases lines a → proofs.ProofLeaves net goal cases lines b → a ≡ b
@@ -39,10 +33,6 @@ reads_same net goal (Path names ∷ lines) (chosen ∷ cases) a b x y = reads_sa
 reads_same net goal (Loop names ∷ lines) (chosen ∷ cases) a b x y = reads_same net goal lines cases a b x.1 y.1
 
 -- ---- what lines are to show
-
-some_goal : (o : Option ProofGoal) (P : ProofGoal → Type 0) → IsSomeAnd o P → (g : ProofGoal) × (o ≡ Some g) × P g
-some_goal None P h = absurd h
-some_goal (Some g) P h = (g, refl, h)
 
 goal_some : (o : Option ProofGoal) (P : ProofGoal → Type 0) (g : ProofGoal) → o ≡ Some g → P g → IsSomeAnd o P
 goal_some None P g is h = absurd (cc)
@@ -113,7 +103,7 @@ module _ (drawn : Drawn) (group : ProofGroup) where
   line_fine before ls all line rest is taken = (
     follows drawn group before line,
     λ refused.
-        let g = some_goal (goal_ahead (behind_lines drawn group before) (map proof ls ++ rest)) (λ goal. Takes drawn.net goal (proof_so_far (behind_lines drawn group before) ++ line ∷ []) → ⊥) refused in
+        let g = some_and (goal_ahead (behind_lines drawn group before) (map proof ls ++ rest)) (λ goal. Takes drawn.net goal (proof_so_far (behind_lines drawn group before) ++ line ∷ []) → ⊥) refused in
         let whole = taken g.0 (sym (ahead_same drawn group before rest) ∙ (sym (ahead_past (behind_lines drawn group before) ls rest) ∙ g.1)) in
         let parts : all ≡ (before ++ line ∷ []) ++ ls = is ∙ sym (append_assoc before (line ∷ []) ls) in
         let front = reads_front drawn.net g.0 (before ++ line ∷ []) ls ([] ∷ []) whole.0 (subst (λ xs. proofs.ProofLeaves drawn.net g.0 ([] ∷ []) xs whole.0) parts whole.1) in

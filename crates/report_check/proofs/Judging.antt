@@ -14,6 +14,7 @@ use Rattle.drawn.specs.Drawn.{Drawn}
 use Rattle.right_report.specs.Right.Following.{MayFind, MayFollow}
 use Rattle.right_report.specs.Checked.{IsWithinTimes, ProvesBound, ProvesFinding, checked}
 use Rattle.right_report.specs.Wrong.{goal_by}
+use Rattle.right_report.proofs.Findings.{same_finding}
 use Rattle.report_check.specs.declared.stage.Stage.{Stage}
 use Rattle.report_check.specs.Step.Bounds.{goal_for}
 use Rattle.report_check.specs.Step.Groups.{IsWholeFor, found_behind}
@@ -36,9 +37,6 @@ finding_told : (net : Net) (number : ℕ) (lines : List ProofLine) (line : Entry
 finding_told net number lines line findings.Consistent whole is current e = absurd (cc e)
 finding_told net number lines line findings.Inconsistent whole is current e = subst (λ x. IsWholeFor net (goal_by (at_event number []) x) lines whole) is current
 finding_told net number lines line findings.Unsettled whole is current e = absurd (cc e)
-
-same_finding : (a b : FindingWord) → finding a ≡ finding b → a ≡ b
-same_finding a b e = cc
 
 module _ (drawn : Drawn) (net : Net) (number : ℕ) (lines : List ProofLine) (line : Entry) (word : FindingWord) (whole test : Bool) (on : net ≡ drawn.net) (is : line ≡ finding word)
     (proves : (word ≡ findings.Inconsistent → IsWholeFor net (Some Nothing) lines whole) → (IsTrue test ↔ ProvesFinding net lines word))

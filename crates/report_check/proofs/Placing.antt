@@ -1,7 +1,7 @@
 -- Names and rows in their places.
-use Rattle.std.proofs.Common.{◌≡◌, ◌+◌, ◌<◌, ℕ, zero, suc, List, [], ◌∷◌, length, ◌^◌, drop, Bool, true, false, IsTrue, ◌↔◌, Option, Some, None, unwrap_or, slice_get, refl, sym, ap, subst, ◌∙◌, arith}
+use Rattle.std.proofs.Common.{◌≡◌, ◌+◌, ◌<◌, ℕ, List, [], ◌∷◌, length, ◌^◌, drop, Bool, true, false, IsTrue, ◌↔◌, Option, Some, None, unwrap_or, slice_get, refl, sym, ap, subst, ◌∙◌, arith}
 use Rattle.std.proofs.lemmas.Option.{slice_get_within}
-use Rattle.itv_base.proofs.Lists.{drop-read}
+use Rattle.itv_base.proofs.Lists.{drop-read, found_below as there}
 use Rattle.itv_base.specs.Names.{Name}
 use Rattle.drawn.specs.Drawn.{Drawn, IsRowOf, name_of, nameless}
 use Rattle.drawn.specs.declared.row.Row.{Row}
@@ -19,19 +19,9 @@ unwrapped : (o : Option Name) (name : Name) → (n : Name) × (o ≡ Some n) →
 unwrapped None name is same = absurd (cc is.1)
 unwrapped (Some n) name is same = ap (λ x. Some x) same
 
-there : {X : Type 0} (xs : List X) (k : ℕ) → k < length xs → (x : X) × (slice_get xs k ≡ Some x)
-there [] k within = absurd (omega arith)
-there (x ∷ xs) zero within = (x, refl)
-there (x ∷ xs) (suc k) within = there xs k (omega arith)
-
 pub names_from : (names : List Name) (number : ℕ) (name : Name) → number < length names → name ≡ unwrap_or (slice_get names number) nameless
     → drop number names ≡ name ∷ drop (number + 1) names
 names_from names number name within is = drop-read names number name (unwrapped (slice_get names number) name (there names number within) (sym is))
-
--- the row with a number is the first of the rows from this number on
-pub rows_from : (rows : List Row) (number : ℕ) (row : Row) → slice_get rows number ≡ Some row
-    → drop number rows ≡ row ∷ drop (number + 1) rows
-rows_from rows number row is = drop-read rows number row is
 
 -- ---- what lines decide
 
@@ -63,11 +53,11 @@ module _ (drawn : Drawn) (tally : ReportTally) (number : ℕ) (row : Row) (line 
   row_some holds between small =
       let same : line ≡ lines.row number row.kind (name_of drawn row.from) (name_of drawn row.to) = tells.0 holds in
       let within : number < length drawn.rows = slice_get_within drawn.rows number row there in
-      rw (rows_from drawn.rows number row there) (
+      rw (drop-read drawn.rows number row there) (
         (same, refl),
         proof_not line (lines.row number row.kind (name_of drawn row.from) (name_of drawn row.to)) same refl,
         (record { from = between.0; to = between.1; number = within; small = small }, tt),
       )
 
   pub row_none : test ≡ false → Decides drawn (at_of drawn (stages.Row tally number)) line None
-  row_none fails = rw (rows_from drawn.rows number row there) (λ next h. let clash : true ≡ false = sym (tells.1 h.0) ∙ fails in absurd (cc clash))
+  row_none fails = rw (drop-read drawn.rows number row there) (λ next h. let clash : true ≡ false = sym (tells.1 h.0) ∙ fails in absurd (cc clash))

@@ -1,6 +1,5 @@
 -- Root bounds.
 use Rattle.std.proofs.Common.{◌≡◌, ◌↔◌, ◌<◌, ◌≤ℤ◌, ◌<ℤ◌, ℤ, neg_ℤ, pos, Bool, IsTrue, [], Option, Some, None, option_and_then, option_map, slice_get, refl, sym, ap, subst, ◌∙◌, arith}
-use Rattle.std.proofs.Math.IntN.{neg_ℤ-neg_ℤ}
 use Rattle.std.proofs.lemmas.Int.{ints}
 use Rattle.itv_base.specs.declared.names.EdgeName.{EdgeName}
 use Rattle.itv_base.specs.declared.names.EventId.{EventId}
@@ -14,6 +13,7 @@ use Rattle.branch.specs.Answers.{IsRoot}
 use Rattle.branch.specs.declared.answer.Root.{Root}
 use Rattle.branch.specs.declared.answer.Root.TheVariants as roots
 use Rattle.requirements.specs.declared.bound.Bound.{Bound}
+use Rattle.requirements.proofs.Judging.{map_twice}
 use Rattle.drawn.specs.declared.row.Row.{Row}
 use Rattle.right_report.specs.Right.LineClaims.{IsLimit}
 use Rattle.report_check.specs.declared.stage.NextBound.{NextBound}
@@ -90,15 +90,11 @@ root_meets net from to (roots.Bound upper) is = (λ other. root_times net from t
 
 -- ---- reversed
 
-twice : (o : Option ℤ) → option_map neg_ℤ (option_map neg_ℤ o) ≡ o
-twice None = refl
-twice (Some value) = ap (λ v. Some v) (neg_ℤ-neg_ℤ value)
-
 pub reversed_is : (root : Root) (limit : Option ℤ) → ((reversed_root root ≡ roots.Bound limit) ↔ (root ≡ roots.Bound (option_map neg_ℤ limit)))
 reversed_is roots.NoTimes limit = (λ e. absurd (cc e), λ e. absurd (cc e))
 reversed_is (roots.Bound upper) limit = (
-  λ e. ap (λ o. roots.Bound o) (sym (twice upper) ∙ ap (option_map neg_ℤ) (same_root (option_map neg_ℤ upper) limit e)),
-  λ e. ap (λ o. roots.Bound o) (ap (option_map neg_ℤ) (same_root upper (option_map neg_ℤ limit) e) ∙ twice limit),
+  λ e. ap (λ o. roots.Bound o) (sym (map_twice upper) ∙ ap (option_map neg_ℤ) (same_root (option_map neg_ℤ upper) limit e)),
+  λ e. ap (λ o. roots.Bound o) (ap (option_map neg_ℤ) (same_root upper (option_map neg_ℤ limit) e) ∙ map_twice limit),
 )
 
 -- ---- limits

@@ -115,7 +115,7 @@ fn goal_of(net: &Network, row: &Row, coming: NextBound, value: i64) -> Goal
     ensures goal { ReadsAlike net.now (goal_of row.now (next_in coming) value) (goal_view result) }
 {
     // The network is within its limits, and so are the sums of its paths.
-    let _events = net.events();
+    net.is_whole();
     match coming {
         NextBound::Greatest => Goal::Bound {
             from: row.from,

@@ -5,6 +5,7 @@ use Rattle.std.proofs.lemmas.Bool.{and_parts, le-leb, ltb-false}
 use Rattle.std.proofs.lemmas.Int.{ints}
 use Rattle.itv_base.specs.Range.{Ends}
 use Rattle.itv_base.specs.declared.names.EventId.{EventId}
+use Rattle.itv_base.proofs.Integers.{lt_from_test, le_from_test, neg_twice}
 use Rattle.event_graph.specs.Times.{separation, time_of}
 use Rattle.event_graph.specs.Network.{Net}
 use Rattle.event_graph.specs.Satisfying.{Satisfies}
@@ -19,12 +20,6 @@ use Rattle.requirements.specs.Verdicts.{breaks_high, breaks_low, meets_high, mee
 use Rattle.requirements.specs.Laws.{FailHighIsBroken, FailLowIsBroken, IsWithin, PassIsMet, ReversedGreatestIsLeast, UndecidedIsWithin}
 
 -- ---- tests of whole numbers
-
-below : (a b : ℤ) → int_lt a b ≡ true → a <ℤ b
-below a b h = omega (arith, ints)
-
-at_most : (a b : ℤ) → int_le a b ≡ true → a ≤ℤ b
-at_most a b h = omega (arith, ints)
 
 -- ---- which tests lead to a verdict
 
@@ -49,9 +44,6 @@ tested range least greatest word e = way_of (breaks_high range.high greatest) (b
 
 -- ---- the sides
 
-negated_twice : (z : ℤ) → neg_ℤ (neg_ℤ z) ≡ z
-negated_twice z = omega (arith, ints)
-
 module _ (net : Net) (from to : EventId) where
   -- if a high end is fine, no satisfying separation is past it
   high_met : (high : Option ℤ) (greatest : Bound) → IsGreatestBound net from to greatest → meets_high high greatest ≡ true
@@ -59,13 +51,13 @@ module _ (net : Net) (from to : EventId) where
   high_met None greatest right fine times sat = tt
   high_met (Some high) (Closed value) right fine times sat =
       let most : separation times from to ≤ℤ value = right.most times sat in
-      let end : value ≤ℤ high = at_most value high fine in
+      let end : value ≤ℤ high = le_from_test value high fine in
       omega (arith, ints)
   high_met (Some high) Unbounded right fine times sat = absurd (cc)
   high_met (Some high) (Within None attained) right fine times sat = absurd (cc)
   high_met (Some high) (Within (Some limit) attained) right fine times sat =
       let most : separation times from to ≤ℤ limit = root_bound_encloses net from to limit times right.0 sat in
-      let end : limit ≤ℤ high = at_most limit high fine in
+      let end : limit ≤ℤ high = le_from_test limit high fine in
       omega (arith, ints)
 
   reversed_most : (times : List ℤ) (value : ℤ) → separation times to from ≤ℤ neg_ℤ value → value ≤ℤ separation times from to
@@ -79,25 +71,25 @@ module _ (net : Net) (from to : EventId) where
   low_met None least right fine times sat = tt
   low_met (Some low) (Closed value) right fine times sat =
       let fewest : value ≤ℤ separation times from to = right.least times sat in
-      let end : low ≤ℤ value = at_most low value fine in
+      let end : low ≤ℤ value = le_from_test low value fine in
       omega (arith, ints)
   low_met (Some low) Unbounded right fine times sat = absurd (cc)
   low_met (Some low) (Within None attained) right fine times sat = absurd (cc)
   low_met (Some low) (Within (Some limit) attained) right fine times sat =
       let most : separation times to from ≤ℤ neg_ℤ limit = root_bound_encloses net to from (neg_ℤ limit) times right.0 sat in
       let fewest : limit ≤ℤ separation times from to = reversed_most times limit most in
-      let end : low ≤ℤ limit = at_most low limit fine in
+      let end : low ≤ℤ limit = le_from_test low limit fine in
       omega (arith, ints)
 
   high_broken : (high : Option ℤ) (greatest : Bound) → IsGreatestBound net from to greatest → breaks_high high greatest ≡ true
       → (times : List ℤ) × Satisfies times net × IsSomeAnd high (λ most. most <ℤ separation times from to)
   high_broken None greatest right past = absurd (cc)
   high_broken (Some high) (Closed value) right past =
-      (right.attained.0, right.attained.1, rw right.attained.2 (below high value past))
+      (right.attained.0, right.attained.1, rw right.attained.2 (lt_from_test high value past))
   high_broken (Some high) Unbounded right past = right high
   high_broken (Some high) (Within limit None) right past = absurd (cc)
   high_broken (Some high) (Within limit (Some found)) right past =
-      (right.1.0, right.1.1, rw right.1.2 (below high found past))
+      (right.1.0, right.1.1, rw right.1.2 (lt_from_test high found past))
 
   reversed_less : (times : List ℤ) (value : ℤ) → neg_ℤ value <ℤ separation times to from → separation times from to <ℤ value
   reversed_less times value h = less_from (time_of times from) (time_of times to) value h
@@ -109,12 +101,12 @@ module _ (net : Net) (from to : EventId) where
       → (times : List ℤ) × Satisfies times net × IsSomeAnd low (λ fewest. separation times from to <ℤ fewest)
   low_broken None least right past = absurd (cc)
   low_broken (Some low) (Closed value) right past =
-      (right.attained.0, right.attained.1, rw right.attained.2 (below value low past))
+      (right.attained.0, right.attained.1, rw right.attained.2 (lt_from_test value low past))
   low_broken (Some low) Unbounded right past =
       let w = right (neg_ℤ low) in (w.0, w.1, reversed_less w.0 low w.2)
   low_broken (Some low) (Within limit None) right past = absurd (cc)
   low_broken (Some low) (Within limit (Some found)) right past =
-      (right.1.0, right.1.1, rw right.1.2 (below found low past))
+      (right.1.0, right.1.1, rw right.1.2 (lt_from_test found low past))
 
 -- ---- the laws
 
@@ -200,16 +192,16 @@ some_back net from to (Some value) h = attained_back net from to value h
 
 some_forth : (net : Net) (from to : EventId) (o : Option ℤ) → IfSome (option_map neg_ℤ o) (IsAttained net from to) → IfSome o (IsAttained net to from)
 some_forth net from to None h = tt
-some_forth net from to (Some value) h = subst (IsAttained net to from) (negated_twice value) (attained_back net to from (neg_ℤ value) h)
+some_forth net from to (Some value) h = subst (IsAttained net to from) (neg_twice value) (attained_back net to from (neg_ℤ value) h)
 
-map_twice : (o : Option ℤ) → option_map neg_ℤ (option_map neg_ℤ o) ≡ o
+pub map_twice : (o : Option ℤ) → option_map neg_ℤ (option_map neg_ℤ o) ≡ o
 map_twice None = refl
-map_twice (Some value) = ap (λ z. Some z) (negated_twice value)
+map_twice (Some value) = ap (λ z. Some z) (neg_twice value)
 
 pub reversed_greatest_is_least : ReversedGreatestIsLeast
 reversed_greatest_is_least net from to (Closed value) =
     let both = least_is_reversed_greatest net from to (neg_ℤ value) in
-    let twice : neg_ℤ (neg_ℤ value) ≡ value = negated_twice value in
+    let twice : neg_ℤ (neg_ℤ value) ≡ value = neg_twice value in
     ((λ h. both.1 (rw twice h)), (λ h. rw twice at (both.0 h)))
 reversed_greatest_is_least net from to Unbounded = ((λ h. h), (λ h. h))
 reversed_greatest_is_least net from to (Within limit attained) =

@@ -1,7 +1,8 @@
 //! Bounds of the separation of a pair of events.
 
-ghost use Rattle.std.specs.Prelude.{◌≡◌, neg_ℤ, option_map};
-ghost use Rattle.event_graph.specs.Times.{IsTime};
+ghost use Rattle.std.specs.Prelude.{◌≡◌};
+
+use event_graph::negated_time;
 
 /// What is known of the greatest or the least separation of a pair of events, among the times that satisfy a network. All numbers
 /// are in picoseconds.
@@ -46,21 +47,12 @@ impl Bound {
         ensures times { HasTimes result }
     {
         match self {
-            Bound::Closed(value) => Bound::Closed(negated(value)),
+            Bound::Closed(value) => Bound::Closed(negated_time(value)),
             Bound::Unbounded => Bound::Unbounded,
             Bound::Within { limit, attained } => Bound::Within {
-                limit: limit.map(negated),
-                attained: attained.map(negated),
+                limit: limit.map(negated_time),
+                attained: attained.map(negated_time),
             },
         }
     }
-}
-
-// Minus a number of picoseconds.
-fn negated(value: i64) -> i64
-    requires { IsTime value }
-    ensures value { result ≡ neg_ℤ value }
-    ensures within { IsTime result }
-{
-    -value
 }

@@ -6,6 +6,7 @@ ghost use Rattle.requirements.specs.Verdicts.{verdict_of};
 
 use crate::bound::BothBounds;
 use crate::verdict::Verdict;
+use event_graph::negated_weight;
 use itv_base::Range;
 
 impl BothBounds {
@@ -28,17 +29,8 @@ impl BothBounds {
         ensures limit { IsEnd (Some result) }
     {
         match range.low() {
-            Some(low) => negated(low),
+            Some(low) => negated_weight(low),
             None => unreachable!(),
         }
     }
-}
-
-// Minus an end of a range.
-fn negated(end: i64) -> i64
-    requires end { IsEnd (Some end) }
-    ensures value { result ≡ neg_ℤ end }
-    ensures end { IsEnd (Some result) }
-{
-    -end
 }

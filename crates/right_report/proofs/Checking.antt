@@ -1,10 +1,10 @@
 -- A report in which each line meets the check is right.
-use Rattle.std.proofs.Common.{◌≡◌, ℤ, neg_ℤ, ◌-ℤ◌, ◌≤ℤ◌, List, [], ◌∷◌, inl, inr, subst, arith}
-use Rattle.std.proofs.lemmas.Int.{ints}
+use Rattle.std.proofs.Common.{◌≡◌, ℤ, neg_ℤ, List, [], ◌∷◌, inl, inr, subst}
 use Rattle.event_graph.specs.Network.{Net}
 use Rattle.event_graph.specs.Proof.{IsProof, ProofLine}
 use Rattle.event_graph.specs.Times.{separation, time_of}
 use Rattle.event_graph.proofs.SoundProofs.{proof_bounds, proof_of_nothing}
+use Rattle.event_graph.proofs.Reversing.{above_value}
 use Rattle.requirements.specs.declared.bound.Bound.{Bound}
 use Rattle.requirements.specs.declared.bound.Bound.TheVariants.{Closed, Unbounded, Within}
 use Rattle.slack_report.specs.declared.words.FindingWord.{FindingWord}
@@ -24,9 +24,6 @@ is_finding net lines Consistent h = h
 is_finding net lines Inconsistent h = proof_of_nothing net lines h
 is_finding net lines Unsettled h = h
 
-above : (a b value : ℤ) → (a -ℤ b) ≤ℤ neg_ℤ value → value ≤ℤ (b -ℤ a)
-above a b value h = omega (arith, ints)
-
 -- a bound that is proved, and attained by times, is closed
 is_closed : (net : Net) (r : Row) (coming : NextBound) (value : ℤ) (lines : List ProofLine) (list : List ℤ) → IsProof net (goal_of r coming value) lines → AreTimes net r list → separation list r.from r.to ≡ value
     → IsClosed net r coming value
@@ -36,7 +33,7 @@ is_closed net r greatest value lines list p t e = record {
 }
 is_closed net r (least_by most) value lines list p t e = record {
   attained = (list, t.satisfied, e);
-  least = λ times sat. above (time_of times r.from) (time_of times r.to) value (proof_bounds net r.to r.from (neg_ℤ value) lines times p sat);
+  least = λ times sat. above_value (time_of times r.from) (time_of times r.to) value (proof_bounds net r.to r.from (neg_ℤ value) lines times p sat);
 }
 
 -- the times after a closed bound

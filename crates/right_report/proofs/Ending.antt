@@ -64,7 +64,7 @@ Counts drawn other = Unit {0}
 
 -- ---- a row with all its lines
 
-within_is : (value : Bound) → IsWithin value → is_within value ≡ false → ⊥
+pub within_is : (value : Bound) → IsWithin value → is_within value ≡ false → ⊥
 within_is (Closed value) w e = w
 within_is Unbounded w e = w
 within_is (Within limit attained) w e = cc
@@ -225,7 +225,7 @@ EndSays drawn endings.Fail = SomeBroken drawn
 EndSays drawn endings.Inconsistent = IsInconsistent drawn.net
 EndSays drawn endings.Undecided = Unit {0}
 
-same_ending : (a b : EndWord) → ending a ≡ ending b → a ≡ b
+pub same_ending : (a b : EndWord) → ending a ≡ ending b → a ≡ b
 same_ending a b e = cc
 
 module _ (drawn : Drawn) where

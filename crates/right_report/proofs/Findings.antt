@@ -19,7 +19,7 @@ pub record Finds (claims : LineClaims) (word : FindingWord) (next : ReportState)
   pub holds : claims.finding lines word
   pub leads : next ≡ behind_finding word
 
-same_finding : (a b : FindingWord) → finding a ≡ finding b → a ≡ b
+pub same_finding : (a b : FindingWord) → finding a ≡ finding b → a ≡ b
 same_finding a b e = cc
 
 module _ (claims : LineClaims) (drawn : Drawn) (word : FindingWord) (next : ReportState) where

@@ -1,11 +1,10 @@
 -- A report has at most one first wrong line, and a report in which each line meets the check has none.
-use Rattle.std.proofs.Common.{◌≡◌, ◌+◌, ℕ, ℤ, List, [], ◌∷◌, ◌++◌, Option, Some, None, IsSomeAnd, inl, inr, refl, sym, ap, subst, ◌∙◌, append-nil, append_assoc}
+use Rattle.std.proofs.Common.{◌≡◌, ◌+◌, ℕ, ℤ, List, [], ◌∷◌, ◌++◌, Some, IsSomeAnd, inl, inr, refl, sym, ap, subst, ◌∙◌, append-nil, append_assoc}
 use Rattle.event_graph.specs.Network.{Net}
 use Rattle.event_graph.specs.Proof.{Case, IsProof, Loop, Nothing, Path, ProofGoal, ProofLine, Split, cases_of}
 use Rattle.event_graph.specs.Proof as proofs
 use Rattle.requirements.specs.declared.bound.Bound.{Bound}
 use Rattle.requirements.specs.declared.bound.Bound.TheVariants.{Closed}
-use Rattle.slack_report.specs.declared.words.FindingWord.{FindingWord}
 use Rattle.slack_report.specs.declared.words.FindingWord.TheVariants.{Consistent, Inconsistent, Unsettled}
 use Rattle.slack_report.specs.declared.words.Which.{Which}
 use Rattle.slack_report.specs.Entry.{Entry, bound, budget, finding, heading, proof, times}
@@ -16,14 +15,13 @@ use Rattle.right_report.specs.Checked.{checked}
 use Rattle.right_report.specs.Laws.{CheckedHasNoWrong, OneFirstWrong}
 use Rattle.right_report.specs.Shown.{goal_of}
 use Rattle.right_report.specs.Wrong.{IsFine, IsFirstWrong, IsLineRefused, IsWrong, Takes, goal_ahead}
+use Rattle.right_report.proofs.Findings.{same_finding}
+use Rattle.itv_base.proofs.Options.{some_and}
 
 -- ---- a line leads to one state
 
 same_times : (a b : List ℤ) → times a ≡ times b → a ≡ b
 same_times a b e = cc
-
-same_finding : (a b : FindingWord) → finding a ≡ finding b → a ≡ b
-same_finding a b e = cc
 
 same_proof : (a b : ProofLine) → proof a ≡ proof b → a ≡ b
 same_proof a b e = cc
@@ -85,7 +83,7 @@ one_first_wrong drawn lines m n a b = one_from drawn lines at_heading m n a b
 
 -- ---- reading accepts a front of a proof
 
-reads_front : (net : Net) (goal : ProofGoal) (lines more : List ProofLine) (cases left : List Case) → proofs.ProofLeaves net goal cases (lines ++ more) left
+pub reads_front : (net : Net) (goal : ProofGoal) (lines more : List ProofLine) (cases left : List Case) → proofs.ProofLeaves net goal cases (lines ++ more) left
     → (mid : List Case) × proofs.ProofLeaves net goal cases lines mid
 reads_front net goal [] more cases left h = (cases, refl)
 reads_front net goal (line ∷ lines) more [] left h = absurd h
@@ -160,16 +158,12 @@ event_ahead number (finding Inconsistent ∷ rest) = refl
 event_ahead number (finding Unsettled ∷ rest) = refl
 event_ahead number (line ∷ rest) = refl
 
-some_goal : (o : Option ProofGoal) (P : ProofGoal → Type 0) → IsSomeAnd o P → (g : ProofGoal) × (o ≡ Some g) × P g
-some_goal None P h = absurd h
-some_goal (Some g) P h = (g, refl, h)
-
 -- no line of a proof before the finding is refused
 refused_find : (drawn : Drawn) (front : List ProofLine) (line : ProofLine) (rest : List Entry) (next : ReportState) → MayFind (checked drawn.net) front (proof line) next
     → LinesLead (checked drawn.net) drawn next rest at_last → IsSomeAnd (goal_ahead (at_finding front) rest) (λ goal. Takes drawn.net goal (front ++ line ∷ []) → ⊥) → ⊥
 refused_find drawn front line rest next (inr m) more refused = let clash : proof line ≡ finding m.0 = m.1 in absurd (cc)
 refused_find drawn front line rest next (inl m) more refused =
-    let g = some_goal (goal_ahead (at_finding front) rest) (λ goal. Takes drawn.net goal (front ++ line ∷ []) → ⊥) refused in
+    let g = some_and (goal_ahead (at_finding front) rest) (λ goal. Takes drawn.net goal (front ++ line ∷ []) → ⊥) refused in
     let read = subst (λ x. LinesLead (checked drawn.net) drawn x rest at_last) m.2 more in
     let whole = ahead_find drawn g.0 rest front (front ++ m.0 ∷ []) g.1 read in
     g.2 (subst (λ l. Takes drawn.net g.0 (front ++ l ∷ [])) (sym (same_proof line m.0 m.1)) (taken drawn.net g.0 (front ++ m.0 ∷ []) whole.0 whole.1))
@@ -180,7 +174,7 @@ refused_bound : (drawn : Drawn) (current : CurrentRow) (coming : NextBound) (fro
     → IsSomeAnd (goal_ahead (at_bound current coming front) rest) (λ goal. Takes drawn.net goal (front ++ line ∷ []) → ⊥) → ⊥
 refused_bound drawn current coming front line rest next (inr m) more refused = let clash : proof line ≡ bound (which_of coming) m.0 = m.1 in absurd (cc)
 refused_bound drawn current coming front line rest next (inl m) more refused =
-    let g = some_goal (goal_ahead (at_bound current coming front) rest) (λ goal. Takes drawn.net goal (front ++ line ∷ []) → ⊥) refused in
+    let g = some_and (goal_ahead (at_bound current coming front) rest) (λ goal. Takes drawn.net goal (front ++ line ∷ []) → ⊥) refused in
     let read = subst (λ x. LinesLead (checked drawn.net) drawn x rest at_last) m.2 more in
     let whole = ahead_bound drawn g.0 rest current coming front (front ++ m.0 ∷ []) g.1 read in
     g.2 (subst (λ l. Takes drawn.net g.0 (front ++ l ∷ [])) (sym (same_proof line m.0 m.1)) (taken drawn.net g.0 (front ++ m.0 ∷ []) whole.0 whole.1))

@@ -17,7 +17,7 @@ use Rattle.right_report.specs.Step.Writing.{WritesLines}
 use Rattle.std.specs.Bool.{⊤}
 
 -- the text of one line
-line_text : (line : Entry) → entry_text line ≡ report_text (line ∷ [])
+pub line_text : (line : Entry) → entry_text line ≡ report_text (line ∷ [])
 line_text line = sym (append-nil (entry_text line))
 
 module _ {claims : LineClaims} {drawn : Drawn} where
@@ -116,7 +116,7 @@ reads_event_proof claims drawn number [] = refl
 reads_event_proof claims drawn number (line ∷ lines) = (at_finding (line ∷ []), inl (line, refl, refl), reads_finding_proof claims drawn (line ∷ []) lines)
 
 -- lines of a proof have the text of the same lines in a report
-proof_text-lines : (lines : List ProofLine) → proof_text lines ≡ report_text (map proof lines)
+pub proof_text-lines : (lines : List ProofLine) → proof_text lines ≡ report_text (map proof lines)
 unfolding words_of
 proof_text-lines [] = refl
 proof_text-lines (line ∷ lines) = ap (λ text. proof_line_text line ++ text) (proof_text-lines lines)

@@ -1,14 +1,14 @@
 -- What the lines of an ended search show.
-use Rattle.std.proofs.Common.{◌≡◌, ◌<◌, ◌≤◌, ℕ, ℤ, pos, neg_ℤ, ◌-ℤ◌, ◌<ℤ◌, Bool, true, false, List, [], length, Option, Some, None, IsSome, IfSome, IfNone, sym, refl, subst, arith}
+use Rattle.std.proofs.Common.{◌≡◌, ◌<◌, ◌≤◌, ℕ, ℤ, pos, neg_ℤ, ◌-ℤ◌, ◌<ℤ◌, Bool, List, [], length, Option, Some, IfSome, IfNone, sym, refl, subst, arith}
 use Rattle.std.proofs.lemmas.Int.{ints}
 use Rattle.std.specs.Global.{Vec}
 use Rattle.itv_base.specs.declared.names.EventId.{EventId}
+use Rattle.itv_base.proofs.Options.{some_and, some_at}
 use Rattle.event_graph.specs.Network.{IsNet, Net}
 use Rattle.falling.specs.declared.view.View.{View}
 use Rattle.falling.specs.declared.view.View.TheVariants.{Plain, Negated}
 use Rattle.falling.specs.Cap.{far_line}
 use Rattle.falling.specs.Kinds.{negated}
-use Rattle.falling.proofs.Bounding.{some_and}
 use Rattle.edge_clauses.specs.Lines.{Goal, IsClauseProof, IsOver}
 use Rattle.edge_clauses.proofs.Proving.{clause_proof_bounds, clause_proof_of_nothing, negated_proof_bounds, negated_proof_of_nothing}
 use Rattle.settle.specs.declared.shown_answer.ShownAnswer.{ShownAnswer}
@@ -70,12 +70,6 @@ start_low claim lowest far is at = omega (arith, ints)
 
 -- ---- what is found
 
-some_of : {X : Type 0} (o : Option X) → IsSome o → (x : X) × (o ≡ Some x)
-some_of None h = absurd (not_true h) where
-  not_true : false ≡ true → ⊥
-  not_true e = cc
-some_of (Some x) h = (x, refl)
-
 -- the lines of the ended search of a view are a proof of the claim
 proof_as : (net : Net) (race : Race) (view : View) (lines : List StoredLine) → IsRacing net race → IsOverAs view race → lines ≡ lines_as view race
     → IsProofAs view net race.from race.to race.best.claim.value lines
@@ -107,7 +101,7 @@ pub found_closed : (net : Net) (race : Race) (view : View) (turns budget : ℕ) 
     → ((ts : Vec ℤ) → race.best.times ≡ Some ts → times ≡ ts) → lines.items ≡ lines_as view race
     → turns ≤ budget → IsFound net race.from race.to budget (record { answer = answer; times = times; ray = ray; claim = race.best.claim; view = view; lines = lines; turns = turns })
 found_closed net race view turns budget answer times ray lines is_net racing (over, some, below) few is_answer at_times at_lines within =
-    let (ts, is) = some_of race.best.times some in
+    let (ts, is) = some_at race.best.times some in
     let are : AreRaceTimes net race.from race.to race.best.claim.value ts.items =
     subst (λ (o : Option (Vec ℤ)). IfSome o (λ times. AreRaceTimes net race.from race.to race.best.claim.value times.items)) is racing.best.found in
     let same : times ≡ ts = at_times ts is in

@@ -77,7 +77,7 @@ impl Prover {
         ensures over { IfOk result (λ next. next ≡ Over → IsOver self.new.check.goal self.new.check.state) }
     {
         let claim = self.checker.claim();
-        let _events = net.events();
+        net.is_whole();
         match self.engine.step(claim.value)? {
             Proposal::Nothing => Ok(SearchState::GoesOn),
             Proposal::Line(line) => self.heed(alloc, net, line),
@@ -160,7 +160,7 @@ impl Prover {
         requires proving { IsProving net.now self.now }
         ensures limits { AreLimits net.now result }
     {
-        let _events = net.events();
+        net.is_whole();
         self.checker.limits()
     }
 

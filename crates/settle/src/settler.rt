@@ -94,7 +94,7 @@ fn found_by(
     requires lines { line_count race ≤ finish.turns }
     ensures found { (most : ℕ) → finish.turns ≤ most → IsFound net.now from to most result }
 {
-    let _events = net.events();
+    net.is_whole();
     let Finish { ending, turns } = finish;
     let Race {
         from: _,

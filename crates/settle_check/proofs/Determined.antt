@@ -2,8 +2,8 @@
 use Rattle.std.proofs.Common.{◌≡◌, List, [], ◌∷◌, ◌++◌, None, sym, ap, ◌∙◌, subst}
 use Rattle.std.proofs.lemmas.Option.{same_Some}
 use Rattle.event_graph.specs.Network.{Net}
-use Rattle.falling.proofs.Bounding.{some_and}
 use Rattle.edge_clauses.specs.Lines.{Assume, Block, ClauseLine, Close, Fall, Goal, IsLine, Know, Loop, ProofLeads, Rise, State, refuting}
+use Rattle.itv_base.proofs.Options.{some_and}
 
 pub one_line : (net : Net) (goal : Goal) (state : State) (line : ClauseLine) (a b : State) → IsLine net goal state line a → IsLine net goal state line b → a ≡ b
 one_line net goal state (Fall event value basis) a b p q = p.1 ∙ sym q.1

@@ -9,7 +9,6 @@ mod Passing
 mod Proved
 mod Reading
 mod Same
-mod SetLoop
 mod Settled
 mod Taken
 mod Turns

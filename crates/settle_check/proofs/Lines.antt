@@ -5,11 +5,11 @@ use Rattle.itv_base.specs.Numerals.{signed_text}
 use Rattle.line_words.specs.Lines.{ended, is_feed, line_of}
 use Rattle.line_words.specs.Words.{Word}
 use Rattle.line_words.proofs.Cutting.{IsLine, cut_same}
-use Rattle.line_words.proofs.Plain.{ArePlain, is_plain, join_line, line_is_text, map_plain, number_plain, signed_plain, split-join}
+use Rattle.line_words.proofs.Plain.{ArePlain, join_line, line_is_text, map_plain, signed_plain, split-join}
 use Rattle.slack_report.specs.declared.words.Which.{Which}
-use Rattle.slack_report.specs.declared.words.Which.TheVariants.{Max, Min}
 use Rattle.slack_report.specs.Entry as line
 use Rattle.slack_report.specs.Text.{entry_text, members_from, which_word, words_of}
+use Rattle.slack_report.proofs.PlainLines.{members_plain, which_plain}
 use Rattle.requirements.specs.declared.bound.Bound.TheVariants as bounds
 use Rattle.settle_check.specs.Step.{Begins, BeginsWith}
 
@@ -63,15 +63,6 @@ words_stand text first others more plain text_is = record {
   parts = split-join first others plain;
   is_text = line_is_text (first ∷ others) plain;
 }
-
-pub which_plain : (which : Which) → is_plain (which_word which) ≡ true
-which_plain Max = refl
-which_plain Min = refl
-
-members_plain : (set : List Bool) (number : ℕ) → ArePlain (members_from number set)
-members_plain [] number = tt
-members_plain (true ∷ set) number = (number_plain number, members_plain set (number + 1))
-members_plain (false ∷ set) number = members_plain set (number + 1)
 
 pub times_stand : (text : List ℕ) (times : List ℤ) (more : List ℕ) → text ≡ entry_text (line.times times) ++ more → BeginsWith text (codes "times" ∷ map signed_text times) more
 unfolding words_of

@@ -4,6 +4,7 @@ use Rattle.std.proofs.lemmas.Int.{ints}
 use Rattle.std.proofs.lemmas.List.{length-map}
 use Rattle.std.proofs.lemmas.Option.{same_Some}
 use Rattle.itv_base.specs.declared.names.EventId.{EventId}
+use Rattle.itv_base.proofs.Integers.{no_test_from_le, test_from_lt}
 use Rattle.event_graph.specs.Bounds.{IsGreatest}
 use Rattle.event_graph.specs.Network.{IsNet, Net}
 use Rattle.event_graph.specs.Satisfying.{Satisfies}
@@ -95,18 +96,6 @@ flag_at level [] i within = absurd (omega arith)
 flag_at level (time ∷ times) zero within = refl
 flag_at level (time ∷ times) (suc i) within = flag_at level times i (omega arith)
 
-is_above : (level value : ℤ) → level <ℤ value → int_lt level value ≡ true
-is_above level value h = by_test (int_lt level value) refl where
-  by_test : (t : Bool) → int_lt level value ≡ t → t ≡ true
-  by_test true e = refl
-  by_test false e = absurd (omega (arith, ints))
-
-not_above : (level value : ℤ) → value ≤ℤ level → int_lt level value ≡ false
-not_above level value h = by_test (int_lt level value) refl where
-  by_test : (t : Bool) → int_lt level value ≡ t → t ≡ false
-  by_test true e = absurd (omega (arith, ints))
-  by_test false e = refl
-
 apart : (width : ℕ) (level low high : ℤ) → int_lt level low ≡ false → int_lt level high ≡ true → AtGap width level high → (low +ℤ pos width) <ℤ high
 apart width level low high is_low is_high (inl not) = absurd (omega (arith, ints))
 apart width level low high is_low is_high (inr wide) = omega (arith, ints)
@@ -126,8 +115,8 @@ far_is_unbounded net from to times is_net in_from in_to h far =
     let set : List Bool = map (λ time. int_lt top time) times in
     ray_is_unbounded net from to times set
     (gap_is_ray net from to set times is_net h (length-map times (λ time. int_lt top time) ∙ h.count)
-    (flag_at top times to.0 (omega (arith, h.count)) ∙ ap Some (is_above top (time_of times to) beyond))
-    (flag_at top times from.0 (omega (arith, h.count)) ∙ ap Some (not_above top (time_of times from) has.low))
+    (flag_at top times to.0 (omega (arith, h.count)) ∙ ap Some (test_from_lt top (time_of times to) beyond))
+    (flag_at top times from.0 (omega (arith, h.count)) ∙ ap Some (no_test_from_le top (time_of times from) has.low))
     (λ low high at_low at_high.
     let a = flagged top times low.0 false at_low in
     let b = flagged top times high.0 true at_high in

@@ -14,6 +14,7 @@ use Rattle.slack_report.specs.declared.words.Which.{Which}
 use Rattle.slack_report.specs.declared.words.Which.TheVariants.{Max, Min}
 use Rattle.slack_report.specs.Entry as line
 use Rattle.slack_report.specs.Text.{entry_text, which_word, words_of}
+use Rattle.slack_report.proofs.PlainLines.{which_plain}
 use Rattle.requirements.specs.declared.bound.Bound.TheVariants as bounds
 use Rattle.drawn.specs.declared.row.Row.{Row}
 use Rattle.edge_clauses.specs.Proofs.{lines_of}
@@ -27,7 +28,6 @@ use Rattle.settle_report.specs.Answers.{ArePrintedTimes, IsBound, IsEndless, IsF
 use Rattle.settle_report.specs.Text.{bound_text, finding_text, shown_text}
 use Rattle.settle_check.specs.declared.check_stop.CheckStop.{CheckStop}
 use Rattle.settle_check.specs.Step.{Begins, Gives, IsSameBound, IsSameFinding}
-use Rattle.settle_check.proofs.Lines.{which_plain}
 use Rattle.settle_check.proofs.Taken.{view_stands}
 
 -- ---- lines that differ

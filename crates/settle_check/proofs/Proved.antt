@@ -1,11 +1,11 @@
 -- What the lines of a proof that a checker has taken show of a bound and of a network.
-use Rattle.std.proofs.Common.{◌≡◌, ◌<◌, ℤ, pos, neg_ℤ, ◌-ℤ◌, ◌≤ℤ◌, ◌<ℤ◌, true, List, All, refl, subst, arith}
-use Rattle.std.proofs.lemmas.Int.{ints}
+use Rattle.std.proofs.Common.{◌≡◌, ◌<◌, ℤ, pos, neg_ℤ, ◌≤ℤ◌, ◌<ℤ◌, true, List, All, refl, subst}
 use Rattle.itv_base.specs.declared.names.EventId.{EventId}
 use Rattle.event_graph.specs.Bounds.{IsInconsistent}
 use Rattle.event_graph.specs.Network.{IsNet, Net}
 use Rattle.event_graph.specs.Satisfying.{Satisfies}
 use Rattle.event_graph.specs.Times.{separation, time_of}
+use Rattle.event_graph.proofs.Reversing.{above_value}
 use Rattle.falling.specs.declared.view.View.{View}
 use Rattle.falling.specs.declared.view.View.TheVariants.{Plain, Negated}
 use Rattle.falling.specs.Cap.{far_line}
@@ -29,16 +29,13 @@ bounds Plain net from to claim lines is_net in_from in_to near proof times h =
     clause_proof_bounds net (record { from = from; to = to; claim = claim }) (lines_of lines) times is_net in_from in_to near proof h
 bounds Negated net from to claim lines is_net in_from in_to near proof times h = negated_proof_bounds net from to claim (lines_of lines) times is_net in_from in_to near proof h
 
-above : (a b value : ℤ) → (a -ℤ b) ≤ℤ neg_ℤ value → value ≤ℤ (b -ℤ a)
-above a b value h = omega (arith, ints)
-
 extreme : (which : Which) (net : Net) (row : Row) (value : ℤ) (times : List ℤ) (proof : Proof) → Satisfies times net → separation times row.from row.to ≡ value
     → ((others : List ℤ) → Satisfies others net → separation others (pair_of which row).from (pair_of which row).to ≤ℤ claim_of which value)
     → proof.claim ≡ claim_of which value → IsProofAs proof.view net (pair_of which row).from (pair_of which row).to (claim_of which value) proof.lines.items
     → All IsClauseLine (lines_of proof.lines.items) → IsExtreme true which net row value proof
 extreme Max net row value times proof satisfied attained most claimed proves forms = (record { attained = (times, satisfied, attained); most = most }, (claimed, λ wanted. (proves, forms)))
 extreme Min net row value times proof satisfied attained most claimed proves forms = (
-  record { attained = (times, satisfied, attained); least = λ others h. above (time_of others row.from) (time_of others row.to) value (most others h) },
+  record { attained = (times, satisfied, attained); least = λ others h. above_value (time_of others row.from) (time_of others row.to) value (most others h) },
   (claimed, λ wanted. (proves, forms)),
 )
 

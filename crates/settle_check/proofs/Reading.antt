@@ -1,9 +1,8 @@
 -- Rows that were read, one behind another.
-use Rattle.std.proofs.Common.{◌≡◌, ◌<◌, ◌≤◌, ◌+◌, ℕ, true, List, [], ◌∷◌, ◌++◌, length, take, Some, slice_get, refl, sym, subst, ap, ◌∙◌, append_assoc, inl, inr, arith}
+use Rattle.std.proofs.Common.{◌≡◌, ◌<◌, ◌≤◌, ◌+◌, ℕ, true, List, [], ◌∷◌, ◌++◌, length, take, Some, slice_get, refl, sym, subst, ap, ◌∙◌, append_assoc, arith}
 use Rattle.std.proofs.lemmas.List.{length-take-le}
-use Rattle.std.proofs.lemmas.Option.{slice_get_cases, slice_get_within}
+use Rattle.std.proofs.lemmas.Option.{slice_get_within}
 use Rattle.event_graph.specs.Network.{Net}
-use Rattle.event_graph.proofs.EdgesMet.{take_next}
 use Rattle.drawn.specs.Drawn.{Drawn}
 use Rattle.drawn.specs.declared.row.Row.{Row}
 use Rattle.settle_report.specs.declared.row.RowFound.{RowFound}
@@ -11,6 +10,7 @@ use Rattle.settle_report.specs.Answers.{AreRowsFound, IsRowFound}
 use Rattle.settle_report.specs.Text.{row_text, rows_text}
 use Rattle.settle_check.specs.Step.{IsPieceAt}
 use Rattle.settle_check.proofs.Passing.{append_none, behind_none, behind_then}
+use Rattle.itv_base.proofs.Lists.{found_below, take_get}
 
 rows_push : (net : Net) (rows : List Row) (found : List RowFound) (row : Row) (of_row : RowFound) → AreRowsFound true net rows found → IsRowFound true net row of_row
     → AreRowsFound true net (rows ++ row ∷ []) (found ++ of_row ∷ [])
@@ -43,7 +43,7 @@ read_next drawn text start number found place next row of_row at read is behind 
     let within : number < length drawn.rows = slice_get_within drawn.rows number row at in
     let front : length (take number drawn.rows) ≡ number = length-take-le number drawn.rows (omega (arith, within)) in
     let last : number ≡ 0 + length (take number drawn.rows) = omega (arith, front) in
-    let more : take (number + 1) drawn.rows ≡ take number drawn.rows ++ row ∷ [] = take_next drawn.rows number row at in record {
+    let more : take (number + 1) drawn.rows ≡ take number drawn.rows ++ row ∷ [] = take_get drawn.rows number row at in record {
       are_found = subst (λ (rows : List Row). AreRowsFound true drawn.net rows (found ++ of_row ∷ [])) (sym more)
           (rows_push drawn.net (take number drawn.rows) found row of_row read.are_found is);
       behind = subst (λ (rows : List Row). IsPieceAt text start (rows_text drawn true 0 rows (found ++ of_row ∷ [])) next) (sym more)
@@ -52,12 +52,6 @@ read_next drawn text start number found place next row of_row at read is behind 
           (behind_then text start place next (rows_text drawn true 0 (take number drawn.rows) found) (row_text drawn true number row of_row) read.behind behind));
     }
 
-row_there : (rows : List Row) (k : ℕ) → k < length rows → (row : Row) × (slice_get rows k ≡ Some row)
-row_there rows k within = elim (slice_get_cases rows k).1 [
-  | inl (row, inside, at, same) ↦ (row, at)
-  | inr (past, none) ↦ absurd (omega (arith, within, past))
-]
-
 -- the row with this number was read
 pub read_row : (drawn : Drawn) (text : List ℕ) (start number : ℕ) (found after : List RowFound) (place next : ℕ) (of_row : RowFound) → number < length drawn.rows
     → AreRead drawn text start number found place
@@ -65,7 +59,7 @@ pub read_row : (drawn : Drawn) (text : List ℕ) (start number : ℕ) (found aft
     → ((row : Row) → slice_get drawn.rows number ≡ Some row → IsPieceAt text place (row_text drawn true number row of_row) next)
     → after ≡ found ++ of_row ∷ [] → AreRead drawn text start (number + 1) after next
 read_row drawn text start number found after place next of_row within read is behind pushed =
-    let (row, at) = row_there drawn.rows number within in
+    let (row, at) = found_below drawn.rows number within in
     subst (λ (rows : List RowFound). AreRead drawn text start (number + 1) rows next) (sym pushed)
     (read_next drawn text start number found place next row of_row at read (is row at) (behind row at))
 

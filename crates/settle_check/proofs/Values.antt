@@ -3,6 +3,7 @@ use Rattle.std.proofs.Common.{◌≡◌, ◌<◌, ℕ, ℤ, pos, negsuc, neg_ℤ
 use Rattle.std.specs.Prelude.{◌^◌}
 use Rattle.std.proofs.lemmas.Int.{ints}
 use Rattle.itv_base.specs.declared.names.EventId.{EventId}
+use Rattle.itv_base.proofs.Integers.{below_none}
 use Rattle.event_graph.specs.Bounds.{IsInconsistent}
 use Rattle.event_graph.specs.Limits.{IsPrintedTime}
 use Rattle.event_graph.specs.Network.{IsNet, Net}
@@ -18,7 +19,7 @@ use Rattle.drawn.specs.Drawn.{IsRowOf}
 use Rattle.drawn.specs.declared.row.Row.{Row}
 use Rattle.settle_report.specs.declared.proof.Proof.{Proof}
 use Rattle.settle_report.specs.Answers.{CanRise, IsEndless, IsExtreme, IsNumber, IsRefuted, ProvesClaim, first_event}
-use Rattle.settle_check.specs.declared.pair.Pair.{Pair}
+use Rattle.event_graph.specs.declared.pair.Pair.{Pair}
 use Rattle.settle_check.specs.Step.{IsShownProof, claim_of, pair_of}
 use Rattle.settle_check.proofs.Near.{greatest_is_near}
 
@@ -108,13 +109,10 @@ refuted_shown net proof pair is refuted =
     let lines = refuted.proves.1 refl in
     subst (λ (pair : Pair). IsShownProof net pair proof) (sym is) (record { proves = lines.0; fits = refuted.fits; forms = lines.1 })
 
-none_below : {k n : ℕ} → k < n → n ≡ 0 → ⊥
-none_below h e = omega arith
-
 -- some times satisfy a network without events
 pub none_refuted : (net : Net) → IsNet net → net.events ≡ 0 → IsInconsistent net → ⊥
 none_refuted net is_net none inconsistent =
-    inconsistent [] (record { count = sym none; each = λ k d within. absurd (none_below (is_net.constraints k d within).target none) })
+    inconsistent [] (record { count = sym none; each = λ k d within. absurd (below_none (is_net.constraints k d within).target none) })
 
 -- ---- sets that can be raised
 

@@ -13,6 +13,7 @@ use Rattle.settle_report.specs.Answers.{AreRowsFound, IsRowFound}
 use Rattle.settle_report.specs.Text.{bound_text, judged_text, row_text, rows_text}
 use Rattle.settle_check.specs.declared.check_stop.CheckStop.{CheckStop}
 use Rattle.settle_check.specs.Step.{AreSameRows, Gives, IsSameRow, IsWant}
+use Rattle.itv_base.proofs.Lists.{found_below}
 
 -- ---- results
 
@@ -176,11 +177,6 @@ piece_found text slice bytes other more place same within is is_bytes most stand
     let all : take (length text - place) (drop place text) ≡ drop place text = take_all (length text - place) (drop place text) (omega (arith, length-drop place text)) in
     most more (is ∙ (all ∙ (stands ∙ ap (λ bs. bs ++ more) (sym is_bytes)))) ∙ ap length is_bytes
 
-row_there : (rows : List Row) (number : ℕ) → number < length rows → (row : Row) × (slice_get rows number ≡ Some row)
-row_there [] number within = absurd (omega arith)
-row_there (r ∷ rows) zero within = (r, refl)
-row_there (r ∷ rows) (suc number) within = row_there rows number (omega arith)
-
 -- what is read of each right row that stands next holds of the next row of right rows
 pub row_read : (drawn : Drawn) (text rest : List ℕ) (number : ℕ) (read : List RowFound) (P : RowFound → List ℕ → Type 0) → number < length drawn.rows → AreReading drawn text number read rest
     → ((row : Row) (shown : RowFound) (more : List ℕ) → slice_get drawn.rows number ≡ Some row → IsRowFound true drawn.net row shown
@@ -188,7 +184,7 @@ pub row_read : (drawn : Drawn) (text rest : List ℕ) (number : ℕ) (read : Lis
     → (found : List RowFound) (more : List ℕ) → AreRowsFound true drawn.net drawn.rows found → text ≡ rows_text drawn true 0 drawn.rows found ++ more
     → (row : Row) × (h : RowNext drawn found more number read row rest) × P h.shown (rows_text drawn true (number + 1) h.rows h.others ++ more)
 row_read drawn text rest number read P within reading next found more shown stands =
-    let (row, at) = row_there drawn.rows number within in
+    let (row, at) = found_below drawn.rows number within in
     let h = next_row drawn found more number read row rest at (reading found more shown stands) in
     (row, h, next row h.shown (rows_text drawn true (number + 1) h.rows h.others ++ more) at h.is_shown h.stands)
 

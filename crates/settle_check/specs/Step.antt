@@ -27,7 +27,7 @@ use Rattle.settle_report.specs.declared.row.RowFound.{RowFound}
 use Rattle.settle_check.specs.declared.check_stop.CheckStop.{CheckStop}
 use Rattle.settle_check.specs.declared.check_stop.CheckStop.TheVariants.{Refused, NoMemory}
 use Rattle.settle_check.specs.declared.draft.Draft.{Draft}
-use Rattle.settle_check.specs.declared.pair.Pair.{Pair}
+use Rattle.event_graph.specs.declared.pair.Pair.{Pair}
 use Rattle.settle_check.specs.declared.views.Views.{Views}
 
 -- ---- the text that is compared
@@ -64,10 +64,6 @@ pub record IsPairOf (net : Net) (pair : Pair) : Type 0 where
 abbrev pub pair_of : Which → Row → Pair
 pair_of Max row = record { from = row.from; to = row.to }
 pair_of Min row = record { from = row.to; to = row.from }
-
--- the reversed pair
-abbrev pub turned : Pair → Pair
-turned pair = record { from = pair.to; to = pair.from }
 
 -- the greatest separation of the pair, by the number of the bound
 abbrev pub claim_of : Which → ℤ → ℤ

@@ -20,7 +20,7 @@ ghost use Rattle.settle_report.specs.Text.{bound_text, shown_text};
 ghost use Rattle.settle_check.specs.Step.{AreViewsOf, Gives, IsSameBound, claim_of, pair_of};
 
 use crate::check_stop::CheckStop;
-use crate::pair::Pair;
+use crate::pair::pair_of;
 use crate::proof::proof_next;
 use crate::reader::Reader;
 use crate::times::{attain, can_rise, row_times_next};
@@ -117,9 +117,8 @@ fn number_next(
         → reader.old.rest.now ≡ shown_text true proof ++ (entry_text (entry_bound which (bounds.Closed value)) ++ (entry_text (entry_times times.items) ++ more))
         → Gives (IsSameBound (Closed value times proof)) result }
 {
-    // The network is within its limits.
-    let _events = net.events();
-    let proof = proof_next(alloc, net, views, Pair::of(which, row), reader)?;
+    net.is_whole();
+    let proof = proof_next(alloc, net, views, pair_of(which, row), reader)?;
     let value = reader.number(alloc, which)?;
     if !is_claimed(which, value, proof.claim) {
         return Err(reader.refused());
@@ -173,8 +172,7 @@ fn number_of(
     ensures times { HasTimes (bound_of result) }
     ensures is { result ≡ Closed value times proof }
 {
-    // The network is within its limits.
-    let _events = net.events();
+    net.is_whole();
     have_texts(&proof.lines);
     SettledBound::Closed(value, times, proof)
 }

@@ -17,12 +17,11 @@ ghost use Rattle.settle_report.specs.Text.{finding_text, shown_text};
 ghost use Rattle.settle_check.specs.Step.{AreViewsOf, Gives, IsSameFinding};
 
 use crate::check_stop::CheckStop;
-use crate::pair::Pair;
 use crate::proof::proof_next;
 use crate::reader::Reader;
 use crate::times::are_printed;
 use crate::views::Views;
-use event_graph::{Network, time_of};
+use event_graph::{Network, Pair, time_of};
 use itv_base::EventId;
 use settle_lines::have_texts;
 use settle_report::{Finding, Proof};
@@ -123,8 +122,7 @@ fn refuted_by(net: &Network, proof: Proof) -> Finding
     ensures finding { IsFinding true net.now result }
     ensures is { result ≡ Inconsistent proof }
 {
-    // The network is within its limits.
-    let _events = net.events();
+    net.is_whole();
     have_texts(&proof.lines);
     Finding::Inconsistent(proof)
 }

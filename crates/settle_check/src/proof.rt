@@ -11,11 +11,10 @@ ghost use Rattle.settle_report.specs.declared.proof.Proof.{Proof};
 ghost use Rattle.settle_check.specs.Step.{AreViewsOf, BeginsOther, Gives, IsPairOf, IsSameProof, IsShownProof};
 
 use crate::check_stop::CheckStop;
-use crate::pair::Pair;
 use crate::reader::Reader;
 use crate::views::Views;
 use edge_clauses::{Claim, ClauseChecker, StoredLine};
-use event_graph::Network;
+use event_graph::{Network, Pair};
 use falling::View;
 use settle_report::Proof;
 use std::alloc::Global;
@@ -68,7 +67,7 @@ fn lines_as(
 {
     match view {
         View::Plain => lines_next(alloc, net, pair, claim, reader),
-        View::Negated => lines_next(alloc, &views.negation, pair.turned(), claim, reader),
+        View::Negated => lines_next(alloc, &views.negation, pair.reversed(), claim, reader),
     }
 }
 

@@ -1,19 +1,17 @@
 //! Reading the lines of a text, one after another.
 
 ghost use Rattle.std.specs.Prelude.{◌≡◌, ◌∷◌, ◌↔◌, ◌≤◌, ℕ, ℤ, [], All, Bool, IfOk, IfSome, IsFalse, IsSomeAnd, IsTrue, List, Some, codes, drop, length, map, option_map};
-ghost use Rattle.std.specs.List.{position_or_len};
 ghost use Rattle.std.specs.Str.{IsUtf8};
-ghost use Rattle.itv_base.specs.Numerals.{number_text, signed_text};
-ghost use Rattle.line_words.specs.Lines.{ended, is_feed};
+ghost use Rattle.itv_base.specs.Numerals.{signed_text};
+ghost use Rattle.line_words.specs.Lines.{ended};
 ghost use Rattle.line_words.specs.Numbers.{IsLong, long_in};
 ghost use Rattle.line_words.specs.Views.{texts};
-ghost use Rattle.line_words.specs.Words.{Word, is_word, keyed, many, one};
+ghost use Rattle.line_words.specs.Words.{Word, keyed, many, one};
 ghost use Rattle.falling.specs.declared.view.View.{View};
 ghost use Rattle.edge_clauses.specs.Lines.{ClauseLine};
 ghost use Rattle.edge_clauses.specs.Proofs.{line_of};
 ghost use Rattle.settle_lines.specs.Text.{SpellsClause, claim_text, view_text};
 ghost use Rattle.slack_report.specs.Reading.{flags_in};
-ghost use Rattle.slack_report.specs.Step.Cuts.{stands_first};
 ghost use Rattle.slack_report.specs.Text.{members_from, which_word};
 ghost use Rattle.settle_check.specs.Step.{Begins, BeginsWith, Gives, IsCutAs};
 
@@ -21,11 +19,10 @@ use crate::check_stop::CheckStop;
 use certificate::LineFault;
 use edge_clauses::{Claim, StoredLine};
 use falling::View;
-use itoa::Buffer;
-use itv_base::{NoMemory, number_text};
-use line_words::{behind_word, long_in, only_word, split_words};
+use itv_base::NoMemory;
+use line_words::{behind_word, line_len, long_in, only_word, split_words};
 use settle_lines::{read_claim, read_clause_line, read_view};
-use slack_report::Which;
+use slack_report::{Which, flags_in, longs_in, which_word};
 use std::alloc::Global;
 
 /// The rest of a text, from a line on. What the reader gives is a line as it could have been written. Writing it again
@@ -168,14 +165,6 @@ impl<'a> Reader<'a> {
     }
 }
 
-// How many bytes stand before the first line end.
-fn line_len(text: &[u8]) -> usize
-    ensures len { result ≡ position_or_len is_feed text.now }
-    ensures within { result ≤ length text.now }
-{
-    text.iter().take_while(|b| **b != b'\n').count()
-}
-
 // The first line of a text without its end, and the text behind it. None if no line ends.
 fn cut_line(text: &[u8]) -> Option<(&[u8], &[u8])>
     ensures cut { (line more : List ℕ) → Begins text.now line more → IsCutAs result line more }
@@ -251,15 +240,6 @@ fn claim_in(text: &[u8]) -> Option<Claim>
     }
 }
 
-fn which_word(which: Which) -> &'static str
-    ensures { result.now ≡ which_word which }
-{
-    match which {
-        Which::Max => "max",
-        Which::Min => "min",
-    }
-}
-
 // The number behind a word, if there are no other words.
 fn number_behind(words: &[&str], key: &str) -> Option<i64>
     ensures { result ≡ keyed key.now (one long_in) (texts words.now) }
@@ -272,22 +252,9 @@ fn times_in(alloc: Global, words: &[&str]) -> Result<Option<Vec<i64>>, NoMemory>
     ensures { IfOk result (λ o. option_map (λ v. v.items) o ≡ keyed (codes "times") (many long_in) (texts words.now)) }
 {
     match behind_word(words, "times") {
-        Some(words) => numbers_in(alloc, words),
+        Some(words) => longs_in(alloc, words),
         None => Ok(None),
     }
-}
-
-fn numbers_in(alloc: Global, words: &[&str]) -> Result<Option<Vec<i64>>, NoMemory>
-    ensures { IfOk result (λ o. option_map (λ v. v.items) o ≡ many long_in (texts words.now)) }
-{
-    let mut numbers = Vec::new(alloc);
-    for word in words {
-        let Some(number) = long_in(word) else {
-            return Ok(None);
-        };
-        numbers.push(number)?;
-    }
-    Ok(Some(numbers))
 }
 
 // The set of the events behind the word `raise`.
@@ -298,40 +265,4 @@ fn raised_in(alloc: Global, events: u32, words: &[&str]) -> Result<Option<Vec<bo
         Some(words) => flags_in(alloc, events, words),
         None => Ok(None),
     }
-}
-
-// For each of `count` events whether it is in a set. The words are the numbers of the events in the set, in their
-// order. None if a word is left.
-fn flags_in(alloc: Global, count: u32, words: &[&str]) -> Result<Option<Vec<bool>>, NoMemory>
-    ensures { IfOk result (λ o. option_map (λ v. v.items) o ≡ flags_in count 0 (texts words.now)) }
-{
-    let mut set = Vec::new(alloc);
-    let mut at = 0;
-    for number in 0..count {
-        let is_in = stands_at(words, at, number);
-        set.push(is_in)?;
-        if is_in {
-            at += 1;
-        }
-    }
-    if at < words.len() {
-        return Ok(None);
-    }
-    Ok(Some(set))
-}
-
-// Whether the word at a place is the text of a number.
-fn stands_at(words: &[&str], at: usize, number: u32) -> bool
-    requires { at ≤ length words.now }
-    ensures { result ≡ stands_first (number_text number) (texts (drop at words.now)) }
-{
-    at < words.len() && is_number(words[at], number)
-}
-
-// Whether a word is the text of a number.
-fn is_number(word: &str, number: u32) -> bool
-    ensures { result ≡ is_word word.now (number_text number) }
-{
-    let mut digits = Buffer::new();
-    word == number_text(u64::from(number), &mut digits)
 }

@@ -7,10 +7,11 @@ use Rattle.std.proofs.lemmas.Option.{none-some}
 use Rattle.itv_base.specs.Cuts.{stripped}
 use Rattle.itv_base.specs.Numerals.{signed_text}
 use Rattle.itv_base.proofs.Cuts.{stripped_some}
+use Rattle.itv_base.proofs.Options.{mapped_some}
 use Rattle.line_words.specs.Words.{Word, is_word, split_words, when}
 use Rattle.line_words.specs.Lines.{ended, line_of}
 use Rattle.line_words.specs.Numbers.{IsLong, long_in}
-use Rattle.line_words.proofs.Inverts.{bind_some, last_some, map_some, pick_some}
+use Rattle.line_words.proofs.Inverts.{bind_some, last_some, pick_some}
 use Rattle.line_words.proofs.NumberLaws.{long_inverts}
 use Rattle.line_words.proofs.Plain.{ArePlain, line_is_text, signed_plain, split-join}
 use Rattle.falling.specs.declared.view.View.{View}
@@ -65,7 +66,7 @@ no_view text other view = (λ e. absurd (none-some view e), λ h. absurd (other 
 claim_takes : (text : List ℕ) (claim : Claim) → claim_in text ≡ Some claim → (ended text ≡ claim_text claim.value) × IsLong claim.value
 claim_takes text claim e =
     let b = bind_some (stripped (codes "claim ") text) (λ digits. option_map claim_of (long_in digits)) claim e in
-    let m = map_some claim_of (long_in b.0) claim b.2 in
+    let m = mapped_some claim_of (long_in b.0) claim b.2 in
     let t = long_inverts.takes b.0 m.0 m.1 in
     let text_is : text ≡ line_of (claim_words m.0) = stripped_some (codes "claim ") text b.0 b.1 ∙ ap (λ ds. codes "claim " ++ ds) t.0 in
     subst (λ (c : Claim). (ended text ≡ claim_text c.value) × IsLong c.value) m.2 (ap ended text_is, t.1)

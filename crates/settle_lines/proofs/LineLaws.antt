@@ -7,10 +7,11 @@ use Rattle.std.proofs.lemmas.Option.{none-some, same_Some}
 use Rattle.std.proofs.lemmas.List.Elements.{recursion_from_All}
 use Rattle.std.proofs.lemmas.List.Splits.{join_with_byte-slice_split}
 use Rattle.itv_base.specs.Numerals.{number_text, signed_text}
+use Rattle.itv_base.proofs.Options.{mapped_some}
 use Rattle.line_words.specs.Words.{◌>>=◌, Word, is_word, keyed, many, or_else, split_words, two}
 use Rattle.line_words.specs.Lines.{line_of}
 use Rattle.line_words.specs.Numbers.{IsLong, long_in}
-use Rattle.line_words.proofs.Inverts.{Inverts, bind_some, keyed_inverts, keyed_takes, many_inverts, map_some, two_inverts, word_is, word_same}
+use Rattle.line_words.proofs.Inverts.{Inverts, bind_some, keyed_inverts, keyed_takes, many_inverts, two_inverts, word_is, word_same}
 use Rattle.line_words.proofs.NumberLaws.{long_inverts}
 use Rattle.line_words.proofs.Plain.{ArePlain, line_is_text, map_plain, number_plain, signed_plain, split-join}
 use Rattle.certificate.specs.declared.fault.LineFault.{LineFault}
@@ -40,7 +41,7 @@ parted_is key (word ∷ words) p e = by_test (is_word word key) refl e (parted_i
     by_test true is h rest =
         subst (λ (q : List Word × List Word). word ∷ words ≡ q.0 ++ key ∷ q.1) (same_Some ([], words) p h) (ap (λ (w : Word). w ∷ words) (word_is word key is))
     by_test false is h rest =
-        let m = map_some (λ (q : List Word × List Word). (word ∷ q.0, q.1)) (parted key words) p h in
+        let m = mapped_some (λ (q : List Word × List Word). (word ∷ q.0, q.1)) (parted key words) p h in
         subst (λ (q : List Word × List Word). word ∷ words ≡ q.0 ++ key ∷ q.1) m.2 (ap (λ (ws : List Word). word ∷ ws) (rest m.0 m.1))
 
 -- no word is this one
@@ -115,7 +116,7 @@ IsNamedBound bound = (bound.event.0 < 2 ^ 32) × IsLong bound.value × IsBasisNa
 bound_inverts : Inverts bound_in bound_words IsNamedBound
 bound_inverts = record {
   takes = λ words bound e.
-      let m = map_some bound_of (number_then (two long_in basis_in) words) bound e in
+      let m = mapped_some bound_of (number_then (two long_in basis_in) words) bound e in
       let t = number_long_basis.takes words m.0 m.1 in
       subst (λ (b : EventBound). (words ≡ bound_words b) × IsNamedBound b) m.2 (t.0, (t.1.0, t.1.1.0, t.1.1.1));
   again = λ bound form. rw (number_long_basis.again (bound.event.0, (bound.value, bound.basis)) (form.0, (form.1, form.2))) refl;

@@ -1,6 +1,8 @@
 -- A line of a proof as a writer puts it, piece by piece.
 use Rattle.std.proofs.Common.{◌≡◌, ℕ, ◌+◌, ◌<◌, ℤ, List, [], ◌∷◌, ◌++◌, map, length, get_or, drop, codes, Result, refl, sym, subst, ap, ◌∙◌, append_assoc, add-one, drop-cons}
 use Rattle.std.specs.List.{flat_map}
+use Rattle.std.proofs.lemmas.List.{map-append}
+use Rattle.std.proofs.lemmas.List.Concat.{flat_map-append}
 use Rattle.std.specs.Bool.{⊤}
 use Rattle.itv_base.specs.Numerals.{number_text, signed_text}
 use Rattle.itv_base.specs.Outside.{CutShort, Puts, SinkState, grown}
@@ -117,3 +119,10 @@ module _ (front : List ℕ) (edge : EdgeName) where
 pub lines_more : (lines : List StoredLine) (i : ℕ) (d line : StoredLine) → i < length lines → line ≡ get_or lines i d
     → flat_map clause_line_text (lines_of (drop i lines)) ≡ clause_line_text (stored_line_of line) ++ flat_map clause_line_text (lines_of (drop (i + 1) lines))
 lines_more lines i d line h e = rw (e, add-one, drop-cons lines i d h) refl
+
+-- the lines of a batch, and the lines behind it
+pub batch_first : (all batch rest : List StoredLine) → all ≡ batch ++ rest
+    → flat_map clause_line_text (lines_of all) ≡ flat_map clause_line_text (lines_of batch) ++ flat_map clause_line_text (lines_of rest)
+batch_first all batch rest e =
+    ap (λ lines. flat_map clause_line_text (lines_of lines)) e ∙ ap (flat_map clause_line_text) (map-append stored_line_of batch rest)
+    ∙ flat_map-append clause_line_text (lines_of batch) (lines_of rest)

@@ -1,24 +1,21 @@
 -- A word of a line of a proof is read from its text, and from no other.
-use Rattle.std.proofs.Common.{◌≡◌, ◌^◌, ◌-◌, ◌<◌, ◌≤◌, ℕ, true, ◌∷◌, ◌++◌, codes, Option, Some, option_map, refl, ap, subst, ◌∙◌, arith}
+use Rattle.std.proofs.Common.{◌≡◌, ◌^◌, ◌-◌, ◌<◌, ℕ, true, ◌∷◌, ◌++◌, codes, Option, Some, option_map, refl, ap, subst, ◌∙◌}
 use Rattle.std.specs.List.{take_while}
 use Rattle.std.specs.Char.{is_ascii_digit}
 use Rattle.std.proofs.lemmas.Option.{same_Some}
 use Rattle.itv_base.specs.Cuts.{after_while, stripped}
 use Rattle.itv_base.specs.Numerals.{number_text, signed_text}
-use Rattle.itv_base.specs.declared.names.EdgeName.{EdgeName}
-use Rattle.itv_base.specs.declared.names.Side.{Side}
-use Rattle.itv_base.specs.declared.names.Side.TheVariants.{Lower, Upper}
 use Rattle.itv_base.proofs.Cuts.{stripped-append, stripped_some}
 use Rattle.itv_base.proofs.Numerals.{digits-text}
 use Rattle.itv_base.proofs.Runs.{front_of_run, rest_of_run, run_whole, stops}
+use Rattle.itv_base.proofs.Options.{mapped_some}
 use Rattle.line_words.specs.Words.{◌>>=◌, Word, or_else}
 use Rattle.line_words.specs.Numbers.{long_in}
-use Rattle.line_words.proofs.Inverts.{Inverts, bind_some, map_some, or_cases_some}
+use Rattle.line_words.proofs.Inverts.{Inverts, bind_some, or_cases_some}
 use Rattle.line_words.proofs.NumberLaws.{long_inverts, number_inverts}
 use Rattle.line_words.proofs.Plain.{is_plain, number_plain, plain_append, signed_plain}
-use Rattle.certificate.specs.Text.{edge_word, side_letter}
 use Rattle.certificate.specs.Reading.{edge_in}
-use Rattle.certificate.proofs.LineLaws.{edge_inverts}
+use Rattle.certificate.proofs.LineLaws.{edge_inverts, below_from, edge_plain, to_below}
 use Rattle.event_graph.specs.declared.edge.Edge.{Edge}
 use Rattle.edge_clauses.specs.declared.basis.Basis.{Basis}
 use Rattle.edge_clauses.specs.declared.basis.Basis.TheVariants.{ByEdge, Either, ByChoice, ByKept}
@@ -27,12 +24,6 @@ use Rattle.settle_lines.specs.Step.Reading.{basis_in, difference_in, either_in, 
 use Rattle.settle_lines.specs.Text.{IsBasisName, IsDifference, IsStepName, basis_word, difference_word, step_word}
 
 -- ---- numbers
-
-below_from : (n : ℕ) → n ≤ 2 ^ 32 - 1 → n < 2 ^ 32
-below_from n h = omega arith
-
-to_below : (n : ℕ) → n < 2 ^ 32 → n ≤ 2 ^ 32 - 1
-to_below n h = omega arith
 
 pub short_inverts : Inverts short_in number_text (λ n. n < 2 ^ 32)
 short_inverts =
@@ -120,14 +111,14 @@ either_takes word e h =
 pub one_of : {A B : Type 0} (f : B → A) (o : Option B) (other : Option A) (x : A) (P : A → Type 0) → or_else (option_map f o) other ≡ Some x
     → ((y : B) → o ≡ Some y → P (f y)) → (other ≡ Some x → P x) → P x
 one_of f o other x P e here there =
-    or_cases_some (option_map f o) other x (P x) e (λ h. let m = map_some f o x h in subst P m.2 (here m.0 m.1)) there
+    or_cases_some (option_map f o) other x (P x) e (λ h. let m = mapped_some f o x h in subst P m.2 (here m.0 m.1)) there
 
 abbrev TakenBasis : Word → Basis → Type 0
 TakenBasis word basis = (word ≡ basis_word basis) × IsBasisName basis
 
 kept_takes : (word : Word) (basis : Basis) → option_map ByKept (lettered_in (codes "K") word) ≡ Some basis → TakenBasis word basis
 kept_takes word basis e =
-    let m = map_some ByKept (lettered_in (codes "K") word) basis e in
+    let m = mapped_some ByKept (lettered_in (codes "K") word) basis e in
     subst (TakenBasis word) m.2 ((lettered_inverts (codes "K")).takes word m.0 m.1)
 
 choice_takes : (word : Word) (basis : Basis) → or_else (option_map ByChoice (lettered_in (codes "C") word)) (option_map ByKept (lettered_in (codes "K") word)) ≡ Some basis
@@ -187,15 +178,6 @@ pub step_inverts : Inverts step_in step_word IsStepName
 step_inverts = record { takes = step_takes; again = step_again }
 
 -- ---- visible characters
-
-side_plain : (side : Side) → is_plain (side_letter side) ≡ true
-side_plain Upper = refl
-side_plain Lower = refl
-
-edge_plain : (edge : EdgeName) → is_plain (edge_word edge) ≡ true
-edge_plain edge =
-    plain_append (number_text edge.constraint) (46 ∷ (number_text edge.cause ++ side_letter edge.side)) (number_plain edge.constraint)
-    (plain_append (number_text edge.cause) (side_letter edge.side) (number_plain edge.cause) (side_plain edge.side))
 
 pub difference_plain : (e : Edge) → is_plain (difference_word e) ≡ true
 difference_plain e =

@@ -4,12 +4,12 @@ ghost use Rattle.std.specs.Prelude.{◌≡◌, ◌≤◌, codes, length, option_
 ghost use Rattle.std.specs.List.{position_or_len};
 ghost use Rattle.line_words.specs.Views.{texts};
 ghost use Rattle.line_words.specs.Words.{is_word};
-ghost use Rattle.certificate.specs.Reading.{cause_in, edge_in, side_in};
 ghost use Rattle.settle_lines.specs.Step.Reading.{basis_in, difference_in, either_in, first_number, lettered_in, parted, step_in, target_in, weight_in};
 
+use certificate::edge_in;
 use edge_clauses::{Basis, WalkStep};
 use event_graph::Edge;
-use itv_base::{EdgeName, EventId, Side, split_digits, strip};
+use itv_base::{EventId, split_digits, strip};
 use line_words::{long_in, short_in};
 
 /// The first word as a number of 32 bits, and the other words.
@@ -112,36 +112,4 @@ fn weight_in(from: u32, to: u32, word: &str) -> Option<Edge>
         to: EventId(to),
         weight,
     })
-}
-
-#[tactic(auto, unfolding(certificate::specs::Reading::edge_in))]
-fn edge_in(word: &str) -> Option<EdgeName>
-    ensures { result ≡ edge_in word.now }
-{
-    let (digits, rest) = split_digits(word);
-    let constraint = short_in(digits)?;
-    cause_in(constraint, strip(rest, ".")?)
-}
-
-// A cause and a side.
-fn cause_in(constraint: u32, word: &str) -> Option<EdgeName>
-    ensures { result ≡ cause_in constraint word.now }
-{
-    let (digits, rest) = split_digits(word);
-    let cause = short_in(digits)?;
-    let side = side_in(rest)?;
-    Some(EdgeName {
-        constraint,
-        cause,
-        side,
-    })
-}
-
-fn side_in(word: &str) -> Option<Side>
-    ensures { result ≡ side_in word.now }
-{
-    if word == "u" {
-        return Some(Side::Upper);
-    }
-    (word == "l").then_some(Side::Lower)
 }

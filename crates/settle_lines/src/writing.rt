@@ -14,21 +14,26 @@ use event_graph::Edge;
 use falling::View;
 use itoa::Buffer;
 use itv_base::{EventId, PutFailed, Sink, signed_text};
-use line_words::put_words;
+use line_words::{LineBuffer, put_words};
 
-/// Writes a proof by clauses: the view, the claim in picoseconds, and each line. If a put failed, a front of it was written, and the sink's count of
-/// faults rose.
+// How many lines are put at once. A line of a proof mostly has 20 to 30 bytes.
+const BATCH: usize = 1_024;
+
+/// Writes a proof by clauses: the view, the claim in picoseconds, and each line. A batch of lines is put at once if it fits the buffer; otherwise each of
+/// its lines is put whole, and a line that alone does not fit is put piece by piece. What the buffer held before is lost. If a put failed, a front of the
+/// proof was written, and the sink's count of faults rose.
 pub fn write_proof<K: Sink>(
     view: View,
     claim: i64,
     lines: &[StoredLine],
+    buffer: &mut LineBuffer,
     sink: &mut K,
 ) -> Result<(), PutFailed>
     ensures puts { Puts (K.state sink.old) (K.state sink.new) (proof_text view claim (lines_of lines.now)) result }
 {
     put_view(view, sink)?;
     put_claim(claim, sink)?;
-    put_lines(lines, sink)
+    put_lines(lines, buffer, sink)
 }
 
 fn put_view<K: Sink>(view: View, sink: &mut K) -> Result<(), PutFailed>
@@ -51,14 +56,72 @@ fn put_claim<K: Sink>(claim: i64, sink: &mut K) -> Result<(), PutFailed>
     )
 }
 
-// Puts each line with its end.
-fn put_lines<K: Sink>(lines: &[StoredLine], sink: &mut K) -> Result<(), PutFailed>
+// Puts each line with its end, a batch of lines at a time.
+fn put_lines<K: Sink>(
+    lines: &[StoredLine],
+    buffer: &mut LineBuffer,
+    sink: &mut K,
+) -> Result<(), PutFailed>
+    ensures { Puts (K.state sink.old) (K.state sink.new) (flat_map clause_line_text (lines_of lines.now)) result }
+{
+    for batch in lines.chunks(BATCH) {
+        put_batch(batch, buffer, sink)?;
+    }
+    Ok(())
+}
+
+// Puts lines with one put if they fit the buffer together; otherwise puts each by itself.
+fn put_batch<K: Sink>(
+    lines: &[StoredLine],
+    buffer: &mut LineBuffer,
+    sink: &mut K,
+) -> Result<(), PutFailed>
+    ensures { Puts (K.state sink.old) (K.state sink.new) (flat_map clause_line_text (lines_of lines.now)) result }
+{
+    buffer.clear();
+    match write_lines(lines, buffer) {
+        Ok(()) => buffer.put_into(sink),
+        Err(PutFailed) => put_each(lines, buffer, sink),
+    }
+}
+
+// Writes each line piece by piece.
+fn write_lines<K: Sink>(lines: &[StoredLine], sink: &mut K) -> Result<(), PutFailed>
     ensures { Puts (K.state sink.old) (K.state sink.new) (flat_map clause_line_text (lines_of lines.now)) result }
 {
     for line in lines {
         write_clause_line(line, sink)?;
     }
     Ok(())
+}
+
+// Puts each line by itself.
+fn put_each<K: Sink>(
+    lines: &[StoredLine],
+    buffer: &mut LineBuffer,
+    sink: &mut K,
+) -> Result<(), PutFailed>
+    ensures { Puts (K.state sink.old) (K.state sink.new) (flat_map clause_line_text (lines_of lines.now)) result }
+{
+    for line in lines {
+        put_line(line, buffer, sink)?;
+    }
+    Ok(())
+}
+
+// Puts a line with one put if it fits the buffer; otherwise puts it piece by piece.
+fn put_line<K: Sink>(
+    line: &StoredLine,
+    buffer: &mut LineBuffer,
+    sink: &mut K,
+) -> Result<(), PutFailed>
+    ensures { Puts (K.state sink.old) (K.state sink.new) (clause_line_text (line_of line.now)) result }
+{
+    buffer.clear();
+    match write_clause_line(line, buffer) {
+        Ok(()) => buffer.put_into(sink),
+        Err(PutFailed) => write_clause_line(line, sink),
+    }
 }
 
 /// Writes a line of a proof and its line end. If a put failed, a front of it was written, and the sink's count of faults rose.

@@ -2,6 +2,7 @@
 use Rattle.std.proofs.Common.{◌≡◌, ◌<◌, ℕ, ℤ, neg_ℤ, ◌-ℤ◌, Bool, List, [], length, All, refl, sym, subst, ◌∙◌, arith}
 use Rattle.std.proofs.lemmas.Int.{ints}
 use Rattle.itv_base.specs.declared.names.EventId.{EventId}
+use Rattle.itv_base.proofs.Integers.{below_none, neg_twice}
 use Rattle.event_graph.specs.Bounds.{IsGreatest, IsRay}
 use Rattle.event_graph.specs.Network.{IsNet, Net}
 use Rattle.event_graph.specs.Satisfying.{Satisfies}
@@ -35,9 +36,6 @@ no_ray net event times ray r = cc (r.holds, r.lacks)
 
 none_within : (i : ℕ) → i < 0 → ⊥
 none_within i within = omega arith
-
-below_none : {k n : ℕ} → k < n → n ≡ 0 → ⊥
-below_none h e = omega arith
 
 -- the times of no events satisfy a network without events
 pub first_empty : (net : Net) → IsNet net → net.events ≡ 0 → ArePrintedTimes net first_event []
@@ -79,9 +77,6 @@ pub some_times : (cert : Bool) (net : Net) (times : _) → IsFinding cert net (f
 some_times cert net times f = (times.items, f.satisfied)
 
 -- ---- a bound
-
-neg_twice : (value : ℤ) → neg_ℤ (neg_ℤ value) ≡ value
-neg_twice value = omega (arith, ints)
 
 extreme_of : (cert : Bool) (net : Net) (which : Which) (row : Row) (value : ℤ) (proof : Proof) → IsGreatest net (source which row) (target which row) value
     → ProvesClaim cert net (source which row) (target which row) value proof → IsExtreme cert which net row (shown_by which value) proof

@@ -4,6 +4,7 @@ use Rattle.std.proofs.lemmas.Int.{ints}
 use Rattle.std.proofs.lemmas.Option.{same_Some}
 use Rattle.event_graph.specs.Network.{Net}
 use Rattle.event_graph.specs.Times.{IsTime, time_of}
+use Rattle.event_graph.proofs.Sizes.{printed_time}
 use Rattle.requirements.specs.Bounds.{HasTimes}
 use Rattle.slack_report.specs.declared.words.Which.{Which}
 use Rattle.slack_report.specs.declared.words.Which.TheVariants.{Max, Min}
@@ -14,7 +15,7 @@ use Rattle.settle_report.specs.declared.bound.SettledBound.TheVariants as settle
 use Rattle.settle_report.specs.declared.row.RowFound.{RowFound}
 use Rattle.settle_report.specs.Answers.{AreRowsFound, IsBound, IsRowFound, bound_of}
 use Rattle.settle_report.specs.Text.{row_text, rows_text}
-use Rattle.settle_report.proofs.Moving.{printed_time}
+use Rattle.itv_base.proofs.Lists.{drop-read}
 
 -- ---- the numbers of bounds
 
@@ -73,18 +74,10 @@ at_row cert net rows found k row of_row e is_row is are =
 
 -- ---- one more of a list
 
-drop_row : (rows : List Row) (k : ℕ) (row : Row) → slice_get rows k ≡ Some row → drop k rows ≡ row ∷ drop (k + 1) rows
-drop_row rows k row e = rw add-one (go rows k row e)
-  where
-    go : (rows : List Row) (k : ℕ) (row : Row) → slice_get rows k ≡ Some row → drop k rows ≡ row ∷ drop (suc k) rows
-    go [] k row e = absurd (cc e)
-    go (r ∷ rows) zero row e = ap (λ x. x ∷ rows) (same_Some r row e)
-    go (r ∷ rows) (suc k) row e = go rows k row e
-
 drop_found : (found : List RowFound) (k : ℕ) (of_row d : RowFound) → k < length found → of_row ≡ get_or found k d → drop k found ≡ of_row ∷ drop (k + 1) found
 drop_found found k of_row d h e = rw (e, add-one) (drop-cons found k d h)
 
 pub rows_more : (drawn : Drawn) (cert : Bool) (rows : List Row) (found : List RowFound) (k : ℕ) (row : Row) (of_row d : RowFound) → slice_get rows k ≡ Some row → k < length found
     → of_row ≡ get_or found k d
     → rows_text drawn cert k (drop k rows) (drop k found) ≡ row_text drawn cert k row of_row ++ rows_text drawn cert (k + 1) (drop (k + 1) rows) (drop (k + 1) found)
-rows_more drawn cert rows found k row of_row d e h is = rw (drop_row rows k row e, drop_found found k of_row d h is) refl
+rows_more drawn cert rows found k row of_row d e h is = rw (drop-read rows k row e, drop_found found k of_row d h is) refl

@@ -1,8 +1,9 @@
 -- Which end a verdict reports as broken, and times that break it.
 use Rattle.std.proofs.Common.{◌≡◌, ℤ, neg_ℤ, ◌-ℤ◌, ◌<ℤ◌, Bool, true, List, Option, Some, sym, subst, arith}
-use Rattle.std.specs.Prelude.{IsSomeAnd, int_lt}
+use Rattle.std.specs.Prelude.{IsSomeAnd}
 use Rattle.std.proofs.lemmas.Int.{ints}
 use Rattle.itv_base.specs.Range.{Ends}
+use Rattle.itv_base.proofs.Integers.{lt_from_test, past_minus}
 use Rattle.event_graph.specs.Network.{Net}
 use Rattle.event_graph.specs.Times.{separation, time_of}
 use Rattle.requirements.proofs.Breaking.{high_breaks, low_breaks}
@@ -21,19 +22,13 @@ use Rattle.settle_report.specs.Step.{ArePast, IsBeyond, shown_by, source, target
 
 -- ---- which end is broken
 
-below : (a b : ℤ) → int_lt a b ≡ true → a <ℤ b
-below a b h = omega (arith, ints)
-
-turned : (value limit : ℤ) → int_lt value (neg_ℤ limit) ≡ true → limit <ℤ neg_ℤ value
-turned value limit h = omega (arith, ints)
-
 beyond_high : (limit : ℤ) (found : SettledBound) → breaks_high (Some limit) (bound_of found) ≡ true → IsBeyond Max found limit
-beyond_high limit (settled.Closed value times proof) e = below limit value e
+beyond_high limit (settled.Closed value times proof) e = lt_from_test limit value e
 beyond_high limit (settled.Unbounded times ray) e = tt
 beyond_high limit settled.Spent e = cc e
 
 beyond_low : (limit : ℤ) (found : SettledBound) → breaks_low (Some (neg_ℤ limit)) (bound_of found) ≡ true → IsBeyond Min found limit
-beyond_low limit (settled.Closed value times proof) e = turned value limit e
+beyond_low limit (settled.Closed value times proof) e = past_minus value limit e
 beyond_low limit (settled.Unbounded times ray) e = tt
 beyond_low limit settled.Spent e = cc e
 

@@ -5,15 +5,10 @@ use Rattle.std.proofs.lemmas.List.Elements.{All-weaker}
 use Rattle.itv_base.specs.declared.names.EventId.{EventId}
 use Rattle.event_graph.specs.Limits.{IsPrintedTime}
 use Rattle.event_graph.specs.Times.{IsTime, moved, separation, time_of}
+use Rattle.event_graph.proofs.Sizes.{printed_time}
 use Rattle.falling.proofs.Negating.{all_map}
 use Rattle.falling.specs.Cap.{IsNearValue}
 use Rattle.settle_report.specs.Step.{IsNearTime}
-
-near_time : (time : ℤ) → IsNearValue time → IsTime time
-near_time time near = (omega (arith, ints, near.0, near.1), omega (arith, ints, near.0, near.1))
-
-pub near_times : (times : List ℤ) → All IsNearValue times → All IsTime times
-near_times times near = All-weaker IsNearValue IsTime near_time times near
 
 pub nearby-moved : (origin : EventId) (times : List ℤ) → origin.0 < length times → All IsNearValue times → All IsNearTime (moved origin times)
 nearby-moved origin times within near =
@@ -26,9 +21,6 @@ nearby_printed time h = (omega (arith, ints, h.0, h.1), omega (arith, ints, h.0,
 
 pub nearby_times : (times : List ℤ) → All IsNearTime times → All IsPrintedTime times
 nearby_times times nearby = All-weaker IsNearTime IsPrintedTime nearby_printed times nearby
-
-pub printed_time : (time : ℤ) → IsPrintedTime time → IsTime time
-printed_time time h = (omega (arith, ints, h.0, h.1), omega (arith, ints, h.0, h.1))
 
 pub printed_times : (times : List ℤ) → All IsPrintedTime times → All IsTime times
 printed_times times printed = All-weaker IsPrintedTime IsTime printed_time times printed

@@ -1,14 +1,15 @@
 -- Times that are raised past a limit.
-use Rattle.std.proofs.Common.{◌≡◌, ◌<◌, ◌+◌, ◌*◌, ◌⊎◌, ℕ, zero, suc, ℤ, pos, neg_ℤ, ◌+ℤ◌, ◌-ℤ◌, ◌≤ℤ◌, ◌<ℤ◌, Bool, true, false, List, [], ◌∷◌, length, get_or, All, Some, slice_get, refl, sym, subst, ap, ◌∙◌, inl, inr, arith}
+use Rattle.std.proofs.Common.{◌≡◌, ◌<◌, ◌+◌, ◌*◌, ◌⊎◌, ℕ, zero, suc, ℤ, pos, neg_ℤ, ◌+ℤ◌, ◌-ℤ◌, ◌≤ℤ◌, ◌<ℤ◌, Bool, true, false, List, length, get_or, All, Some, slice_get, sym, subst, ap, ◌∙◌, inl, inr, arith}
 use Rattle.std.proofs.lemmas.Int.{ints}
 use Rattle.itv_base.specs.Range.{IsEnd}
 use Rattle.itv_base.specs.declared.names.EventId.{EventId}
+use Rattle.itv_base.proofs.Lists.{all_or}
 use Rattle.event_graph.specs.Bounds.{IsRay}
 use Rattle.event_graph.specs.Limits.{IsPrintedTime, weight_limit}
 use Rattle.event_graph.specs.Network.{IsNet, Net}
 use Rattle.event_graph.specs.Satisfying.{Satisfies}
 use Rattle.event_graph.specs.Times.{IsTime, moved, raised, separation, time_of}
-use Rattle.event_graph.proofs.Rays.{length-raised, separation-raised}
+use Rattle.event_graph.proofs.Rays.{length-raised, separation-raised, raised_at}
 use Rattle.event_graph.proofs.Moving.{length-moved, satisfies-moved, separation-moved, time-moved, zero-moved}
 use Rattle.falling.specs.Cap.{cap_limit}
 use Rattle.requirements.specs.Raising.{RaisesPast}
@@ -22,14 +23,6 @@ use Rattle.settle_report.specs.Step.{ArePast, IsNearTime, source, target}
 -- the greatest number that a set is raised by to pass an end
 abbrev most_by : ℕ
 most_by = 2 * cap_limit + weight_limit + 1
-
-raised_at : (set : List Bool) (by : ℕ) (times : List ℤ) (k : ℕ) (d : ℤ) → k < length times
-    → (get_or (raised set by times) k d ≡ get_or times k d) ⊎ (get_or (raised set by times) k d ≡ get_or times k d +ℤ pos by)
-raised_at [] by times k d h = inl refl
-raised_at (is_in ∷ set) by [] k d h = absurd (omega arith)
-raised_at (true ∷ set) by (time ∷ times) zero d h = inr refl
-raised_at (false ∷ set) by (time ∷ times) zero d h = inl refl
-raised_at (is_in ∷ set) by (time ∷ times) (suc k) d h = raised_at set by times k d (omega arith)
 
 -- by how much the times are raised
 raised_by : (old : List ℤ) (set : List Bool) (from to : EventId) (limit : ℤ) (new : List ℤ) (r : RaisesPast old set from to limit new) → IsNearTime (separation old from to)
@@ -61,9 +54,6 @@ pub raises : (old : List ℤ) (set : List Bool) (from to : EventId) (read limit 
 raises old set from to read limit new which row f t e r =
     subst (λ p. RaisesPast old set p (target which row) limit new) f (subst (λ q. RaisesPast old set from q limit new) t (subst (λ z. RaisesPast old set from to z new) e r))
 
-pub end_time : (end : ℤ) → IsEnd (Some end) → IsTime end
-end_time end h = (omega (arith, ints, h.0, h.1), omega (arith, ints, h.0, h.1))
-
 -- the separation of a pair with one of its events at 0
 nearby_pair : (which : Which) (row : Row) (times : List ℤ) → time_of times row.from ≡ pos 0 → IsNearTime (time_of times row.to) → IsNearTime (separation times (source which row) (target which row))
 nearby_pair Max row times at_zero near = onward (time_of times row.from) (time_of times row.to) at_zero near
@@ -74,11 +64,6 @@ nearby_pair Min row times at_zero near = back (time_of times row.from) (time_of 
   where
     back : (a b : ℤ) → a ≡ pos 0 → IsNearTime b → IsNearTime (a -ℤ b)
     back a b e n = (omega (arith, ints, n.0, n.1, e), omega (arith, ints, n.0, n.1, e))
-
-all_or : (P : ℤ → Type 0) (xs : List ℤ) (k : ℕ) (d e : ℤ) → k < length xs → P (get_or xs k d) → P (get_or xs k e)
-all_or P [] k d e h p = absurd (omega arith)
-all_or P (x ∷ xs) zero d e h p = p
-all_or P (x ∷ xs) (suc k) d e h p = all_or P xs k d e (omega arith) p
 
 ray_of : (net : Net) (which : Which) (row : Row) (times : List ℤ) (set : List Bool) → CanRise which net row times set → IsRay net (source which row) (target which row) times set
 ray_of net Max row times set ray = ray

@@ -67,8 +67,7 @@ fn bound_by(
     ensures nearby { HasNearby result }
     ensures lines { bound_lines result ≤ length found.lines.items }
 {
-    // The call also gives the invariant: the network is within its limits.
-    let _events = net.events();
+    net.is_whole();
     let ShownAnswer {
         answer,
         times,

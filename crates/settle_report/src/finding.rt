@@ -56,8 +56,7 @@ fn finding_of(alloc: Global, net: &Network, found: ShownAnswer, cert: bool) -> F
     ensures finding { IsFinding cert net.now result }
     ensures lines { finding_lines result ≤ length found.lines.items }
 {
-    // The call also gives the invariant: the network is within its limits.
-    let _events = net.events();
+    net.is_whole();
     let ShownAnswer {
         answer,
         times,

@@ -80,8 +80,7 @@ fn past_limit(
     requires beyond { IsBeyond which found.now limit }
     ensures past { IfOk result (λ past. ArePast net.now which row.now limit past.items) }
 {
-    // The call also gives the invariant: the network is within its limits.
-    let _events = net.events();
+    net.is_whole();
     match found {
         SettledBound::Closed(_, times, _) => copy_of(alloc, times),
         SettledBound::Unbounded(times, ray) => {

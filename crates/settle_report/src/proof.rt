@@ -12,6 +12,7 @@ ghost use Rattle.settle_report.specs.Text.{shown_text};
 use edge_clauses::{Claim, StoredLine};
 use falling::View;
 use itv_base::{PutFailed, Sink};
+use line_words::LineBuffer;
 use settle_lines::{have_texts, write_proof};
 use std::alloc::Global;
 
@@ -54,11 +55,16 @@ pub fn proof_of(
 }
 
 /// Puts a proof, if proofs are wanted.
-pub fn put_proof<K: Sink>(cert: bool, proof: &Proof, sink: &mut K) -> Result<(), PutFailed>
+pub fn put_proof<K: Sink>(
+    cert: bool,
+    proof: &Proof,
+    buffer: &mut LineBuffer,
+    sink: &mut K,
+) -> Result<(), PutFailed>
     ensures puts { Puts (K.state sink.old) (K.state sink.new) (shown_text cert proof.now) result }
 {
     if cert {
-        write_proof(proof.view, proof.claim, &proof.lines, sink)
+        write_proof(proof.view, proof.claim, &proof.lines, buffer, sink)
     } else {
         Ok(())
     }

@@ -31,7 +31,7 @@ pub fn put_finding<K: Sink>(
             write_item(&Item::Times(times), buffer, sink)
         }
         Finding::Inconsistent(proof) => {
-            put_proof(cert, proof, sink)?;
+            put_proof(cert, proof, buffer, sink)?;
             write_item(&Item::Finding(FindingWord::Inconsistent), buffer, sink)
         }
         Finding::Spent => sink.put(b"finding spent\n"),
@@ -50,7 +50,7 @@ pub fn put_bound<K: Sink>(
 {
     match found {
         SettledBound::Closed(_, times, proof) => {
-            put_proof(cert, proof, sink)?;
+            put_proof(cert, proof, buffer, sink)?;
             put_number(which, bound_of(found), times, buffer, sink)
         }
         SettledBound::Unbounded(times, ray) => put_unbounded(which, times, ray, buffer, sink),

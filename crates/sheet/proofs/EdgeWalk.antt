@@ -69,7 +69,7 @@ module _ (labels : Labels) (marks : List Mark) (edges : List (List ℕ)) (links 
 
 -- ---- rows
 
-cons_one : {X : Type 0} (o : Option X) → cons_option o [] ≡ option_to_list o
+pub cons_one : {X : Type 0} (o : Option X) → cons_option o [] ≡ option_to_list o
 cons_one None = refl
 cons_one (Some x) = refl
 

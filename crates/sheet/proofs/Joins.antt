@@ -6,6 +6,7 @@ use Rattle.label_grammar.specs.declared.label.Kind.{Kind}
 use Rattle.label_grammar.specs.declared.label.Kind.TheVariants.{Lin, Late, Early, Req, Ask}
 use Rattle.sheet.specs.Links.{Link, same_kind, same_tag, joins}
 use Rattle.sheet.specs.Step.{is_cause}
+use Rattle.itv_base.proofs.Bools.{both_true, same_test}
 
 same_kind-same : (a b : Kind) → same_kind a b ≡ true → (a ≡ b) × (is_cause a ≡ true)
 same_kind-same Lin b e = cc
@@ -39,10 +40,6 @@ same_tag-itself : (a : Option (List ℕ)) → same_tag a a ≡ true
 same_tag-itself None = refl
 same_tag-itself (Some a) = (bytes_eq-Decides a a).1 refl
 
-both : (a b : Bool) → (a && b) ≡ true → (a ≡ true) × (b ≡ true)
-both true b e = (refl, e)
-both false b e = cc
-
 -- two links that join have one kind, one target and one tag
 pub record IsSameGroup (a b : Link) : Type 0 where
   pub cause : is_cause a.label.kind ≡ true
@@ -52,8 +49,8 @@ pub record IsSameGroup (a b : Link) : Type 0 where
 
 pub IsSameGroup-from_joins : (a b : Link) → joins a b ≡ true → IsSameGroup a b
 IsSameGroup-from_joins a b e =
-    let kinds = both (same_kind a.label.kind b.label.kind) ((a.to == b.to) && same_tag a.label.tag b.label.tag) e in
-    let rest = both (a.to == b.to) (same_tag a.label.tag b.label.tag) kinds.1 in
+    let kinds = both_true (same_kind a.label.kind b.label.kind) ((a.to == b.to) && same_tag a.label.tag b.label.tag) e in
+    let rest = both_true (a.to == b.to) (same_tag a.label.tag b.label.tag) kinds.1 in
     let same = same_kind-same a.label.kind b.label.kind kinds.0 in
     record { cause = same.1; kind = same.0; target = eqb-true a.to b.to rest.0; tag = same_tag-same a.label.tag b.label.tag rest.1 }
 
@@ -77,14 +74,8 @@ joins-cause a b e = (IsSameGroup-from_joins a b e).cause
 joins-back : (a b : Link) → joins a b ≡ true → joins b a ≡ true
 joins-back a b e = sym (joins-same a b a e) ∙ joins-itself a (joins-cause a b e)
 
-by_both : (p q : Bool) → (p ≡ true → q ≡ true) → (q ≡ true → p ≡ true) → p ≡ q
-by_both true true f g = refl
-by_both false false f g = refl
-by_both true false f g = sym (f refl)
-by_both false true f g = g refl
-
 pub joins-comm : (a b : Link) → joins a b ≡ joins b a
-joins-comm a b = by_both (joins a b) (joins b a) (joins-back a b) (joins-back b a)
+joins-comm a b = same_test (joins a b) (joins b a) (joins-back a b) (joins-back b a)
 
 -- no link joins a link that is no cause
 pub joins-no_cause : (a b : Link) → is_cause a.label.kind ≡ false → joins a b ≡ false

@@ -20,8 +20,7 @@ use Rattle.sheet.specs.Step.{AreMarks, with_marks, span_of}
 use Rattle.sheet.specs.declared.fault.SheetFault.{SheetFault}
 use Rattle.sheet.specs.declared.fault.SheetFault.TheVariants.{BadNode, DoubleMark}
 use Rattle.sheet.proofs.Distinct.{with_distinct-stood, with_distinct-nil, with_distinct-new, with_distinct-append, with_distinct-ok}
-use Rattle.itv_base.proofs.Lists.{drop-read}
-use Rattle.sheet.proofs.Lists.{list_any-map}
+use Rattle.itv_base.proofs.Lists.{drop-read, list_any-map}
 
 -- ---- the marks of a lane
 

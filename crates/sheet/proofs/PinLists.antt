@@ -12,8 +12,8 @@ use Rattle.sheet.specs.declared.pin.Pin.{Pin}
 use Rattle.sheet.specs.Lanes.{NumberedLane, numbered, pin_of}
 use Rattle.sheet.specs.Step.{with_pins, numbered_by}
 use Rattle.itv_base.specs.Reading.{◌>>=◌}
+use Rattle.itv_base.proofs.Lists.{list_any-map}
 use Rattle.sheet.proofs.Distinct.{with_distinct-stood, with_distinct-nil, with_distinct-new, with_distinct-append}
-use Rattle.sheet.proofs.Lists.{list_any-map}
 
 -- ---- one pin
 

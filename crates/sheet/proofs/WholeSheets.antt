@@ -53,7 +53,7 @@ use Rattle.sheet.proofs.Lists.{filter-same}
 -- ---- lists and answers
 
 -- what holds of each answer to an element holds of all answers
-All-filter_map : {X Y : Type 0} (P : X → Type 0) (Q : Y → Type 0) (h : X → Option Y) → ((x : X) → P x → IfSome (h x) Q) → (xs : List X) → All P xs → All Q (filter_map h xs)
+pub All-filter_map : {X Y : Type 0} (P : X → Type 0) (Q : Y → Type 0) (h : X → Option Y) → ((x : X) → P x → IfSome (h x) Q) → (xs : List X) → All P xs → All Q (filter_map h xs)
 All-filter_map P Q h gives [] all = All-nil Q
 All-filter_map {X} {Y} P Q h gives (x ∷ xs) all =
     let here : IfSome (h x) Q = gives x (All-head P x xs all) in
@@ -66,14 +66,14 @@ All-flat_map P Q f gives [] all = All-nil Q
 All-flat_map P Q f gives (x ∷ xs) all = All-append Q (f x) (flat_map f xs) (gives x (All-head P x xs all)) (All-flat_map P Q f gives xs (All-tail P x xs all))
 
 -- a place that is found is a place of the list
-position_within : {X : Type 0} (p : X → Bool) (xs : List X) → IfSome (position p xs) (λ k. k < length xs)
+pub position_within : {X : Type 0} (p : X → Bool) (xs : List X) → IfSome (position p xs) (λ k. k < length xs)
 position_within p xs =
     cond_both (ltb (position_or_len p xs) (length xs)) (Some (position_or_len p xs)) None (λ o. IfSome o (λ k. k < length xs)) (ltb-true (position_or_len p xs) (length xs)) (λ _. tt)
 
 -- ---- the number of marks
 
 -- a choice between a value and another answer gives none only if it takes the other answer, and the other answer is none
-cond_none : {X : Type 0} (test : Bool) (x : X) (other : Option X) → cond test (Some x) other ≡ None → (test ≡ false) × (other ≡ None)
+pub cond_none : {X : Type 0} (test : Bool) (x : X) (other : Option X) → cond test (Some x) other ≡ None → (test ≡ false) × (other ≡ None)
 cond_none true x other h = absurd (cc)
 cond_none false x other h = (refl, h)
 
@@ -142,7 +142,7 @@ record IsWholeLabel (label : LooseLabel Ends) : Type 0 where
   shift : label.shift ≤ MAX_SHIFT
   range : IsRange (range_of label)
 
-range_whole : (ends : Option Ends) → IfSome ends IsRange → IsRange (unwrap_or ends open_ends)
+pub range_whole : (ends : Option Ends) → IfSome ends IsRange → IsRange (unwrap_or ends open_ends)
 range_whole None h = (tt, tt, tt)
 range_whole (Some ends) h = h
 
@@ -303,7 +303,7 @@ rule_opened_whole marks before rest link Early is whole h =
 rule_opened_whole marks before rest link Req is whole h = tt
 rule_opened_whole marks before rest link Ask is whole h = tt
 
-more_hold : {X : Type 0} (P : X → Type 0) (o : Option X) (xs : List X) → IfSome o P → All P xs → All P (cons_option o xs)
+pub more_hold : {X : Type 0} (P : X → Type 0) (o : Option X) (xs : List X) → IfSome o P → All P xs → All P (cons_option o xs)
 more_hold P None xs p all = all
 more_hold P (Some x) xs p all = All-cons P x xs p all
 

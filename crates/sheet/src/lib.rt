@@ -19,7 +19,6 @@ mod row;
 mod rows;
 mod rule;
 mod sheet;
-mod texts;
 
 pub use fault::SheetFault;
 pub use grades::{Grade, Grades, GradesFault, Parameter, Parameters, read_grades};
@@ -32,4 +31,3 @@ pub use row::{SheetRow, SheetRows};
 pub use rows::push_row;
 pub use rule::{Rule, Rules, Source, Sources};
 pub use sheet::Sheet;
-pub use texts::copied;

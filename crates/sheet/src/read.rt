@@ -16,8 +16,8 @@ use crate::lanes::{LaneMarks, read_marks};
 use crate::order::push_lane_orders;
 use crate::pins::read_pins;
 use crate::sheet::Sheet;
-use crate::texts::copied;
 use grades::{Grade, Grades};
+use itv_base::copied_texts;
 use std::alloc::Global;
 use wavejson::Diagram;
 
@@ -87,8 +87,8 @@ fn read_with(alloc: Global, labels: Labels<'_>, diagram: &Diagram) -> Result<She
         diagram.edges(),
         rules,
     )?;
-    let edges = copied(alloc, diagram.edges())?;
-    let near = copied(alloc, diagram.near())?;
+    let edges = copied_texts(alloc, diagram.edges())?;
+    let near = copied_texts(alloc, diagram.near())?;
     Ok(Sheet {
         marks,
         pins,

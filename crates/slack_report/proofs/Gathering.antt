@@ -2,10 +2,9 @@
 use Rattle.std.proofs.Common.{◌≡◌, ◌+◌, ◌<◌, ℕ, true, false, eqb, ◌&&◌, List, [], ◌∷◌, ◌++◌, length, Some, None, Ok, Err, refl, sym, ap, ◌∙◌, arith, append_assoc, append-nil, length-append, zero-add, suc}
 use Rattle.std.specs.List.{after_first, before_first, position_or_len, slice_split}
 use Rattle.std.proofs.lemmas.List.{length-map}
-use Rattle.std.proofs.lemmas.List.Splits.{slice_split_first, slice_split_none}
-use Rattle.std.proofs.lemmas.List.Sums.{fails_before_first}
 use Rattle.line_words.specs.Lines.{is_feed}
 use Rattle.line_words.specs.Words.{split_words}
+use Rattle.line_words.proofs.Cutting.{cut_is, uncut_is}
 use Rattle.slack_report.specs.declared.owned.OwnedItem.{OwnedItem}
 use Rattle.slack_report.specs.declared.place.Place.{Place}
 use Rattle.slack_report.specs.declared.place.Place.TheVariants as at
@@ -31,13 +30,6 @@ views-append [] more = refl
 views-append (item ∷ items) more = ap (λ es. owned_view item ∷ es) (views-append items more)
 
 -- ---- the first line of a text
-
-cut_is : (text line behind : List ℕ) → position_or_len is_feed text < length text → line ≡ before_first is_feed text → behind ≡ after_first is_feed text
-    → slice_split is_feed text ≡ line ∷ slice_split is_feed behind
-cut_is text line behind h first rest = slice_split_first is_feed text 0 h ∙ rw (first, rest) refl
-
-uncut_is : (text : List ℕ) → position_or_len is_feed text ≡ length text → slice_split is_feed text ≡ text ∷ []
-uncut_is text h = slice_split_none is_feed text (λ k d within. fails_before_first is_feed text k d (omega arith))
 
 -- ---- the lines that were read, and the text that is left
 

@@ -8,4 +8,4 @@ pub mod Walking
 pub mod Judging
 mod Printing
 mod Gathering
-mod SetLoop
+pub mod SetLoop

@@ -13,7 +13,7 @@ use Rattle.certificate.specs.Reading.{proof_in}
 use Rattle.certificate.proofs.LineLaws.{proof_inverts}
 use Rattle.line_words.specs.Numbers.{IsLong, IsLongOrOpen, long_in, number_in, open_in}
 use Rattle.line_words.specs.Words.{◌>>=◌, Word, is_word, keyed, many, one, two, when}
-use Rattle.line_words.proofs.Inverts.{Inverts, bind_some, either_takes, keyed_inverts, keyed_takes, last_some, many_inverts, map_some, one_inverts, one_takes, or_cases_some, pick_some, two_inverts, when_some, word_is, word_same}
+use Rattle.line_words.proofs.Inverts.{Inverts, bind_some, either_takes, keyed_inverts, keyed_takes, last_some, many_inverts, one_inverts, one_takes, or_cases_some, pick_some, two_inverts, when_some, word_is, word_same}
 use Rattle.line_words.proofs.NumberLaws.{long_inverts, number_inverts, open_inverts}
 use Rattle.requirements.specs.declared.bound.Bound.{Bound}
 use Rattle.requirements.specs.declared.bound.Bound.TheVariants as bounds
@@ -21,6 +21,7 @@ use Rattle.requirements.specs.declared.verdict.Verdict.{Verdict}
 use Rattle.requirements.specs.declared.verdict.Verdict.TheVariants as verdicts
 use Rattle.itv_base.specs.declared.row_kind.RowKind.{RowKind}
 use Rattle.itv_base.specs.declared.row_kind.RowKind.TheVariants as kinds
+use Rattle.itv_base.proofs.Options.{mapped_some}
 use Rattle.slack_report.specs.declared.words.Which.{Which}
 use Rattle.slack_report.specs.declared.place.Place.{Place}
 use Rattle.slack_report.specs.declared.place.Place.TheVariants as at
@@ -41,12 +42,12 @@ unfolding bound_in
 bound_takes [] value e = absurd (cc)
 bound_takes (word ∷ []) value e =
     or_cases_some (option_map bounds.Closed (long_in word)) (when (is_word word (codes "unbounded")) (Some bounds.Unbounded)) value (BoundTaken (word ∷ []) value) e
-    (λ h. let m = map_some bounds.Closed (long_in word) value h in let t = long_inverts.takes word m.0 m.1 in
+    (λ h. let m = mapped_some bounds.Closed (long_in word) value h in let t = long_inverts.takes word m.0 m.1 in
     subst (BoundTaken (word ∷ [])) m.2 (ap (λ w. w ∷ []) t.0, t.1))
     (λ h. last_some word (codes "unbounded") bounds.Unbounded value (BoundTaken (word ∷ [])) h (λ is. (ap (λ w. w ∷ []) is, tt)))
 bound_takes (word ∷ limit ∷ []) value e =
     let w = when_some (is_word word (codes "within")) (option_map (λ most. bounds.Within most None) (open_in limit)) value e in
-    let m = map_some (λ most. bounds.Within most None) (open_in limit) value w.1 in
+    let m = mapped_some (λ most. bounds.Within most None) (open_in limit) value w.1 in
     let t = open_inverts.takes limit m.0 m.1 in
     let first : word ≡ codes "within" = word_is word (codes "within") w.0 in
     subst (BoundTaken (word ∷ limit ∷ [])) m.2 (ap (λ x. x ∷ limit ∷ []) first ∙ ap (λ x. codes "within" ∷ x ∷ []) t.0, (t.1, tt))
@@ -129,7 +130,7 @@ flag_in_front : (flag : Bool) (number left : ℕ) (words behind : List Word) (o 
     → ((rest : List Bool) → o ≡ Some rest → SetTaken (number + 1) left behind rest) → words ≡ cond flag (number_text number ∷ behind) behind
     → SetTaken number (suc left) words set
 flag_in_front flag number left words behind o set e taken is =
-    let m = map_some (λ rest. flag ∷ rest) o set e in
+    let m = mapped_some (λ rest. flag ∷ rest) o set e in
     let t = taken m.0 m.1 in
     subst (SetTaken number (suc left) words) m.2 (is ∙ placed flag m.0 t.0, ap suc t.1)
   where
@@ -214,7 +215,7 @@ demand_takes (word ∷ words) x e =
 
 ask_takes : (words : List Word) (x : RowKind × Name × Name) → ask_in words ≡ Some x → RowTaken (codes "ask" ∷ words) x
 ask_takes words x e =
-    let m = map_some (λ (p : Name × Name). (kinds.Ask, p.0, p.1)) (two name_in name_in words) x e in
+    let m = mapped_some (λ (p : Name × Name). (kinds.Ask, p.0, p.1)) (two name_in name_in words) x e in
     let t = names_invert.takes words m.0 m.1 in
     subst (RowTaken (codes "ask" ∷ words)) m.2 (ap (λ ws. codes "ask" ∷ ws) t.0, (tt, t.1.0, t.1.1))
 
@@ -241,7 +242,7 @@ EntryTaken count words entry = (words ≡ words_of entry) × IsReportEntry count
 mapped : {A : Type 0} (f : A → Entry) (read : List Word → Option A) (spell : A → List Word) (Form : A → Type 0) (words : List Word) (entry : Entry) (count : ℕ) → Inverts read spell Form
     → ((x : A) → spell x ≡ words_of (f x)) → ((x : A) → Form x → IsReportEntry count (f x)) → option_map f (read words) ≡ Some entry → EntryTaken count words entry
 mapped f read spell Form words entry count i spells forms e =
-    let m = map_some f (read words) entry e in
+    let m = mapped_some f (read words) entry e in
     let t = i.takes words m.0 m.1 in
     subst (EntryTaken count words) m.2 (t.0 ∙ spells m.0, forms m.0 t.1)
 

@@ -1,10 +1,9 @@
 -- Every word of a line is plain, so the line is cut into just its words.
-use Rattle.std.proofs.Common.{◌≡◌, ◌+◌, ℕ, Bool, true, false, leb, not, ◌&&◌, eqb, List, [], ◌∷◌, ◌++◌, map, length, codes, Option, Some, None, refl, sym, ap, ◌∙◌, arith}
+use Rattle.std.proofs.Common.{◌≡◌, ◌+◌, ℕ, Bool, true, false, leb, not, ◌&&◌, eqb, List, [], ◌∷◌, ◌++◌, map, length, codes, Option, Some, None, refl, sym, ap, ◌∙◌}
 use Rattle.std.specs.Char.{is_ascii_graphic}
 use Rattle.std.specs.List.{list_all}
 use Rattle.std.specs.Str.{IsUtf8}
 use Rattle.std.proofs.lemmas.Bool.{and_parts}
-use Rattle.std.proofs.lemmas.Bool.Decides.{nat_tests}
 use Rattle.std.proofs.lemmas.List.Splits.{join_with_byte-slice_split}
 use Rattle.itv_base.specs.Characters.{is_name_byte}
 use Rattle.itv_base.specs.declared.limits.TheConstants.{MAX_NAME_LEN}
@@ -15,7 +14,7 @@ use Rattle.certificate.proofs.LineLaws.{proof_plain}
 use Rattle.line_words.specs.Lines.{line_of}
 use Rattle.line_words.specs.Words.{Word, split_words}
 use Rattle.line_words.proofs.Cutting.{IsLine}
-use Rattle.line_words.proofs.Plain.{ArePlain, all_weaker, end_plain, is_plain, join_line, line_is_text, map_plain, number_plain, plain_append, signed_plain, split-join}
+use Rattle.line_words.proofs.Plain.{ArePlain, all_weaker, end_plain, is_plain, join_line, line_is_text, map_plain, number_plain, plain_append, signed_plain, split-join, name_byte_plain}
 use Rattle.requirements.specs.declared.bound.Bound.TheVariants as bounds
 use Rattle.requirements.specs.declared.verdict.Verdict.TheVariants as verdicts
 use Rattle.itv_base.specs.declared.row_kind.RowKind.TheVariants as kinds
@@ -35,9 +34,6 @@ use Rattle.slack_report.proofs.Walking.{LineLaws}
 
 -- ---- each word
 
-name_byte_plain : (b : ℕ) → is_name_byte b ≡ true → is_ascii_graphic b ≡ true
-name_byte_plain b h = grind (arith, nat_tests)
-
 name_plain : (name : Name) → IsName name → is_plain (name_word name) ≡ true
 name_plain name form =
     let bytes : list_all is_name_byte name.part ≡ true = (and_parts (leb 1 (length name.part) && leb (length name.part) MAX_NAME_LEN) (list_all is_name_byte name.part) form.part).1 in
@@ -49,7 +45,7 @@ range_plain : (ends : Ends) → is_plain (range_word ends) ≡ true
 range_plain ends =
     plain_append (end_text ends.low) (44 ∷ (end_text ends.high ++ (93 ∷ []))) (end_plain ends.low) (plain_append (end_text ends.high) (93 ∷ []) (end_plain ends.high) refl)
 
-members_plain : (set : List Bool) (number : ℕ) → ArePlain (members_from number set)
+pub members_plain : (set : List Bool) (number : ℕ) → ArePlain (members_from number set)
 members_plain [] number = tt
 members_plain (true ∷ set) number = (number_plain number, members_plain set (number + 1))
 members_plain (false ∷ set) number = members_plain set (number + 1)
@@ -65,7 +61,7 @@ ending_plain endings.Fail = refl
 ending_plain endings.Inconsistent = refl
 ending_plain endings.Undecided = refl
 
-which_plain : (which : Which) → is_plain (which_word which) ≡ true
+pub which_plain : (which : Which) → is_plain (which_word which) ≡ true
 which_plain sorts.Max = refl
 which_plain sorts.Min = refl
 

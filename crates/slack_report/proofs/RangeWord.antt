@@ -3,7 +3,7 @@ use Rattle.std.proofs.Common.{◌≡◌, ℕ, suc, ℤ, pos, negsuc, neg_ℤ, �
 use Rattle.std.specs.Prelude.{IfSome, int_lt}
 use Rattle.std.specs.Char.{is_ascii_digit}
 use Rattle.std.specs.List.{list_all, take_while}
-use Rattle.std.proofs.lemmas.Bool.{and_parts, le-ltb, not-true, or_from, or_parts}
+use Rattle.std.proofs.lemmas.Bool.{and_parts, not-true, or_from, or_parts}
 use Rattle.std.proofs.lemmas.Int.{ints}
 use Rattle.std.proofs.lemmas.Option.{same_Some}
 use Rattle.itv_base.specs.Cuts.{after_while, stripped}
@@ -13,6 +13,8 @@ use Rattle.itv_base.specs.Range.{Ends, IsEnd, IsRange, has_wide, is_above, is_re
 use Rattle.itv_base.proofs.Cuts.{stripped_some}
 use Rattle.itv_base.proofs.Numerals.{digits-text}
 use Rattle.itv_base.proofs.Runs.{front_of_run, rest_of_run, run_whole}
+use Rattle.itv_base.proofs.Integers.{no_test_from_le}
+use Rattle.itv_base.proofs.Ranges.{is_end, is_ordered}
 use Rattle.line_words.specs.Numbers.{IsLongOrOpen, open_in}
 use Rattle.line_words.specs.Words.{◌>>=◌, Word, is_word, when}
 use Rattle.line_words.proofs.Inverts.{Inverts, bind_some, when_some, word_is}
@@ -23,35 +25,15 @@ use Rattle.slack_report.specs.Text.{range_word}
 
 -- ---- the tests of a range
 
-not_below : (a b : ℤ) → int_lt a b ≡ false → b ≤ℤ a
-not_below a b h = omega (arith, ints)
-
-below_not : (a b : ℤ) → b ≤ℤ a → int_lt a b ≡ false
-below_not (pos a) (pos b) h = le-ltb a b (omega (arith, ints))
-below_not (pos a) (negsuc b) h = refl
-below_not (negsuc a) (pos b) h = absurd (omega (arith, ints))
-below_not (negsuc a) (negsuc b) h = le-ltb b a (omega (arith, ints))
-
-end_from_test : (end : Option ℤ) → is_wide end ≡ false → IsEnd end
-end_from_test None h = tt
-end_from_test (Some value) h =
-    let p = or_parts (int_lt value (neg_ℤ END_LIMIT)) (int_lt END_LIMIT value) h in
-    (not_below value (neg_ℤ END_LIMIT) p.0, not_below END_LIMIT value p.1)
-
-test_from_end : (end : Option ℤ) → IsEnd end → is_wide end ≡ false
+pub test_from_end : (end : Option ℤ) → IsEnd end → is_wide end ≡ false
 test_from_end None h = refl
 test_from_end (Some value) h =
-    or_from (int_lt value (neg_ℤ END_LIMIT)) (int_lt END_LIMIT value) (below_not value (neg_ℤ END_LIMIT) h.0) (below_not END_LIMIT value h.1)
+    or_from (int_lt value (neg_ℤ END_LIMIT)) (int_lt END_LIMIT value) (no_test_from_le value (neg_ℤ END_LIMIT) h.0) (no_test_from_le END_LIMIT value h.1)
 
-order_from_test : (low high : Option ℤ) → is_above low high ≡ false → IfSome low (λ least. IfSome high (λ most. least ≤ℤ most))
-order_from_test None high h = tt
-order_from_test (Some low) None h = tt
-order_from_test (Some low) (Some high) h = not_below high low h
-
-test_from_order : (low high : Option ℤ) → IfSome low (λ least. IfSome high (λ most. least ≤ℤ most)) → is_above low high ≡ false
+pub test_from_order : (low high : Option ℤ) → IfSome low (λ least. IfSome high (λ most. least ≤ℤ most)) → is_above low high ≡ false
 test_from_order None high h = refl
 test_from_order (Some low) None h = refl
-test_from_order (Some low) (Some high) h = below_not high low h
+test_from_order (Some low) (Some high) h = no_test_from_le high low h
 
 range_from_takes : (low high : Option ℤ) (ends : Ends) → range_from low high ≡ Some ends → (record { low = low; high = high } ≡ ends) × IsRange ends
 range_from_takes low high ends e =
@@ -59,7 +41,7 @@ range_from_takes low high ends e =
     let w = when_some (not (has_wide both) && not (is_reversed both)) (Some both) ends e in
     let p = and_parts (not (has_wide both)) (not (is_reversed both)) w.0 in
     let narrow = or_parts (is_wide low) (is_wide high) (not-true (has_wide both) p.0) in
-    let form : IsRange both = (end_from_test low narrow.0, end_from_test high narrow.1, order_from_test low high (not-true (is_reversed both) p.1)) in
+    let form : IsRange both = (is_end low narrow.0, is_end high narrow.1, is_ordered low high (not-true (is_reversed both) p.1)) in
     let same : both ≡ ends = same_Some both ends w.1 in
     (same, subst IsRange same form)
 

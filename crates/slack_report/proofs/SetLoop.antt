@@ -23,7 +23,7 @@ one_flag left number (word ∷ words) flag is = at_flag flag is
     at_flag true e = rw (← e) refl
     at_flag false e = rw (← e) refl
 
-flag_in_front : (set : List Bool) (flag : Bool) (o : Option (List Bool)) → in_front set (option_map (λ rest. flag ∷ rest) o) ≡ in_front (set ++ flag ∷ []) o
+pub flag_in_front : (set : List Bool) (flag : Bool) (o : Option (List Bool)) → in_front set (option_map (λ rest. flag ∷ rest) o) ≡ in_front (set ++ flag ∷ []) o
 flag_in_front set flag None = refl
 flag_in_front set flag (Some rest) = ap (λ ys. Some ys) (sym (append_assoc set (flag ∷ []) rest))
 

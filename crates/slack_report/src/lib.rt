@@ -4,6 +4,7 @@
 //! first line at which no report can continue.
 #![tactic(auto)]
 
+mod add_words;
 mod fault;
 mod item;
 mod items;
@@ -20,11 +21,15 @@ mod step;
 mod words;
 mod write;
 
+pub use add_words::{
+    add_bound, add_ending, add_number, add_piece, add_range, add_signed, add_spaced, add_verdict,
+};
 pub use fault::ReportFault;
 pub use item::Item;
 pub use items::Items;
 pub use place::{Place, Spot};
 pub use put_words::{put_asked, put_bound_words, put_range, put_verdict_words};
+pub use read_list::{flags_in, longs_in};
 pub use report::{Report, read_report};
-pub use words::{EndWord, FindingWord, Which};
+pub use words::{EndWord, FindingWord, Which, which_word};
 pub use write::{LINE_ROOM, write_item};

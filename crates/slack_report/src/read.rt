@@ -1,14 +1,11 @@
 //! Reading a text line by line.
 
-ghost use Rattle.std.specs.Prelude.{◌≡◌, ◌&&◌, ◌==◌, ◌≤◌, IfOk, IfSome, Ok, length, option_map};
-ghost use Rattle.std.specs.List.{position_or_len};
-ghost use Rattle.line_words.specs.Lines.{is_feed};
+ghost use Rattle.std.specs.Prelude.{◌≡◌, ◌&&◌, ◌==◌, IfOk, IfSome, Ok, length, option_map};
 ghost use Rattle.line_words.specs.Words.{split_words};
 ghost use Rattle.slack_report.specs.Items.{views};
 ghost use Rattle.slack_report.specs.Step.Items.{step_view};
 ghost use Rattle.slack_report.specs.Reading.{is_nothing, report_in, step_at};
 ghost use Rattle.slack_report.specs.Step.Answers.{IsItemsRead};
-ghost use Rattle.slack_report.specs.Step.Cuts.{Cuts};
 ghost use Rattle.slack_report.specs.Step.Within.{IsPlaceWithin};
 
 use crate::fault::ReportFault;
@@ -16,7 +13,7 @@ use crate::owned::OwnedItem;
 use crate::place::Place;
 use crate::step::step_at;
 use itv_base::NoMemory;
-use line_words::split_words;
+use line_words::{cut_line, split_words};
 use std::alloc::Global;
 
 fn read_text(
@@ -47,24 +44,6 @@ fn read_line(
         Ok(line) => read_text(alloc, place, line),
         Err(_) => Ok(None),
     }
-}
-
-fn line_len(text: &[u8]) -> usize
-    ensures len { result ≡ position_or_len is_feed text.now }
-    ensures within { result ≤ length text.now }
-{
-    text.iter().take_while(|b| **b != b'\n').count()
-}
-
-// The first line of a text, and the text after its end. None if no line ends.
-fn cut_line(text: &[u8]) -> Option<(&[u8], &[u8])>
-    ensures { Cuts text.now result }
-{
-    let len = line_len(text);
-    if len == text.len() {
-        return None;
-    }
-    Some((&text[..len], &text[len + 1..]))
 }
 
 // Whether nothing follows at a place.

@@ -18,8 +18,8 @@ use line_words::{behind_word, long_in, open_in, two_words};
 use requirements::{Bound, Verdict};
 use std::alloc::Global;
 
-// A number at each word.
-fn longs_in(alloc: Global, words: &[&str]) -> Result<Option<Vec<i64>>, NoMemory>
+/// A number at each word, or none if a word is no number.
+pub fn longs_in(alloc: Global, words: &[&str]) -> Result<Option<Vec<i64>>, NoMemory>
     ensures { IfOk result (λ o. option_map (λ v. v.items) o ≡ many long_in (texts words.now)) }
 {
     let mut list = Vec::new(alloc);

@@ -22,7 +22,7 @@ use crate::read_list::{
     behind_number, bound_in, copy_name, flags_in, row_in, times_in, verdict_in,
 };
 use crate::read_word::{budget_in, ending_in, finding_in, name_in};
-use crate::words::Which;
+use crate::words::{Which, which_word};
 use certificate::proof_in;
 use itv_base::{EventName, MAX_EVENTS, MAX_ROWS, NoMemory, RowKind};
 use line_words::{behind_word, number_in, only_word, open_in, two_words};
@@ -79,22 +79,13 @@ fn step_finding(events: u32, words: &[&str]) -> Option<(OwnedItem, Place)>
     Some((OwnedItem::Finding(word), after_finding(events, word)))
 }
 
-fn which_key(which: Which) -> &'static str
-    ensures { result.now ≡ which_word which }
-{
-    match which {
-        Which::Max => "max",
-        Which::Min => "min",
-    }
-}
-
 fn step_bound(spot: Spot, which: Which, words: &[&str]) -> Option<(OwnedItem, Place)>
     requires { IsSpot spot }
     ensures is { option_map (λ s. step_view s) result ≡ with_place (Place.Bound spot which)
         (option_map (bound which) (keyed (which_word which) bound_in (texts words.now))) }
     ensures within { IfSome result (λ s. IsPlaceWithin s.1) }
 {
-    let value = bound_in(behind_word(words, which_key(which))?)?;
+    let value = bound_in(behind_word(words, which_word(which))?)?;
     Some((OwnedItem::Bound(which, value), in_bound(spot, which, value)))
 }
 

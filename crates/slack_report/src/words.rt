@@ -1,5 +1,8 @@
 //! Words of a report's lines: findings, kinds of bounds, and ends.
 
+ghost use Rattle.std.specs.Prelude.{◌≡◌};
+ghost use Rattle.slack_report.specs.Text.{which_word};
+
 /// Whether some times satisfy the network.
 #[derive(Clone, Copy, PartialEq, Eq)]
 pub enum FindingWord {
@@ -14,6 +17,16 @@ pub enum FindingWord {
 pub enum Which {
     Max,
     Min,
+}
+
+/// The word of a kind of bound.
+pub fn which_word(which: Which) -> &'static str
+    ensures { result.now ≡ which_word which }
+{
+    match which {
+        Which::Max => "max",
+        Which::Min => "min",
+    }
 }
 
 /// How a report ends.

@@ -5,8 +5,8 @@ use Rattle.std.specs.List.{AllZip}
 use Rattle.std.proofs.lemmas.List.{length_push, map_push, take_all}
 use Rattle.std.proofs.lemmas.List.Elements.{AllZip-push}
 use Rattle.itv_base.specs.declared.names.EventId.{EventId}
+use Rattle.itv_base.proofs.Lists.{found_below, take_get}
 use Rattle.origin.specs.declared.origin.Origin.{Origin}
-use Rattle.event_graph.proofs.EdgesMet.{found_below, take_next}
 use Rattle.event_graph.specs.Network.{Constraint, Net, with_constraint}
 use Rattle.event_graph.specs.Times.{separation}
 use Rattle.event_graph.specs.Widening.{IsWiderCause, IsWiderConstraint}
@@ -94,7 +94,7 @@ pub events_more : (cs : List Cause) (k : ℕ) (c wide : Cause) (old new : List C
 events_more cs k c wide old new at event before pushed =
     let v : Cause → EventId = λ x. x.event in
     ap (map v) pushed ∙ (map_push v old wide ∙ (ap (λ (es : List EventId). es ++ v wide ∷ []) before ∙ (ap (λ (e : EventId). map v (take k cs) ++ e ∷ []) (sym event)
-    ∙ (sym (map_push v (take k cs) c) ∙ ap (map v) (sym (take_next cs k c at))))))
+    ∙ (sym (map_push v (take k cs) c) ∙ ap (map v) (sym (take_get cs k c at))))))
 
 -- ---- the constraints
 
@@ -199,7 +199,7 @@ rows_more kind counts drawn numbers given k row framed part is_drawn apart value
     let H : Row → Row = row_counted counts value in
     let here : IsFramedRow kind (F row) framed = row_framed kind counts value own_test row framed from to wanted in
     let whole : map H (map G (take (k + 1) drawn.rows)) ≡ map H (map G (take k drawn.rows)) ++ F row ∷ [] =
-    ap (λ (rs : List Row). map H (map G rs)) (take_next drawn.rows k row own)
+    ap (λ (rs : List Row). map H (map G rs)) (take_get drawn.rows k row own)
     ∙ (ap (λ (rs : List Row). map H rs) (map_push G (take k drawn.rows) row) ∙ map_push H (map G (take k drawn.rows)) (G row)) in
     subst (λ (rs : List Row). AllZip (IsFramedRow kind) rs new) (sym whole)
     (subst (λ (rs : List Row). AllZip (IsFramedRow kind) (map H (map G (take k drawn.rows)) ++ F row ∷ []) rs) (sym pushed)

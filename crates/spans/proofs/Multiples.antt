@@ -8,6 +8,7 @@ use Rattle.std.proofs.lemmas.Int.{by_lt_z, ints, to_z-of_z}
 use Rattle.moves.proofs.Products.{falls, rises, zero_times}
 use Rattle.moves.specs.Step.{IsMoveBy}
 use Rattle.spans.specs.Step.{IsCountStep, IsUnwrapped, IsValue}
+use Rattle.itv_base.proofs.Integers.{through}
 
 equal_le : (x y : ℤ) → x ≡ y → x ≤ℤ y
 equal_le x y e = omega (arith, ints, e)
@@ -31,9 +32,6 @@ greatest_value = pos 40000000000001
 
 abbrev greatest_step : ℤ
 greatest_step = pos 32769
-
-through : (x y z : ℤ) → x ≤ℤ y → y ≤ℤ z → x ≤ℤ z
-through x y z le more = omega (arith, ints, le, more)
 
 -- a product with a number that is not negative
 rising_small : (t v : ℤ) → pos 0 ≤ℤ t → t ≤ℤ greatest_step → neg_ℤ greatest_value ≤ℤ v → v ≤ℤ greatest_value → IsUnwrapped (t *ℤ v)

@@ -6,6 +6,7 @@ use Rattle.moves.specs.Step.{IsMoveBy}
 use Rattle.spans.specs.Step.{IsFurther, IsOn, IsPast, IsTowards, on_of, outward, steps_between}
 use Rattle.spans.specs.declared.direction.Direction.{Direction}
 use Rattle.spans.specs.declared.direction.Direction.TheVariants.{Down, Up}
+use Rattle.itv_base.proofs.Integers.{abs_less}
 
 -- ---- the order of values in a direction
 
@@ -123,11 +124,6 @@ within_further Up from last value count far near = omega (arith, ints, far, near
 
 -- ---- steps between two values
 
-abs_up : (a b : ℤ) → pos 0 ≤ℤ a → a <ℤ b → unsigned_abs a < unsigned_abs b
-abs_up (pos a) (pos b) low less = omega (arith, ints, less)
-abs_up (pos a) (negsuc b) low less = absurd (omega (arith, ints, less))
-abs_up (negsuc a) b low less = absurd (omega (arith, ints, low))
-
 abs_down : (a b : ℤ) → a ≤ℤ pos 0 → b <ℤ a → unsigned_abs a < unsigned_abs b
 abs_down (pos zero) (pos b) high less = absurd (omega (arith, ints, less))
 abs_down (pos zero) (negsuc b) high less = omega arith
@@ -138,11 +134,11 @@ abs_down (negsuc a) (negsuc b) high less = omega (arith, ints, less)
 -- a value between two others is nearer to each of them
 pub nearer_end : (d : Direction) (from at to : ℤ) → IsPast d from at → IsPast d at to → steps_between at to < steps_between from to
 nearer_end Down from at to first last = abs_down (to -ℤ at) (to -ℤ from) (omega (arith, ints, last)) (omega (arith, ints, first))
-nearer_end Up from at to first last = abs_up (to -ℤ at) (to -ℤ from) (omega (arith, ints, last)) (omega (arith, ints, first))
+nearer_end Up from at to first last = abs_less (to -ℤ at) (to -ℤ from) (omega (arith, ints, last)) (omega (arith, ints, first))
 
 pub nearer_start : (d : Direction) (from at to : ℤ) → IsPast d from at → IsPast d at to → steps_between from at < steps_between from to
 nearer_start Down from at to first last = abs_down (at -ℤ from) (to -ℤ from) (omega (arith, ints, first)) (omega (arith, ints, last))
-nearer_start Up from at to first last = abs_up (at -ℤ from) (to -ℤ from) (omega (arith, ints, first)) (omega (arith, ints, last))
+nearer_start Up from at to first last = abs_less (at -ℤ from) (to -ℤ from) (omega (arith, ints, first)) (omega (arith, ints, last))
 
 -- ---- between two values
 

@@ -1,35 +1,29 @@
 -- Rules and rows of a design are between its marks.
-use Rattle.std.proofs.Common.{inl, inr, length-append, ◌≡◌, ℕ, zero, suc, ◌+◌, ◌-◌, ◌*◌, ◌^◌, ◌<◌, ◌≤◌, List, [], ◌∷◌, ◌++◌, length, map, get_or, All, Some, refl, arith}
-use Rattle.std.specs.Prelude.{slice_get}
+use Rattle.std.proofs.Common.{inl, inr, ◌≡◌, ℕ, zero, suc, ◌+◌, ◌-◌, ◌*◌, ◌^◌, ◌<◌, ◌≤◌, List, [], ◌∷◌, ◌++◌, length, map, get_or, All, Some, refl, arith}
 use Rattle.std.specs.List.{flat_map}
-use Rattle.std.proofs.Math.ListN.{get_or-append}
 use Rattle.std.proofs.Math.Seq.{drop-append_seam}
 use Rattle.std.proofs.lemmas.Bool.{cases_lt}
 use Rattle.std.proofs.lemmas.List.{length-map}
 use Rattle.std.proofs.lemmas.List.Elements.{All-append, All-cons, All-drop, All-filter, All-head, All-map, All-nil, All-pop, All-tail, All-weaker}
 use Rattle.std.proofs.lemmas.List.Sums.{sum_by-le}
-use Rattle.std.proofs.lemmas.Option.{get_or_from_slice_get, slice_get_within}
 use Rattle.sheet.specs.declared.row.SheetRow.{SheetRow}
 use Rattle.sheet.specs.declared.rule.Source.{Source}
 use Rattle.sheet.specs.Rule.{SheetRule}
 use Rattle.sheet.specs.SheetContents.{SheetContents}
 use Rattle.sheet.specs.Whole.{IsWhole, IsWholeRow, IsWholeRule, IsWholeSource}
 use Rattle.itv_base.specs.declared.limits.TheConstants.{MAX_EVENTS}
+use Rattle.itv_base.proofs.Lists.{All-front}
 use Rattle.sheet.specs.declared.mark.TheConstants.{MAX_MARKS}
 use Rattle.compose.specs.declared.joins.Join.{Join}
 use Rattle.compose.specs.declared.joins.PinJoins.{PinJoins}
 use Rattle.compose.specs.Joins.{first_joins, join_at, pin_joins}
 use Rattle.compose.specs.Design.{Composed, IsDesign, IsJoinOf}
 use Rattle.compose.specs.Numbers.{join_rule, mark_count, number_of}
+use Rattle.compose.proofs.WholeDesigns.{mark_count_cons, number_within}
 use Rattle.unroll.specs.Cycle.{part_rows, part_rules, row_behind, rows_of, rule_behind, rules_of, source_behind}
 use Rattle.unroll.specs.Cycles.{row_exists, rule_exists}
 use Rattle.unroll.specs.Step.Between.{IsRowBetween, IsRuleBetween}
 use Rattle.unroll.specs.Step.Kept.{kept_rows, kept_rules}
-use Rattle.unroll.proofs.PartLists.{mark_count_cons, number_within}
-
--- what holds of all elements holds of the element at a place
-pub All-slice_get : {X : Type 0} (P : X → Type 0) (xs : List X) (i : ℕ) (x : X) → All P xs → slice_get xs i ≡ Some x → P x
-All-slice_get P xs i x all read = rw (get_or_from_slice_get xs i x x read) at (all i x (slice_get_within xs i x read))
 
 -- ---- of sheets and wires
 
@@ -142,9 +136,6 @@ few_marks d h =
     omega (arith, most, h.few)
 
 -- ---- joins of pins
-
-All-front : {X : Type 0} (P : X → Type 0) (xs ys : List X) → All P (xs ++ ys) → All P xs
-All-front P xs ys all = λ k d within. rw (get_or-append xs ys d k within) at (all k d (omega (arith, within, length-append xs ys)))
 
 All-back : {X : Type 0} (P : X → Type 0) (xs ys : List X) → All P (xs ++ ys) → All P ys
 All-back P xs ys all = rw (drop-append_seam xs ys) at (All-drop P (length xs) (xs ++ ys) all)

@@ -1,14 +1,15 @@
 -- What the steps make is what a design draws, and the counts are the counts of what it draws.
 use Rattle.std.proofs.Common.{◌≡◌, ℕ, ◌-◌, ◌*◌, ◌<◌, ◌≤◌, Bool, true, false, cond, List, [], ◌∷◌, length, All, Option, Some, None, IfSome, Ok, Err, refl, ap, sym, ◌∙◌, arith}
-use Rattle.std.specs.List.{cons_option, filter_map}
+use Rattle.std.specs.List.{filter_map}
 use Rattle.std.proofs.lemmas.Bool.{ltb-false}
 use Rattle.std.proofs.lemmas.Nat.{mul-add-lt}
-use Rattle.std.proofs.lemmas.List.Elements.{All-cons, All-head, All-nil, All-tail}
+use Rattle.std.proofs.lemmas.List.Elements.{All-head, All-nil, All-tail}
 use Rattle.itv_base.specs.declared.limits.TheConstants.{MAX_CONSTRAINTS, MAX_EVENTS, MAX_ROWS}
 use Rattle.origin.specs.declared.origin.Origin.{Origin}
 use Rattle.event_graph.specs.Network.{Net}
 use Rattle.sheet.specs.declared.row.SheetRow.{SheetRow}
 use Rattle.sheet.specs.Rule.{SheetRule}
+use Rattle.sheet.proofs.WholeSheets.{cond_none, more_hold}
 use Rattle.compose.specs.Design.{Composed, IsDesign}
 use Rattle.compose.specs.Numbers.{mark_count}
 use Rattle.unroll.specs.declared.counted.Counted.{Counted}
@@ -43,10 +44,6 @@ limits_counted d counts h =
     let splittable = h.splittable ∙ sym (splittable_counted (d.cycles * marks) marks d.cycles (rules_of d)) in
     rw (h.marks, constraints, rows, splittable) refl
 
-cond_none : {X : Type 0} (test : Bool) (x : X) (other : Option X) → cond test (Some x) other ≡ None → (test ≡ false) × (other ≡ None)
-cond_none true x other h = absurd (cc)
-cond_none false x other h = (refl, h)
-
 -- if no limit is passed, each count is allowed
 pub none_passed : (events constraints rows splittable : ℕ) → first_passed (counts_by events constraints rows splittable) ≡ None → (events ≤ MAX_EVENTS) × (constraints ≤ MAX_CONSTRAINTS) × (rows ≤ MAX_ROWS)
 none_passed events constraints rows splittable none =
@@ -68,10 +65,6 @@ drawn_past d passed is = ap (within (drawn_of d)) is
 chosen : {X : Type 0} (b : Bool) (x : X) (P : X → Type 0) → P x → IfSome (cond b (Some x) None) P
 chosen true x P h = h
 chosen false x P h = tt
-
-more_hold : {X : Type 0} (P : X → Type 0) (o : Option X) (xs : List X) → IfSome o P → All P xs → All P (cons_option o xs)
-more_hold P None xs p all = all
-more_hold P (Some x) xs p all = All-cons P x xs p all
 
 rows_of_cycle : (net : Net) (marks cycle n : ℕ) (rows : List SheetRow) → cycle < n → net.events ≡ n * marks → All (IsRowBetween marks) rows → All (IsRowOf net) (filter_map (row_in marks cycle) rows)
 rows_of_cycle net marks cycle n [] less is all = All-nil (IsRowOf net)

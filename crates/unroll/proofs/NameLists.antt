@@ -9,12 +9,12 @@ use Rattle.std.proofs.lemmas.Option.{unwrap_or-slice_get}
 use Rattle.sheet.specs.declared.mark.Mark.{Mark}
 use Rattle.sheet.specs.SheetContents.{SheetContents}
 use Rattle.compose.specs.Numbers.{mark_count}
+use Rattle.compose.proofs.WholeDesigns.{mark_count_cons}
 use Rattle.drawn.specs.declared.event_label.EventLabel.{EventLabel}
 use Rattle.unroll.specs.Cycles.{in_cycles}
 use Rattle.unroll.specs.Drawn.{names_in}
 use Rattle.unroll.specs.Step.Labels.{label_of, labels_from}
 use Rattle.drawn.specs.Kept.{name_by}
-use Rattle.unroll.proofs.PartLists.{mark_count_cons}
 
 -- one more part
 pub labels_push : (cycle part : ℕ) (sheets : List SheetContents) (sheet : SheetContents)

@@ -1,19 +1,18 @@
 -- The marks, rules and rows of one more part.
-use Rattle.std.proofs.Common.{Bool, cond, nat_le, ◌≡◌, ℕ, zero, suc, ◌+◌, ◌-◌, ◌<◌, ◌≤◌, List, [], ◌∷◌, ◌++◌, length, map, get_or, take, Option, Some, None, refl, ap, sym, ◌∙◌, add-zero, append-nil, append_assoc, arith}
-use Rattle.std.specs.Prelude.{IsSomeAnd, slice_get}
+use Rattle.std.proofs.Common.{Bool, cond, nat_le, ◌≡◌, ℕ, zero, suc, ◌+◌, ◌-◌, ◌<◌, ◌≤◌, List, [], ◌∷◌, ◌++◌, length, map, get_or, take, Some, refl, ap, sym, ◌∙◌, add-zero, append-nil, append_assoc, arith}
+use Rattle.std.specs.Prelude.{slice_get}
 use Rattle.std.proofs.lemmas.List.{get_or_read, length-take-le}
 use Rattle.std.proofs.lemmas.List.Elements.{filter-append}
 use Rattle.std.proofs.lemmas.List.Folds.{list_all-map}
-use Rattle.std.proofs.lemmas.List.Sums.{sum_by-cons, sum_by-take-le, sum_by_push}
+use Rattle.std.proofs.lemmas.List.Sums.{sum_by-take-le, sum_by_push}
 use Rattle.std.proofs.lemmas.Option.{slice_get_within}
 use Rattle.sheet.specs.SheetContents.{SheetContents}
 use Rattle.sheet.specs.declared.rule.Source.{Source}
 use Rattle.sheet.specs.Rule.{SheetRule}
-use Rattle.sheet.proofs.Lists.{take_get}
+use Rattle.itv_base.proofs.Lists.{take_get}
 use Rattle.sheet.specs.declared.row.SheetRow.{SheetRow}
-use Rattle.compose.specs.declared.mark.DesignMark.{DesignMark}
-use Rattle.compose.specs.Design.{IsMarkOf}
-use Rattle.compose.specs.Numbers.{mark_count, number_of}
+use Rattle.compose.specs.Numbers.{mark_count}
+use Rattle.compose.proofs.WholeDesigns.{mark_count_cons}
 use Rattle.unroll.specs.Cycle.{part_rows, part_rules, row_behind, rule_behind, source_behind}
 use Rattle.unroll.specs.Cycles.{row_exists, rule_exists}
 use Rattle.unroll.specs.Step.Firsts.{firsts_of}
@@ -29,23 +28,11 @@ take_length xs i x read =
 pub mark_count_push : (sheets : List SheetContents) (sheet : SheetContents) → mark_count (sheets ++ sheet ∷ []) ≡ mark_count sheets + length sheet.marks
 mark_count_push sheets sheet = sum_by_push (λ (s : SheetContents). length s.marks) sheets sheet
 
-pub mark_count_cons : (sheet : SheetContents) (sheets : List SheetContents) → mark_count (sheet ∷ sheets) ≡ length sheet.marks + mark_count sheets
-mark_count_cons sheet sheets = sum_by-cons (λ (s : SheetContents). length s.marks) sheet sheets
-
 -- the marks of a part, and of the parts before it, are among all marks
 pub sheet_fits : (sheets : List SheetContents) (part : ℕ) (sheet : SheetContents) → slice_get sheets part ≡ Some sheet → mark_count (take part sheets) + length sheet.marks ≤ mark_count sheets
 sheet_fits sheets part sheet read =
     let front : mark_count (take (part + 1) sheets) ≡ mark_count (take part sheets) + length sheet.marks = ap mark_count (take_get sheets part sheet read) ∙ mark_count_push (take part sheets) sheet in
     omega (arith, front, sum_by-take-le (λ (s : SheetContents). length s.marks) sheets (part + 1))
-
-number_fits : (sheets : List SheetContents) (mark : DesignMark) (found : Option SheetContents) → slice_get sheets mark.part ≡ found
-    → IsSomeAnd found (λ sheet. mark.mark < length sheet.marks) → number_of sheets mark < mark_count sheets
-number_fits sheets mark None read h = absurd h
-number_fits sheets mark (Some sheet) read h = omega (arith, h, sheet_fits sheets mark.part sheet read)
-
--- the number of a mark is among the numbers of all marks
-pub number_within : (sheets : List SheetContents) (mark : DesignMark) → IsMarkOf sheets mark → number_of sheets mark < mark_count sheets
-number_within sheets mark h = number_fits sheets mark (slice_get sheets mark.part) refl h
 
 -- ---- first marks
 

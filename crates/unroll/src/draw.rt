@@ -20,8 +20,7 @@ use crate::row::rows_in;
 use crate::rules::rules_of;
 use compose::Design;
 use drawn::DrawnNetwork;
-use itv_base::NoMemory;
-use sheet::copied;
+use itv_base::{NoMemory, copied_texts};
 use std::alloc::Global;
 
 /// What a design draws, cycle by cycle: its events, its constraints and its rows. If this passes a limit, the answer is the first
@@ -64,7 +63,7 @@ fn draw(alloc: Global, design: &Design<'_>, marks: u32) -> Result<DrawnNetwork, 
     let asked = rows_of(alloc, &numbered)?;
     let network = network_of(alloc, marks, cycles, &rules)?;
     let origins = origins_of(alloc, cycles, &rules)?;
-    let parts = copied(alloc, design.parts())?;
+    let parts = copied_texts(alloc, design.parts())?;
     let labels = labels_of(alloc, design)?;
     let rows = rows_in(alloc, marks, cycles, &asked)?;
     Ok(DrawnNetwork::of(network, origins, parts, labels, rows))

@@ -1,9 +1,9 @@
 //! The constraints of rules, cycle by cycle.
 
-ghost use Rattle.std.specs.Prelude.{◌≡◌, ◌≤◌, ◌<◌, ◌+◌, ◌*◌, ◌++◌, ◌∷◌, [], true, nat_le, All, IfOk, IfErr, OnOk, length, map};
+ghost use Rattle.std.specs.Prelude.{◌≡◌, ◌≤◌, ◌<◌, ◌+◌, ◌*◌, ◌++◌, ◌∷◌, [], true, nat_le, All, IfOk, OnOk, length, map};
 ghost use Rattle.std.specs.List.{filter_map, list_all};
 ghost use Rattle.std.specs.Option.{option_to_list};
-ghost use Rattle.event_graph.specs.Network.{IsConstraint, IsPushFault};
+ghost use Rattle.event_graph.specs.Network.{IsConstraint};
 ghost use Rattle.unroll.specs.Cycles.{cause_in, constraint_in, constraints_of, event_in, rule_exists};
 ghost use Rattle.unroll.specs.Step.Between.{IsRuleBetween};
 
@@ -95,35 +95,10 @@ fn push(
       constraints = network.old.constraints ++ record { kind = kind; target = target; causes = causes.now } ∷ [];
     }) }
 {
-    match push_kind(alloc, network, kind, target, causes) {
+    match network.push(alloc, kind, target, causes) {
         Ok(()) => Ok(()),
         Err(PushFault::NoMemory) => Err(NoMemory),
         Err(PushFault::Full(_)) => unreachable!(),
-    }
-}
-
-// Puts a constraint of a kind at the end.
-fn push_kind(
-    alloc: Global,
-    network: &mut Network,
-    kind: RuleKind,
-    target: EventId,
-    causes: &[Cause],
-) -> Result<(), PushFault>
-    requires { IsConstraint network.old.events
-        (record { kind = kind; target = target; causes = causes.now }) }
-    ensures added { OnOk result (network.new ≡ record network.old {
-      constraints = network.old.constraints ++ record { kind = kind; target = target; causes = causes.now } ∷ [];
-    }) }
-    ensures fault { IfErr result (IsPushFault (length network.old.constraints)) }
-{
-    match kind {
-        RuleKind::Lin => {
-            let [cause] = causes else { unreachable!() };
-            network.push_linear(alloc, cause.event, target, cause.range)
-        }
-        RuleKind::Late => network.push_late(alloc, target, causes),
-        RuleKind::Early => network.push_early(alloc, target, causes),
     }
 }
 

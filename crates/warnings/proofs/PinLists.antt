@@ -17,7 +17,8 @@ use Rattle.compose.specs.declared.joins.PinJoins.{PinJoins}
 use Rattle.compose.specs.declared.mark.DesignMark.{DesignMark}
 use Rattle.compose.specs.Design.{Composed, IsDesign, IsJoinOf}
 use Rattle.compose.specs.Joins.{first_joins, join_at, joins_of_pins, pin_joins}
-use Rattle.unroll.proofs.BetweenLists.{All-flat_map-at, All-slice_get, join_there}
+use Rattle.compose.proofs.WholeDesigns.{All-slice_get}
+use Rattle.unroll.proofs.BetweenLists.{All-flat_map-at, join_there}
 use Rattle.warnings.specs.declared.warning.Warning.{Warning}
 use Rattle.warnings.specs.Driven.{drives_too, join_drivers, two_drivers}
 use Rattle.warnings.specs.Lists.{each_behind}

@@ -5,7 +5,7 @@ use Rattle.std.proofs.lemmas.Bool.{eqb-false, eqb-true, ne_eqb}
 use Rattle.std.proofs.lemmas.List.{length-map, take_all}
 use Rattle.std.proofs.lemmas.List.Sums.{sum_by-cons, sum_by-take-le, sum_by_push}
 use Rattle.sheet.specs.SheetContents.{SheetContents}
-use Rattle.sheet.proofs.Lists.{take_get}
+use Rattle.itv_base.proofs.Lists.{take_get}
 use Rattle.compose.specs.Design.{Composed}
 use Rattle.unroll.specs.Cycle.{part_rows, row_behind, rows_of}
 

@@ -8,10 +8,11 @@ ghost use Rattle.json_tree.specs.Words.{list_at};
 ghost use Rattle.wavejson.specs.Fault.{is_memory};
 ghost use Rattle.wavejson.specs.Drawing.{diagram_of, signal_of, is_no_string};
 
-use crate::edges::{edge_list, read_texts};
+use crate::edges::edge_list;
 use crate::fault::DiagramFault;
 use crate::lanes::{Lanes, read_lanes};
 use itv_base::Texts;
+use json_tree::strings_in;
 use near_keys::near_in_sheet;
 use serde_json::Value;
 use std::alloc::Global;
@@ -88,7 +89,7 @@ pub fn read_diagram(alloc: Global, tree: &Value) -> Result<Diagram, DiagramFault
     let edges = edge_list(tree)?;
     Ok(Diagram {
         lanes: read_lanes(alloc, signal)?,
-        edges: read_texts(alloc, edges)?,
+        edges: strings_in(alloc, edges)?,
         near: near_in_sheet(alloc, tree)?,
     })
 }

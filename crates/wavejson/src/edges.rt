@@ -1,15 +1,13 @@
 //! The edge texts of a diagram.
 
-ghost use Rattle.std.specs.Prelude.{◌≡◌, Ok, Err, map, position, codes, MatchResult, IfOk};
+ghost use Rattle.std.specs.Prelude.{◌≡◌, Ok, Err, map, position, codes, MatchResult};
 ghost use Rattle.std.specs.List.{filter_map};
 ghost use Rattle.serde_json.specs.Find.{get, as_str};
 ghost use Rattle.serde_json.specs.View.{view};
 ghost use Rattle.wavejson.specs.Drawing.{edge_texts, is_no_string};
 
 use crate::fault::DiagramFault;
-use itv_base::{NoMemory, Texts};
 use serde_json::Value;
-use std::alloc::Global;
 
 /// The elements of `edge`, all strings, or the first fault of what stands there.
 pub(crate) fn edge_list(tree: &Value) -> Result<&[Value], DiagramFault>
@@ -33,17 +31,4 @@ fn first_no_string(list: &[Value]) -> Option<usize>
     ensures { result ≡ position (λ v. is_no_string (view v)) list.now }
 {
     list.iter().position(|element| !element.is_string())
-}
-
-/// The texts of a list of strings. A value that is no string is passed over.
-pub(crate) fn read_texts(alloc: Global, list: &[Value]) -> Result<Texts, NoMemory>
-    ensures { IfOk result (λ texts. texts ≡ filter_map as_str (map view list.now)) }
-{
-    let mut texts = Texts::new(alloc)?;
-    for element in list {
-        if let Some(text) = element.as_str() {
-            texts.push(alloc, text)?;
-        }
-    }
-    Ok(texts)
 }

@@ -6,7 +6,7 @@ ghost use Rattle.json_tree.specs.Words.{text_at};
 ghost use Rattle.wavejson.specs.Drawing.{unless_empty, lane_of};
 
 use itv_base::{NoMemory, Text};
-use json_tree::text_at;
+use json_tree::{owned_text, text_at};
 use serde_json::Value;
 use std::alloc::Global;
 
@@ -26,9 +26,9 @@ pub(crate) fn read_lane(alloc: Global, object: &Value) -> Result<LaneText, NoMem
     ensures { IfOk result (λ lane. lane ≡ lane_of (view object.now)) }
 {
     Ok(LaneText {
-        name: owned(alloc, name_of(object))?,
-        wave: owned(alloc, text_at(object, "wave"))?,
-        node: owned(alloc, text_at(object, "node"))?,
+        name: owned_text(alloc, name_of(object))?,
+        wave: owned_text(alloc, text_at(object, "wave"))?,
+        node: owned_text(alloc, text_at(object, "node"))?,
     })
 }
 
@@ -37,13 +37,4 @@ fn name_of(object: &Value) -> Option<&str>
         ≡ option_and_then unless_empty (text_at (codes "name") (view object.now)) }
 {
     text_at(object, "name").filter(|name| !name.is_empty())
-}
-
-fn owned(alloc: Global, text: Option<&str>) -> Result<Option<Text>, NoMemory>
-    ensures { IfOk result (λ copy. copy ≡ option_map (λ t. t.now) text.entry) }
-{
-    match text {
-        Some(text) => Ok(Some(Text::from_text(alloc, text)?)),
-        None => Ok(None),
-    }
 }

@@ -16,8 +16,9 @@ use Rattle.branch.specs.Needed.{IsNeededToBound}
 use Rattle.branch.specs.Work.{IsClose}
 use Rattle.branch.specs.declared.answer.GreatestAnswer.{GreatestAnswer}
 use Rattle.branch.specs.declared.answer.GreatestAnswer.TheVariants.{Closed, Unbounded, Enclosed}
+use Rattle.branch.proofs.Close.{time_close}
 use Rattle.whatif.specs.declared.bound.TheConstants.{MAX_KEPT_EDGES, MAX_KEPT_LINES}
-use Rattle.whatif.specs.declared.pair.Pair.{Pair}
+use Rattle.event_graph.specs.declared.pair.Pair.{Pair}
 use Rattle.whatif.specs.Step.Keeping.{KeeperGrew, Keeping, KeptOn}
 use Rattle.whatif.specs.Laws.{IsSettledAnswer, SettledBoundsAgree}
 use Rattle.whatif.specs.Session.{left_by, pair_search, HasProof, IsRightBound, IsSearchedAnew, KeepsProof, KeptBound, MayKeep, MayKeepAs}
@@ -143,10 +144,6 @@ searched_is net budget leaves old known times ray kept_ray answer begun grown la
       };
       least = is.least;
     }
-
--- times that are close are within the limit of times
-time_close : (time : ℤ) → IsClose time → IsTime time
-time_close time close = (omega (arith, ints, close.0), omega (arith, ints, close.1))
 
 pub times_close : (times : List ℤ) → All IsClose times → All IsTime times
 times_close times close = λ k d within. time_close _ (close k d within)

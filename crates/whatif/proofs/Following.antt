@@ -2,6 +2,7 @@
 use Rattle.std.proofs.Common.{◌≡◌, ◌+◌, ◌<◌, ℕ, zero, suc, List, [], ◌∷◌, ◌++◌, length, get_or, set, take, All, Option, Some, None, IsSome, option_and_then, slice_get, refl, sym, ap, subst, ◌∙◌, arith}
 use Rattle.std.proofs.lemmas.List.{length-set, map-append, take_more}
 use Rattle.itv_base.specs.Range.{Ends}
+use Rattle.itv_base.proofs.Lists.{there_in}
 use Rattle.event_graph.specs.declared.cause.Cause.{Cause}
 use Rattle.event_graph.specs.Network.{Constraint, Net, causes_with, constraints_with, with_range}
 use Rattle.drawn.specs.Drawn.{Drawn}
@@ -21,17 +22,12 @@ some_within [] i some = absurd (cc)
 some_within (x ∷ xs) zero some = omega arith
 some_within (x ∷ xs) (suc i) some = omega (arith, some_within xs i some)
 
-within_some : {A : Type 0} (xs : List A) (i : ℕ) → i < length xs → IsSome (slice_get xs i)
-within_some [] i within = absurd (omega arith)
-within_some (x ∷ xs) zero within = refl
-within_some (x ∷ xs) (suc i) within = within_some xs i (omega arith)
-
 cause_set : (causes : List Cause) (number : ℕ) (range : Ends) (o : Option Cause) (i : ℕ) → IsSome (slice_get causes i) → IsSome (slice_get (causes_with causes number range o) i)
 cause_set causes number range None i there = there
 cause_set causes number range (Some c) i there =
     let new : List Cause = set causes number (record c { range = range }) in
     let within : i < length causes = some_within causes i there in
-    within_some new i (omega (arith, length-set causes number (record c { range = range })))
+    there_in new i (omega (arith, length-set causes number (record c { range = range })))
 
 -- whether the constraint at a place has a cause, after another constraint was put at some place of the list
 causes_set : (constraints : List Constraint) (number : ℕ) (c new : Constraint) (k i : ℕ) → slice_get constraints number ≡ Some c

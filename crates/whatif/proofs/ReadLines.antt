@@ -4,22 +4,12 @@ use Rattle.std.specs.Prelude.{MatchBool, is_ok}
 use Rattle.std.proofs.lemmas.List.{drop_more, take-append-drop, take_all}
 use Rattle.std.proofs.lemmas.Option.{get_or_from_slice_get, slice_get_within}
 use Rattle.event_graph.specs.Network.{Net}
-use Rattle.event_graph.proofs.EdgesMet.{take_next}
-use Rattle.event_graph.specs.Proof.{Case, IsProof, Loop, Path, ProofGoal, ProofLine, ProofLeaves, Split, cases_of}
+use Rattle.event_graph.specs.Proof.{Case, IsProof, ProofGoal, ProofLine, ProofLeaves}
 use Rattle.cert_checker.specs.Checking.{AnswersFault}
 use Rattle.cert_checker.specs.Faults.{behind_line, fault_of_line}
 use Rattle.cert_checker.specs.declared.check_fault.CheckFault.{CheckFault}
-use Rattle.cert_checker.proofs.Reading.{lines_are_read_one_by_one, no_fault_is_read}
-
--- lines that are read, and then more lines, which are read from where the first ones lead
-reads_behind : (net : Net) (goal : ProofGoal) (lines more : List ProofLine) (cases mid left : List Case) → ProofLeaves net goal cases lines mid → ProofLeaves net goal cases (lines ++ more) left
-    → ProofLeaves net goal mid more left
-reads_behind net goal [] more cases mid left first whole = subst (λ cs. ProofLeaves net goal cs more left) first whole
-reads_behind net goal (line ∷ lines) more [] mid left first whole = absurd first
-reads_behind net goal (Split number ∷ lines) more (chosen ∷ cases) mid left first whole =
-    reads_behind net goal lines more (cases_of net chosen number ++ cases) mid left first.1 whole.1
-reads_behind net goal (Path names ∷ lines) more (chosen ∷ cases) mid left first whole = reads_behind net goal lines more cases mid left first.1 whole.1
-reads_behind net goal (Loop names ∷ lines) more (chosen ∷ cases) mid left first whole = reads_behind net goal lines more cases mid left first.1 whole.1
+use Rattle.cert_checker.proofs.Reading.{lines_are_read_one_by_one, no_fault_is_read, reads_on}
+use Rattle.itv_base.proofs.Lists.{take_get}
 
 split_at : {A : Type 0} (xs : List A) (i : ℕ) (x : A) → slice_get xs i ≡ Some x → xs ≡ take i xs ++ x ∷ drop (i + 1) xs
 split_at xs i x at =
@@ -31,14 +21,14 @@ line_read : (net : Net) (goal : ProofGoal) (lines : List ProofLine) (k : ℕ) (l
     → ProofLeaves net goal ([] ∷ []) (take k lines) cases → fault_of_line net goal cases line ≡ None → now ≡ behind_line net cases line
     → ProofLeaves net goal ([] ∷ []) (take (k + 1) lines) now
 line_read net goal lines k line cases now at reads none behind =
-    subst (λ ls. ProofLeaves net goal ([] ∷ []) ls now) (sym (take_next lines k line at)) ((no_fault_is_read net goal (take k lines) cases line now reads).1 (none, sym behind))
+    subst (λ ls. ProofLeaves net goal ([] ∷ []) ls now) (sym (take_get lines k line at)) ((no_fault_is_read net goal (take k lines) cases line now reads).1 (none, sym behind))
 
 -- if a line has a fault, the lines are no proof
 line_refused : (net : Net) (goal : ProofGoal) (lines : List ProofLine) (k : ℕ) (line : ProofLine) (cases : List Case) (fault : CheckFault) → slice_get lines k ≡ Some line
     → ProofLeaves net goal ([] ∷ []) (take k lines) cases → fault_of_line net goal cases line ≡ Some fault → IsProof net goal lines → ⊥
 line_refused net goal lines k line cases fault at reads has proof =
     let whole : ProofLeaves net goal ([] ∷ []) (take k lines ++ line ∷ drop (k + 1) lines) [] = subst (λ ls. ProofLeaves net goal ([] ∷ []) ls []) (split_at lines k line at) proof in
-    let rest : ProofLeaves net goal cases (line ∷ drop (k + 1) lines) [] = reads_behind net goal (take k lines) (line ∷ drop (k + 1) lines) ([] ∷ []) cases [] reads whole in
+    let rest : ProofLeaves net goal cases (line ∷ drop (k + 1) lines) [] = reads_on net goal (take k lines) (line ∷ drop (k + 1) lines) ([] ∷ []) cases [] reads whole in
     let none : fault_of_line net goal cases line ≡ None = ((lines_are_read_one_by_one net goal cases line (drop (k + 1) lines) []).0 rest).0 in
     absurd (none-and-some (fault_of_line net goal cases line) fault none has)
   where
@@ -51,7 +41,7 @@ all_read : (net : Net) (goal : ProofGoal) (lines : List ProofLine) (cases : List
     → (IsTrue result ↔ (cases ≡ [])) → IsTrue result ↔ IsProof net goal lines
 all_read net goal lines cases result reads done = (
   (λ yes. subst (λ cs. ProofLeaves net goal ([] ∷ []) lines cs) (done.0 yes) reads),
-  (λ proof. done.1 (reads_behind net goal lines [] ([] ∷ []) cases [] reads (subst (λ ls. ProofLeaves net goal ([] ∷ []) ls []) (sym (append-nil lines)) proof))),
+  (λ proof. done.1 (reads_on net goal lines [] ([] ∷ []) cases [] reads (subst (λ ls. ProofLeaves net goal ([] ∷ []) ls []) (sym (append-nil lines)) proof))),
 )
 
 -- one line is taken, or the lines are no proof

@@ -12,7 +12,7 @@ use Rattle.branch.specs.declared.answer.GreatestAnswer.{GreatestAnswer}
 use Rattle.branch.specs.declared.answer.SearchFinding.{SearchFinding}
 use Rattle.branch.specs.declared.answer.SearchFinding.TheVariants.{Consistent, Inconsistent, Unsettled}
 use Rattle.whatif.specs.declared.change.Change.{Change}
-use Rattle.whatif.specs.declared.pair.Pair.{Pair}
+use Rattle.event_graph.specs.declared.pair.Pair.{Pair}
 use Rattle.whatif.specs.declared.session.TheConstants.{MAX_PAIRS}
 use Rattle.whatif.specs.Session.{AreUpdated, AttainsKnown, HasPlaces, IsPairOf, IsRight, IsRightBound, IsRightFinding, IsSearchedAnew, AreBoundsUpdated, IsSoundSession, KeptBound, MayKeepFrom, SessionView, both_ways}
 use Rattle.whatif.specs.Step.Bounds.{IsCloseBound, IsPairIn}

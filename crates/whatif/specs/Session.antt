@@ -18,7 +18,7 @@ use Rattle.branch.specs.declared.answer.SearchFinding.TheVariants.{Consistent, I
 use Rattle.certificate.specs.Scribing.{FitsTree, Tree}
 use Rattle.numbers.specs.Numbers.{IsCauseOf, with_ranges}
 use Rattle.numbers.specs.declared.cause_name.CauseName.{CauseName}
-use Rattle.whatif.specs.declared.pair.Pair.{Pair}
+use Rattle.event_graph.specs.declared.pair.Pair.{Pair}
 use Rattle.whatif.specs.declared.bound.Kept.{Kept}
 use Rattle.whatif.specs.declared.change.Change.{Change}
 use Rattle.whatif.specs.declared.fault.EditFault.{EditFault}

@@ -16,12 +16,11 @@ ghost use Rattle.whatif.specs.Step.Bounds.{IsBetterStart, IsCloseBound, IsPairSe
 ghost use Rattle.whatif.specs.Step.Keeping.{KeeperGrew};
 
 use crate::keeper::Keeper;
-use crate::pair::Pair;
 use crate::proving::is_proof;
 use branch::{GreatestAnswer, MAX_START, SearchFinding, Work, greatest, greatest_from};
 use cert_checker::{Checker, Goal};
 use certificate::TreeScribe;
-use event_graph::{Network, ScribeFailed};
+use event_graph::{Network, Pair, ScribeFailed};
 use itv_base::NoMemory;
 use std::alloc::Global;
 use std::marker::Model;

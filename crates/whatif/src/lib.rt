@@ -10,7 +10,6 @@ mod copying;
 mod fault;
 mod keeper;
 mod laws;
-mod pair;
 mod proving;
 mod running;
 mod session;
@@ -18,8 +17,8 @@ mod settling;
 
 pub use bound::{Kept, MAX_KEPT_EDGES, MAX_KEPT_LINES};
 pub use change::Change;
+pub use event_graph::Pair;
 pub use fault::{EditFault, SessionFault};
 pub use laws::settled_bounds_agree;
-pub use pair::Pair;
 pub use running::{Note, note_session, run_edits};
 pub use session::{MAX_PAIRS, Session};

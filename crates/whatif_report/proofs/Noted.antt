@@ -1,20 +1,18 @@
 -- The notes of a session of rows, and of the sessions through which edits lead.
-use Rattle.std.proofs.Common.{◌≡◌, ◌+◌, ◌<◌, ℕ, zero, suc, ℤ, pos, ◌-ℤ◌, List, [], ◌∷◌, length, get_or, map, All, Option, Some, None, inl, inr, refl, sym, subst, ap, ◌∙◌, arith}
-use Rattle.std.specs.Prelude.{IfSome}
-use Rattle.std.proofs.lemmas.Int.{ints}
+use Rattle.std.proofs.Common.{◌≡◌, ◌+◌, ◌<◌, ℕ, suc, List, [], ◌∷◌, length, get_or, map, All, inl, inr, refl, sym, subst, ap, ◌∙◌, arith}
 use Rattle.std.proofs.lemmas.List.{length-map}
 use Rattle.std.proofs.lemmas.List.Elements.{All-cons, All-head, All-map, All-tail}
-use Rattle.itv_base.specs.declared.names.EventId.{EventId}
 use Rattle.itv_base.specs.declared.row_kind.RowKind.{RowKind}
-use Rattle.event_graph.specs.Limits.{IsReach}
 use Rattle.event_graph.specs.Network.{Net}
-use Rattle.event_graph.specs.Times.{IsTime, separation, time_of}
+use Rattle.event_graph.specs.Times.{IsTime}
+use Rattle.event_graph.proofs.Sizes.{limit_time}
 use Rattle.branch.specs.Answers.{IsGreatestAnswer, Evidence, PairSearch}
 use Rattle.branch.specs.Work.{IsClose}
 use Rattle.branch.specs.declared.answer.GreatestAnswer.{GreatestAnswer}
 use Rattle.branch.specs.declared.answer.GreatestAnswer.TheVariants.{Closed, Unbounded, Enclosed}
 use Rattle.branch.specs.declared.answer.SearchFinding.{SearchFinding}
 use Rattle.branch.specs.declared.answer.SearchFinding.TheVariants.{Consistent, Inconsistent, Unsettled}
+use Rattle.branch.proofs.Close.{separation_time}
 use Rattle.edits.specs.declared.edit.RangeEdit.{RangeEdit}
 use Rattle.whatif.specs.declared.change.Change.{Change}
 use Rattle.whatif.specs.Runs.{IsRun, Note, Runs, EditedSession, note_of, notes_of}
@@ -23,32 +21,17 @@ use Rattle.whatif.proofs.Sessions.{count_bounds}
 use Rattle.drawn.specs.Drawn.{Drawn, IsRowOf}
 use Rattle.drawn.specs.declared.row.Row.{Row}
 use Rattle.whatif.specs.Session.{IsPairOf}
-use Rattle.whatif.specs.declared.pair.Pair.{Pair}
+use Rattle.event_graph.specs.declared.pair.Pair.{Pair}
 use Rattle.whatif_report.specs.Step.{IsNoteOf, IsTimed}
 use Rattle.whatif_report.specs.Text.{last_note}
 use Rattle.whatif_report.specs.Whatif.{pair_of, pairs_of}
 
 -- ---- numbers
 
-close_at : (times : List ℤ) (k : ℕ) → All IsClose times → IsClose (get_or times k (pos 0))
-close_at [] k close = (omega (arith, ints), omega (arith, ints))
-close_at (time ∷ times) zero close = close 0 (pos 0) (omega arith)
-close_at (time ∷ times) (suc k) close = close_at times k (λ j d within. close (suc j) d (omega arith))
-
-separation_time : (times : List ℤ) (from to : EventId) → All IsClose times → IsTime (separation times from to)
-separation_time times from to close = apart (time_of times from) (time_of times to) (close_at times from.0 close) (close_at times to.0 close)
-  where
-    apart : (a b : ℤ) → IsClose a → IsClose b → IsTime (b -ℤ a)
-    apart a b h k = (omega (arith, ints, h.0, h.1, k.0, k.1), omega (arith, ints, h.0, h.1, k.0, k.1))
-
-reach_time : (upper : Option ℤ) → IfSome upper IsReach → IfSome upper IsTime
-reach_time None h = tt
-reach_time (Some sum) h = (omega (arith, ints, h.0, h.1), omega (arith, ints, h.0, h.1))
-
 timed_by : (search : PairSearch) (left : Evidence) (answer : GreatestAnswer) → IsGreatestAnswer search left answer → All IsClose left.times → IsTimed answer
 timed_by search left (Closed value) a close = subst IsTime a.attained (separation_time left.times search.from search.to close)
 timed_by search left Unbounded a close = tt
-timed_by search left (Enclosed upper found) a close = (reach_time upper a.within, subst IsTime a.attains (separation_time left.times search.from search.to close))
+timed_by search left (Enclosed upper found) a close = (limit_time upper a.within, subst IsTime a.attains (separation_time left.times search.from search.to close))
 
 bound_timed : (net : Net) (budget : ℕ) (b : KeptBound) → IsRightBound net budget b → IsTimed b.answer
 bound_timed net budget b right =

@@ -6,6 +6,7 @@ use Rattle.itv_base.specs.Range.{Ends}
 use Rattle.itv_base.specs.declared.names.EventId.{EventId}
 use Rattle.itv_base.specs.declared.row_kind.RowKind.{RowKind}
 use Rattle.itv_base.specs.declared.row_kind.RowKind.TheVariants as kinds
+use Rattle.itv_base.proofs.Bools.{both_false}
 use Rattle.event_graph.specs.Network.{Net}
 use Rattle.event_graph.specs.Satisfying.{Satisfies}
 use Rattle.event_graph.proofs.Rays.{ray_is_unbounded}
@@ -32,6 +33,7 @@ use Rattle.right_report.specs.Laws.{AllMet, SomeSatisfy}
 use Rattle.right_report.specs.Right.ReportState.{end_word, is_fail, is_within, tally_of}
 use Rattle.right_report.specs.RowTally.{kinds_of, with_row, with_rows}
 use Rattle.right_report.specs.declared.tally.ReportTally.{ReportTally}
+use Rattle.right_report.proofs.Ending.{within_is}
 use Rattle.jobs.specs.Ending.{answer_of}
 use Rattle.jobs.specs.declared.answer.Answer.{Answer}
 use Rattle.jobs.specs.declared.answer.Answer.TheVariants.{AllPass}
@@ -39,7 +41,7 @@ use Rattle.drawn.specs.Drawn.{Drawn}
 use Rattle.drawn.specs.declared.row.Row.{Row}
 use Rattle.edits.specs.declared.edit.RangeEdit.{RangeEdit}
 use Rattle.whatif.specs.declared.change.Change.{Change}
-use Rattle.whatif.specs.declared.pair.Pair.{Pair}
+use Rattle.event_graph.specs.declared.pair.Pair.{Pair}
 use Rattle.whatif.specs.Runs.{EditedSession, Note, Runs, edited, last_of, note_of, notes_of}
 use Rattle.whatif.specs.Session.{IsRight, IsRightBound, IsRightFinding, KeptBound, SessionView, answers_of, both_ways, left_by, pair_search}
 use Rattle.whatif_report.specs.Laws.{PassedEditsAreMet}
@@ -67,10 +69,6 @@ last_noted change s [] = (change, refl)
 last_noted change s (t ∷ later) = last_noted t.change t.session later
 
 -- ---- the tally of rows
-
-or_parts : (a b : Bool) → (a || b) ≡ false → (a ≡ false) × (b ≡ false)
-or_parts true b e = absurd (cc e)
-or_parts false b e = (refl, e)
 
 -- no requirement is known to be broken, and no bound was left open
 abbrev Clean : ReportTally → Type 0
@@ -100,13 +98,13 @@ record CleanRow (tally : ReportTally) (kind : RowKind) (least most : Bound) : Ty
 
 clean_row : (tally : ReportTally) (kind : RowKind) (both : BothBounds) → Clean (with_row tally kind both) → CleanRow tally kind both.least both.greatest
 clean_row tally kinds.Ask both clean =
-    let w = or_parts tally.within (is_within both.least || is_within both.greatest) clean.1 in
-    let b = or_parts (is_within both.least) (is_within both.greatest) w.1 in
+    let w = both_false tally.within (is_within both.least || is_within both.greatest) clean.1 in
+    let b = both_false (is_within both.least) (is_within both.greatest) w.1 in
     record { before = (clean.0, w.0); low = b.0; high = b.1; fine = tt }
 clean_row tally (kinds.Req range) both clean =
-    let f = or_parts tally.fails (is_fail (verdict_of range both.least both.greatest)) clean.0 in
-    let w = or_parts tally.within (is_within both.least || is_within both.greatest) clean.1 in
-    let b = or_parts (is_within both.least) (is_within both.greatest) w.1 in
+    let f = both_false tally.fails (is_fail (verdict_of range both.least both.greatest)) clean.0 in
+    let w = both_false tally.within (is_within both.least || is_within both.greatest) clean.1 in
+    let b = both_false (is_within both.least) (is_within both.greatest) w.1 in
     record { before = (f.0, w.0); low = b.0; high = b.1; fine = f.1 }
 
 clean_rows : (tally : ReportTally) (rows : List RowKind) (found : List BothBounds) → Clean (with_rows tally rows found) → Clean tally
@@ -116,11 +114,6 @@ clean_rows tally (kind ∷ rows) (both ∷ found) clean = (clean_row tally kind 
 
 -- ---- a requirement
 
-never_within : (b : Bound) → IsWithin b → is_within b ≡ false → ⊥
-never_within (bounds.Closed value) within e = within
-never_within bounds.Unbounded within e = within
-never_within (bounds.Within limit attained) within e = cc e
-
 pass_of : (range : Ends) (least most : Bound) (word : Verdict) → verdict_of range least most ≡ word → is_fail word ≡ false → is_within least ≡ false → is_within most ≡ false
     → verdict_of range least most ≡ verdicts.Pass
 pass_of range least most verdicts.Pass is fine low high = is
@@ -129,8 +122,8 @@ pass_of range least most verdicts.FailLow is fine low high = absurd (cc fine)
 pass_of range least most verdicts.Undecided is fine low high = by_open (undecided_is_within range least most is)
   where
     by_open : IsWithin least ⊎ IsWithin most → verdict_of range least most ≡ verdicts.Pass
-    by_open (inl within) = absurd (never_within least within low)
-    by_open (inr within) = absurd (never_within most within high)
+    by_open (inl within) = absurd (within_is least within low)
+    by_open (inr within) = absurd (within_is most within high)
 
 greatest_by : (search : PairSearch) (left : Evidence) (answer : GreatestAnswer) → IsGreatestAnswer search left answer → Satisfies left.times search.net
     → IsGreatestBound search.net search.from search.to (greatest_bound answer)

@@ -1,10 +1,11 @@
 -- The text of rows and states from a place on, and the tally of the rows.
-use Rattle.std.proofs.Common.{◌≡◌, ◌+◌, ◌*◌, ◌-◌, ◌<◌, ◌==◌, ◌⊎◌, ℕ, suc, true, false, List, [], ◌∷◌, ◌++◌, length, get_or, drop, codes, Some, slice_get, inl, inr, refl, sym, ap, ◌∙◌, arith, add-one, drop-cons, append_assoc}
+use Rattle.std.proofs.Common.{◌≡◌, ◌+◌, ◌*◌, ◌-◌, ◌<◌, ◌==◌, ◌⊎◌, ℕ, suc, true, false, List, [], ◌∷◌, ◌++◌, length, get_or, drop, codes, Some, slice_get, inl, inr, refl, sym, ap, ◌∙◌, arith, append_assoc}
 use Rattle.std.specs.List.{flat_map}
 use Rattle.std.proofs.lemmas.Bool.{eqb-true}
 use Rattle.std.proofs.lemmas.Grind.{flat_map-append}
 use Rattle.itv_base.specs.Numerals.{number_text}
 use Rattle.itv_base.specs.declared.row_kind.RowKind.{RowKind}
+use Rattle.itv_base.proofs.Lists.{drop_one}
 use Rattle.line_words.specs.Words.{Word}
 use Rattle.line_words.specs.Lines.{ended, line_of, spaced}
 use Rattle.line_words.proofs.Printing.{join_spaced}
@@ -45,9 +46,6 @@ row_is number kind least most start a b c d e end is_a is_b is_c is_d is_e is_en
     ∙ ap (λ l. start ++ ended l) (sym (line_is (number_text number) (bound_words most) (bound_words least) (judged_words kind least most)))
 
 -- ---- one more element of a list
-
-drop_one : {A : Type 0} (xs : List A) (i : ℕ) (x d : A) → i < length xs → x ≡ get_or xs i d → drop i xs ≡ x ∷ drop (i + 1) xs
-drop_one xs i x d h e = rw (e, add-one) (drop-cons xs i d h)
 
 drop_two : {A : Type 0} (xs : List A) (k : ℕ) (x y d e : A) → 2 * k + 1 < length xs → x ≡ get_or xs (2 * k) d → y ≡ get_or xs (2 * k + 1) e
     → drop (2 * k) xs ≡ x ∷ y ∷ drop (2 * (k + 1)) xs

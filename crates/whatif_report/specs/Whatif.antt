@@ -8,7 +8,7 @@ use Rattle.jobs.specs.Ending.{answer_of}
 use Rattle.jobs.specs.declared.answer.Answer.{Answer}
 use Rattle.edits.specs.declared.edit.RangeEdit.{RangeEdit}
 use Rattle.whatif.specs.declared.change.Change.{Change}
-use Rattle.whatif.specs.declared.pair.Pair.{Pair}
+use Rattle.event_graph.specs.declared.pair.Pair.{Pair}
 use Rattle.whatif.specs.Session.{AttainsKnown, IsRight, SessionView}
 use Rattle.whatif.specs.Runs.{IsRun, Note, note_of}
 use Rattle.right_report.specs.RowTally.{kinds_of}

@@ -1,8 +1,6 @@
 //! The word at the end. It depends on the last state.
 
-ghost use Rattle.std.specs.Prelude.{◌≡◌, ◌++◌, ◌≤◌, All, OnOk, length};
-ghost use Rattle.slack_report.specs.Entry.{ending};
-ghost use Rattle.slack_report.specs.Text.{entry_text};
+ghost use Rattle.std.specs.Prelude.{◌≡◌, ◌≤◌, All, length};
 ghost use Rattle.right_report.specs.Right.ReportState.{tally_of};
 ghost use Rattle.right_report.specs.RowTally.{with_rows};
 ghost use Rattle.whatif.specs.declared.session.TheConstants.{MAX_PAIRS};
@@ -10,9 +8,8 @@ ghost use Rattle.whatif_report.specs.Step.{IsCountFor, IsNoteOf, IsTimed};
 ghost use Rattle.whatif_report.specs.Text.{bounds_of, ending_of, last_note};
 
 use crate::rows::both_of;
-use crate::words::add;
 use branch::GreatestAnswer;
-use itv_base::{NoMemory, RowKind};
+use itv_base::RowKind;
 use jobs::found_word;
 use right_report::ReportTally;
 use slack_report::{EndWord, FindingWord};
@@ -53,17 +50,4 @@ fn tally_rows(word: FindingWord, kinds: &[RowKind], answers: &[GreatestAnswer]) 
         tally = tally.with_row(kinds[k], &both);
     }
     tally
-}
-
-/// Adds the line of the word at the end.
-#[tactic(auto, unfolding(slack_report::specs::Text::words_of))]
-pub fn add_ending(text: &mut Vec<u8>, word: EndWord) -> Result<(), NoMemory>
-    ensures added { OnOk result (text.new.items ≡ text.old.items ++ entry_text (ending word)) }
-{
-    match word {
-        EndWord::Pass => add(text, b"end pass\n"),
-        EndWord::Fail => add(text, b"end fail\n"),
-        EndWord::Inconsistent => add(text, b"end inconsistent\n"),
-        EndWord::Undecided => add(text, b"end undecided\n"),
-    }
 }

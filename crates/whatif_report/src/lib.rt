@@ -9,7 +9,6 @@ mod ending;
 mod laws;
 mod rows;
 mod states;
-mod words;
 mod write;
 
 pub use laws::passed_edits_are_met;

@@ -10,10 +10,10 @@ ghost use Rattle.whatif.specs.declared.session.TheConstants.{MAX_PAIRS};
 ghost use Rattle.whatif_report.specs.Step.{IsCountFor, IsTimed};
 ghost use Rattle.whatif_report.specs.Text.{both_of, judged_words, least_bound, row_words, rows_text};
 
-use crate::words::{add, add_bound, add_number, add_spaced, add_verdict};
 use branch::GreatestAnswer;
 use itv_base::{NoMemory, RowKind};
 use requirements::{BothBounds, Bound, judge};
+use slack_report::{add_bound, add_number, add_piece, add_spaced, add_verdict};
 
 /// Adds the lines of rows. There are two answers for each row, for its own pair and for the reversed pair, or no
 /// answers at all. Without answers nothing is added.
@@ -62,12 +62,12 @@ fn add_row(
 ) -> Result<(), NoMemory>
     ensures { OnOk result (text.new.items ≡ text.old.items ++ ended (line_of (row_words number kind both.now.least both.now.greatest))) }
 {
-    add(text, b"row")?;
+    add_piece(text, b"row")?;
     add_number(text, number)?;
     add_side(text, b"max", both.greatest)?;
     add_side(text, b"min", both.least)?;
     add_judged(text, kind, both)?;
-    add(text, b"\n")?;
+    add_piece(text, b"\n")?;
     Ok(())
 }
 

@@ -1,10 +1,10 @@
 //! The states of a session: the lines of a finding, of its rows, and of what an edit did.
 
 ghost use Rattle.std.specs.Prelude.{◌≡◌, ◌++◌, ◌≤◌, All, OnOk, codes, length};
-ghost use Rattle.itv_base.specs.Numerals.{end_text, number_text};
+ghost use Rattle.itv_base.specs.Numerals.{number_text};
 ghost use Rattle.line_words.specs.Lines.{ended, line_of, spaced};
 ghost use Rattle.slack_report.specs.Entry.{finding};
-ghost use Rattle.slack_report.specs.Text.{entry_text, range_word};
+ghost use Rattle.slack_report.specs.Text.{entry_text};
 ghost use Rattle.numbers.specs.Numbers.{drawn_number_text};
 ghost use Rattle.jobs.specs.Found.{found_word};
 ghost use Rattle.edits.specs.Subject.{subject_text};
@@ -13,12 +13,12 @@ ghost use Rattle.whatif_report.specs.Step.{IsNoteOf};
 ghost use Rattle.whatif_report.specs.Text.{found_text, state_words, states_text};
 
 use crate::rows::add_rows;
-use crate::words::{add, add_number, add_spaced};
 use branch::SearchFinding;
 use edits::{RangeEdit, Subject};
 use itoa::Buffer;
-use itv_base::{NoMemory, Range, RowKind, end_text, number_text};
+use itv_base::{NoMemory, RowKind, number_text};
 use numbers::{CauseName, DrawnNumber};
+use slack_report::{add_number, add_piece, add_range, add_spaced};
 use whatif::{Change, Note};
 
 /// Adds the states after edits, by their notes. The first of these states has number 1.
@@ -56,9 +56,9 @@ fn add_finding(text: &mut Vec<u8>, found: SearchFinding) -> Result<(), NoMemory>
     ensures { OnOk result (text.new.items ≡ text.old.items ++ entry_text (finding (found_word found))) }
 {
     match found {
-        SearchFinding::Consistent => add(text, b"finding consistent\n"),
-        SearchFinding::Inconsistent => add(text, b"finding inconsistent\n"),
-        SearchFinding::Unsettled => add(text, b"finding unsettled\n"),
+        SearchFinding::Consistent => add_piece(text, b"finding consistent\n"),
+        SearchFinding::Inconsistent => add_piece(text, b"finding inconsistent\n"),
+        SearchFinding::Unsettled => add_piece(text, b"finding unsettled\n"),
     }
 }
 
@@ -67,12 +67,12 @@ fn add_finding(text: &mut Vec<u8>, found: SearchFinding) -> Result<(), NoMemory>
 fn add_state(text: &mut Vec<u8>, number: u64, edit: &RangeEdit, note: &Note) -> Result<(), NoMemory>
     ensures { OnOk result (text.new.items ≡ text.old.items ++ ended (line_of (state_words number edit.now note.now))) }
 {
-    add(text, b"state")?;
+    add_piece(text, b"state")?;
     add_number(text, number)?;
     add_subject(text, &edit.subject)?;
     add_range(text, edit.range)?;
     add_change(text, note.change)?;
-    add(text, b"\n")
+    add_piece(text, b"\n")
 }
 
 // Adds a space and what an edit names.
@@ -90,7 +90,7 @@ fn add_cause(text: &mut Vec<u8>, name: CauseName) -> Result<(), NoMemory>
     ensures { OnOk result (text.new.items ≡ text.old.items ++ spaced (number_text name.constraint ++ (codes "." ++ number_text name.cause))) }
 {
     add_number(text, u64::from(name.constraint))?;
-    add(text, b".")?;
+    add_piece(text, b".")?;
     add_digits(text, u64::from(name.cause))
 }
 
@@ -116,17 +116,6 @@ fn add_called(text: &mut Vec<u8>, word: &[u8], number: u64) -> Result<(), NoMemo
     add_number(text, number)
 }
 
-// Adds a space and a range.
-fn add_range(text: &mut Vec<u8>, range: Range) -> Result<(), NoMemory>
-    ensures { OnOk result (text.new.items ≡ text.old.items ++ spaced (range_word range)) }
-{
-    add(text, b" [")?;
-    add_end_of(text, range.low())?;
-    add(text, b",")?;
-    add_end_of(text, range.high())?;
-    add(text, b"]")
-}
-
 // Adds how many bounds were kept, and how many were searched anew.
 fn add_change(text: &mut Vec<u8>, change: Change) -> Result<(), NoMemory>
     ensures { OnOk result (text.new.items ≡ text.old.items ++ (spaced (codes "kept") ++ (spaced (number_text change.kept)
@@ -142,12 +131,5 @@ fn add_digits(text: &mut Vec<u8>, number: u64) -> Result<(), NoMemory>
     ensures { OnOk result (text.new.items ≡ text.old.items ++ number_text number) }
 {
     let mut digits = Buffer::new();
-    add(text, number_text(number, &mut digits).as_bytes())
-}
-
-fn add_end_of(text: &mut Vec<u8>, end: Option<i64>) -> Result<(), NoMemory>
-    ensures { OnOk result (text.new.items ≡ text.old.items ++ end_text end) }
-{
-    let mut digits = Buffer::new();
-    add(text, end_text(end, &mut digits).as_bytes())
+    add_piece(text, number_text(number, &mut digits).as_bytes())
 }

@@ -10,13 +10,13 @@ ghost use Rattle.whatif_report.specs.Text.{last_note, whatif_text};
 ghost use Rattle.whatif_report.specs.Whatif.{AnswersFor, AnswersFrom, AnswersWhatif};
 
 use crate::asked::{kinds_of, pairs_of};
-use crate::ending::{add_ending, end_word, last_of};
+use crate::ending::{end_word, last_of};
 use crate::states::{add_found, add_states};
-use crate::words::add;
 use drawn::DrawnNetwork;
 use edits::{Edits, RangeEdit};
 use itv_base::{NoMemory, RowKind, Sink};
 use jobs::{Answer, Unanswered, answer_of};
+use slack_report::{add_ending, add_piece};
 use std::alloc::Global;
 use whatif::{Change, Note, Pair, Session, SessionFault, note_session, run_edits};
 
@@ -141,7 +141,7 @@ fn text_of(
     ensures { IfOk result (λ text. text.items ≡ whatif_text kinds.now first.now edits.now notes.now) }
 {
     let mut text = Vec::new(alloc);
-    add(&mut text, b"itv whatif 1\nstate 0\n")?;
+    add_piece(&mut text, b"itv whatif 1\nstate 0\n")?;
     add_found(&mut text, kinds, first)?;
     add_states(&mut text, kinds, edits, notes)?;
     add_ending(&mut text, end_word(kinds, last_of(first, notes)))?;

@@ -1,9 +1,8 @@
 -- One more element of a list: rows, steps, events, constraints and causes.
-use Rattle.std.proofs.Common.{◌≡◌, ◌<◌, ◌≤◌, ◌+◌, ◌-◌, ℕ, zero, suc, Bool, List, [], ◌∷◌, ◌++◌, length, get_or, drop, take, reverse, Some, slice_get, refl, sym, ap, ◌∙◌, add-one, drop-cons, arith}
+use Rattle.std.proofs.Common.{◌≡◌, ◌<◌, ◌≤◌, ◌+◌, ◌-◌, ℕ, Bool, List, [], ◌∷◌, ◌++◌, length, get_or, drop, take, reverse, Some, slice_get, refl, sym, ap, ◌∙◌, add-one, drop-cons, arith}
 use Rattle.std.specs.List.{flat_map}
 use Rattle.std.specs.Prelude.{if◌then◌else◌, codes}
 use Rattle.std.proofs.lemmas.List.{reverse-append, take_more}
-use Rattle.std.proofs.lemmas.Option.{same_Some}
 use Rattle.line_words.specs.Lines.{ended, line_of}
 use Rattle.drawn.specs.Drawn.{Drawn}
 use Rattle.drawn.specs.declared.row.Row.{Row}
@@ -12,26 +11,16 @@ use Rattle.why_report.specs.Step.{causes_at, constraint_at, no_constraint, origi
 use Rattle.why_report.specs.Text.{Noted, causes_text, name_in, raise_text, row_text, rows_text, rules_text}
 use Rattle.why_report.specs.declared.drawn_cause.DrawnCause.{DrawnCause}
 use Rattle.why_report.proofs.Looking.{at_or}
+use Rattle.itv_base.proofs.Lists.{drop-read, drop_one}
 
 -- ---- lists
-
-pub drop_some : {A : Type 0} (xs : List A) (k : ℕ) (x : A) → slice_get xs k ≡ Some x → drop k xs ≡ x ∷ drop (k + 1) xs
-drop_some xs k x e = rw add-one (go xs k x e)
-  where
-    go : {A : Type 0} (xs : List A) (k : ℕ) (x : A) → slice_get xs k ≡ Some x → drop k xs ≡ x ∷ drop (suc k) xs
-    go [] k x e = absurd (cc e)
-    go (y ∷ xs) zero x e = ap (λ z. z ∷ xs) (same_Some y x e)
-    go (y ∷ xs) (suc k) x e = go xs k x e
-
-pub drop_at : {A : Type 0} (xs : List A) (k : ℕ) (x d : A) → k < length xs → x ≡ get_or xs k d → drop k xs ≡ x ∷ drop (k + 1) xs
-drop_at xs k x d h e = rw (e, add-one) (drop-cons xs k d h)
 
 -- ---- rows
 
 pub rows_more : (noted : Noted) (drawn : Drawn) (rows : List Row) (found : List RowFound) (k : ℕ) (row : Row) (of_row d : RowFound) → slice_get rows k ≡ Some row → k < length found
     → of_row ≡ get_or found k d
     → rows_text noted drawn k (drop k rows) (drop k found) ≡ row_text noted drawn k row of_row ++ rows_text noted drawn (k + 1) (drop (k + 1) rows) (drop (k + 1) found)
-rows_more noted drawn rows found k row of_row d e h is = rw (drop_some rows k row e, drop_at found k of_row d h is) refl
+rows_more noted drawn rows found k row of_row d e h is = rw (drop-read rows k row e, drop_one found k of_row d h is) refl
 
 -- ---- steps
 
@@ -53,7 +42,7 @@ steps_back text names k d some within =
 pub raise_more : (drawn : Drawn) (set : List Bool) (k : ℕ) (d : Bool) → k < length set
     → raise_text drawn k (drop k set)
     ≡ (if get_or set k d then ended (line_of (codes "raise" ∷ name_in drawn (record { 0 = k }) ∷ [])) else []) ++ raise_text drawn (k + 1) (drop (k + 1) set)
-raise_more drawn set k d h = rw (drop_at set k (get_or set k d) d h refl) refl
+raise_more drawn set k d h = rw (drop_one set k (get_or set k d) d h refl) refl
 
 -- ---- constraints and causes
 
@@ -63,14 +52,14 @@ pub causes_more : (noted : Noted) (drawn : Drawn) (number k : ℕ) (rule : Drawn
     ≡ ended (line_of (rule_words noted drawn rule))
     ++ causes_text noted drawn (constraint_at drawn number) (drop (k + 1) (constraint_at drawn number).causes) (drop (k + 1) (origins_at drawn number))
 causes_more noted drawn number k rule kind target cause origin =
-    rw (kind, target, drop_some (constraint_at drawn number).causes k rule.cause cause, drop_some (origins_at drawn number) k rule.origin origin) refl
+    rw (kind, target, drop-read (constraint_at drawn number).causes k rule.cause cause, drop-read (origins_at drawn number) k rule.origin origin) refl
 
 pub rules_more : (noted : Noted) (drawn : Drawn) (set : List Bool) (k : ℕ) (d : Bool) → k < length set → k < length drawn.net.constraints → k < length drawn.origins
     → rules_text noted drawn (drop k set) (drop k drawn.net.constraints) (drop k drawn.origins)
     ≡ (if get_or set k d then causes_at noted drawn k else []) ++ rules_text noted drawn (drop (k + 1) set) (drop (k + 1) drawn.net.constraints) (drop (k + 1) drawn.origins)
 rules_more noted drawn set k d in_set in_net in_origins =
     rw (
-      drop_at set k (get_or set k d) d in_set refl,
-      drop_some drawn.net.constraints k (constraint_at drawn k) (at_or drawn.net.constraints k no_constraint in_net),
-      drop_some drawn.origins k (origins_at drawn k) (at_or drawn.origins k [] in_origins),
+      drop_one set k (get_or set k d) d in_set refl,
+      drop-read drawn.net.constraints k (constraint_at drawn k) (at_or drawn.net.constraints k no_constraint in_net),
+      drop-read drawn.origins k (origins_at drawn k) (at_or drawn.origins k [] in_origins),
     ) refl

@@ -1,5 +1,4 @@
 pub mod Lining
-pub mod Putting
 mod Gathering
 mod Looking
 mod Whole

@@ -4,11 +4,10 @@ use Rattle.std.specs.Prelude.{IsSome, option_and_then, unwrap_or}
 use Rattle.std.proofs.lemmas.Option.{slice_get-get_or, slice_get_within, unwrap_or-slice_get}
 use Rattle.itv_base.specs.declared.limits.TheConstants.{MAX_CAUSES}
 use Rattle.itv_base.specs.declared.names.EdgeName.{EdgeName}
-use Rattle.itv_base.specs.declared.names.RuleKind.{RuleKind}
-use Rattle.itv_base.specs.declared.names.RuleKind.TheVariants.{Early, Late, Lin}
 use Rattle.event_graph.specs.Edges.{edge, side_edge}
-use Rattle.event_graph.specs.Network.{Constraint, IsCauseCount, IsConstraint, IsNet, cause_at}
+use Rattle.event_graph.specs.Network.{Constraint, IsConstraint, IsNet, cause_at}
 use Rattle.event_graph.specs.declared.cause.Cause.{Cause}
+use Rattle.event_graph.proofs.Causes.{few_causes as few}
 use Rattle.origin.specs.declared.origin.Origin.{Origin}
 use Rattle.right_report.specs.Right.ReportState.{NextBound, greatest, least_by}
 use Rattle.slack_report.specs.declared.words.FindingWord.{FindingWord}
@@ -86,11 +85,6 @@ pub set_count : (drawn : Drawn) (finding : Finding) (set : _) → finding ≡ In
 set_count drawn finding set e is = (subst (IsFindingFound drawn.net is.0) e is.1).count
 
 -- ---- constraints
-
-few : (kind : RuleKind) (n : ℕ) → IsCauseCount kind n → n ≤ MAX_CAUSES
-few Lin n h = rw h (omega arith)
-few Late n h = h.1
-few Early n h = h.1
 
 -- a constraint of the network
 pub is_constraint : (drawn : Drawn) (number : ℕ) → IsNet drawn.net → number < length drawn.net.constraints → IsConstraint drawn.net.events (constraint_at drawn number)

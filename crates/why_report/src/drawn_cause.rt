@@ -27,8 +27,7 @@ pub fn cause_count(drawn: &DrawnNetwork, number: u32) -> u32
     ensures causes { result ≡ length (constraint_at drawn.now number).causes }
     ensures origins { result ≡ length (origins_at drawn.now number) }
 {
-    // The network is within its limits.
-    let _events = drawn.network().events();
+    drawn.network().is_whole();
     origins_at(drawn, number).len() as u32
 }
 
@@ -43,8 +42,7 @@ pub fn rule_at(drawn: &DrawnNetwork, number: u32, cause: u32) -> DrawnCause
     ensures between { IsBetween drawn.now.net.events result }
 {
     let net = drawn.network();
-    // The network is within its limits.
-    let _events = net.events();
+    net.is_whole();
     DrawnCause {
         kind: net.kind(number),
         target: net.target(number),
@@ -77,7 +75,6 @@ fn part_at(drawn: &DrawnNetwork, number: u32) -> &str
     ensures part { result.now ≡ part_of drawn.now (constraint_at drawn.now number).target }
 {
     let net = drawn.network();
-    // The network is within its limits.
-    let _events = net.events();
+    net.is_whole();
     drawn.name(net.target(number)).part
 }

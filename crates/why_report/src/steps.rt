@@ -1,6 +1,6 @@
 //! Putting the steps from an event to an event.
 
-ghost use Rattle.std.specs.Prelude.{◌≡◌, ◌<◌, neg_ℤ, Some};
+ghost use Rattle.std.specs.Prelude.{◌≡◌, ◌<◌, Some};
 ghost use Rattle.itv_base.specs.Outside.{Puts};
 ghost use Rattle.itv_base.specs.Range.{IsEnd};
 ghost use Rattle.event_graph.specs.Edges.{edge};
@@ -12,7 +12,7 @@ use crate::drawn_cause::edge_by;
 use crate::line::Line;
 use crate::put_line::put_line;
 use drawn::DrawnNetwork;
-use event_graph::Edge;
+use event_graph::{Edge, negated_weight};
 use itv_base::{EdgeName, PutFailed, Sink};
 use line_words::LineBuffer;
 use notes::Notes;
@@ -112,16 +112,8 @@ fn step_of<'a, N: Notes>(
         Which::Min => Line::Step {
             from: to,
             to: from,
-            weight: negated(way.weight),
+            weight: negated_weight(way.weight),
             by,
         },
     }
-}
-
-// Minus the weight of an edge.
-fn negated(weight: i64) -> i64
-    requires weight { IsEnd (Some weight) }
-    ensures value { result ≡ neg_ℤ weight }
-{
-    -weight
 }

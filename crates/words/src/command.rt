@@ -39,9 +39,9 @@ Exit statuses:
   5  A file cannot be read
   6  The output cannot be written
   7  There is not enough memory
-  8  The words are not understood
+  8  The command line is not understood
   9  A claim of the report does not hold
-  10 The words are no text, or the system gave none
+  10 An argument is not UTF-8, or there are no arguments
 
 Example:
   itv --cert bus.json > bus.report

@@ -67,6 +67,9 @@ impl Network {
         self.events
     }
 
+    /// In the proved code it says the network's invariant.
+    pub fn is_whole(&self) {}
+
     pub fn len(&self) -> u32 {
         self.constraints.len() as u32
     }

@@ -17,7 +17,7 @@ use Rattle.slack_report.specs.declared.words.Which.{Which}
 use Rattle.slack_report.specs.declared.words.Which.TheVariants as sorts
 use Rattle.right_report.specs.Right.Following.{LineClaims}
 use Rattle.bounds_report.specs.Written.{printed, written}
-use Rattle.bounds_report.specs.declared.pair.Pair.{Pair}
+use Rattle.event_graph.specs.declared.pair.Pair.{Pair}
 
 -- the line claims of job bounds, with one more that follows from them: each number of a bound, its limit too, is below 2^61 in absolute value
 abbrev pub sized : Net → ℕ → Bool → List ℤ → LineClaims

@@ -12,7 +12,7 @@ use Rattle.requirements.specs.declared.bound.Bound.{Bound}
 use Rattle.requirements.specs.declared.bound.Bound.TheVariants as bounds
 use Rattle.slack_report.specs.declared.words.Which.{Which}
 use Rattle.slack_report.specs.declared.words.Which.TheVariants as sorts
-use Rattle.bounds_report.specs.declared.pair.Pair.{Pair}
+use Rattle.event_graph.specs.declared.pair.Pair.{Pair}
 use Rattle.bounds_report.specs.declared.bound_witness.BoundWitness.{BoundWitness}
 
 -- the pair whose greatest separation gives a bound of a pair: for the greatest bound the pair itself, for the least bound the reversed one

@@ -10,7 +10,7 @@ use Rattle.drawn.specs.Drawn.{Drawn}
 use Rattle.right_report.specs.Right.Following.{LineClaims, LinesLead}
 use Rattle.right_report.specs.ReportContents.{end_in}
 use Rattle.right_report.specs.Writing.{WroteFront}
-use Rattle.bounds_report.specs.declared.pair.Pair.{Pair}
+use Rattle.event_graph.specs.declared.pair.Pair.{Pair}
 
 -- the verdicts of the lines
 abbrev pub verdicts_in : List Entry → List Verdict

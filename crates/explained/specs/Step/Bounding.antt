@@ -18,7 +18,7 @@ use Rattle.extremes.specs.declared.found.Greatest.TheVariants as greatest
 use Rattle.explained.specs.Answers.{Explains, bound_of}
 use Rattle.explained.specs.declared.bound.BoundFound.{BoundFound}
 use Rattle.explained.specs.declared.bound.BoundFound.TheVariants.{Closed, Unbounded, Within}
-use Rattle.explained.specs.declared.pair.Pair.{Pair}
+use Rattle.event_graph.specs.declared.pair.Pair.{Pair}
 use Rattle.explained.specs.declared.pair_found.PairFound.{PairFound}
 use Rattle.explained.specs.declared.pair_found.PairFound.TheVariants.{Searched, Limited}
 

@@ -10,7 +10,7 @@ use Rattle.branch.specs.Needed.{IsNeededToBound}
 use Rattle.branch.specs.Work.{IsClose, IsStart}
 use Rattle.branch.specs.declared.answer.GreatestAnswer.{GreatestAnswer}
 use Rattle.branch.specs.declared.answer.GreatestAnswer.TheVariants.{Closed, Unbounded, Enclosed}
-use Rattle.whatif.specs.declared.pair.Pair.{Pair}
+use Rattle.event_graph.specs.declared.pair.Pair.{Pair}
 use Rattle.whatif.specs.Session.{IsPairOf, KeptBound, pair_search}
 
 -- what is kept of the lines of a search, according to its answer: the lines of a closed bound, and none of others

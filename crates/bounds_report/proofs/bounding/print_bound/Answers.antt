@@ -7,7 +7,7 @@ use Rattle.event_graph.specs.Times.{separation}
 use Rattle.right_report.proofs.Leading.{reads_bound_proof, stopped_proof}
 use Rattle.requirements.specs.declared.bound.Bound.{Bound}
 use Rattle.right_report.specs.Right.ReportState.{at_bound}
-use Rattle.bounds_report.specs.declared.pair.Pair.{Pair}
+use Rattle.event_graph.specs.declared.pair.Pair.{Pair}
 use Rattle.slack_report.specs.declared.words.Which.{Which}
 use Rattle.slack_report.specs.declared.words.Which.TheVariants as sorts
 use Rattle.bounds_report.specs.Step.Witness.{IsWitness, searched_pair}
@@ -27,10 +27,10 @@ pair_within sorts.Min pair searched events is from to = subst (λ (p : Pair). (p
 pub keep-requires-clause-answers : goal.keep-requires-clause-answers
 keep-requires-clause-answers g c =
     let current = c.in_ok-answer.ensures.answers in
-    (c.args.wanted.budget, current.0, subst (λ (p : Pair). IsGreatestAnswer (search_of c.args.net.now p c.args.wanted.budget) (evidence current.0 c.greatest_of.new.work) c.in_ok-answer.answer) c.searched.ensures.pair current.2.says)
+    (c.args.wanted.budget, current.0, subst (λ (p : Pair). IsGreatestAnswer (search_of c.args.net.now p c.args.wanted.budget) (evidence current.0 c.greatest_of.new.work) c.in_ok-answer.answer) c.searched_pair.ensures.pair current.2.says)
 
 pub keep-requires-clause-reached : goal.keep-requires-clause-reached
-keep-requires-clause-reached g c = subst (λ (p : Pair). IsKnownReach (separation c.greatest_of.new.work.times p.from p.to)) c.searched.ensures.pair c.in_ok-answer.ensures.reached
+keep-requires-clause-reached g c = subst (λ (p : Pair). IsKnownReach (separation c.greatest_of.new.work.times p.from p.to)) c.searched_pair.ensures.pair c.in_ok-answer.ensures.reached
 
 pub bound_of-value-requires : goal.bound_of-value-requires
 bound_of-value-requires g c = record { times = has_times _ _ _ c.in_ok-answer.ensures.answers.2.says c.in_ok-answer.ensures.close }
@@ -47,15 +47,15 @@ returns-in_err-put_bound-clause-goes g c = λ basis drawn current coming known f
     let claims = sized c.args.net.now c.args.wanted.budget c.args.wanted.cert basis in
     let answers = c.in_ok-answer.ensures.answers in
     let lines = printed c.args.wanted.cert answers.0 in
-    let pair = c.searched.result in
-    let within = pair_within c.args.extreme.which c.args.extreme.pair pair c.args.net.now.events c.searched.ensures.pair c.requires.from c.requires.to in
+    let pair = c.searched_pair.result in
+    let within = pair_within c.args.extreme.which c.args.extreme.pair pair c.args.net.now.events c.searched_pair.ensures.pair c.requires.from c.requires.to in
     let apart = known_apart c.args.net.now c.args.work.now.known basis pair.from pair.to c.requires.known within.0 within.1 known in
     let needed = subst (λ (v : ℤ). AtEachSplit c.args.net.now (IsNeededToBound c.args.net.now pair.from pair.to v) answers.0) apart answers.2.needed in
     goes_up _ _ c.from_residual-in_err-put_bound.result c.from_residual-in_err-put_bound.ensures.0
     (stops_then (told_proof (at_bound current coming lines) lines (reads_bound_proof claims drawn current coming [] lines) answers.1)
     (c.in_err-put_bound.ensures.goes c.args.net.now c.args.wanted.budget c.args.wanted.cert basis drawn current coming lines c.args.extreme.pair of
-    (answer_fact c.args.net.now c.args.wanted.budget c.args.wanted.cert basis current coming c.args.extreme.pair c.args.extreme.which (evidence answers.0 c.greatest_of.new.work) c.in_ok-answer.answer c.bound_of-value.result c.searched.result found of
-    c.searched.ensures.pair answers.2.says needed c.in_ok-answer.ensures.count.within_budget c.bound_of-value.ensures.bound c.in_ok-answer.ensures.close)
+    (answer_fact c.args.net.now c.args.wanted.budget c.args.wanted.cert basis current coming c.args.extreme.pair c.args.extreme.which (evidence answers.0 c.greatest_of.new.work) c.in_ok-answer.answer c.bound_of-value.result c.searched_pair.result found of
+    c.searched_pair.ensures.pair answers.2.says needed c.in_ok-answer.ensures.count.within_budget c.bound_of-value.ensures.bound c.in_ok-answer.ensures.close)
     (subst (λ (v : Bound). IsWitness c.args.net.now c.args.extreme.pair c.args.extreme.which v c.keep.new.kept.times.items c.keep.new.kept.set.items) (sym c.bound_of-value.ensures.bound) c.keep.ensures.kept)))
 
 pub returns-clause-goes : goal.returns-clause-goes
@@ -63,12 +63,12 @@ returns-clause-goes g c = λ basis drawn current coming known found of.
     let claims = sized c.args.net.now c.args.wanted.budget c.args.wanted.cert basis in
     let answers = c.in_ok-answer.ensures.answers in
     let lines = printed c.args.wanted.cert answers.0 in
-    let pair = c.searched.result in
-    let within = pair_within c.args.extreme.which c.args.extreme.pair pair c.args.net.now.events c.searched.ensures.pair c.requires.from c.requires.to in
+    let pair = c.searched_pair.result in
+    let within = pair_within c.args.extreme.which c.args.extreme.pair pair c.args.net.now.events c.searched_pair.ensures.pair c.requires.from c.requires.to in
     let apart = known_apart c.args.net.now c.args.work.now.known basis pair.from pair.to c.requires.known within.0 within.1 known in
     let needed = subst (λ (v : ℤ). AtEachSplit c.args.net.now (IsNeededToBound c.args.net.now pair.from pair.to v) answers.0) apart answers.2.needed in
     told_then (told_proof (at_bound current coming lines) lines (reads_bound_proof claims drawn current coming [] lines) answers.1)
     (c.in_ok-put_bound.ensures.goes c.args.net.now c.args.wanted.budget c.args.wanted.cert basis drawn current coming lines c.args.extreme.pair of
-    (answer_fact c.args.net.now c.args.wanted.budget c.args.wanted.cert basis current coming c.args.extreme.pair c.args.extreme.which (evidence answers.0 c.greatest_of.new.work) c.in_ok-answer.answer c.bound_of-value.result c.searched.result found of
-    c.searched.ensures.pair answers.2.says needed c.in_ok-answer.ensures.count.within_budget c.bound_of-value.ensures.bound c.in_ok-answer.ensures.close)
+    (answer_fact c.args.net.now c.args.wanted.budget c.args.wanted.cert basis current coming c.args.extreme.pair c.args.extreme.which (evidence answers.0 c.greatest_of.new.work) c.in_ok-answer.answer c.bound_of-value.result c.searched_pair.result found of
+    c.searched_pair.ensures.pair answers.2.says needed c.in_ok-answer.ensures.count.within_budget c.bound_of-value.ensures.bound c.in_ok-answer.ensures.close)
     (subst (λ (v : Bound). IsWitness c.args.net.now c.args.extreme.pair c.args.extreme.which v c.keep.new.kept.times.items c.keep.new.kept.set.items) (sym c.bound_of-value.ensures.bound) c.keep.ensures.kept))

@@ -4,10 +4,11 @@ use Rattle.right_report.specs.Right.ReportState.{behind_past, behind_verdict}
 use Rattle.slack_report.specs.declared.words.Which.TheVariants as sorts
 use Rattle.bounds_report.specs.Step.Searched.{sized}
 use Rattle.bounds_report.specs.Step.Witness.{IsBeyond}
-use Rattle.bounds_report.proofs.Passing.{end_time, past_high, past_high_may, past_low, past_low_may}
+use Rattle.bounds_report.proofs.Passing.{past_high, past_high_may, past_low, past_low_may}
 use Rattle.bounds_report.proofs.WriterSteps.{goes_line}
 use Rattle.bounds_report.proofs.past.print_past.Goals as goal
 use Rattle.event_graph.proofs.MovingOn.{read_time}
+use Rattle.event_graph.proofs.Sizes.{end_time}
 
 pub print_passed-requires-clause-beyond : goal.print_passed-requires-clause-beyond
 print_passed-requires-clause-beyond g c =

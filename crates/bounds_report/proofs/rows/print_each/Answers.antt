@@ -5,8 +5,10 @@ use Rattle.right_report.specs.Right.ReportState.{at_row, tally_of}
 use Rattle.right_report.specs.declared.tally.ReportTally.{ReportTally}
 use Rattle.right_report.proofs.Leading.{stopped_line}
 use Rattle.bounds_report.specs.Step.Searched.{printed_known}
-use Rattle.bounds_report.proofs.RowByRow.{after_keeps, rows_more}
-use Rattle.bounds_report.proofs.WriterSteps.{on_err, stops_then, told_at, told_line, told_then}
+use Rattle.bounds_report.proofs.RowByRow.{after_keeps}
+use Rattle.bounds_report.proofs.WriterSteps.{stops_then, told_at, told_line, told_then}
+use Rattle.itv_base.proofs.Options.{on_err}
+use Rattle.itv_base.proofs.Lists.{drop-read}
 use Rattle.bounds_report.proofs.rows.print_each.Goals as goal
 
 pub returns-in_err-write_item-clause-stops : goal.returns-in_err-write_item-clause-stops
@@ -32,7 +34,7 @@ returns-in_err-end-clause-stops g c =
     let number = c.loop-number.number in
     let report_tally = c.loop-number.tally.report in
     on_err _ c.from_residual-in_err-end.result
-    (stops_then (told_at (ap (at_row report_tally number) (rows_more c.args.drawn.now.rows number c.row_at-row.result.now c.row_at-row.ensures.row)) c.loop-number.invariant.lines)
+    (stops_then (told_at (ap (at_row report_tally number) (drop-read c.args.drawn.now.rows number c.row_at-row.result.now c.row_at-row.ensures.row)) c.loop-number.invariant.lines)
     (c.in_err-end.ensures.goes _ report_tally (drop (number + 1) c.args.drawn.now.rows) (ap printed_known (sym c.loop-number.invariant.known)) c.loop-number.invariant.finding))
 
 pub loop-number-preserved : goal.loop-number-preserved
@@ -46,7 +48,7 @@ loop-number-preserved g c =
       counted = c.after-tally.ensures.counted c.loop-number.invariant.words c.loop-number.invariant.counted;
       finding = ap (λ (t : ReportTally). t.found) c.after-tally.ensures.report ∙ (after_keeps report_tally c.in_ok-end.end ∙ c.loop-number.invariant.finding);
       lines = told_at (ap (λ (behind : ReportTally). at_row behind (number + 1) later) (sym c.after-tally.ensures.report))
-          (told_then (told_at (ap (at_row report_tally number) (rows_more c.args.drawn.now.rows number c.row_at-row.result.now c.row_at-row.ensures.row)) c.loop-number.invariant.lines)
+          (told_then (told_at (ap (at_row report_tally number) (drop-read c.args.drawn.now.rows number c.row_at-row.result.now c.row_at-row.ensures.row)) c.loop-number.invariant.lines)
           (c.in_ok-end.ensures.goes _ report_tally later (ap printed_known (sym c.loop-number.invariant.known)) c.loop-number.invariant.finding));
       most = omega (arith, c.after-tally.ensures.most, c.loop-number.invariant.most);
     }

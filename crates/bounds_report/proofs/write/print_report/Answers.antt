@@ -4,9 +4,10 @@ use Rattle.slack_report.specs.Entry.{ending}
 use Rattle.right_report.specs.Right.ReportState.{at_last}
 use Rattle.right_report.proofs.Leading.{stopped_line}
 use Rattle.bounds_report.specs.Step.Searched.{printed_known, sized}
-use Rattle.bounds_report.proofs.WriterSteps.{on_err, stopped_net, stops_then, told_net, told_then}
+use Rattle.bounds_report.proofs.WriterSteps.{stopped_net, stops_then, told_net, told_then}
 use Rattle.bounds_report.proofs.Texts.{entries, fine_rows}
 use Rattle.bounds_report.proofs.Whole.{begins_front, begins_rest, end_may, reports}
+use Rattle.itv_base.proofs.Options.{on_err}
 use Rattle.bounds_report.proofs.write.print_report.Goals as goal
 
 pub returns-in_err-put_front-clause-begins : goal.returns-in_err-put_front-clause-begins

@@ -4,12 +4,12 @@ use Rattle.event_graph.specs.Reading.{AtEachSplit}
 use Rattle.event_graph.specs.Times.{separation}
 use Rattle.branch.specs.Needed.{IsNeededToBound}
 use Rattle.branch.specs.Work.{IsStart}
-use Rattle.branch.proofs.Looking.{close_times}
 use Rattle.branch.proofs.Results.{if_ok_then, on_err_then, on_ok_then}
 use Rattle.branch.proofs.Signs.{passed_separation}
 use Rattle.branch.proofs.work.greatest_from.Given.{Over}
 use Rattle.branch.proofs.work.greatest_from.Goals as goal
 use Rattle.branch.proofs.work.greatest_from.Goals.{After-separation-known}
+use Rattle.branch.proofs.Close.{times_close}
 
 -- the search starts from the separation of the given times
 start_is : (g : Over) (c : After-separation-known g) → separation c.args.times.now c.args.from c.args.to ≡ to_z w64 (of_z w64 c.separation-known.result)
@@ -21,7 +21,7 @@ start_is g c =
 
 -- the given times are times
 pub separation-known-requires : goal.separation-known-requires
-separation-known-requires g c = record { times = close_times c.args.times.now c.requires.close }
+separation-known-requires g c = record { times = times_close c.args.times.now c.requires.close }
 
 pub returns-clause-lines : goal.returns-clause-lines
 returns-clause-lines g c =

@@ -4,7 +4,7 @@ use Rattle.itv_base.specs.Numerals.{number_text}
 use Rattle.slack_report.specs.Text.{name_word}
 use Rattle.brief_report.specs.Table.{kind_word, quoted, range_cells}
 use Rattle.brief_report.proofs.Cells.{asked_are}
-use Rattle.why_report.proofs.Putting.{cut_one, cut_two, cut_three, put_four}
+use Rattle.line_words.proofs.Putting.{cut_one, cut_two, cut_three, put_four}
 use Rattle.brief_report.proofs.put_cells.put_asked.Goals as goal
 
 pub returns-in_err-put_kind : goal.returns-in_err-put_kind

@@ -2,7 +2,7 @@ use Rattle.std.proofs.lemmas.Result.{err_from_is_err_and}
 use Rattle.itv_base.specs.Numerals.{number_text}
 use Rattle.brief_report.specs.Step.{asked_cells, by_cells, found_cells, last_cells}
 use Rattle.brief_report.proofs.Cells.{cells_are}
-use Rattle.why_report.proofs.Putting.{cut_one, cut_two, cut_three, put_four}
+use Rattle.line_words.proofs.Putting.{cut_one, cut_two, cut_three, put_four}
 use Rattle.brief_report.proofs.put_cells.put_cells.Goals as goal
 
 pub returns-in_err-put_asked : goal.returns-in_err-put_asked

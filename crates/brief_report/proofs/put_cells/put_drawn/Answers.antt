@@ -1,7 +1,7 @@
 use Rattle.std.proofs.lemmas.Result.{err_from_is_err_and}
 use Rattle.origin.specs.Text.{origin_text}
 use Rattle.brief_report.proofs.Cells.{quotes_are}
-use Rattle.why_report.proofs.Putting.{cut_one, cut_two, put_three}
+use Rattle.line_words.proofs.Putting.{cut_one, cut_two, put_three}
 use Rattle.brief_report.proofs.put_cells.put_drawn.Goals as goal
 
 pub returns-in_err-put : goal.returns-in_err-put

@@ -1,9 +1,9 @@
 use Rattle.std.proofs.lemmas.Result.{err_from_is_err_and}
 use Rattle.line_words.specs.Lines.{line_of}
+use Rattle.line_words.proofs.Putting.{cut_one, cut_two, put_three}
 use Rattle.slack_report.specs.Text.{bound_words}
 use Rattle.brief_report.specs.Step.{judgement_cells}
 use Rattle.brief_report.proofs.Cells.{three_cells}
-use Rattle.why_report.proofs.Putting.{cut_one, cut_two, put_three}
 use Rattle.brief_report.proofs.put_cells.put_found.Goals as goal
 
 pub returns-in_err-put_bound : goal.returns-in_err-put_bound

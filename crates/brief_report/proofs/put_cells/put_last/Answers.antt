@@ -2,9 +2,9 @@ use Rattle.std.proofs.lemmas.Result.{err_from_is_err_and}
 use Rattle.std.proofs.Common.{[], ◌∷◌}
 use Rattle.itv_base.specs.Numerals.{number_text}
 use Rattle.line_words.specs.Lines.{line_of}
+use Rattle.line_words.proofs.Putting.{cut_one, put_two}
 use Rattle.brief_report.specs.Step.{order_word}
 use Rattle.brief_report.proofs.Cells.{cell_end}
-use Rattle.why_report.proofs.Putting.{cut_one, put_two}
 use Rattle.brief_report.proofs.put_cells.put_last.Goals as goal
 
 pub returns-in_err-put_order : goal.returns-in_err-put_order

@@ -3,7 +3,7 @@ use Rattle.std.proofs.Common.{map}
 use Rattle.std.specs.List.{concat, flat_map}
 use Rattle.brief_report.specs.Table.{doubled}
 use Rattle.brief_report.proofs.Cells.{quotes_are}
-use Rattle.why_report.proofs.Putting.{cut_one, cut_two, put_three}
+use Rattle.line_words.proofs.Putting.{cut_one, cut_two, put_three}
 use Rattle.brief_report.proofs.put_cells.put_quoted.Goals as goal
 
 pub returns-in_err-put : goal.returns-in_err-put

@@ -2,9 +2,9 @@ use Rattle.std.proofs.lemmas.Result.{err_from_is_err_and}
 use Rattle.std.proofs.Common.{[], ◌∷◌}
 use Rattle.itv_base.specs.Numerals.{end_text}
 use Rattle.line_words.specs.Lines.{line_of}
+use Rattle.line_words.proofs.Putting.{cut_one, put_two}
 use Rattle.slack_report.specs.Text.{verdict_words}
 use Rattle.brief_report.proofs.Cells.{two_cells}
-use Rattle.why_report.proofs.Putting.{cut_one, put_two}
 use Rattle.brief_report.proofs.put_cells.put_verdict.Goals as goal
 
 pub returns-in_err-put_word : goal.returns-in_err-put_word

@@ -2,7 +2,7 @@ use Rattle.std.proofs.lemmas.Result.{err_from_is_err_and}
 use Rattle.why_report.specs.Step.{by_words}
 use Rattle.brief_report.specs.Step.{judgement_words, order_word}
 use Rattle.brief_report.proofs.Lining.{spaced_three}
-use Rattle.why_report.proofs.Putting.{cut_one, cut_two, put_three}
+use Rattle.line_words.proofs.Putting.{cut_one, cut_two, put_three}
 use Rattle.brief_report.proofs.put_line.put_back.Goals as goal
 
 pub returns-in_err-put_judged : goal.returns-in_err-put_judged

@@ -1,7 +1,6 @@
 use Rattle.std.proofs.lemmas.Result.{err_from_is_err_and}
 use Rattle.slack_report.specs.Text.{bound_words}
-use Rattle.brief_report.proofs.Lining.{spaced_two}
-use Rattle.why_report.proofs.Putting.{cut_one, put_two}
+use Rattle.line_words.proofs.Putting.{cut_one, put_two, spaced_two}
 use Rattle.brief_report.proofs.put_line.put_bounds.Goals as goal
 
 pub returns-in_err-put_bound_words : goal.returns-in_err-put_bound_words

@@ -3,7 +3,7 @@ use Rattle.std.proofs.Common.{[], ◌∷◌}
 use Rattle.std.specs.Prelude.{codes}
 use Rattle.itv_base.specs.Numerals.{number_text}
 use Rattle.why_report.proofs.Lining.{line_end}
-use Rattle.why_report.proofs.Putting.{cut_one, put_two}
+use Rattle.line_words.proofs.Putting.{cut_one, put_two}
 use Rattle.brief_report.proofs.put_line.put_counts.Goals as goal
 
 pub returns-in_err-put_passes : goal.returns-in_err-put_passes

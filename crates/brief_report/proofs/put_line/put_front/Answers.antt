@@ -5,7 +5,7 @@ use Rattle.itv_base.specs.Names.{name_view}
 use Rattle.itv_base.specs.Numerals.{number_text}
 use Rattle.slack_report.specs.Text.{bound_words, row_words}
 use Rattle.why_report.proofs.Lining.{line_more}
-use Rattle.why_report.proofs.Putting.{cut_one, put_two}
+use Rattle.line_words.proofs.Putting.{cut_one, put_two}
 use Rattle.brief_report.proofs.put_line.put_front.Goals as goal
 
 pub returns-in_err-put_asked : goal.returns-in_err-put_asked

@@ -5,7 +5,7 @@ use Rattle.itv_base.specs.Numerals.{number_text}
 use Rattle.brief_report.specs.Lines.{cycle_words}
 use Rattle.brief_report.specs.Step.{back_words, front_words}
 use Rattle.why_report.proofs.Lining.{line_both_end}
-use Rattle.why_report.proofs.Putting.{cut_one, cut_two, put_three}
+use Rattle.line_words.proofs.Putting.{cut_one, cut_two, put_three}
 use Rattle.brief_report.proofs.put_line.put_row.Goals as goal
 
 pub returns-in_err-put_front : goal.returns-in_err-put_front

@@ -2,8 +2,7 @@ use Rattle.std.proofs.lemmas.Result.{err_from_is_err_and}
 use Rattle.std.proofs.Common.{[], ◌∷◌}
 use Rattle.itv_base.specs.Numerals.{end_text}
 use Rattle.slack_report.specs.Text.{verdict_words}
-use Rattle.brief_report.proofs.Lining.{spaced_two}
-use Rattle.why_report.proofs.Putting.{cut_one, put_two}
+use Rattle.line_words.proofs.Putting.{cut_one, put_two, spaced_two}
 use Rattle.brief_report.proofs.put_line.put_verdict.Goals as goal
 
 pub returns-in_err-put_verdict_words : goal.returns-in_err-put_verdict_words

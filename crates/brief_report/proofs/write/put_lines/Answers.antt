@@ -1,6 +1,6 @@
 use Rattle.std.proofs.lemmas.Result.{err_from_is_err_and}
-use Rattle.why_report.proofs.Putting.{cut_one, cut_three, cut_two, put_four}
 use Rattle.brief_report.proofs.Whole.{lines_are}
+use Rattle.line_words.proofs.Putting.{cut_one, cut_two, cut_three, put_four}
 use Rattle.brief_report.proofs.write.put_lines.Goals as goal
 
 pub returns-in_err-put : goal.returns-in_err-put

@@ -1,7 +1,7 @@
 use Rattle.std.proofs.lemmas.Result.{err_from_is_err_and}
 use Rattle.std.proofs.Common.{refl}
-use Rattle.why_report.proofs.Putting.{cut_one, put_two}
 use Rattle.brief_report.proofs.Whole.{table_is}
+use Rattle.line_words.proofs.Putting.{cut_one, put_two}
 use Rattle.brief_report.proofs.write.put_table.Goals as goal
 
 pub put_rows-requires-clause-places : goal.put_rows-requires-clause-places

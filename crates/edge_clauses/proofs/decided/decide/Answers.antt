@@ -11,7 +11,7 @@ returns-then-is_low c =
     let low : c.args.checker.now.goal.claim <ℤ c.args.checker.now.limits.lowest =
     subst (λ z. z <ℤ c.args.checker.now.limits.lowest) c.claim.ensures.claim
     (subst (λ (l : Limits). c.claim.result.value <ℤ l.lowest) c.limits.ensures.limits (c.if-is_low.ensures.0 refl)) in
-    record { verdict = inconsistent_by c.args.net.now c.args.checker.now c.events-events.ensures.net c.requires.checking (c.if-not-is_over.ensures.over.0 refl) low; nothing = λ e. absurd (cc e) }
+    record { verdict = inconsistent_by c.args.net.now c.args.checker.now c.is_whole.ensures.net c.requires.checking (c.if-not-is_over.ensures.over.0 refl) low; nothing = λ e. absurd (cc e) }
 
 pub returns : goal.returns
 returns c =
@@ -22,6 +22,6 @@ returns c =
     let attains = c.if-not-attains.ensures.attains.0 refl in
     record {
       verdict = subst (λ (v : ProofVerdict). IsVerdict c.args.net.now c.args.checker.now.goal c.args.times.now v) (sym is)
-          (closed_by c.args.net.now c.args.checker.now c.args.times.now c.events-events.ensures.net c.requires.checking (c.if-not-is_over.ensures.over.0 refl) below attains);
+          (closed_by c.args.net.now c.args.checker.now c.args.times.now c.is_whole.ensures.net c.requires.checking (c.if-not-is_over.ensures.over.0 refl) below attains);
       nothing = λ e. absurd (cc (is, e));
     }

@@ -9,6 +9,6 @@ pub returns-clause-settles : goal.returns-clause-settles
 returns-clause-settles c =
     let drawn = c.args.drawn.now in
     let result = c.explain_with-found.result in
-    explained_settles drawn c.args.budget result (subst IsNet c.network.ensures.network c.events-events.ensures.net)
+    explained_settles drawn c.args.budget result (subst IsNet c.network.ensures.network c.is_whole.ensures.net)
     (subst (λ (b : ℕ). IfOk result (λ found. IsFindingFound drawn.net b found.finding)) c.in_ok-desk.ensures.budget c.explain_with-found.ensures.finding)
     (subst (λ (b : ℕ). IfOk result (λ found. AreFound drawn b found.finding found.rows.items)) c.in_ok-desk.ensures.budget c.explain_with-found.ensures.rows)

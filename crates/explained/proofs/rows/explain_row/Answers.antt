@@ -6,7 +6,7 @@ use Rattle.requirements.specs.declared.bound.Bound.{Bound}
 use Rattle.explained.specs.Answers.{bound_of}
 use Rattle.slack_report.specs.declared.words.FindingWord.{FindingWord}
 use Rattle.explained.specs.declared.bound.BoundFound.{BoundFound}
-use Rattle.explained.specs.declared.pair.Pair.{Pair}
+use Rattle.event_graph.specs.declared.pair.Pair.{Pair}
 use Rattle.explained.specs.Step.Standing.{net_in, word_apart}
 use Rattle.explained.specs.Step.Bounding.{IsExplained}
 use Rattle.explained.proofs.Lanes.{row_found, row_kept}

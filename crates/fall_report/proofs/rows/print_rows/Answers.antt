@@ -5,8 +5,9 @@ use Rattle.drawn.specs.declared.row.Row.{Row}
 use Rattle.slack_report.specs.Text.{entry_text}
 use Rattle.fall_report.specs.Fall.{before_rows}
 use Rattle.fall_report.specs.Step.{before_end}
-use Rattle.fall_report.proofs.Following.{rows_more, rows_none}
+use Rattle.fall_report.proofs.Following.{rows_none}
 use Rattle.fall_report.proofs.Going.{goes_up, stopped_piece, stops_then, told_at, told_piece, told_then}
+use Rattle.itv_base.proofs.Lists.{drop-read}
 use Rattle.fall_report.proofs.rows.print_rows.Goals as goal
 
 pub returns-in_err-write_item : goal.returns-in_err-write_item
@@ -31,7 +32,7 @@ returns-in_err-was_spent g c = record {
       let number = c.loop-number.number in
       let later : List Row = drop (number + 1) c.args.drawn.now.rows in
       goes_up before_end c.from_residual-in_err-was_spent.result c.from_residual-in_err-was_spent.ensures.0
-      (stops_then (told_at (ap (before_rows c.loop-number.is_spent number) (rows_more c.args.drawn.now.rows number c.row_at-row.result.now c.row_at-row.ensures.row)) (c.loop-number.invariant.pieces view v))
+      (stops_then (told_at (ap (before_rows c.loop-number.is_spent number) (drop-read c.args.drawn.now.rows number c.row_at-row.result.now c.row_at-row.ensures.row)) (c.loop-number.invariant.pieces view v))
       (c.in_err-was_spent.ensures.goes view c.loop-number.is_spent later v));
 }
 
@@ -42,7 +43,7 @@ loop-number-preserved g c =
       set = c.in_ok-was_spent.ensures.set;
       pieces = λ view v.
           told_at (ap (λ (is : Bool). before_rows is (number + 1) later) (sym c.either-is_spent.ensures))
-          (told_then (told_at (ap (before_rows c.loop-number.is_spent number) (rows_more c.args.drawn.now.rows number c.row_at-row.result.now c.row_at-row.ensures.row)) (c.loop-number.invariant.pieces view v))
+          (told_then (told_at (ap (before_rows c.loop-number.is_spent number) (drop-read c.args.drawn.now.rows number c.row_at-row.result.now c.row_at-row.ensures.row)) (c.loop-number.invariant.pieces view v))
           (c.in_ok-was_spent.ensures.goes view c.loop-number.is_spent later v));
     }
 

@@ -1,4 +1,5 @@
-use Rattle.fall_report.proofs.Whole.{answers_fall, begins_front, begins_rest, on_err}
+use Rattle.fall_report.proofs.Whole.{answers_fall, begins_front, begins_rest}
+use Rattle.itv_base.proofs.Options.{on_err}
 use Rattle.fall_report.proofs.write.print_text.Goals as goal
 
 pub returns-in_err-put_front-clause-begins : goal.returns-in_err-put_front-clause-begins

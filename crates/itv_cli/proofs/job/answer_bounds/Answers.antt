@@ -16,5 +16,5 @@ pub returns : goal.returns
 returns g c = record {
   works = works_as (Reports c.args.drawn.now c.args.budget c.args.cert) (AnswersBounds c.args.drawn.now c.args.budget c.args.cert) (MayHaveBegun c.args.drawn.now c.args.budget c.args.cert)
       (g.K.Sink.state c.args.sink.now) (g.K.Sink.state c.write_bounds.new.sink) c.answer_of.result c.in_ok-summary.summary
-      (λ text reports. answers_bounds c.args.drawn.now c.args.budget c.args.cert c.in_ok-summary.summary c.answer_of.result text (subst IsNet c.network.ensures.network c.events-events.ensures.net) c.answer_of.ensures reports) c.in_ok-summary.ensures.works;
+      (λ text reports. answers_bounds c.args.drawn.now c.args.budget c.args.cert c.in_ok-summary.summary c.answer_of.result text (subst IsNet c.network.ensures.network c.is_whole.ensures.net) c.answer_of.ensures reports) c.in_ok-summary.ensures.works;
 }

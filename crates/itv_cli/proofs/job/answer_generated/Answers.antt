@@ -18,5 +18,5 @@ pub returns : goal.returns
 returns g c = record {
   works = works_as (AnswersSummary c.args.drawn.now c.args.size c.args.budget) (Answers (Generated c.args.drawn.now c.args.size c.args.budget)) (Answered (AnswersSummary c.args.drawn.now c.args.size c.args.budget))
       (g.K.Sink.state c.args.sink.now) (g.K.Sink.state c.write_summary.new.sink) c.in_ok-answer.answer c.in_ok-answer.answer
-      (λ text s. answers_generated c.args.drawn.now c.args.size c.args.budget c.in_ok-answer.answer text (subst IsNet c.network.ensures.network c.events-events.ensures.net) s) c.in_ok-answer.ensures.works;
+      (λ text s. answers_generated c.args.drawn.now c.args.size c.args.budget c.in_ok-answer.answer text (subst IsNet c.network.ensures.network c.is_whole.ensures.net) s) c.in_ok-answer.ensures.works;
 }

@@ -19,5 +19,5 @@ pub returns : goal.returns
 returns g c = record {
   works = works_as (AnswersRedraw c.args.drawn.now c.args.budget) (Answers (Searched c.args.drawn.now Redraw c.args.budget)) (Answered (AnswersRedraw c.args.drawn.now c.args.budget))
       (g.K.Sink.state c.args.sink.now) (g.K.Sink.state c.write_redraw.new.sink) c.in_ok-answer.answer c.in_ok-answer.answer
-      (λ text s. answers_redraw c.args.drawn.now c.args.budget c.in_ok-answer.answer text (subst IsNet c.network.ensures.network c.events-events.ensures.net) s) c.in_ok-answer.ensures.works;
+      (λ text s. answers_redraw c.args.drawn.now c.args.budget c.in_ok-answer.answer text (subst IsNet c.network.ensures.network c.is_whole.ensures.net) s) c.in_ok-answer.ensures.works;
 }

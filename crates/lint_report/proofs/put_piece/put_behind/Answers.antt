@@ -1,8 +1,8 @@
 use Rattle.std.proofs.lemmas.Result.{err_from_is_err_and}
 use Rattle.std.proofs.Common.{◌∷◌, ◌++◌, List, ℕ, ap}
 use Rattle.line_words.specs.Lines.{spaced}
+use Rattle.line_words.proofs.Putting.{cut_one, put_two}
 use Rattle.origin.specs.Text.{origin_text}
-use Rattle.lint_report.proofs.Putting.{cut_one, put_two}
 use Rattle.lint_report.proofs.put_piece.put_behind.Goals as goal
 
 pub returns-in_err-put_spaced : goal.returns-in_err-put_spaced

@@ -1,6 +1,6 @@
 use Rattle.std.proofs.lemmas.Result.{err_from_is_err_and}
 use Rattle.std.proofs.Common.{refl}
-use Rattle.lint_report.proofs.Putting.{cut_one, put_two}
+use Rattle.line_words.proofs.Putting.{cut_one, put_two}
 use Rattle.lint_report.proofs.put_piece.put_drawn.Goals as goal
 
 pub returns-in_err-put : goal.returns-in_err-put

@@ -1,6 +1,6 @@
 use Rattle.std.proofs.lemmas.Result.{err_from_is_err_and}
-use Rattle.lint_report.proofs.Putting.{cut_one, cut_two, put_three}
 use Rattle.lint_report.proofs.Whole.{lint_is}
+use Rattle.line_words.proofs.Putting.{cut_one, cut_two, put_three}
 use Rattle.lint_report.proofs.put_text.put_text.Goals as goal
 
 pub returns-in_err-put : goal.returns-in_err-put

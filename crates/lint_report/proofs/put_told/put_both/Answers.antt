@@ -1,8 +1,8 @@
 use Rattle.std.proofs.lemmas.Result.{err_from_is_err_and}
 use Rattle.std.specs.List.{filter}
 use Rattle.plan.specs.Notes.{is_printed_byte}
-use Rattle.lint_report.proofs.Putting.{cut_one, cut_two, put_three}
 use Rattle.lint_report.proofs.Texting.{both_spaced}
+use Rattle.line_words.proofs.Putting.{cut_one, cut_two, put_three}
 use Rattle.lint_report.proofs.put_told.put_both.Goals as goal
 
 pub returns-in_err-put_word : goal.returns-in_err-put_word

@@ -4,9 +4,9 @@ use Rattle.std.proofs.lemmas.Result.{err_from_is_err_and}
 use Rattle.itv_base.specs.Outside.{grown}
 use Rattle.itv_base.proofs.Written.{grown-nil}
 use Rattle.line_words.specs.Lines.{spaced}
+use Rattle.line_words.proofs.Putting.{cut_one, put_two}
 use Rattle.plan.specs.Notes.{is_printed_byte}
 use Rattle.lint_report.specs.Text.{word_if_any}
-use Rattle.lint_report.proofs.Putting.{cut_one, put_two}
 use Rattle.lint_report.proofs.Texting.{none_printed, printed_word}
 use Rattle.lint_report.proofs.put_told.put_word.Goals as goal
 

@@ -1,8 +1,9 @@
 use Rattle.std.proofs.Common.{◌≡◌, length, arith}
 use Rattle.std.specs.Vec.{vec_len}
 use Rattle.margins.specs.Ends.{AreBothFound}
+use Rattle.margins.proofs.Standing.{pairs_next}
 use Rattle.margin_report.specs.Margin.{IsNumberFound}
-use Rattle.margin_report.proofs.Endings.{pairs_next, zip_at, zip_count}
+use Rattle.margin_report.proofs.Endings.{zip_at, zip_count}
 use Rattle.margin_report.proofs.finding.each_found.Goals as goal
 
 pub index-requires : goal.index-requires

@@ -10,5 +10,5 @@ overflow_cast-cause-end c =
     let net = c.network.result.now in
     let origins = c.origins.result.now in
     let fit : OriginsFit net origins = subst (λ (n : Net). OriginsFit n origins) (sym c.network.ensures.network) c.origins.ensures.fit in
-    let few : length c.get.result.now ≤ MAX_CAUSES = few_causes net origins c.from.result c.get.result.now c.events-events.ensures.net fit c.get.ensures.item in
+    let few : length c.get.result.now ≤ MAX_CAUSES = few_causes net origins c.from.result c.get.result.now c.is_whole.ensures.net fit c.get.ensures.item in
     omega (arith, few, c.len-causes.ensures.count)

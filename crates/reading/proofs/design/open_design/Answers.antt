@@ -13,5 +13,5 @@ returns-in_err-plan g c = record {
 pub returns : goal.returns
 returns g c = record {
   opens = opens_then (λ (p : Planned). p) (λ (d : Drawn). d) (plan_at c.args.name.now) (λ plan. drawn_at plan.netlist plan.sheets) (g.H.Shelf.state c.args.shelf.now) (g.H.Shelf.state c.open_plan.new.shelf) (g.H.Shelf.state c.open_plan.new.shelf) c.in_ok-plan.plan
-      c.draw_plan.result c.in_ok-plan.ensures.opens (c.draw_plan.ensures.draws (g.H.Shelf.state c.open_plan.new.shelf));
+      c.draw_plan-drawn.result c.in_ok-plan.ensures.opens (c.draw_plan-drawn.ensures.draws (g.H.Shelf.state c.open_plan.new.shelf));
 }

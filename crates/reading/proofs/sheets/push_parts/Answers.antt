@@ -1,7 +1,8 @@
 use Rattle.std.specs.Prelude.{⊤}
 use Rattle.reading.specs.Design.{with_part}
 use Rattle.reading.specs.FileReading.{each}
-use Rattle.reading.proofs.Opens.{each_end, each_next, each_stop, next_item, resumes_all}
+use Rattle.reading.proofs.Opens.{each_end, each_next, each_stop, resumes_all}
+use Rattle.itv_base.proofs.Faults.{drop-next}
 use Rattle.reading.proofs.sheets.push_parts.Goals as goal
 
 pub loop-part-init : goal.loop-part-init
@@ -10,13 +11,13 @@ loop-part-init c state = resumes_all state (each (with_part c.args.place c.args.
 pub returns-in_err-push_part : goal.returns-in_err-push_part
 returns-in_err-push_part c state =
     each_stop (with_part c.args.place c.args.name.now c.args.grades.now c.args.diagram.now) state state state _ c.args.parts.now c.loop-part.part-index c.loop-part.part-index c.part-item.result c.loop-part.sheets.entries
-    (next_item c.args.parts.now c.loop-part.part-index c.part-item.result c.loop-part-test.true c.part-item.is) (c.loop-part.invariant state) (λ (_ : ⊤). c.push_part.new.sheets.entries) (λ (_ : ⊤). c.push_part.new.sheets.entries) c.in_err-push_part.field-0.0 c.from_residual.result
+    (drop-next c.args.parts.now c.loop-part.part-index c.part-item.result c.loop-part-test.true c.part-item.is) (c.loop-part.invariant state) (λ (_ : ⊤). c.push_part.new.sheets.entries) (λ (_ : ⊤). c.push_part.new.sheets.entries) c.in_err-push_part.field-0.0 c.from_residual.result
     c.from_residual.ensures.1 (c.in_err-push_part.ensures c.loop-part.part-index state)
 
 pub loop-part-preserved : goal.loop-part-preserved
 loop-part-preserved c state =
     each_next (with_part c.args.place c.args.name.now c.args.grades.now c.args.diagram.now) state state state _ c.args.parts.now c.loop-part.part-index c.loop-part.part-index c.part-item.result c.loop-part.sheets.entries
-    (next_item c.args.parts.now c.loop-part.part-index c.part-item.result c.loop-part-test.true c.part-item.is) (c.loop-part.invariant state) (λ (_ : ⊤). c.push_part.new.sheets.entries) tt (c.in_ok-push_part.ensures c.loop-part.part-index state)
+    (drop-next c.args.parts.now c.loop-part.part-index c.part-item.result c.loop-part-test.true c.part-item.is) (c.loop-part.invariant state) (λ (_ : ⊤). c.push_part.new.sheets.entries) tt (c.in_ok-push_part.ensures c.loop-part.part-index state)
 
 pub returns : goal.returns
 returns c state =

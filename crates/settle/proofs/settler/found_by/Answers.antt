@@ -6,7 +6,7 @@ use Rattle.settle.proofs.settler.found_by.Goals as goal
 
 pub returns-in-Closed : goal.returns-in-Closed
 returns-in-Closed c = record {
-  found = λ most within. of_pair c.args.net.now c.args.race c.args.from c.args.to most _ c.requires.from c.requires.to (found_closed c.args.net.now c.args.race c.in-Closed.view c.args.finish.turns most c.closed_at.result c.times_in.result c.new.result c.lines_of.result c.events-events.ensures.net
+  found = λ most within. of_pair c.args.net.now c.args.race c.args.from c.args.to most _ c.requires.from c.requires.to (found_closed c.args.net.now c.args.race c.in-Closed.view c.args.finish.turns most c.closed_at.result c.times_in.result c.new.result c.lines_of.result c.is_whole.ensures.net
       c.requires.racing (subst (λ (e : RaceEnd). IsEnding c.args.net.now c.args.race e) c.in-Closed.is c.requires.ending) c.requires.lines c.closed_at.ensures
       c.times_in.ensures (handed c.args.race c.in-Closed.view c.lines_of.result.items c.lines_of.ensures.plain c.lines_of.ensures.negated) within);
 }
@@ -20,7 +20,7 @@ returns-in-Unbounded c = record {
 pub returns-in-Inconsistent : goal.returns-in-Inconsistent
 returns-in-Inconsistent c = record {
   found = λ most within. of_pair c.args.net.now c.args.race c.args.from c.args.to most _ c.requires.from c.requires.to (found_inconsistent c.args.net.now c.args.race c.in-Inconsistent.view c.args.finish.turns most c.new-in-Inconsistent.result c.new-in-Inconsistent-2.result
-      c.lines_of-in-Inconsistent.result c.events-events.ensures.net c.requires.racing
+      c.lines_of-in-Inconsistent.result c.is_whole.ensures.net c.requires.racing
       (subst (λ (e : RaceEnd). IsEnding c.args.net.now c.args.race e) c.in-Inconsistent.is c.requires.ending) c.requires.lines
       (handed c.args.race c.in-Inconsistent.view c.lines_of-in-Inconsistent.result.items c.lines_of-in-Inconsistent.ensures.plain c.lines_of-in-Inconsistent.ensures.negated) within);
 }

@@ -12,12 +12,12 @@ use Rattle.settle_check.proofs.bound.number_next.Goals as goal
 
 pub returns-in_err-proof-clause-read : goal.returns-in_err-proof-clause-read
 returns-in_err-proof-clause-read c value times proof more number stands =
-    let shown = number_shown c.args.net.now c.args.which c.args.row.now value times.items proof _ c.of.ensures.pair c.requires.row number in
+    let shown = number_shown c.args.net.now c.args.which c.args.row.now value times.items proof _ c.pair_of.ensures.pair c.requires.row number in
     want_on _ c.from_residual.result _ c.from_residual.ensures.1 (c.in_err-proof.ensures.read proof _ shown (number_other c.args.which value _) stands)
 
 pub returns-in_err-value-clause-read : goal.returns-in_err-value-clause-read
 returns-in_err-value-clause-read c value times proof more number stands =
-    let shown = number_shown c.args.net.now c.args.which c.args.row.now value times.items proof _ c.of.ensures.pair c.requires.row number in
+    let shown = number_shown c.args.net.now c.args.which c.args.row.now value times.items proof _ c.pair_of.ensures.pair c.requires.row number in
     let (same, next) = c.in_ok-proof.ensures.read proof _ shown (number_other c.args.which value _) stands in
     want_on _ c.from_residual-in_err-value.result _ c.from_residual-in_err-value.ensures.1
     (c.in_err-value.ensures.read value _ (number_stands _ c.args.which value _ next)
@@ -25,7 +25,7 @@ returns-in_err-value-clause-read c value times proof more number stands =
 
 pub returns-then-not-is_claimed-clause-read : goal.returns-then-not-is_claimed-clause-read
 returns-then-not-is_claimed-clause-read c value times proof more number stands =
-    let shown = number_shown c.args.net.now c.args.which c.args.row.now value times.items proof _ c.of.ensures.pair c.requires.row number in
+    let shown = number_shown c.args.net.now c.args.which c.args.row.now value times.items proof _ c.pair_of.ensures.pair c.requires.row number in
     let (same, next) = c.in_ok-proof.ensures.read proof _ shown (number_other c.args.which value _) stands in
     let found = c.in_ok-value.ensures.read value _ (number_stands _ c.args.which value _ next)
     (number_long c.args.net.now c.args.which c.args.row.now value times.items proof c.requires.row number) in
@@ -35,15 +35,15 @@ returns-then-not-is_claimed-clause-read c value times proof more number stands =
 
 pub returns-then-not-is_near-clause-read : goal.returns-then-not-is_near-clause-read
 returns-then-not-is_near-clause-read c value times proof more number stands =
-    let shown = number_shown c.args.net.now c.args.which c.args.row.now value times.items proof _ c.of.ensures.pair c.requires.row number in
+    let shown = number_shown c.args.net.now c.args.which c.args.row.now value times.items proof _ c.pair_of.ensures.pair c.requires.row number in
     let (same, next) = c.in_ok-proof.ensures.read proof _ shown (number_other c.args.which value _) stands in
     absurd (cc ((c.if-not-is_near.ensures.near c.args.net.now c.requires.views).1
     (rw (to_z-of_z w64 c.in_ok-proof.proof.claim c.in_ok-proof.ensures.fits) (subst (λ (claim : ℤ). claim <ℤ pos (far_line c.args.net.now)) same.claim
-    (number_near c.args.net.now c.args.which c.args.row.now value times.items proof c.events-events.ensures.net c.requires.row number)))))
+    (number_near c.args.net.now c.args.which c.args.row.now value times.items proof c.is_whole.ensures.net c.requires.row number)))))
 
 pub returns-in_err-times-clause-read : goal.returns-in_err-times-clause-read
 returns-in_err-times-clause-read c value times proof more number stands =
-    let shown = number_shown c.args.net.now c.args.which c.args.row.now value times.items proof _ c.of.ensures.pair c.requires.row number in
+    let shown = number_shown c.args.net.now c.args.which c.args.row.now value times.items proof _ c.pair_of.ensures.pair c.requires.row number in
     let (same, next) = c.in_ok-proof.ensures.read proof _ shown (number_other c.args.which value _) stands in
     let behind = c.pass.ensures.passed _ _ (number_stands _ c.args.which value _ next).begins in
     want_on _ c.from_residual-in_err-times.result _ c.from_residual-in_err-times.ensures.1
@@ -51,7 +51,7 @@ returns-in_err-times-clause-read c value times proof more number stands =
 
 pub returns-then-not-attain-clause-read : goal.returns-then-not-attain-clause-read
 returns-then-not-attain-clause-read c value times proof more number stands =
-    let shown = number_shown c.args.net.now c.args.which c.args.row.now value times.items proof _ c.of.ensures.pair c.requires.row number in
+    let shown = number_shown c.args.net.now c.args.which c.args.row.now value times.items proof _ c.pair_of.ensures.pair c.requires.row number in
     let (same, next) = c.in_ok-proof.ensures.read proof _ shown (number_other c.args.which value _) stands in
     let found = c.in_ok-value.ensures.read value _ (number_stands _ c.args.which value _ next)
     (number_long c.args.net.now c.args.which c.args.row.now value times.items proof c.requires.row number) in
@@ -63,7 +63,7 @@ returns-then-not-attain-clause-read c value times proof more number stands =
 
 pub returns-clause-read : goal.returns-clause-read
 returns-clause-read c value times proof more number stands =
-    let shown = number_shown c.args.net.now c.args.which c.args.row.now value times.items proof _ c.of.ensures.pair c.requires.row number in
+    let shown = number_shown c.args.net.now c.args.which c.args.row.now value times.items proof _ c.pair_of.ensures.pair c.requires.row number in
     let (same, next) = c.in_ok-proof.ensures.read proof _ shown (number_other c.args.which value _) stands in
     let found = c.in_ok-value.ensures.read value _ (number_stands _ c.args.which value _ next)
     (number_long c.args.net.now c.args.which c.args.row.now value times.items proof c.requires.row number) in

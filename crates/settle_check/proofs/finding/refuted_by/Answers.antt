@@ -6,7 +6,7 @@ use Rattle.settle_check.proofs.finding.refuted_by.Goals as goal
 
 pub returns : goal.returns
 returns c = record {
-  finding = is_refuted c.args.net.now c.args.proof c.events-events.ensures.net c.requires.some c.requires.low c.requires.fits c.requires.proof
+  finding = is_refuted c.args.net.now c.args.proof c.is_whole.ensures.net c.requires.some c.requires.low c.requires.fits c.requires.proof
       (subst (All IsClauseLine) (ap lines_of c.deref.ensures.value) c.have_texts.ensures.lines);
   is = refl;
 }

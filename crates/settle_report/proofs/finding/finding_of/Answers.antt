@@ -8,12 +8,12 @@ returns-in-Closed c =
     let f = c.requires.found in
     record {
       finding = subst (ArePrintedTimes c.args.net.now first_event) (sym c.moved.ensures.moved)
-          (first_times c.args.net.now f.0 c.args.found c.events-events.ensures.net c.requires.events f.1 _ c.in-Closed.is);
+          (first_times c.args.net.now f.0 c.args.found c.is_whole.ensures.net c.requires.events f.1 _ c.in-Closed.is);
       lines = omega arith;
     }
 
 pub returns-in-Inconsistent-clause-finding : goal.returns-in-Inconsistent-clause-finding
 returns-in-Inconsistent-clause-finding c =
     let f = c.requires.found in
-    refuted c.args.net.now f.0 c.args.found c.events-events.ensures.net c.requires.events f.1 c.args.cert c.proof_of.result c.in-Inconsistent.is c.proof_of.ensures.proves
+    refuted c.args.net.now f.0 c.args.found c.is_whole.ensures.net c.requires.events f.1 c.args.cert c.proof_of.result c.in-Inconsistent.is c.proof_of.ensures.proves
     c.proof_of.ensures.fits

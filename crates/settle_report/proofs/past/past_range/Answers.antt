@@ -1,9 +1,9 @@
 use Rattle.std.proofs.Common.{subst, sym, ◌∙◌}
 use Rattle.event_graph.proofs.MovingOn.{read_time}
+use Rattle.event_graph.proofs.Sizes.{end_time}
 use Rattle.slack_report.specs.declared.words.Which.TheVariants.{Max, Min}
 use Rattle.settle_report.specs.Step.{IsBeyond}
 use Rattle.settle_report.proofs.Judging.{past_high, past_low}
-use Rattle.settle_report.proofs.Raising.{end_time}
 use Rattle.settle_report.proofs.past.past_range.Goals as goal
 
 pub past_limit-requires-clause-beyond : goal.past_limit-requires-clause-beyond

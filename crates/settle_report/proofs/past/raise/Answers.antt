@@ -1,6 +1,7 @@
-use Rattle.settle_report.proofs.Raising.{end_time, new_times, raise_done, raises}
+use Rattle.settle_report.proofs.Raising.{new_times, raise_done, raises}
 use Rattle.settle_report.proofs.past.raise.Goals as goal
 use Rattle.event_graph.proofs.MovingOn.{read_time}
+use Rattle.event_graph.proofs.Sizes.{end_time}
 
 pub move_all-requires-clause-times : goal.move_all-requires-clause-times
 move_all-requires-clause-times c =

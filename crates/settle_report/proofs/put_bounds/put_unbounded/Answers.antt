@@ -1,6 +1,6 @@
 use Rattle.std.proofs.lemmas.Result.{err_from_is_err_and}
 use Rattle.std.proofs.Common.{refl}
-use Rattle.settle_report.proofs.Putting.{cut_two, put_three}
+use Rattle.line_words.proofs.Putting.{cut_two, put_three}
 use Rattle.settle_report.proofs.put_bounds.put_unbounded.Goals as goal
 
 pub returns-in_err-write_item-2 : goal.returns-in_err-write_item-2

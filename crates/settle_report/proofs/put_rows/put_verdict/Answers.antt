@@ -1,7 +1,8 @@
 use Rattle.std.proofs.lemmas.Result.{err_from_is_err_and}
 use Rattle.std.proofs.Common.{refl}
 use Rattle.requirements.specs.Slacks.{slack_of}
-use Rattle.settle_report.proofs.Putting.{cut_two, put_three, verdict_is}
+use Rattle.settle_report.proofs.Putting.{verdict_is}
+use Rattle.line_words.proofs.Putting.{cut_two, put_three}
 use Rattle.settle_report.proofs.put_rows.put_verdict.Goals as goal
 
 pub returns-in_err-put_past : goal.returns-in_err-put_past

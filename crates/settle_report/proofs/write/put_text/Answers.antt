@@ -1,6 +1,7 @@
 use Rattle.std.proofs.lemmas.Result.{err_from_is_err_and}
 use Rattle.std.proofs.Common.{refl}
-use Rattle.settle_report.proofs.Putting.{cut_one, cut_three, cut_two, put_four, settle_is}
+use Rattle.settle_report.proofs.Putting.{settle_is}
+use Rattle.line_words.proofs.Putting.{cut_one, cut_three, cut_two, put_four}
 use Rattle.settle_report.proofs.write.put_text.Goals as goal
 
 pub returns-in_err-put_front : goal.returns-in_err-put_front

@@ -1,7 +1,7 @@
 use Rattle.std.proofs.Common.{◌≡◌, Some, take, ◌∙◌, ap}
 use Rattle.std.specs.Prelude.{slice_get}
 use Rattle.compose.specs.Design.{Composed}
-use Rattle.sheet.proofs.Lists.{take_get}
+use Rattle.itv_base.proofs.Lists.{take_get}
 use Rattle.unroll.proofs.PartLists.{part_rows_kept}
 use Rattle.unroll.proofs.asked.keep_parts.Goals as goal
 

@@ -1,6 +1,6 @@
 use Rattle.std.proofs.Common.{arith, take}
 use Rattle.unroll.proofs.CountLists.{part_counted}
-use Rattle.sheet.proofs.Lists.{take_get}
+use Rattle.itv_base.proofs.Lists.{take_get}
 use Rattle.unroll.proofs.counts.count_parts.Goals as goal
 
 pub loop-part-preserved : goal.loop-part-preserved

@@ -1,6 +1,6 @@
 use Rattle.std.proofs.Common.{take}
 use Rattle.unroll.proofs.NameLists.{labels_kept}
-use Rattle.sheet.proofs.Lists.{take_get}
+use Rattle.itv_base.proofs.Lists.{take_get}
 use Rattle.unroll.proofs.PartLists.{take_length}
 use Rattle.unroll.proofs.names.push_parts.Goals as goal
 

@@ -1,7 +1,7 @@
 use Rattle.std.proofs.Common.{◌≤◌, length, take, ap, ◌∙◌, arith}
 use Rattle.std.proofs.lemmas.List.{take_all}
 use Rattle.unroll.specs.Step.Firsts.{firsts_of}
-use Rattle.sheet.proofs.Lists.{take_get}
+use Rattle.itv_base.proofs.Lists.{take_get}
 use Rattle.unroll.proofs.PartLists.{firsts_kept, mark_count_push}
 use Rattle.unroll.proofs.numbered_design.firsts_of.Goals as goal
 

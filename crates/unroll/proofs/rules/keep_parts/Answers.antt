@@ -1,9 +1,10 @@
 use Rattle.std.proofs.Common.{◌≡◌, Some, take, ◌∙◌, ap}
 use Rattle.std.specs.Prelude.{slice_get}
 use Rattle.compose.specs.Design.{Composed}
+use Rattle.compose.proofs.WholeDesigns.{All-slice_get}
 use Rattle.sheet.specs.Whole.{IsWhole}
-use Rattle.unroll.proofs.BetweenLists.{All-slice_get, sheet_rules}
-use Rattle.sheet.proofs.Lists.{take_get}
+use Rattle.unroll.proofs.BetweenLists.{sheet_rules}
+use Rattle.itv_base.proofs.Lists.{take_get}
 use Rattle.unroll.proofs.PartLists.{parts_kept}
 use Rattle.unroll.proofs.rules.keep_parts.Goals as goal
 

@@ -1,7 +1,7 @@
 use Rattle.std.proofs.Common.{arith}
 use Rattle.compose.specs.Joins.{join_at}
+use Rattle.compose.proofs.WholeDesigns.{number_within}
 use Rattle.unroll.proofs.BetweenLists.{join_there}
-use Rattle.unroll.proofs.PartLists.{number_within}
 use Rattle.unroll.proofs.rules.keep_pin.Goals as goal
 
 pub join-requires-clause-driver : goal.join-requires-clause-driver

@@ -1,6 +1,6 @@
 use Rattle.std.proofs.lemmas.Result.{err_from_is_err_and}
 use Rattle.std.proofs.Common.{refl}
-use Rattle.why_report.proofs.Putting.{cut_one, cut_two, put_three}
+use Rattle.line_words.proofs.Putting.{cut_one, cut_two, put_three}
 use Rattle.why_report.proofs.drawn_by.put_by.Goals as goal
 
 pub returns-in_err-put : goal.returns-in_err-put

@@ -2,8 +2,8 @@ use Rattle.std.proofs.Common.{sym}
 use Rattle.std.proofs.lemmas.Grind.{flat_map-append}
 use Rattle.std.proofs.lemmas.Result.{err_from_is_err_and}
 use Rattle.line_words.specs.Lines.{spaced}
+use Rattle.line_words.proofs.Putting.{cut_one, put_two}
 use Rattle.why_report.specs.Text.{grade_word, some_word}
-use Rattle.why_report.proofs.Putting.{cut_one, put_two}
 use Rattle.why_report.proofs.drawn_by.put_told.Goals as goal
 
 pub returns-in_err-put_note : goal.returns-in_err-put_note

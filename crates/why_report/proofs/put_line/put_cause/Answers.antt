@@ -5,7 +5,7 @@ use Rattle.itv_base.specs.Names.{name_view}
 use Rattle.slack_report.specs.Text.{name_word, range_word}
 use Rattle.why_report.specs.Text.{rule_word}
 use Rattle.why_report.proofs.Lining.{line_last}
-use Rattle.why_report.proofs.Putting.{cut_one, cut_two, put_three}
+use Rattle.line_words.proofs.Putting.{cut_one, cut_two, put_three}
 use Rattle.why_report.proofs.put_line.put_cause.Goals as goal
 
 pub returns-in_err-put_kind : goal.returns-in_err-put_kind

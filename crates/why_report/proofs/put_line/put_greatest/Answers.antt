@@ -1,7 +1,7 @@
 use Rattle.std.proofs.lemmas.Result.{err_from_is_err_and}
 use Rattle.slack_report.specs.Text.{bound_words}
 use Rattle.why_report.proofs.Lining.{order_is}
-use Rattle.why_report.proofs.Putting.{cut_one, put_two}
+use Rattle.line_words.proofs.Putting.{cut_one, put_two}
 use Rattle.why_report.proofs.put_line.put_greatest.Goals as goal
 
 pub returns-in_err-put : goal.returns-in_err-put

@@ -1,6 +1,6 @@
 use Rattle.std.proofs.lemmas.Result.{err_from_is_err_and}
 use Rattle.std.proofs.Common.{refl}
-use Rattle.why_report.proofs.Putting.{cut_one, put_two}
+use Rattle.line_words.proofs.Putting.{cut_one, put_two}
 use Rattle.why_report.proofs.put_line.put_least.Goals as goal
 
 pub returns-in_err-put : goal.returns-in_err-put

@@ -3,7 +3,7 @@ use Rattle.std.proofs.Common.{◌∷◌}
 use Rattle.std.specs.Prelude.{codes}
 use Rattle.slack_report.specs.Text.{bound_words, verdict_words}
 use Rattle.why_report.proofs.Lining.{line_both_end}
-use Rattle.why_report.proofs.Putting.{cut_one, cut_two, put_three}
+use Rattle.line_words.proofs.Putting.{cut_one, cut_two, put_three}
 use Rattle.why_report.proofs.put_line.put_order.Goals as goal
 
 pub returns-in_err-put_greatest : goal.returns-in_err-put_greatest

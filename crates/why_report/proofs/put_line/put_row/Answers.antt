@@ -6,7 +6,7 @@ use Rattle.itv_base.specs.Numerals.{number_text}
 use Rattle.slack_report.specs.Text.{row_words}
 use Rattle.why_report.specs.Step.{by_words}
 use Rattle.why_report.proofs.Lining.{line_end}
-use Rattle.why_report.proofs.Putting.{cut_one, put_two}
+use Rattle.line_words.proofs.Putting.{cut_one, put_two}
 use Rattle.why_report.proofs.put_line.put_row.Goals as goal
 
 pub returns-in_err-put_asked : goal.returns-in_err-put_asked

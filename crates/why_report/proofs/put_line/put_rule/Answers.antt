@@ -6,7 +6,7 @@ use Rattle.slack_report.specs.Text.{name_word, range_word}
 use Rattle.why_report.specs.Text.{rule_word}
 use Rattle.why_report.specs.Step.{by_words}
 use Rattle.why_report.proofs.Lining.{line_end}
-use Rattle.why_report.proofs.Putting.{cut_one, put_two}
+use Rattle.line_words.proofs.Putting.{cut_one, put_two}
 use Rattle.why_report.proofs.put_line.put_rule.Goals as goal
 
 pub returns-in_err-put_cause : goal.returns-in_err-put_cause

@@ -6,7 +6,7 @@ use Rattle.itv_base.specs.Numerals.{signed_text}
 use Rattle.slack_report.specs.Text.{name_word}
 use Rattle.why_report.specs.Step.{by_words}
 use Rattle.why_report.proofs.Lining.{line_end}
-use Rattle.why_report.proofs.Putting.{cut_one, put_two}
+use Rattle.line_words.proofs.Putting.{cut_one, put_two}
 use Rattle.why_report.proofs.put_line.put_step.Goals as goal
 
 pub returns-in_err-put_weight : goal.returns-in_err-put_weight

@@ -1,6 +1,6 @@
 use Rattle.std.proofs.lemmas.Result.{err_from_is_err_and}
 use Rattle.std.proofs.Common.{refl}
-use Rattle.why_report.proofs.Putting.{cut_one, cut_three, cut_two, put_four}
+use Rattle.line_words.proofs.Putting.{cut_one, cut_two, cut_three, put_four}
 use Rattle.why_report.proofs.put_rows.put_found.Goals as goal
 
 pub returns-in_err-put_asked : goal.returns-in_err-put_asked

@@ -1,8 +1,8 @@
 use Rattle.std.proofs.lemmas.Result.{err_from_is_err_and}
 use Rattle.std.proofs.Common.{refl}
 use Rattle.requirements.specs.Slacks.{slack_of}
-use Rattle.why_report.proofs.Putting.{cut_two, put_three}
 use Rattle.why_report.proofs.Whole.{verdict_is}
+use Rattle.line_words.proofs.Putting.{cut_two, put_three}
 use Rattle.why_report.proofs.put_rows.put_verdict.Goals as goal
 
 pub returns-in_err-put_apart : goal.returns-in_err-put_apart

@@ -1,8 +1,8 @@
 use Rattle.std.proofs.lemmas.Result.{err_from_is_err_and}
 use Rattle.std.proofs.Common.{refl}
 use Rattle.explained.specs.Answers.{word_of}
-use Rattle.why_report.proofs.Putting.{cut_one, cut_three, cut_two, put_four}
 use Rattle.why_report.proofs.Whole.{why_is}
+use Rattle.line_words.proofs.Putting.{cut_one, cut_two, cut_three, put_four}
 use Rattle.why_report.proofs.write.put_text.Goals as goal
 
 pub returns-in_err-put : goal.returns-in_err-put

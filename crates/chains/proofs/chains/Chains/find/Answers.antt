@@ -18,7 +18,7 @@ returns-then-not-spread_back-clause-exceeded c =
     let count : length c.self.inside.spread.reached ≡ c.args.net.now.events = ap (λ (f : ChainsView). f.events) c.self.view_is ∙ c.requires.made in
     let is : IsSpread c.args.net.now c.args.times.now c.args.to c.spread_back.new.spread =
     spread_from c.args.net.now c.args.times.now c.args.to _ c.begin.new.self c.spread_back.new.spread c.requires.to count c.begin.ensures c.spread_back.ensures.spreads in
-    λ none. unreached_exceeded c.args.net.now c.args.times.now c.spread_back.new.spread.reached c.args.from c.args.to c.events-events.ensures.net is.count
+    λ none. unreached_exceeded c.args.net.now c.args.times.now c.spread_back.new.spread.reached c.args.from c.args.to c.is_whole.ensures.net is.count
     (c.spread_back.ensures.closed c.if-not-spread_back.true) is.end (c.spread_back.ensures.unreached c.if-not-spread_back.true)
 
 pub returns-then-not-spread_back-clause-best : goal.returns-then-not-spread_back-clause-best
@@ -27,7 +27,7 @@ returns-then-not-spread_back-clause-best c =
     let is : IsSpread c.args.net.now c.args.times.now c.args.to c.spread_back.new.spread =
     spread_from c.args.net.now c.args.times.now c.args.to _ c.begin.new.self c.spread_back.new.spread c.requires.to count c.begin.ensures c.spread_back.ensures.spreads in
     λ best. absurd (not_best c.args.net.now c.args.times.now c.args.from c.args.to
-    (unreached_exceeded c.args.net.now c.args.times.now c.spread_back.new.spread.reached c.args.from c.args.to c.events-events.ensures.net is.count
+    (unreached_exceeded c.args.net.now c.args.times.now c.spread_back.new.spread.reached c.args.from c.args.to c.is_whole.ensures.net is.count
     (c.spread_back.ensures.closed c.if-not-spread_back.true) is.end (c.spread_back.ensures.unreached c.if-not-spread_back.true) best.satisfies) best)
 
 pub returns-clause-chain : goal.returns-clause-chain

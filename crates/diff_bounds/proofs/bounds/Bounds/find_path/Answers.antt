@@ -4,11 +4,12 @@ use Rattle.std.proofs.lemmas.Option.{same_Some}
 use Rattle.std.proofs.lemmas.List.{with_items_is}
 use Rattle.itv_base.specs.declared.names.EdgeName.{EdgeName}
 use Rattle.itv_base.specs.declared.names.EventId.{EventId}
+use Rattle.itv_base.proofs.Options.{some_at}
 use Rattle.diff_bounds.specs.Current.{IsPath}
 use Rattle.diff_bounds.specs.Labels.{parents_from}
 use Rattle.diff_bounds.specs.Standing.{Standing, Stands, chosen_of, standing_in, upper_of}
 use Rattle.diff_bounds.specs.Step.Walking.{IsOneClimb}
-use Rattle.diff_bounds.proofs.Standings.{one_path, some_is}
+use Rattle.diff_bounds.proofs.Standings.{one_path}
 use Rattle.diff_bounds.proofs.bounds.Bounds.find_path.Goals as goal
 use Rattle.diff_bounds.proofs.bounds.Bounds.find_path.Goals.{In-Some}
 
@@ -16,7 +17,7 @@ inside_stands : (c : In-Some) → Stands c.args.net.now (standing_in c.self.insi
 inside_stands c = let P : Standing → Type 0 = λ b. Stands c.args.net.now b in subst P (sym c.self.view_is) c.requires.stands
 
 reached : (c : In-Some) → (z : ℤ) × (upper_of (standing_in c.self.inside) c.args.event.0 ≡ Some z)
-reached c = let P : Standing → Type 0 = λ b. IsSome (upper_of b c.args.event.0) in some_is (upper_of (standing_in c.self.inside) c.args.event.0) (subst P (sym c.self.view_is) c.requires.reached)
+reached c = let P : Standing → Type 0 = λ b. IsSome (upper_of b c.args.event.0) in some_at (upper_of (standing_in c.self.inside) c.args.event.0) (subst P (sym c.self.view_is) c.requires.reached)
 
 pub path_into-self-inside-requires-clause-climb : goal.path_into-self-inside-requires-clause-climb
 path_into-self-inside-requires-clause-climb c =

@@ -10,6 +10,6 @@ returns-in_ok-from_slice-in-None-clause-set c =
     let self = c.args.self.now in
     let net = c.args.net.now in
     let given = c.requires.contradicted in
-    let refutes : IsRefuting net self.marking = subst (IsMarkedOrGuessed net self.budget self.marking) c.in-None.is given.shown in
+    let refutes : IsRefuting net self.marking = subst (IsMarkedOrGuessed net self.marking) c.in-None.is given.shown in
     subst (IsContradictionFound net self.budget) (sym (c.in_ok-from_slice-in-None.ensures.items ∙ c.marks.ensures))
     (refuting_found net self.budget self.marking given.made.marks refutes)

@@ -1,5 +1,5 @@
 use Rattle.std.proofs.Common.{arith}
-use Rattle.unroll.proofs.PartLists.{number_within}
+use Rattle.compose.proofs.WholeDesigns.{number_within}
 use Rattle.unroll.proofs.numbered_design.NumberedDesign.number_of.Goals as goal
 
 pub overflow_add-result : goal.overflow_add-result
