@@ -23,7 +23,7 @@ use Rattle.event_graph.proofs.EdgesMet.{All-found, at_some}
 use Rattle.branch.specs.declared.choice_edge.ChoiceEdge.{ChoiceEdge}
 use Rattle.branch.specs.ChoiceEdges.{HasChoiceEnds, given_edge}
 use Rattle.branch.specs.Step.Breaking.{IsBetween, IsEdgeBroken}
-use Rattle.branch.specs.Splits.{AreAscending, AreSplits, HasChoiceEdges, HasNumber, IsSplitOf, Splitting}
+use Rattle.branch.specs.Splits.{AreAscending, AreSplits, HasChoiceEdges, HasNumber, IsSplitOf, SplittableView}
 use Rattle.branch.specs.Step.Breaking.{AreBetween, BreaksEach, IsFirstBrokenSplit, IsMetAt, MeetsSome}
 use Rattle.branch.specs.declared.distances.SearchTarget.TheVariants.{Open}
 use Rattle.branch.specs.Step.Cases.{IsFree, IsSplittable}
@@ -74,11 +74,11 @@ name_is : (net : Net) (number cause : ℕ) (k : Constraint) → slice_get net.co
 name_is net number cause k at_k = ap (λ (o : Option Constraint). let name : EdgeName = record { constraint = number; cause = cause; side = side_of o } in name) at_k
 
 -- a splitting has an edge for each cause
-edges_count : (net : Net) (s : Splitting) (k : Constraint) → HasChoiceEdges net s → slice_get net.constraints s.number ≡ Some k → cause_count_of k ≡ length s.edges
+edges_count : (net : Net) (s : SplittableView) (k : Constraint) → HasChoiceEdges net s → slice_get net.constraints s.number ≡ Some k → cause_count_of k ≡ length s.edges
 edges_count net s k has at_k = same_Some _ _ (sym (ap (option_map cause_count_of) at_k) ∙ has.count)
 
 -- a choice is met where its edge is
-choice_met : (net : Net) (times : List ℤ) (s : Splitting) (k : Constraint) → HasChoiceEdges net s → slice_get net.constraints s.number ≡ Some k → MeetsSome times s → MeetsSomeChoice times net s.number k
+choice_met : (net : Net) (times : List ℤ) (s : SplittableView) (k : Constraint) → HasChoiceEdges net s → slice_get net.constraints s.number ≡ Some k → MeetsSome times s → MeetsSomeChoice times net s.number k
 choice_met net times s k has at_k (cause, c, within, here, met) =
     let count : cause_count_of k ≡ length s.edges = edges_count net s k has at_k in
     let most : cause_count_of k ≤ length k.causes = named_most k.kind (length k.causes) in
@@ -87,7 +87,7 @@ choice_met net times s k has at_k (cause, c, within, here, met) =
     (cause, omega (arith, within, count, most), subst P (ap (edge net) (name_is net s.number cause k at_k)) (subst P (sym is.gives) met))
 
 -- the times meet a constraint with two or more causes where they meet one of its choice edges
-split_met : (net : Net) (times : List ℤ) (s : Splitting) → IsNet net → MeetsAlways times net → IsSplitOf net s → MeetsSome times s → IsMetAt times net s.number
+split_met : (net : Net) (times : List ℤ) (s : SplittableView) → IsNet net → MeetsAlways times net → IsSplitOf net s → MeetsSome times s → IsMetAt times net s.number
 split_met net times s is_net meets split met =
     if_some (slice_get net.constraints s.number) (Holds times) (λ k at_k. met_by_choice net times s.number k is_net meets at_k (choice_met net times s k split.edges at_k met))
 
@@ -97,7 +97,7 @@ both times None met broken = broken
 both times (Some e) met broken = broken met
 
 -- the times break a constraint with two or more causes if they break all its choice edges
-split_broken : (net : Net) (times : List ℤ) (s : Splitting) → IsNet net → IsSplitOf net s → BreaksEach times s → Breaks times net s.number
+split_broken : (net : Net) (times : List ℤ) (s : SplittableView) → IsNet net → IsSplitOf net s → BreaksEach times s → Breaks times net s.number
 split_broken net times s is_net split broken =
     let found = some_and (slice_get net.constraints s.number) (λ (k : Constraint). 2 ≤ cause_count_of k) split.causes in
     let k : Constraint = found.0 in
@@ -117,27 +117,27 @@ split_broken net times s is_net split broken =
         both times (given_edge found.0) (subst P is.gives (subst P (ap (edge net) (sym (name_is net s.number cause k at_k))) met)) here
 
 -- the times break the constraint of a number if they break all choice edges of the splitting with that number
-pub broken_among : (net : Net) (times : List ℤ) (splits : List Splitting) (number : ℕ) (s : Splitting) → IsNet net → AreSplits net splits → Contains splits s → s.number ≡ number
+pub broken_among : (net : Net) (times : List ℤ) (splits : List SplittableView) (number : ℕ) (s : SplittableView) → IsNet net → AreSplits net splits → Contains splits s → s.number ≡ number
     → BreaksEach times s → Breaks times net number
 broken_among net times splits number s is_net are among is broken =
     let P : ℕ → Type 0 = Breaks times net in
     subst P is (split_broken net times s is_net (All-contains (IsSplitOf net) splits s are.each among) broken)
 
 -- a constraint without a chosen cause can be split
-free_at : (net : Net) (chosen : Case) (s : Splitting) → IsSplitOf net s → All (IsOther s.number) chosen → IsFree net chosen s.number
+free_at : (net : Net) (chosen : Case) (s : SplittableView) → IsSplitOf net s → All (IsOther s.number) chosen → IsFree net chosen s.number
 free_at net chosen s split none =
     let found = some_and (slice_get net.constraints s.number) (λ (k : Constraint). 2 ≤ cause_count_of k) split.causes in
     let has = (named_all found.0.kind (length found.0.causes) found.2).1 in
     record { may = (rw found.1 has, none); causes = split.causes }
 
-free_among : (net : Net) (splits : List Splitting) (chosen : Case) (number : ℕ) → AreSplits net splits → HasNumber splits number → All (IsOther number) chosen → IsFree net chosen number
+free_among : (net : Net) (splits : List SplittableView) (chosen : Case) (number : ℕ) → AreSplits net splits → HasNumber splits number → All (IsOther number) chosen → IsFree net chosen number
 free_among net splits chosen number are (s, among, is) none =
     let P : ℕ → Type 0 = IsFree net chosen in
     let Q : ℕ → Type 0 = λ (n : ℕ). All (IsOther n) chosen in
     subst P is (free_at net chosen s (All-contains (IsSplitOf net) splits s are.each among) (subst Q (sym is) none))
 
 -- a constraint that the search found can be split; if it found none, the first one is broken
-pub free_or_broken : (net : Net) (splits : List Splitting) (chosen : Case) (times : List ℤ) (found : Option ℕ) (first : ℕ) → AreSplits net splits → IfSome found (IsTargetFound Open splits chosen) → Breaks times net first
+pub free_or_broken : (net : Net) (splits : List SplittableView) (chosen : Case) (times : List ℤ) (found : Option ℕ) (first : ℕ) → AreSplits net splits → IfSome found (IsTargetFound Open splits chosen) → Breaks times net first
     → Breaks times net (unwrap_or found first) ⊎ IsFree net chosen (unwrap_or found first)
 free_or_broken net splits chosen times None first are is broken = inl broken
 free_or_broken net splits chosen times (Some number) first are is broken = inr (free_among net splits chosen number are is.0 (free_others chosen number is.1))
@@ -148,7 +148,7 @@ ends_between net Lin target event c ends to from = record { from = rw ends.0 fro
 ends_between net Late target event c ends to from = record { from = rw ends.0 from; to = rw ends.1 to }
 ends_between net Early target event c ends to from = record { from = rw ends.0 to; to = rw ends.1 from }
 
-edges_between : (net : Net) (s : Splitting) → IsNet net → IsSplitOf net s → All (IsBetween net.events) s.edges
+edges_between : (net : Net) (s : SplittableView) → IsNet net → IsSplitOf net s → All (IsBetween net.events) s.edges
 edges_between net s is_net split cause d within =
     let found = some_and (slice_get net.constraints s.number) (λ (k : Constraint). 2 ≤ cause_count_of k) split.causes in
     let k : Constraint = found.0 in
@@ -160,7 +160,7 @@ edges_between net s is_net split cause d within =
     let from : x.0.event.0 < net.events = All-found (λ (c : Cause). c.event.0 < net.events) k.causes cause x.0 x.1 is_k.causes in
     ends_between net k.kind k.target x.0.event (get_or s.edges cause d) (is.ends k x.0 found.1 x.1) is_k.target from
 
-splits_between : (net : Net) (splits : List Splitting) → IsNet net → AreSplits net splits → AreBetween net.events splits
+splits_between : (net : Net) (splits : List SplittableView) → IsNet net → AreSplits net splits → AreBetween net.events splits
 splits_between net splits is_net are k d within = edges_between net (get_or splits k d) is_net (are.each k d within)
 
 -- the times meet a constraint of the network if it has a single cause, or if they meet it by its choice edges
@@ -174,7 +174,7 @@ met_there net times i k is_net meets at_k split =
     ]
 
 -- times satisfy a network where they meet its always-edges and some choice edge of each constraint with two or more causes
-satisfies : (net : Net) (times : List ℤ) (splits : List Splitting) → IsNet net → MeetsAlways times net → AreSplits net splits → All (MeetsSome times) splits
+satisfies : (net : Net) (times : List ℤ) (splits : List SplittableView) → IsNet net → MeetsAlways times net → AreSplits net splits → All (MeetsSome times) splits
     → Satisfies times net
 satisfies net times splits is_net meets are met = record {
   count = meets.count;
@@ -187,7 +187,7 @@ satisfies net times splits is_net meets are met = record {
 }
 
 -- the first constraint whose choice edges the times all break is the first constraint that they break
-first_is_broken : (net : Net) (times : List ℤ) (splits : List Splitting) (number : ℕ) → IsNet net → MeetsAlways times net → AreSplits net splits → IsFirstBrokenSplit times splits number
+first_is_broken : (net : Net) (times : List ℤ) (splits : List SplittableView) (number : ℕ) → IsNet net → MeetsAlways times net → AreSplits net splits → IsFirstBrokenSplit times splits number
     → IsFirstBroken times net 0 number
 first_is_broken net times splits number is_net meets are first = record {
   reached = omega arith;
@@ -203,7 +203,7 @@ first_is_broken net times splits number is_net meets are first = record {
 }
   where
     -- any splitting will do as a default
-    nothing : Splitting
+    nothing : SplittableView
     nothing = record { number = 0; edges = [] }
 
     broken : Breaks times net number
@@ -216,17 +216,17 @@ first_is_broken net times splits number is_net meets are first = record {
         let found = some_and (slice_get net.constraints number) (λ (k : Constraint). Holds times k → ⊥) broken in
         slice_get_within net.constraints number found.0 found.1
 
-    met_before : (s : Splitting) → Contains splits s → s.number < number → MeetsSome times s
+    met_before : (s : SplittableView) → Contains splits s → s.number < number → MeetsSome times s
     met_before s (j, below, here) less =
         elim (cases_lt j first.place) [
-          | inl earlier ↦ let P : Splitting → Type 0 = MeetsSome times in subst P here (first.earlier j s (omega arith) earlier)
+          | inl earlier ↦ let P : SplittableView → Type 0 = MeetsSome times in subst P here (first.earlier j s (omega arith) earlier)
           | inr later ↦ absurd (not_before s j below here less later)
         ]
       where
-        not_before : (s : Splitting) (j : ℕ) → j < length splits → get_or splits j s ≡ s → s.number < number → first.place ≤ j → ⊥
+        not_before : (s : SplittableView) (j : ℕ) → j < length splits → get_or splits j s ≡ s → s.number < number → first.place ≤ j → ⊥
         not_before s j below here less later =
             let is : (get_or splits first.place s).number ≡ number = (first.broken s).0 in
-            let mine : (get_or splits j s).number ≡ s.number = ap (λ (x : Splitting). x.number) here in
+            let mine : (get_or splits j s).number ≡ s.number = ap (λ (x : SplittableView). x.number) here in
             elim (cases_lt first.place j) [
               | inl apart ↦ (let more = are.ascending first.place j s apart below in omega (arith, is, mine, less, more))
               | inr not ↦
@@ -236,28 +236,28 @@ first_is_broken net times splits number is_net meets are first = record {
             ]
 
 -- the first constraint whose choice edges the times all break is the first that they break; if there is none, they satisfy the network
-pub first_or_satisfies : (net : Net) (times : List ℤ) (splits : List Splitting) (found : Option ℕ) → IsNet net → MeetsAlways times net → AreSplits net splits
+pub first_or_satisfies : (net : Net) (times : List ℤ) (splits : List SplittableView) (found : Option ℕ) → IsNet net → MeetsAlways times net → AreSplits net splits
     → MatchOption found (All (MeetsSome times) splits) (IsFirstBrokenSplit times splits) → MatchOption found (Satisfies times net) (IsFirstBroken times net 0)
 first_or_satisfies net times splits None is_net meets are met = satisfies net times splits is_net meets are met
 first_or_satisfies net times splits (Some number) is_net meets are first = first_is_broken net times splits number is_net meets are first
 
 -- the choice edges can be read against times that meet the always-edges
-pub can_look : (net : Net) (times : List ℤ) (splits : List Splitting) → IsNet net → MeetsAlways times net → AreSplits net splits → AreBetween (length times) splits
+pub can_look : (net : Net) (times : List ℤ) (splits : List SplittableView) → IsNet net → MeetsAlways times net → AreSplits net splits → AreBetween (length times) splits
 can_look net times splits is_net meets are = rw meets.count (splits_between net splits is_net are)
 
 -- ---- while they are listed
 
 -- the list has the constraints with two or more causes among the first so many
-pub record AreSplitsBelow (net : Net) (splits : List Splitting) (count : ℕ) : Type 0 where
+pub record AreSplitsBelow (net : Net) (splits : List SplittableView) (count : ℕ) : Type 0 where
   pub each : All (IsSplitOf net) splits
-  pub under : All (λ (s : Splitting). s.number < count) splits
+  pub under : All (λ (s : SplittableView). s.number < count) splits
   pub below : (number : ℕ) → number < count → IsSplittable (slice_get net.constraints number) → HasNumber splits number
   pub ascending : AreAscending splits
 
 pub no_splits : (net : Net) → AreSplitsBelow net [] 0
 no_splits net = record {
   each = All-nil (IsSplitOf net);
-  under = All-nil (λ (s : Splitting). s.number < 0);
+  under = All-nil (λ (s : SplittableView). s.number < 0);
   below = λ number below is. absurd (omega (arith, below));
   ascending = λ i j d less within. absurd (omega (arith, within));
 }
@@ -272,21 +272,21 @@ splits_not None count is few splits = splits
 splits_not (Some k) count is few splits = absurd (omega (arith, same_Some _ _ is, few, splits))
 
 -- the next constraint has two or more causes
-pub splits_with : (net : Net) (splits : List Splitting) (s : Splitting) (count : ℕ) → AreSplitsBelow net splits count → IsSplitOf net s → s.number ≡ count
+pub splits_with : (net : Net) (splits : List SplittableView) (s : SplittableView) (count : ℕ) → AreSplitsBelow net splits count → IsSplitOf net s → s.number ≡ count
     → AreSplitsBelow net (splits ++ s ∷ []) (count + 1)
 splits_with net splits s count are split is = record {
   each = All-push (IsSplitOf net) splits s are.each split;
-  under = All-push (λ (x : Splitting). x.number < count + 1) splits s (λ k d within. let less = are.under k d within in omega (arith, less)) (omega (arith, is));
+  under = All-push (λ (x : SplittableView). x.number < count + 1) splits s (λ k d within. let less = are.under k d within in omega (arith, less)) (omega (arith, is));
   below = λ number below is_split.
       elim (cases_lt number count) [
         | inl earlier ↦ (let has = are.below number earlier is_split in (has.0, Contains-append_left splits (s ∷ []) has.0 has.1, has.2))
         | inr last ↦ (s, Contains-push splits s, omega (arith, is, below, last))
       ];
-  ascending = all_pairs_push (λ (a b : Splitting). a.number < b.number) splits s are.ascending (λ k d within. let less = are.under k d within in omega (arith, less, is));
+  ascending = all_pairs_push (λ (a b : SplittableView). a.number < b.number) splits s are.ascending (λ k d within. let less = are.under k d within in omega (arith, less, is));
 }
 
 -- the next constraint does not have two or more causes
-pub splits_without : (net : Net) (splits : List Splitting) (count : ℕ) → AreSplitsBelow net splits count → (IsSplittable (slice_get net.constraints count) → ⊥)
+pub splits_without : (net : Net) (splits : List SplittableView) (count : ℕ) → AreSplitsBelow net splits count → (IsSplittable (slice_get net.constraints count) → ⊥)
     → AreSplitsBelow net splits (count + 1)
 splits_without net splits count are is_not = record {
   each = are.each;
@@ -301,7 +301,7 @@ splits_without net splits count are is_not = record {
 }
 
 -- the list has all constraints with two or more causes
-pub all_splits : (net : Net) (splits : List Splitting) (count : ℕ) → AreSplitsBelow net splits count → length net.constraints ≤ count → AreSplits net splits
+pub all_splits : (net : Net) (splits : List SplittableView) (count : ℕ) → AreSplitsBelow net splits count → length net.constraints ≤ count → AreSplits net splits
 all_splits net splits count are past = record {
   each = are.each;
   all = λ number is.

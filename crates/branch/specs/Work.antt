@@ -4,17 +4,17 @@ use Rattle.itv_base.specs.declared.names.EventId.{EventId}
 use Rattle.event_graph.specs.Network.{IsNet, Net}
 use Rattle.event_graph.specs.Times.{separation}
 use Rattle.event_graph.specs.Limits.{reach_limit}
-use Rattle.diff_bounds.specs.Standing.{Standing}
+use Rattle.diff_bounds.specs.Standing.{BoundsView}
 use Rattle.diff_bounds.specs.Standing.{IsMadeFor as IsBoundsFor}
-use Rattle.branch.specs.Splits.{AreSplits, Splitting}
+use Rattle.branch.specs.Splits.{AreSplits, SplittableView}
 use Rattle.branch.specs.declared.work.TheConstants.{MAX_START}
 
 -- The bounds, for how many constraints there is room, the constraints that can be split, and the known times, if there are any. Then what the
 -- last search left: the times and the events to raise of a search for a bound, and how many cases were closed.
 pub record WorkView : Type 0 where
-  pub bounds : Standing
+  pub bounds : BoundsView
   pub room : ℕ
-  pub splits : List Splitting
+  pub splits : List SplittableView
   pub known : Option (List ℤ)
   pub times : List ℤ
   pub ray : List Bool

@@ -32,9 +32,9 @@ pub struct Distances {
 
 impl Model for Distances {
     ghost use Rattle.std.specs.Prelude.{List};
-    ghost use Rattle.branch.specs.Splits.{Splitting};
+    ghost use Rattle.branch.specs.Splits.{SplittableView};
 
-    ghost Value = { List Splitting };
+    ghost Value = { List SplittableView };
 
     ghost view = { λ d. d.rules.items };
 }

@@ -22,9 +22,9 @@ pub struct Splittable {
 }
 
 impl Model for Splittable {
-    ghost use Rattle.branch.specs.Splits.{Splitting};
+    ghost use Rattle.branch.specs.Splits.{SplittableView};
 
-    ghost Value = { Splitting };
+    ghost Value = { SplittableView };
 
     ghost view = { λ s. record { number = s.number; edges = s.edges.items } };
 }

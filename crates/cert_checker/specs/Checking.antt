@@ -13,7 +13,7 @@ goal_view (goals.Bound from to value) = Bound from to value
 goal_view goals.Nothing = Nothing
 
 -- its goal, whether a case is open, the choices of the first open case, and how many choices it has room for
-pub record Checking : Type 0 where
+pub record CheckerView : Type 0 where
   pub goal : ProofGoal
   pub is_open : Bool
   pub chosen : Case
@@ -24,11 +24,11 @@ open_by net true chosen = cases.open_cases net chosen
 open_by net false chosen = []
 
 -- the cases that are open
-abbrev pub open_cases : Net → Checking → List Case
+abbrev pub open_cases : Net → CheckerView → List Case
 open_cases net checking = open_by net checking.is_open checking.chosen
 
 -- a checker stands in a proof for a network: its room and its choices fit the network
-pub record IsProofCheckerFor (net : Net) (checking : Checking) : Type 0 where
+pub record IsProofCheckerFor (net : Net) (checking : CheckerView) : Type 0 where
   pub room : checking.room ≡ length net.constraints
   pub case : IsCase net checking.chosen
 

@@ -29,9 +29,9 @@ pub struct Checker {
 }
 
 impl Model for Checker {
-    ghost use Rattle.cert_checker.specs.Checking.{Checking, goal_view};
+    ghost use Rattle.cert_checker.specs.Checking.{CheckerView, goal_view};
 
-    ghost Value = { Checking };
+    ghost Value = { CheckerView };
 
     ghost view = { λ c. record {
       goal = goal_view c.goal;

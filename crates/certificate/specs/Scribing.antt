@@ -18,7 +18,7 @@ SinkWasCut old lines new = CutShort old new (proof_text lines)
 -- ---- keeping them
 
 -- the lines kept, the room for lines, the room for the edges of all lines, and how often a line did not fit
-pub record Tree : Type 0 where
+pub record TreeView : Type 0 where
   pub lines : List ProofLine
   pub line_room : ℕ
   pub edge_room : ℕ
@@ -34,11 +34,11 @@ abbrev pub FitsTree : ℕ → ℕ → List ProofLine → Type 0
 FitsTree line_room edge_room lines = (length lines ≤ line_room) × (sum_by edge_count lines ≤ edge_room)
 
 -- the lines were appended
-abbrev pub TreeGrew : Tree → List ProofLine → Tree → Type 0
+abbrev pub TreeGrew : TreeView → List ProofLine → TreeView → Type 0
 TreeGrew old lines new = new ≡ record old { lines = old.lines ++ lines }
 
 -- All lines but the last were appended. The last line did not fit beside the lines then kept, and the count of faults rose by one.
-pub record TreeWasCut (old : Tree) (lines : List ProofLine) (new : Tree) : Type 0 where
+pub record TreeWasCut (old : TreeView) (lines : List ProofLine) (new : TreeView) : Type 0 where
   pub before : List ProofLine
   pub last : ProofLine
   pub parts : lines ≡ before ++ last ∷ []

@@ -25,10 +25,10 @@ pub struct TreeScribe {
 
 impl Model for TreeScribe {
     ghost use Rattle.std.specs.Prelude.{◌≤◌, length, vec_capacity};
-    ghost use Rattle.certificate.specs.Scribing.{Tree};
+    ghost use Rattle.certificate.specs.Scribing.{TreeView};
     ghost use Rattle.certificate.specs.Step.Stored.{EndsRise, stored_lines};
 
-    ghost Value = { Tree };
+    ghost Value = { TreeView };
 
     ghost view = { λ s. record { lines = stored_lines 0 s.stored.items s.edges.items; line_room = s.line_room; edge_room = s.edge_room; faults = s.count } };
 

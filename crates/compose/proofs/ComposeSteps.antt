@@ -3,11 +3,11 @@ use Rattle.std.proofs.Common.{◌≡◌, ℕ, List, map, Result, Ok, Err, ap}
 use Rattle.itv_base.specs.Reading.{◌>>=◌, IsReadingFault}
 use Rattle.itv_base.proofs.Faults.{IsReadingFault-first, IsReadingFault-on}
 use Rattle.netlist.specs.declared.part.Part.{Part}
-use Rattle.netlist.specs.NetlistContents.{NetlistContents as Netlist}
+use Rattle.netlist.specs.NetlistContents.{NetlistView as Netlist}
 use Rattle.sheet.specs.declared.row.SheetRow.{SheetRow}
-use Rattle.sheet.specs.SheetContents.{SheetContents}
+use Rattle.sheet.specs.SheetContents.{SheetView}
 use Rattle.sheet.specs.Links.{Link, link_rows, link_rules}
-use Rattle.sheet.specs.Rule.{SheetRule}
+use Rattle.sheet.specs.Rule.{RuleView}
 use Rattle.compose.specs.declared.fault.JoinFault.{JoinFault}
 use Rattle.compose.specs.declared.joins.Join.{Join}
 use Rattle.compose.specs.declared.wires.NumberedWires.{NumberedWires}
@@ -21,13 +21,13 @@ same_fault : {B : Type 0} (read : Result (List Link) JoinFault) (f : List Link �
 same_fault (Ok links) f fault e = absurd cc
 same_fault (Err d) f fault e = cc
 
-same_design : {B : Type 0} (read : Result (List Link) JoinFault) (f : List SheetRule → List SheetRow → B) (wires : NumberedWires) → rules_and_rows read ≡ Ok wires
+same_design : {B : Type 0} (read : Result (List Link) JoinFault) (f : List RuleView → List SheetRow → B) (wires : NumberedWires) → rules_and_rows read ≡ Ok wires
     → (read >>= (λ links. Ok (f (link_rules links) (link_rows links)))) ≡ Ok (f wires.rules wires.rows)
 same_design (Ok links) f wires e =
     let same : record { rules = link_rules links; rows = link_rows links } ≡ wires = cc in ap (λ (w : NumberedWires). Ok (f w.rules w.rows)) same
 same_design (Err d) f wires e = absurd cc
 
-module _ (netlist : Netlist) (sheets : List SheetContents) where
+module _ (netlist : Netlist) (sheets : List SheetView) where
   pub joins-fault : (fault : JoinFault) → IsReadingFault is_memory (joins_of netlist.parts sheets netlist.nets) fault → IsReadingFault is_memory (composed_on netlist sheets) fault
   unfolding composed_on
   joins-fault fault h = IsReadingFault-first is_memory (joins_of netlist.parts sheets netlist.nets) _ fault h

@@ -13,13 +13,13 @@ use Rattle.itv_base.proofs.Faults.{IfOk-bind, IfOk-walk}
 use Rattle.netlist.specs.declared.part.Part.{Part}
 use Rattle.netlist.specs.declared.pin.PinText.{PinText}
 use Rattle.netlist.specs.declared.wire.Wire.{Wire}
-use Rattle.netlist.specs.NetlistContents.{JoinedPins}
-use Rattle.netlist.specs.NetlistContents.{NetlistContents as Netlist}
+use Rattle.netlist.specs.NetlistContents.{PinNetView}
+use Rattle.netlist.specs.NetlistContents.{NetlistView as Netlist}
 use Rattle.netlist.specs.Whole.{IsNetlist, IsWholeWire}
 use Rattle.netlist.proofs.WholeNetlists.{IfOk-any, IfOk-ok_or}
 use Rattle.sheet.specs.declared.mark.Mark.{Mark}
 use Rattle.sheet.specs.declared.pin.Pin.{Pin}
-use Rattle.sheet.specs.SheetContents.{SheetContents}
+use Rattle.sheet.specs.SheetContents.{SheetView}
 use Rattle.sheet.specs.Links.{Link, is_full}
 use Rattle.sheet.specs.Whole.{IsWhole}
 use Rattle.sheet.proofs.WholeSheets.{AreWhole, AreWhole-none, IsWholeLink, few_push, link_rows_whole, link_rules_whole, position_within, range_whole}
@@ -53,41 +53,41 @@ find_all P p (x ∷ xs) all = cond_both (p x) (Some x) (find p xs) (λ o. IfSome
 
 -- ---- marks by numbers
 
-pub mark_count_cons : (sheet : SheetContents) (sheets : List SheetContents) → mark_count (sheet ∷ sheets) ≡ length sheet.marks + mark_count sheets
-mark_count_cons sheet sheets = sum_by-cons (λ (s : SheetContents). length s.marks) sheet sheets
+pub mark_count_cons : (sheet : SheetView) (sheets : List SheetView) → mark_count (sheet ∷ sheets) ≡ length sheet.marks + mark_count sheets
+mark_count_cons sheet sheets = sum_by-cons (λ (s : SheetView). length s.marks) sheet sheets
 
 -- the number of a mark is less than the number of marks
-number_below : (sheets : List SheetContents) (part mark : ℕ) → IsSomeAnd (slice_get sheets part) (λ (sheet : SheetContents). mark < length sheet.marks)
+number_below : (sheets : List SheetView) (part mark : ℕ) → IsSomeAnd (slice_get sheets part) (λ (sheet : SheetView). mark < length sheet.marks)
     → mark_count (take part sheets) + mark < mark_count sheets
 number_below [] part mark there = absurd there
 number_below (sheet ∷ sheets) zero mark there = omega (arith, there, mark_count_cons sheet sheets)
 number_below (sheet ∷ sheets) (suc part) mark there =
     omega (arith, number_below sheets part mark there, mark_count_cons sheet sheets, mark_count_cons sheet (take part sheets))
 
-pub number_within : (sheets : List SheetContents) (mark : DesignMark) → IsMarkOf sheets mark → number_of sheets mark < mark_count sheets
+pub number_within : (sheets : List SheetView) (mark : DesignMark) → IsMarkOf sheets mark → number_of sheets mark < mark_count sheets
 number_within sheets mark there = number_below sheets mark.part mark.mark there
 
 -- ---- pins
 
 -- the marks of a pin are there
-abbrev IsTerminalOf : List SheetContents → Terminal → Type 0
-IsTerminalOf sheets t = IsSomeAnd (slice_get sheets t.part) (λ (sheet : SheetContents). t.first + t.count ≤ length sheet.marks)
+abbrev IsTerminalOf : List SheetView → Terminal → Type 0
+IsTerminalOf sheets t = IsSomeAnd (slice_get sheets t.part) (λ (sheet : SheetView). t.first + t.count ≤ length sheet.marks)
 
-abbrev IsPinOf : SheetContents → Pin → Type 0
+abbrev IsPinOf : SheetView → Pin → Type 0
 IsPinOf sheet pin = (1 ≤ pin.count) × (pin.first + pin.count ≤ length sheet.marks)
 
-found_there : (sheets : List SheetContents) (part : ℕ) (sheet : SheetContents) (o : Option Pin) → slice_get sheets part ≡ Some sheet → IfSome o (IsPinOf sheet) → IfSome (option_map (terminal_by part) o) (IsTerminalOf sheets)
+found_there : (sheets : List SheetView) (part : ℕ) (sheet : SheetView) (o : Option Pin) → slice_get sheets part ≡ Some sheet → IfSome o (IsPinOf sheet) → IfSome (option_map (terminal_by part) o) (IsTerminalOf sheets)
 found_there sheets part sheet None at h = tt
 found_there sheets part sheet (Some pin) at h = rw at h.1
 
-terminal_there : (sheets : List SheetContents) (part : ℕ) (name : List ℕ) (o : Option SheetContents) → slice_get sheets part ≡ o → All IsWhole sheets
-    → IfSome (option_map (terminal_by part) (find (λ (pin : Pin). bytes_eq name pin.name) (unwrap_or (option_map (λ (sheet : SheetContents). sheet.pins) o) []))) (IsTerminalOf sheets)
+terminal_there : (sheets : List SheetView) (part : ℕ) (name : List ℕ) (o : Option SheetView) → slice_get sheets part ≡ o → All IsWhole sheets
+    → IfSome (option_map (terminal_by part) (find (λ (pin : Pin). bytes_eq name pin.name) (unwrap_or (option_map (λ (sheet : SheetView). sheet.pins) o) []))) (IsTerminalOf sheets)
 terminal_there sheets part name None at whole = tt
 terminal_there sheets part name (Some sheet) at whole =
     let here : IsWhole sheet = All-slice_get IsWhole sheets part sheet whole at in
     found_there sheets part sheet (find (λ (pin : Pin). bytes_eq name pin.name) sheet.pins) at (find_all (IsPinOf sheet) (λ (pin : Pin). bytes_eq name pin.name) sheet.pins here.pins)
 
-module _ (parts : List Part) (sheets : List SheetContents) (whole : All IsWhole sheets) where
+module _ (parts : List Part) (sheets : List SheetView) (whole : All IsWhole sheets) where
   terminal_whole : (n k : ℕ) (text : PinText) → IfOk (terminal_of parts sheets n k text) (IsTerminalOf sheets)
   terminal_whole n k text =
       IfOk-bind (λ _. Unit {0}) (IsTerminalOf sheets) (ok_or (part_named parts text.part) (NoPart n k)) _ (IfOk-any (ok_or (part_named parts text.part) (NoPart n k)))
@@ -102,7 +102,7 @@ module _ (parts : List Part) (sheets : List SheetContents) (whole : All IsWhole 
 
   -- ---- joins
 
-  mark_within : (t : Terminal) (k : ℕ) (o : Option SheetContents) → slice_get sheets t.part ≡ o → IsTerminalOf sheets t → k < t.count → IsMarkOf sheets (record { part = t.part; mark = t.first + k })
+  mark_within : (t : Terminal) (k : ℕ) (o : Option SheetView) → slice_get sheets t.part ≡ o → IsTerminalOf sheets t → k < t.count → IsMarkOf sheets (record { part = t.part; mark = t.first + k })
   mark_within t k None at there below = absurd (rw at at there)
   mark_within t k (Some sheet) at there below =
       let within : t.first + t.count ≤ length sheet.marks = rw at at there in
@@ -162,32 +162,32 @@ module _ (parts : List Part) (sheets : List SheetContents) (whole : All IsWhole 
       after_step (All (IsJoinOf sheets)) (walk (same_count driver n) 1 tt others) _
       (λ x passed. pins_whole driver delay n 1 done others (All-head (IsTerminalOf sheets) driver others there) (counts_whole driver n 1 others x (All-tail (IsTerminalOf sheets) driver others there) passed) all)
 
-  with_net_whole : (n : ℕ) (done : List Join) (net : JoinedPins) → All (IsJoinOf sheets) done → IfOk (with_net parts sheets n done net) (All (IsJoinOf sheets))
+  with_net_whole : (n : ℕ) (done : List Join) (net : PinNetView) → All (IsJoinOf sheets) done → IfOk (with_net parts sheets n done net) (All (IsJoinOf sheets))
   with_net_whole n done net all =
       IfOk-bind (All (IsTerminalOf sheets)) (All (IsJoinOf sheets)) (terminals_of parts sheets n net.pins) _ (terminals_whole n net.pins) (λ terminals there. with_terminals_whole net.delay n done terminals there all)
 
-  joins_whole : (nets : List JoinedPins) → IfOk (joins_of parts sheets nets) (All (IsJoinOf sheets))
+  joins_whole : (nets : List PinNetView) → IfOk (joins_of parts sheets nets) (All (IsJoinOf sheets))
   joins_whole nets = IfOk-walk (All (IsJoinOf sheets)) (with_net parts sheets) with_net_whole 0 [] nets (All-nil (IsJoinOf sheets))
 
 -- ---- wires
 
-named_there : (sheets : List SheetContents) (part : ℕ) (sheet : SheetContents) (o : Option ℕ) → slice_get sheets part ≡ Some sheet → IfSome o (λ k. k < length sheet.marks)
+named_there : (sheets : List SheetView) (part : ℕ) (sheet : SheetView) (o : Option ℕ) → slice_get sheets part ≡ Some sheet → IfSome o (λ k. k < length sheet.marks)
     → IfSome (option_map (λ mark. record { part = part; mark = mark }) o) (IsMarkOf sheets)
 named_there sheets part sheet None at h = tt
 named_there sheets part sheet (Some k) at h = rw at h
 
-mark_named_there : (sheets : List SheetContents) (part name : ℕ) (o : Option SheetContents) → slice_get sheets part ≡ o
-    → IfSome (option_map (λ mark. record { part = part; mark = mark }) (position (λ (mark : Mark). mark.name == name) (unwrap_or (option_map (λ (sheet : SheetContents). sheet.marks) o) []))) (IsMarkOf sheets)
+mark_named_there : (sheets : List SheetView) (part name : ℕ) (o : Option SheetView) → slice_get sheets part ≡ o
+    → IfSome (option_map (λ mark. record { part = part; mark = mark }) (position (λ (mark : Mark). mark.name == name) (unwrap_or (option_map (λ (sheet : SheetView). sheet.marks) o) []))) (IsMarkOf sheets)
 mark_named_there sheets part name None at = tt
 mark_named_there sheets part name (Some sheet) at =
     named_there sheets part sheet (position (λ (mark : Mark). mark.name == name) sheet.marks) at (position_within (λ (mark : Mark). mark.name == name) sheet.marks)
 
 -- both marks of a wire are there
-record AreEnds (sheets : List SheetContents) (ends : WireEnds) : Type 0 where
+record AreEnds (sheets : List SheetView) (ends : WireEnds) : Type 0 where
   from : IsMarkOf sheets ends.from
   to : IsMarkOf sheets ends.to
 
-module _ (parts : List Part) (sheets : List SheetContents) where
+module _ (parts : List Part) (sheets : List SheetView) where
   part_any : (name : List ℕ) (n : ℕ) → IfOk (ok_or (part_named parts name) (WireNoPart n)) (λ _. Unit {0})
   part_any name n = IfOk-any (ok_or (part_named parts name) (WireNoPart n))
 
@@ -236,7 +236,7 @@ module _ (parts : List Part) (sheets : List SheetContents) where
 -- ---- the design
 
 -- a whole netlist and whole sheets, one for each part, make a design
-pub composed_whole : (netlist : Netlist) (sheets : List SheetContents) → IsNetlist netlist → All IsWhole sheets → length sheets ≡ length netlist.parts → IfOk (composed_on netlist sheets) IsDesign
+pub composed_whole : (netlist : Netlist) (sheets : List SheetView) → IsNetlist netlist → All IsWhole sheets → length sheets ≡ length netlist.parts → IfOk (composed_on netlist sheets) IsDesign
 unfolding composed_on
 composed_whole netlist sheets h whole long =
     IfOk-bind (All (IsJoinOf sheets)) IsDesign (joins_of netlist.parts sheets netlist.nets) _ (joins_whole netlist.parts sheets whole netlist.nets)

@@ -8,11 +8,11 @@ use Rattle.wave_string.specs.declared.mark_kind.MarkKind.TheVariants.{Bare}
 use Rattle.wave_string.specs.Kinds.{may_join}
 use Rattle.sheet.specs.declared.mark.Mark.{Mark}
 use Rattle.sheet.specs.declared.pin.Pin.{Pin}
-use Rattle.sheet.specs.SheetContents.{SheetContents}
+use Rattle.sheet.specs.SheetContents.{SheetView}
 use Rattle.origin.specs.declared.origin.Origin.TheVariants.{Pin as FromPin}
 use Rattle.netlist.specs.declared.part.Part.{Part}
 use Rattle.netlist.specs.declared.pin.PinText.{PinText}
-use Rattle.netlist.specs.NetlistContents.{JoinedPins}
+use Rattle.netlist.specs.NetlistContents.{PinNetView}
 use Rattle.compose.specs.declared.fault.JoinFault.{JoinFault}
 use Rattle.compose.specs.declared.fault.JoinFault.TheVariants.{NoPart, NoPin, MarkCounts, KindsDiffer}
 use Rattle.compose.specs.declared.joins.Join.{Join}
@@ -27,33 +27,33 @@ abbrev pub part_named : List Part → List ℕ → Option ℕ
 part_named parts name = position (λ part. bytes_eq name part.name) parts
 
 -- the pins on the sheet of a part
-abbrev pub pins_at : List SheetContents → ℕ → List Pin
-pins_at sheets part = unwrap_or (option_map (λ (sheet : SheetContents). sheet.pins) (slice_get sheets part)) []
+abbrev pub pins_at : List SheetView → ℕ → List Pin
+pins_at sheets part = unwrap_or (option_map (λ (sheet : SheetView). sheet.pins) (slice_get sheets part)) []
 
 -- the marks on the sheet of a part
-abbrev pub marks_at : List SheetContents → ℕ → List Mark
-marks_at sheets part = unwrap_or (option_map (λ (sheet : SheetContents). sheet.marks) (slice_get sheets part)) []
+abbrev pub marks_at : List SheetView → ℕ → List Mark
+marks_at sheets part = unwrap_or (option_map (λ (sheet : SheetView). sheet.marks) (slice_get sheets part)) []
 
 abbrev pub terminal_by : ℕ → Pin → Terminal
 terminal_by part pin = record { part = part; first = pin.first; count = pin.count }
 
 -- the pin of a part with the name of a lane
-abbrev pub terminal_named : List SheetContents → ℕ → List ℕ → Option Terminal
+abbrev pub terminal_named : List SheetView → ℕ → List ℕ → Option Terminal
 terminal_named sheets part name = option_map (terminal_by part) (find (λ (pin : Pin). bytes_eq name pin.name) (pins_at sheets part))
 
 -- pin k of net n, found among the parts
-abbrev pub terminal_of : List Part → List SheetContents → ℕ → ℕ → PinText → Result Terminal JoinFault
+abbrev pub terminal_of : List Part → List SheetView → ℕ → ℕ → PinText → Result Terminal JoinFault
 terminal_of parts sheets n k text = do
   part ← ok_or (part_named parts text.part) (NoPart n k)
   ok_or (terminal_named sheets part text.lane) (NoPin n k)
 
-abbrev pub with_terminal : List Part → List SheetContents → ℕ → ℕ → List Terminal → PinText → Result (List Terminal) JoinFault
+abbrev pub with_terminal : List Part → List SheetView → ℕ → ℕ → List Terminal → PinText → Result (List Terminal) JoinFault
 with_terminal parts sheets n k done text = do
   terminal ← terminal_of parts sheets n k text
   Ok (done ++ terminal ∷ [])
 
 -- the pins of net n
-abbrev pub terminals_of : List Part → List SheetContents → ℕ → List PinText → Result (List Terminal) JoinFault
+abbrev pub terminals_of : List Part → List SheetView → ℕ → List PinText → Result (List Terminal) JoinFault
 terminals_of parts sheets n pins = walk (with_terminal parts sheets n) 0 [] pins
 
 -- ---- joins
@@ -67,7 +67,7 @@ abbrev pub kind_at : List Mark → ℕ → MarkKind
 kind_at marks m = unwrap_or (option_map (λ (mark : Mark). mark.kind) (slice_get marks m)) Bare
 
 -- mark m of the driver may be joined to mark m of pin k, or the fault of this
-abbrev pub kinds_fit : List SheetContents → Terminal → Terminal → ℕ → ℕ → ℕ → ⊤ → Result ⊤ JoinFault
+abbrev pub kinds_fit : List SheetView → Terminal → Terminal → ℕ → ℕ → ℕ → ⊤ → Result ⊤ JoinFault
 kinds_fit sheets driver other n k m done =
     if may_join (kind_at (marks_at sheets driver.part) (driver.first + m)) (kind_at (marks_at sheets other.part) (other.first + m)) then Ok tt else Err (KindsDiffer n k m)
 
@@ -82,23 +82,23 @@ pins_joined n k driver delay other = record {
 }
 
 -- the joins with all joins of pin k after them, if the kinds of all its marks fit
-abbrev pub with_pin : List SheetContents → Terminal → Ends → ℕ → ℕ → List Join → Terminal → Result (List Join) JoinFault
+abbrev pub with_pin : List SheetView → Terminal → Ends → ℕ → ℕ → List Join → Terminal → Result (List Join) JoinFault
 with_pin sheets driver delay n k done other = do
   _ ← walk_to (kinds_fit sheets driver other n k) 0 tt driver.count
   Ok (done ++ pin_joins (pins_joined n k driver delay other))
 
 -- the joins with all joins of net n after them, by its pins; all pins have as many marks as the first one, which drives each other one
-abbrev pub with_terminals : List SheetContents → Ends → ℕ → List Join → List Terminal → Result (List Join) JoinFault
+abbrev pub with_terminals : List SheetView → Ends → ℕ → List Join → List Terminal → Result (List Join) JoinFault
 with_terminals sheets delay n done [] = Ok done
 with_terminals sheets delay n done (driver ∷ others) = do
   _ ← walk (same_count driver n) 1 tt others
   walk (with_pin sheets driver delay n) 1 done others
 
-abbrev pub with_net : List Part → List SheetContents → ℕ → List Join → JoinedPins → Result (List Join) JoinFault
+abbrev pub with_net : List Part → List SheetView → ℕ → List Join → PinNetView → Result (List Join) JoinFault
 with_net parts sheets n done net = do
   terminals ← terminals_of parts sheets n net.pins
   with_terminals sheets net.delay n done terminals
 
 -- the joins of nets: net by net, and within a net pin by pin
-abbrev pub joins_of : List Part → List SheetContents → List JoinedPins → Result (List Join) JoinFault
+abbrev pub joins_of : List Part → List SheetView → List PinNetView → Result (List Join) JoinFault
 joins_of parts sheets nets = walk (with_net parts sheets) 0 [] nets

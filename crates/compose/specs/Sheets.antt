@@ -7,7 +7,7 @@ use Rattle.std.specs.declared.hash.FoldHasher.{FoldHasher}
 use Rattle.std.specs.declared.hash.BuildHasherDefault.{BuildHasherDefault}
 use Rattle.indexmap.specs.IndexMap.{IndexMap, get}
 use Rattle.netlist.specs.declared.part.Part.{Part}
-use Rattle.sheet.specs.SheetContents.{SheetContents}
+use Rattle.sheet.specs.SheetContents.{SheetView}
 use Rattle.compose.specs.declared.sheet_key.SheetKey.{SheetKey}
 
 -- the key of the sheet of a part
@@ -19,12 +19,12 @@ abbrev pub same_key : SheetKey → SheetKey → Bool
 same_key a b = bytes_eq a.sheet b.sheet && option_eq bytes_eq a.grade b.grade
 
 abbrev pub SheetMap : Type 0
-SheetMap = IndexMap SheetKey SheetContents (BuildHasherDefault FoldHasher)
+SheetMap = IndexMap SheetKey SheetView (BuildHasherDefault FoldHasher)
 
 -- the sheet of a key
-abbrev pub sheet_named : SheetMap → SheetKey → Option SheetContents
+abbrev pub sheet_named : SheetMap → SheetKey → Option SheetView
 sheet_named sheets key = get same_key sheets key
 
 -- the sheets that parts are drawn on
-abbrev pub sheets_of : SheetMap → List Part → List SheetContents
+abbrev pub sheets_of : SheetMap → List Part → List SheetView
 sheets_of sheets parts = filter_map (λ part. sheet_named sheets (key_of part)) parts

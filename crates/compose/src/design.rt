@@ -22,9 +22,9 @@ pub struct Design<'a> {
 
 impl<'a> Model for Design<'a> {
     ghost use Rattle.std.specs.Prelude.{map};
-    ghost use Rattle.compose.specs.Design.{Composed, IsDesign};
+    ghost use Rattle.compose.specs.Design.{DesignView, IsDesign};
 
-    ghost Value = { Composed };
+    ghost Value = { DesignView };
 
     ghost view = { λ d. record { cycles = d.cycles; parts = d.parts; sheets = map (λ s. s.now) d.sheets.items; joins = d.joins; rules = d.rules; rows = d.rows } };
 

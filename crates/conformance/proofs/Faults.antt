@@ -3,17 +3,17 @@ use Rattle.std.proofs.Common.{◌≡◌, ◌∙◌, ℕ, Bool, List, [], ◌++�
 use Rattle.std.proofs.lemmas.List.{take-append-drop}
 use Rattle.std.proofs.lemmas.Option.{same_Some}
 use Rattle.std.specs.Option.{option_map_or}
-use Rattle.itv_base.specs.Memory.{MemSink, sink_state}
+use Rattle.itv_base.specs.Memory.{SinkMemView, sink_state}
 use Rattle.itv_base.specs.Outside.{CutShort, Files, FaultCounted, file_of}
-use Rattle.drawn.specs.Drawn.{Drawn}
-use Rattle.reading.specs.declared.refusal_place.RefusalPlace.{RefusalPlace}
-use Rattle.reading.specs.Design.{design_at}
-use Rattle.reading.specs.FileReading.{FileReading, gives, refuses, fetches, ◌>>=◌, End, ready, refused, unread, end_over}
-use Rattle.reading.specs.Refusal.{unread_text}
-use Rattle.bounds_report.specs.Reports.{MayHaveBegun}
-use Rattle.bounds_report.proofs.WrittenLaws.{begun_is_right}
-use Rattle.words.specs.declared.job.SearchJob.TheVariants.{Bounds}
-use Rattle.words.specs.Task.{Task, searched}
+use Rattle.drawn_networks.specs.Drawn.{Drawn}
+use Rattle.design_reading.specs.declared.refusal_place.RefusalPlace.{RefusalPlace}
+use Rattle.design_reading.specs.Design.{design_at}
+use Rattle.design_reading.specs.FileReading.{FileReading, gives, refuses, fetches, ◌>>=◌, End, ready, refused, unread, end_over}
+use Rattle.design_reading.specs.Refusal.{unread_text}
+use Rattle.job_bounds.specs.Reports.{MayHaveBegun}
+use Rattle.job_bounds.proofs.WrittenLaws.{begun_is_right}
+use Rattle.command_words.specs.declared.job.SearchJob.TheVariants.{Bounds}
+use Rattle.command_words.specs.Task.{Task, searched}
 use Rattle.itv_cli.specs.Job.{opening}
 use Rattle.itv_cli.specs.Run.{Call, HasRead, HasReadFault, IsUntouched, OutcomeMeans, ToWrite, IntendedText, for_help, for_bad_words, at_end}
 use Rattle.itv_cli.specs.declared.outcome.Outcome.{Outcome}
@@ -65,7 +65,7 @@ front_right files design budget cert drawn bytes draws f =
     record { lines = lines; begins_right = right; rest = f.rest; text = sym same ∙ f.front }
 
 -- what a sink in memory holds that was empty before a text was cut short
-pub sink_cut : (old new : MemSink) (text : List ℕ) (cut : CutShort (sink_state old) (sink_state new) text) → old.bytes ≡ [] → take cut.front.0 text ≡ new.bytes
+pub sink_cut : (old new : SinkMemView) (text : List ℕ) (cut : CutShort (sink_state old) (sink_state new) text) → old.bytes ≡ [] → take cut.front.0 text ≡ new.bytes
 sink_cut old new text cut fresh = sym (same_Some new.bytes (old.bytes ++ take cut.front.0 text) cut.front.2 ∙ ap (λ before. before ++ take cut.front.0 text) fresh)
 
 -- ---- a file that could not be read

@@ -7,20 +7,20 @@ use Rattle.std.specs.Prelude.{ok_or}
 use Rattle.itv_base.specs.Outside.{Files, file_of, grown}
 use Rattle.itv_base.specs.declared.limits.TheConstants.{FILE_LIMIT}
 use Rattle.serde_json.specs.Data.{Data}
-use Rattle.wavejson.specs.Drawing.{Drawing, diagram_of}
+use Rattle.wavejson.specs.Drawing.{DiagramView, diagram_of}
 use Rattle.design_gen.specs.Files.{IsSize, design_files}
 use Rattle.design_gen.proofs.Lengths.{files_fit}
-use Rattle.netlist.specs.NetlistContents.{NetlistContents}
+use Rattle.netlist.specs.NetlistContents.{NetlistView}
 use Rattle.netlist.specs.declared.part.Part.{Part}
 use Rattle.grades.specs.declared.grade.Grade.{Grade}
-use Rattle.reading.specs.declared.refusal_place.RefusalPlace.{RefusalPlace}
-use Rattle.reading.specs.declared.refusal_place.RefusalPlace.TheVariants as places
-use Rattle.reading.specs.declared.refusal.Refusal.{Refusal}
-use Rattle.reading.specs.declared.refusal.Refusal.TheVariants as refusals
-use Rattle.plan.specs.Plan.{NamedSheets, sheets_on}
-use Rattle.reading.specs.Design.{design_at, drawn_at, grades_in, is_unread, lone_at, netlist_at, plan_at, sheets_at, sheets_in, sheets_of_files, tree_at, tree_planned, tree_in, with_part, with_sheet}
-use Rattle.reading.specs.Step.Lone.{plain_sheet_at}
-use Rattle.reading.proofs.LoneSheets.{lone_is}
+use Rattle.design_reading.specs.declared.refusal_place.RefusalPlace.{RefusalPlace}
+use Rattle.design_reading.specs.declared.refusal_place.RefusalPlace.TheVariants as places
+use Rattle.design_reading.specs.declared.refusal.Refusal.{Refusal}
+use Rattle.design_reading.specs.declared.refusal.Refusal.TheVariants as refusals
+use Rattle.design_plan.specs.Plan.{NamedSheets, sheets_on}
+use Rattle.design_reading.specs.Design.{design_at, drawn_at, grades_in, is_unread, lone_at, netlist_at, plan_at, sheets_at, sheets_in, sheets_of_files, tree_at, tree_planned, tree_in, with_part, with_sheet}
+use Rattle.design_reading.specs.Step.Lone.{plain_sheet_at}
+use Rattle.design_reading.proofs.LoneSheets.{lone_is}
 use Rattle.compose.specs.Compose.{composed_on}
 use Rattle.compose.specs.Sheets.{key_of}
 use Rattle.grades.specs.Grades.{grades_of}
@@ -29,12 +29,12 @@ use Rattle.serde_json.specs.Find.{as_object, get}
 use Rattle.sheet.specs.Links.{plain}
 use Rattle.sheet.specs.Sheet.{sheet_by, sheet_of}
 use Rattle.unroll.specs.Limits.{unrolled}
-use Rattle.reading.specs.FileReading.{End, FileReading, at, each, fetches, file_at, gives, ready, refused, refuses, end_over, unread, within_limit, ◌>>=◌}
-use Rattle.reading.specs.Refusal.{refusal_text}
-use Rattle.words.specs.Task.{KeepsLimits}
-use Rattle.words.proofs.Limits.{taken_limits}
+use Rattle.design_reading.specs.FileReading.{End, FileReading, at, each, fetches, file_at, gives, ready, refused, refuses, end_over, unread, within_limit, ◌>>=◌}
+use Rattle.design_reading.specs.Refusal.{refusal_text}
+use Rattle.command_words.specs.Task.{KeepsLimits}
+use Rattle.command_words.proofs.Limits.{taken_limits}
 use Rattle.itv_cli.specs.Task.{generated, taken, task}
-use Rattle.jobs.specs.declared.answer.Answer.TheVariants as answers
+use Rattle.job_base.specs.declared.answer.Answer.TheVariants as answers
 use Rattle.itv_cli.specs.Job.{Answers, opening}
 use Rattle.itv_cli.specs.Run.{Call, HasAnswered, IsRefused, OutcomeMeans}
 use Rattle.itv_cli.specs.declared.outcome.Outcome.{Outcome}
@@ -100,7 +100,7 @@ module _ (files : Files) (short : (name : List ℕ) → IfSome (file_of files na
   fits_if true one two h k = h
   fits_if false one two h k = k
 
-  fits_part : (place : RefusalPlace) (name : List ℕ) (grades : Option (List Grade)) (drawing : Drawing) (n : ℕ) (sheets : NamedSheets) (part : Part) → Fits (end_over files (with_part place name grades drawing n sheets part))
+  fits_part : (place : RefusalPlace) (name : List ℕ) (grades : Option (List Grade)) (drawing : DiagramView) (n : ℕ) (sheets : NamedSheets) (part : Part) → Fits (end_over files (with_part place name grades drawing n sheets part))
   fits_part place name grades drawing n sheets part =
       fits_if (is_unread sheets name part) (at place refusals.Sheet (sheet_by grades part.grade drawing) >>= (λ sheet. gives (with_sheet sheets (key_of part) sheet))) (gives sheets)
       (fits_then (at place refusals.Sheet (sheet_by grades part.grade drawing)) (λ sheet. gives (with_sheet sheets (key_of part) sheet)) (fits_at place refusals.Sheet (sheet_by grades part.grade drawing) (λ fault e. cc e)) (λ sheet. tt)) tt
@@ -110,7 +110,7 @@ module _ (files : Files) (short : (name : List ℕ) → IfSome (file_of files na
       fits_if (version == 2) (at place refusals.Grades (grades_of tree) >>= (λ grades. gives (Some grades))) (gives None)
       (fits_then (at place refusals.Grades (grades_of tree)) (λ grades. gives (Some grades)) (fits_at place refusals.Grades (grades_of tree) (λ fault e. cc e)) (λ grades. tt)) tt
 
-  fits_sheets : (netlist : NetlistContents) (number : ℕ) (sheets : NamedSheets) (name : List ℕ) → Fits (end_over files (sheets_in netlist number sheets name))
+  fits_sheets : (netlist : NetlistView) (number : ℕ) (sheets : NamedSheets) (name : List ℕ) → Fits (end_over files (sheets_in netlist number sheets name))
   fits_sheets netlist number sheets name =
       fits_then (tree_in (places.File number) name) (sheets_at netlist number sheets name) (fits_tree (places.File number) name)
       (λ tree. fits_then (at (places.File number) refusals.Diagram (diagram_of tree)) _ (fits_at (places.File number) refusals.Diagram (diagram_of tree) (λ fault e. cc e))
@@ -118,7 +118,7 @@ module _ (files : Files) (short : (name : List ℕ) → IfSome (file_of files na
       (λ grades. fits_each (with_part (places.File number) name grades drawing) 0 sheets netlist.parts (λ k d part. fits_part (places.File number) name grades drawing k d part))))
 
   -- designs
-  fits_drawn : (netlist : NetlistContents) (sheets : NamedSheets) → Fits (end_over files (drawn_at netlist sheets))
+  fits_drawn : (netlist : NetlistView) (sheets : NamedSheets) → Fits (end_over files (drawn_at netlist sheets))
   unfolding drawn_at
   fits_drawn netlist sheets =
       fits_then (at places.Design refusals.Joins (composed_on netlist (sheets_on sheets netlist.parts))) _ (fits_at places.Design refusals.Joins (composed_on netlist (sheets_on sheets netlist.parts)) (λ fault e. cc e))

@@ -9,9 +9,9 @@ use Rattle.event_graph.specs.RootBound.{HasNoRoot}
 use Rattle.itv_base.specs.Outside.{Files, ShelfState, file_of, grown}
 use Rattle.itv_base.specs.declared.limits.TheConstants.{MAX_MATRIX_EVENTS, REPORT_LIMIT}
 use Rattle.design_gen.specs.Files.{design_files}
-use Rattle.jobs.specs.Ending.{answer_of}
-use Rattle.jobs.specs.declared.answer.Answer.{Answer}
-use Rattle.jobs.specs.declared.answer.Answer.TheVariants as answers
+use Rattle.job_base.specs.Ending.{answer_of}
+use Rattle.job_base.specs.declared.answer.Answer.{Answer}
+use Rattle.job_base.specs.declared.answer.Answer.TheVariants as answers
 use Rattle.slack_report.specs.declared.words.EndWord.{EndWord}
 use Rattle.slack_report.specs.declared.words.EndWord.TheVariants as endings
 use Rattle.right_report.specs.Laws.{AllMet, SomeBroken, SomeSatisfy}
@@ -20,31 +20,31 @@ use Rattle.right_report.specs.Right.LineClaims.{BeginsRightReport}
 use Rattle.right_report.specs.Texts.{IsAcceptedText, IsRefusedText}
 use Rattle.right_report.proofs.Ending.{fail_end_is_so, inconsistent_end_is_so, pass_end_is_so}
 use Rattle.right_report.proofs.Refusing.{accepted_text_is_right, one_refused_line}
-use Rattle.drawn.specs.Drawn.{Drawn}
-use Rattle.drawn_names.proofs.Designs.{drawn_names_have_form, drawn_ranges_have_form}
-use Rattle.reading.specs.declared.refusal_place.RefusalPlace.{RefusalPlace}
-use Rattle.reading.specs.declared.refusal_place.RefusalPlace.TheVariants.{Edits, Report}
-use Rattle.reading.specs.Design.{design_at}
-use Rattle.reading.specs.declared.refusal.Refusal.{Refusal}
-use Rattle.reading.specs.declared.refusal.Refusal.TheVariants.{TooLong}
-use Rattle.reading.specs.declared.refusal.Refusal.TheVariants as refusals
-use Rattle.reading.specs.FileReading.{RunsTo, End, FileReading, gives, refuses, fetches, ◌>>=◌, ready, unread, end_over, at, file_at, within_limit}
-use Rattle.bounds_report.proofs.WrittenLaws.{written_is_accepted, written_is_right}
-use Rattle.matrix_report.specs.Matrix.{AnswersMatrix, IsMatrixText}
-use Rattle.report_check.specs.Check.{AnswersCheck, refused_text}
+use Rattle.drawn_networks.specs.Drawn.{Drawn}
+use Rattle.drawn_laws.proofs.Designs.{drawn_names_have_form, drawn_ranges_have_form}
+use Rattle.design_reading.specs.declared.refusal_place.RefusalPlace.{RefusalPlace}
+use Rattle.design_reading.specs.declared.refusal_place.RefusalPlace.TheVariants.{Edits, Report}
+use Rattle.design_reading.specs.Design.{design_at}
+use Rattle.design_reading.specs.declared.refusal.Refusal.{Refusal}
+use Rattle.design_reading.specs.declared.refusal.Refusal.TheVariants.{TooLong}
+use Rattle.design_reading.specs.declared.refusal.Refusal.TheVariants as refusals
+use Rattle.design_reading.specs.FileReading.{RunsTo, End, FileReading, gives, refuses, fetches, ◌>>=◌, ready, unread, end_over, at, file_at, within_limit}
+use Rattle.job_bounds.proofs.WrittenLaws.{written_is_accepted, written_is_right}
+use Rattle.job_matrix.specs.Matrix.{AnswersMatrix, IsMatrixText}
+use Rattle.job_check.specs.Check.{AnswersCheck, refused_text}
 use Rattle.itv_cli.specs.Bounds.{AnswersBounds}
-use Rattle.settle_check.specs.Confirm.{AnswersConfirm}
-use Rattle.settle_report.specs.Settle.{AnswersSettle, IsSettleText}
-use Rattle.edits.specs.EditsFile.{edits_of}
-use Rattle.edits.specs.declared.edit.RangeEdit.{RangeEdit}
-use Rattle.edits.specs.declared.fault.EditsFault.{EditsFault}
-use Rattle.edits.specs.declared.file.TheConstants.{MAX_EDITS_BYTES}
+use Rattle.job_confirm.specs.Confirm.{AnswersConfirm}
+use Rattle.job_settle.specs.Settle.{AnswersSettle, IsSettleText}
+use Rattle.range_edits.specs.EditsFile.{edits_of}
+use Rattle.range_edits.specs.declared.edit.RangeEdit.{RangeEdit}
+use Rattle.range_edits.specs.declared.fault.EditsFault.{EditsFault}
+use Rattle.range_edits.specs.declared.file.TheConstants.{MAX_EDITS_BYTES}
 use Rattle.unroll.specs.declared.limit.TheConstants.{MAX_SESSION_ROWS}
-use Rattle.whatif_report.specs.Laws.{with_edits}
-use Rattle.whatif_report.specs.Whatif.{AnswersWhatif}
-use Rattle.whatif_report.proofs.Passing.{passed_edits_are_met}
-use Rattle.words.specs.declared.job.SearchJob.TheVariants.{Bounds, Settle}
-use Rattle.words.specs.declared.job.CheckJob.TheVariants.{Check, Confirm}
+use Rattle.job_whatif.specs.Laws.{with_edits}
+use Rattle.job_whatif.specs.Whatif.{AnswersWhatif}
+use Rattle.job_whatif.proofs.Passing.{passed_edits_are_met}
+use Rattle.command_words.specs.declared.job.SearchJob.TheVariants.{Bounds, Settle}
+use Rattle.command_words.specs.declared.job.CheckJob.TheVariants.{Check, Confirm}
 use Rattle.itv_cli.specs.Task.{checked, generated, matrix, searched, taken, task, whatif}
 use Rattle.itv_cli.specs.Job.{Answers, edits_at, edits_in, made_for, matrix_at, opening, turns_for, whatif_at}
 use Rattle.itv_cli.specs.Run.{Call, HasRead, ReadsOver, HasAnswered, OutcomeMeans, outcome_of}

@@ -6,19 +6,19 @@ use Rattle.std.specs.Option.{option_map_or}
 use Rattle.event_graph.specs.Bounds.{IsInconsistent}
 use Rattle.event_graph.specs.Edges.{cause_choices}
 use Rattle.event_graph.specs.Times.{separation}
-use Rattle.fall_report.specs.Fall.{AnswersFall}
-use Rattle.fall_report.proofs.Ending.{inconsistent_has_no_times, undecided_has_few_turns}
+use Rattle.job_fall.specs.Fall.{AnswersFall}
+use Rattle.job_fall.proofs.Ending.{inconsistent_has_no_times, undecided_has_few_turns}
 use Rattle.falling.specs.Cap.{enough_turns}
 use Rattle.falling.specs.View.{view_of}
 use Rattle.falling.specs.declared.fault.Mixed.{Mixed}
 use Rattle.falling.specs.declared.view.View.{View}
 use Rattle.itv_base.specs.Range.{Allows, Ends as RangeEnds}
 use Rattle.itv_base.specs.declared.limits.TheConstants.{MAX_MATRIX_EVENTS, REPORT_LIMIT}
-use Rattle.itv_base.specs.Memory.{MemSink, sink_state}
+use Rattle.itv_base.specs.Memory.{SinkMemView, sink_state}
 use Rattle.itv_base.specs.Outside.{Files, FaultCounted, ShelfState, SinkState, file_of, grown}
-use Rattle.jobs.specs.declared.answer.Answer.{Answer}
-use Rattle.jobs.specs.declared.answer.Answer.TheVariants as answers
-use Rattle.jobs.specs.Ending.{answer_of}
+use Rattle.job_base.specs.declared.answer.Answer.{Answer}
+use Rattle.job_base.specs.declared.answer.Answer.TheVariants as answers
+use Rattle.job_base.specs.Ending.{answer_of}
 use Rattle.requirements.specs.declared.verdict.Verdict.{Verdict}
 use Rattle.requirements.specs.declared.verdict.Verdict.TheVariants as verdicts
 use Rattle.slack_report.specs.Entry.{Entry}
@@ -28,44 +28,44 @@ use Rattle.right_report.specs.Right.ReportState.{at_last}
 use Rattle.right_report.specs.Right.LineClaims.{BreaksEnd}
 use Rattle.right_report.specs.ReportContents.{end_in}
 use Rattle.right_report.proofs.Ending.{pass_end_is_so}
-use Rattle.drawn.specs.Drawn.{Drawn}
-use Rattle.drawn.specs.declared.row.Row.{Row}
-use Rattle.redraw_report.specs.Failed.{Failed, IsBroken}
-use Rattle.redraw_report.specs.Redraw.{AnswersRedraw, AnswersEndWord, is_wide}
-use Rattle.reading.specs.declared.refusal_place.RefusalPlace.{RefusalPlace}
-use Rattle.reading.specs.declared.refusal_place.RefusalPlace.TheVariants.{Design, Edits, Report}
-use Rattle.reading.specs.declared.refusal.Refusal.TheVariants as refusals
-use Rattle.edits.specs.EditsFile.{edits_of}
-use Rattle.edits.specs.declared.edit.RangeEdit.{RangeEdit}
-use Rattle.edits.specs.declared.file.TheConstants.{MAX_EDITS_BYTES}
+use Rattle.drawn_networks.specs.Drawn.{Drawn}
+use Rattle.drawn_networks.specs.declared.row.Row.{Row}
+use Rattle.job_redraw.specs.Failed.{Failed, IsBroken}
+use Rattle.job_redraw.specs.Redraw.{AnswersRedraw, AnswersEndWord, is_wide}
+use Rattle.design_reading.specs.declared.refusal_place.RefusalPlace.{RefusalPlace}
+use Rattle.design_reading.specs.declared.refusal_place.RefusalPlace.TheVariants.{Design, Edits, Report}
+use Rattle.design_reading.specs.declared.refusal.Refusal.TheVariants as refusals
+use Rattle.range_edits.specs.EditsFile.{edits_of}
+use Rattle.range_edits.specs.declared.edit.RangeEdit.{RangeEdit}
+use Rattle.range_edits.specs.declared.file.TheConstants.{MAX_EDITS_BYTES}
 use Rattle.itv_base.specs.declared.row_kind.RowKind.{RowKind}
 use Rattle.unroll.specs.declared.fault.UnrollFault.TheVariants.{TooMany}
 use Rattle.unroll.specs.declared.limit.Limit.TheVariants.{Numbers}
 use Rattle.unroll.specs.declared.limit.TheConstants.{MAX_NUMBERS, MAX_SESSION_ROWS}
 use Rattle.whatif.specs.Session.{SessionView}
-use Rattle.whatif_report.specs.Text.{ending_of, last_note}
+use Rattle.job_whatif.specs.Text.{ending_of, last_note}
 use Rattle.right_report.specs.RowTally.{kinds_of}
-use Rattle.whatif_report.specs.Whatif.{AnswersFrom}
-use Rattle.reading.specs.declared.refusal.Refusal.{Refusal}
-use Rattle.reading.specs.Design.{design_at}
-use Rattle.reading.specs.FileReading.{FileReading, gives, refuses, fetches, at, file_at, ◌>>=◌, End, RunsToEnd, ready, refused, unread, end_over}
-use Rattle.reading.specs.Refusal.{refusal_text}
-use Rattle.reading.proofs.Opens.{told_ready, told_refused}
-use Rattle.settle_report.specs.Text.{ending_of as settled_ending}
-use Rattle.words.specs.declared.job.SearchJob.TheVariants.{Bounds, Settle, Redraw}
-use Rattle.words.specs.declared.job.PlanJob.TheVariants.{Why, Brief, Lint}
-use Rattle.words.specs.declared.job.CheckJob.{CheckJob}
-use Rattle.words.specs.declared.job.CheckJob.TheVariants.{Check, Confirm}
-use Rattle.words.specs.Task.{Task, checked, fall, generated, margin, matrix, planned, searched, taken, task, whatif}
-use Rattle.bounds_report.proofs.WrittenLaws.{written_is_right}
+use Rattle.job_whatif.specs.Whatif.{AnswersFrom}
+use Rattle.design_reading.specs.declared.refusal.Refusal.{Refusal}
+use Rattle.design_reading.specs.Design.{design_at}
+use Rattle.design_reading.specs.FileReading.{FileReading, gives, refuses, fetches, at, file_at, ◌>>=◌, End, RunsToEnd, ready, refused, unread, end_over}
+use Rattle.design_reading.specs.Refusal.{refusal_text}
+use Rattle.design_reading.proofs.Opens.{told_ready, told_refused}
+use Rattle.job_settle.specs.Text.{ending_of as settled_ending}
+use Rattle.command_words.specs.declared.job.SearchJob.TheVariants.{Bounds, Settle, Redraw}
+use Rattle.command_words.specs.declared.job.PlanJob.TheVariants.{Why, Brief, Lint}
+use Rattle.command_words.specs.declared.job.CheckJob.{CheckJob}
+use Rattle.command_words.specs.declared.job.CheckJob.TheVariants.{Check, Confirm}
+use Rattle.command_words.specs.Task.{Task, checked, fall, generated, margin, matrix, planned, searched, taken, task, whatif}
+use Rattle.job_bounds.proofs.WrittenLaws.{written_is_right}
 use Rattle.moves.specs.Listed.{numbers_of}
-use Rattle.plan.specs.Plan.{Planned}
+use Rattle.design_plan.specs.Plan.{PlanView}
 use Rattle.itv_cli.specs.Bounds.{AnswersBounds}
-use Rattle.lint_report.specs.Lint.{answer_by}
-use Rattle.lint_report.specs.Lines.{is_clean, lines_of}
-use Rattle.warnings.specs.Warnings.{warnings_of}
-use Rattle.margin_report.specs.Text.{are_left_open, end_of}
-use Rattle.why_report.specs.Text.{ending_of as explained_ending}
+use Rattle.job_lint.specs.Lint.{answer_by}
+use Rattle.job_lint.specs.Lines.{is_clean, lines_of}
+use Rattle.lint.specs.Warnings.{warnings_of}
+use Rattle.job_margin.specs.Text.{are_left_open, end_of}
+use Rattle.job_why.specs.Text.{ending_of as explained_ending}
 use Rattle.itv_cli.specs.Job.{Answers, edits_at, edits_in, fall_at, fall_in, list_at, made_for, matrix_at, opening, planned_at, whatif_at}
 use Rattle.itv_cli.specs.Run.{Call, HasRead, Completes, OutcomeBy, ReadsOver, FilesDecide, HasAnswered, HasRefused, IsRefused, OutcomeMeans, Wrote, call_of}
 use Rattle.itv_cli.specs.declared.outcome.Outcome.{Outcome}
@@ -172,11 +172,11 @@ fallen_of files design budget cert answer bytes drawn h draws =
 -- ---- runs
 
 -- what a sink in memory holds behind a text
-pub sink_bytes : (old new : MemSink) (text : List ℕ) → sink_state new ≡ grown (sink_state old) text → new.bytes ≡ old.bytes ++ text
+pub sink_bytes : (old new : SinkMemView) (text : List ℕ) → sink_state new ≡ grown (sink_state old) text → new.bytes ≡ old.bytes ++ text
 sink_bytes old new text e = same_Some new.bytes (old.bytes ++ text) (ap (λ (t : SinkState). t.written) e)
 
 -- a sink that was empty holds that text
-pub sink_holds : (old new : MemSink) (text : List ℕ) → sink_state new ≡ grown (sink_state old) text → old.bytes ≡ [] → text ≡ new.bytes
+pub sink_holds : (old new : SinkMemView) (text : List ℕ) → sink_state new ≡ grown (sink_state old) text → old.bytes ≡ [] → text ≡ new.bytes
 sink_holds old new text e fresh = sym (sink_bytes old new text e ∙ ap (λ before. before ++ text) fresh)
 
 -- a run of job bounds that ends undecided
@@ -295,7 +295,7 @@ refused_redraws files (margin design list budget) bytes own h =
     absurd (never_refused (end_of answered.word (are_left_open answered.found)) answered.is_answer)
 
 -- where no list is given, a drawn network with few enough numbers is given as it is
-pub few_then : (files : Files) (plan : Planned) (drawn : Drawn) (budget : ℕ) (to : Ready) → end_over files (list_at drawn None >>= (λ numbers. gives (given.Margin plan drawn numbers budget))) ≡ ready to
+pub few_then : (files : Files) (plan : PlanView) (drawn : Drawn) (budget : ℕ) (to : Ready) → end_over files (list_at drawn None >>= (λ numbers. gives (given.Margin plan drawn numbers budget))) ≡ ready to
     → given.Margin plan drawn None budget ≡ to
 few_then files plan drawn budget to comes = by_count (nat_lt MAX_NUMBERS (length (numbers_of drawn))) comes
   where

@@ -5,14 +5,14 @@ use Rattle.std.specs.List.{AllZip}
 use Rattle.event_graph.specs.Bounds.{IsInconsistent}
 use Rattle.itv_base.specs.Outside.{Files, grown}
 use Rattle.itv_base.specs.declared.names.Side.TheVariants.{Upper}
-use Rattle.drawn.specs.Drawn.{Drawn}
-use Rattle.jobs.specs.Ending.{answer_of}
-use Rattle.jobs.specs.declared.answer.Answer.{Answer}
-use Rattle.jobs.specs.declared.answer.Answer.TheVariants as answers
+use Rattle.drawn_networks.specs.Drawn.{Drawn}
+use Rattle.job_base.specs.Ending.{answer_of}
+use Rattle.job_base.specs.declared.answer.Answer.{Answer}
+use Rattle.job_base.specs.declared.answer.Answer.TheVariants as answers
 use Rattle.slack_report.specs.declared.words.EndWord.{EndWord}
 use Rattle.slack_report.specs.declared.words.EndWord.TheVariants as endings
-use Rattle.plan.specs.Notes.{plan_notes}
-use Rattle.plan.specs.Plan.{Planned}
+use Rattle.design_plan.specs.Notes.{plan_notes}
+use Rattle.design_plan.specs.Plan.{PlanView}
 use Rattle.moves.specs.Found.{IsEndMargin}
 use Rattle.moves.specs.Listed.{numbers_of}
 use Rattle.moves.specs.Passing.{BreaksRow, Passes}
@@ -20,10 +20,10 @@ use Rattle.moves.specs.declared.margin.Margin.{Margin}
 use Rattle.moves.specs.declared.margin.Margin.TheVariants.{Until}
 use Rattle.moves.specs.declared.number_seen.NumberSeen.{NumberSeen}
 use Rattle.moves.proofs.Thresholds.{margin_is_threshold}
-use Rattle.margin_report.specs.Margin.{AnswersMargin, AreNumbersFound, EndsBy, IsNumberFound}
-use Rattle.margin_report.specs.Text.{are_left_open, end_of, margin_text}
-use Rattle.margin_report.specs.declared.number_found.NumberFound.{NumberFound}
-use Rattle.words.specs.Task.{margin}
+use Rattle.job_margin.specs.Margin.{AnswersMargin, AreNumbersFound, EndsBy, IsNumberFound}
+use Rattle.job_margin.specs.Text.{are_left_open, end_of, margin_text}
+use Rattle.job_margin.specs.declared.number_found.NumberFound.{NumberFound}
+use Rattle.command_words.specs.Task.{margin}
 use Rattle.itv_cli.specs.Job.{Answers, list_at, planned_at}
 use Rattle.itv_cli.specs.Run.{Call, HasAnswered, OutcomeMeans}
 use Rattle.itv_cli.specs.declared.outcome.Outcome.{Outcome}
@@ -31,7 +31,7 @@ use Rattle.itv_cli.specs.declared.outcome.Outcome.TheVariants as ends
 use Rattle.itv_cli.specs.declared.ready.Ready.{Ready}
 use Rattle.itv_cli.specs.declared.ready.Ready.TheVariants as given
 use Rattle.unroll.specs.declared.limit.TheConstants.{MAX_NUMBERS}
-use Rattle.reading.specs.FileReading.{FileReading, end_over, gives, ready, refuses, ◌>>=◌}
+use Rattle.design_reading.specs.FileReading.{FileReading, end_over, gives, ready, refuses, ◌>>=◌}
 use Rattle.conformance.specs.Clients.{AsksMargin, HasSafeHighs, IsReportEnd, IsSafeHigh}
 use Rattle.conformance.proofs.JobEnds.{answered_by}
 use Rattle.conformance.proofs.KnownFiles.{answer_over, few_then, never_refused, same_ready, told_behind, told_then}
@@ -82,14 +82,14 @@ none_by drawn budget AreRight endings.Undecided is_left found is e = absurd (cc 
 
 -- ---- runs
 
-module _ (call : Call) (files : Files) (budget : ℕ) (plan : Planned) (drawn : Drawn) (known : call.shelf_before.files ≡ Some files) (asks : AsksMargin call.words files budget plan drawn) where
+module _ (call : Call) (files : Files) (budget : ℕ) (plan : PlanView) (drawn : Drawn) (known : call.shelf_before.files ≡ Some files) (asks : AsksMargin call.words files budget plan drawn) where
   said : (answer : Answer) (m : HasAnswered call answer) → AnswersMargin (plan_notes plan) drawn None budget answer m.text
   said answer m =
       let a = answer_over call files (margin asks.design None budget) answer m.text known m refl (record { words = asks.words; own = refl }) in
-      let (other, plans, comes) = told_behind files (planned_at asks.design) (λ (p : Planned × Drawn). list_at p.1 None >>= (λ numbers. gives (given.Margin p.0 p.1 numbers budget))) a.given a.reads in
+      let (other, plans, comes) = told_behind files (planned_at asks.design) (λ (p : PlanView × Drawn). list_at p.1 None >>= (λ numbers. gives (given.Margin p.0 p.1 numbers budget))) a.given a.reads in
       let same : other ≡ (plan, drawn) = same_ready other (plan, drawn) (sym plans ∙ asks.plans) in
       let is : given.Margin other.0 other.1 None budget ≡ a.given = few_then files other.0 other.1 budget a.given comes in
-      subst (λ (p : Planned × Drawn). Answers (given.Margin p.0 p.1 None budget) answer m.text) same (subst (λ g. Answers g answer m.text) (sym is) a.answers)
+      subst (λ (p : PlanView × Drawn). Answers (given.Margin p.0 p.1 None budget) answer m.text) same (subst (λ g. Answers g answer m.text) (sym is) a.answers)
 
   pub margin_wrote : (result : Outcome) → OutcomeMeans call result → (end : IsReportEnd result)
       → (text : List ℕ) × AnswersMargin (plan_notes plan) drawn None budget (answer_of end.0) text × (call.sink_after ≡ grown call.sink_before text)

@@ -1,6 +1,6 @@
 -- What job bounds writes is accepted.
-use Rattle.bounds_report.proofs.WrittenLaws.{written_is_accepted}
-use Rattle.drawn_names.proofs.Designs.{drawn_names_have_form, drawn_ranges_have_form}
+use Rattle.job_bounds.proofs.WrittenLaws.{written_is_accepted}
+use Rattle.drawn_laws.proofs.Designs.{drawn_names_have_form, drawn_ranges_have_form}
 use Rattle.conformance.specs.Laws.{OwnReportIsAccepted}
 
 pub own_report_is_accepted : OwnReportIsAccepted

@@ -8,11 +8,11 @@ use Rattle.event_graph.specs.Bounds.{IsInconsistent}
 use Rattle.event_graph.specs.Edges.{cause_choices}
 use Rattle.event_graph.specs.Network.{Net}
 use Rattle.itv_base.specs.Outside.{Files, grown}
-use Rattle.drawn.specs.Drawn.{Drawn}
-use Rattle.drawn.specs.declared.row.Row.{Row}
-use Rattle.jobs.specs.Ending.{answer_of}
-use Rattle.jobs.specs.declared.answer.Answer.{Answer}
-use Rattle.jobs.specs.declared.answer.Answer.TheVariants as answers
+use Rattle.drawn_networks.specs.Drawn.{Drawn}
+use Rattle.drawn_networks.specs.declared.row.Row.{Row}
+use Rattle.job_base.specs.Ending.{answer_of}
+use Rattle.job_base.specs.declared.answer.Answer.{Answer}
+use Rattle.job_base.specs.declared.answer.Answer.TheVariants as answers
 use Rattle.slack_report.specs.declared.words.EndWord.TheVariants as endings
 use Rattle.slack_report.specs.declared.words.FindingWord.{FindingWord}
 use Rattle.slack_report.specs.declared.words.FindingWord.TheVariants as findings
@@ -22,23 +22,23 @@ use Rattle.requirements.specs.declared.bound.Bound.TheVariants as bounds
 use Rattle.right_report.specs.Right.ReportState.{tally_of, end_word, is_within, undecided_or_pass}
 use Rattle.right_report.specs.RowTally.{kinds_of, with_row, with_rows}
 use Rattle.right_report.specs.declared.tally.ReportTally.{ReportTally}
-use Rattle.plan.specs.Notes.{plan_notes}
-use Rattle.plan.specs.Plan.{Planned}
-use Rattle.explained.specs.declared.finding.Finding.{Finding}
-use Rattle.explained.specs.declared.finding.Finding.TheVariants.{Consistent, Inconsistent, Unsettled}
-use Rattle.explained.specs.declared.row.RowFound.{RowFound}
-use Rattle.explained.specs.Answers.{IsBoundSettled, IsFindingFound, IsRowSettled, both_of, bound_of}
-use Rattle.explained.proofs.Standing.{contradiction_is_inconsistent}
-use Rattle.why_report.specs.Text.{ending_of}
-use Rattle.why_report.specs.Why.{AnswersWhy}
-use Rattle.brief_report.specs.Brief.{AnswersBrief}
-use Rattle.warnings.specs.Warnings.{warnings_of}
-use Rattle.lint_report.specs.Lint.{AnswersLint, answer_by}
-use Rattle.lint_report.specs.Lines.{is_clean, lines_of}
-use Rattle.lint_report.proofs.Cleaning.{clean_has_searched_all}
-use Rattle.words.specs.declared.job.PlanJob.{PlanJob}
-use Rattle.words.specs.declared.job.PlanJob.TheVariants.{Why, Brief, Lint}
-use Rattle.words.specs.Task.{planned}
+use Rattle.design_plan.specs.Notes.{plan_notes}
+use Rattle.design_plan.specs.Plan.{PlanView}
+use Rattle.explanations.specs.declared.finding.Finding.{Finding}
+use Rattle.explanations.specs.declared.finding.Finding.TheVariants.{Consistent, Inconsistent, Unsettled}
+use Rattle.explanations.specs.declared.row.RowFound.{RowFound}
+use Rattle.explanations.specs.Answers.{IsBoundSettled, IsFindingFound, IsRowSettled, both_of, bound_of}
+use Rattle.explanations.proofs.Standing.{contradiction_is_inconsistent}
+use Rattle.job_why.specs.Text.{ending_of}
+use Rattle.job_why.specs.Why.{AnswersWhy}
+use Rattle.job_brief.specs.Brief.{AnswersBrief}
+use Rattle.lint.specs.Warnings.{warnings_of}
+use Rattle.job_lint.specs.Lint.{AnswersLint, answer_by}
+use Rattle.job_lint.specs.Lines.{is_clean, lines_of}
+use Rattle.job_lint.proofs.Cleaning.{clean_has_searched_all}
+use Rattle.command_words.specs.declared.job.PlanJob.{PlanJob}
+use Rattle.command_words.specs.declared.job.PlanJob.TheVariants.{Why, Brief, Lint}
+use Rattle.command_words.specs.Task.{planned}
 use Rattle.itv_cli.specs.Job.{Answers, planned_at}
 use Rattle.itv_cli.specs.Run.{Call, HasAnswered, OutcomeMeans}
 use Rattle.itv_cli.specs.declared.outcome.Outcome.{Outcome}
@@ -51,13 +51,13 @@ use Rattle.conformance.proofs.KnownFiles.{answer_over, never_refused, same_ready
 -- ---- jobs of a plan
 
 -- A job of a plan answers for the plan and the network that the files give.
-module _ (job : PlanJob) (call : Call) (files : Files) (budget : ℕ) (plan : Planned) (drawn : Drawn) (known : call.shelf_before.files ≡ Some files) (asks : AsksPlanned job call.words files budget plan drawn) where
+module _ (job : PlanJob) (call : Call) (files : Files) (budget : ℕ) (plan : PlanView) (drawn : Drawn) (known : call.shelf_before.files ≡ Some files) (asks : AsksPlanned job call.words files budget plan drawn) where
   planned_said : (answer : Answer) (m : HasAnswered call answer) → Answers (given.Planned plan drawn job budget) answer m.text
   planned_said answer m =
       let a = answer_over call files (planned asks.design job budget) answer m.text known m refl (record { words = asks.words; own = refl }) in
-      let (other, plans, is) = told_then files (planned_at asks.design) (λ (p : Planned × Drawn). given.Planned p.0 p.1 job budget) a.given a.reads in
+      let (other, plans, is) = told_then files (planned_at asks.design) (λ (p : PlanView × Drawn). given.Planned p.0 p.1 job budget) a.given a.reads in
       let same : other ≡ (plan, drawn) = same_ready other (plan, drawn) (sym plans ∙ asks.plans) in
-      subst (λ (p : Planned × Drawn). Answers (given.Planned p.0 p.1 job budget) answer m.text) same (subst (λ g. Answers g answer m.text) (sym is) a.answers)
+      subst (λ (p : PlanView × Drawn). Answers (given.Planned p.0 p.1 job budget) answer m.text) same (subst (λ g. Answers g answer m.text) (sym is) a.answers)
 
   -- with an end of a report the job writes a text
   planned_wrote : (result : Outcome) → OutcomeMeans call result → (end : IsReportEnd result)
@@ -144,7 +144,7 @@ settled_end rows Unsettled found settled all e = settled refl
 below_choices : (choices budget : ℕ) → (choices ≤ budget → ⊥) → budget < choices
 below_choices choices budget past = omega (arith, past)
 
-module _ (call : Call) (files : Files) (budget : ℕ) (plan : Planned) (drawn : Drawn) (known : call.shelf_before.files ≡ Some files) (asks : AsksWhy call.words files budget plan drawn) where
+module _ (call : Call) (files : Files) (budget : ℕ) (plan : PlanView) (drawn : Drawn) (known : call.shelf_before.files ≡ Some files) (asks : AsksWhy call.words files budget plan drawn) where
   why_said : (answer : Answer) (m : HasAnswered call answer) → AnswersWhy (plan_notes plan) drawn budget answer m.text
   why_said answer m = planned_said Why call files budget plan drawn known asks answer m
 
@@ -167,7 +167,7 @@ module _ (call : Call) (files : Files) (budget : ℕ) (plan : Planned) (drawn : 
 
 -- ---- job brief
 
-module _ (call : Call) (files : Files) (budget : ℕ) (csv : Bool) (plan : Planned) (drawn : Drawn) (known : call.shelf_before.files ≡ Some files) (asks : AsksBrief call.words files budget csv plan drawn) where
+module _ (call : Call) (files : Files) (budget : ℕ) (csv : Bool) (plan : PlanView) (drawn : Drawn) (known : call.shelf_before.files ≡ Some files) (asks : AsksBrief call.words files budget csv plan drawn) where
   brief_said : (answer : Answer) (m : HasAnswered call answer) → AnswersBrief (plan_notes plan) drawn budget csv answer m.text
   brief_said answer m = planned_said (Brief csv) call files budget plan drawn known asks answer m
 
@@ -189,7 +189,7 @@ none_clean : (clean : Bool) → answers.AllPass ≡ answer_by clean → clean �
 none_clean true e = refl
 none_clean false e = absurd (cc e)
 
-module _ (call : Call) (files : Files) (budget : ℕ) (plan : Planned) (drawn : Drawn) (known : call.shelf_before.files ≡ Some files) (asks : AsksLint call.words files budget plan drawn) where
+module _ (call : Call) (files : Files) (budget : ℕ) (plan : PlanView) (drawn : Drawn) (known : call.shelf_before.files ≡ Some files) (asks : AsksLint call.words files budget plan drawn) where
   lint_said : (answer : Answer) (m : HasAnswered call answer) → AnswersLint plan drawn budget answer m.text
   lint_said answer m = planned_said Lint call files budget plan drawn known asks answer m
 

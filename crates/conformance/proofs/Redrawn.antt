@@ -3,8 +3,8 @@ use Rattle.std.proofs.Common.{◌≡◌, ◌<◌, ◌≤◌, ◌∙◌, ◌⊎�
 use Rattle.std.specs.FinMap as finite
 use Rattle.std.specs.Option.{option_map_or}
 use Rattle.std.proofs.lemmas.Cmp.{eq_by_cmp_equiv, nat_list_cmp_total}
-use Rattle.itv_base.specs.Memory.{MemShelf, shelf_state}
-use Rattle.words.proofs.Limits.{taken_limits}
+use Rattle.itv_base.specs.Memory.{ShelfMemView, shelf_state}
+use Rattle.command_words.proofs.Limits.{taken_limits}
 use Rattle.event_graph.proofs.EdgesMet.{All-found}
 use Rattle.falling.proofs.Near.{below_or_not}
 use Rattle.itv_base.specs.Outside.{Files, IsMissing, ShelfState, file_of}
@@ -22,35 +22,35 @@ use Rattle.requirements.specs.declared.verdict.Verdict.TheVariants as verdicts
 use Rattle.slack_report.specs.Entry.{Entry, IsKind}
 use Rattle.slack_report.specs.declared.words.EndWord.{EndWord}
 use Rattle.slack_report.specs.declared.words.EndWord.TheVariants as endings
-use Rattle.jobs.specs.declared.answer.Answer.{Answer}
-use Rattle.jobs.specs.declared.answer.Answer.TheVariants as answers
-use Rattle.jobs.specs.Ending.{answer_of}
-use Rattle.drawn.specs.Drawn.{Drawn}
-use Rattle.drawn.specs.declared.row.Row.{Row}
+use Rattle.job_base.specs.declared.answer.Answer.{Answer}
+use Rattle.job_base.specs.declared.answer.Answer.TheVariants as answers
+use Rattle.job_base.specs.Ending.{answer_of}
+use Rattle.drawn_networks.specs.Drawn.{Drawn}
+use Rattle.drawn_networks.specs.declared.row.Row.{Row}
 use Rattle.right_report.specs.Right.ReportState.{at_last}
 use Rattle.right_report.specs.Right.LineClaims.{BeginsRightReport, BreaksEnd}
 use Rattle.right_report.specs.ReportContents.{end_in}
 use Rattle.right_report.proofs.Ending.{inconsistent_end_is_so, pass_end_is_so}
-use Rattle.bounds_report.proofs.WrittenLaws.{written_is_right}
-use Rattle.reading.specs.declared.refusal_place.RefusalPlace.{RefusalPlace}
-use Rattle.reading.specs.declared.refusal_place.RefusalPlace.TheVariants.{Design}
-use Rattle.reading.specs.declared.refusal.Refusal.TheVariants.{Wide}
-use Rattle.reading.specs.Design.{design_at}
-use Rattle.reading.specs.FileReading.{RunsTo, FileReading, gives, refuses, fetches, ◌>>=◌, ready, end_over, unread}
-use Rattle.reading.specs.Refusal.{refusal_text}
-use Rattle.reading.proofs.Opens.{told_unread}
-use Rattle.drawn_names.proofs.Designs.{drawn_names_differ, drawn_names_have_form, drawn_ranges_have_form}
+use Rattle.job_bounds.proofs.WrittenLaws.{written_is_right}
+use Rattle.design_reading.specs.declared.refusal_place.RefusalPlace.{RefusalPlace}
+use Rattle.design_reading.specs.declared.refusal_place.RefusalPlace.TheVariants.{Design}
+use Rattle.design_reading.specs.declared.refusal.Refusal.TheVariants.{Wide}
+use Rattle.design_reading.specs.Design.{design_at}
+use Rattle.design_reading.specs.FileReading.{RunsTo, FileReading, gives, refuses, fetches, ◌>>=◌, ready, end_over, unread}
+use Rattle.design_reading.specs.Refusal.{refusal_text}
+use Rattle.design_reading.proofs.Opens.{told_unread}
+use Rattle.drawn_laws.proofs.Designs.{drawn_names_differ, drawn_names_have_form, drawn_ranges_have_form}
 use Rattle.redraw.specs.Drawing.{demand_of, drawn_times, nowhere, stands_drawn}
 use Rattle.redraw.specs.Laws.{IsInnerHigh, IsInnerLow}
 use Rattle.redraw.specs.Text.{redrawn}
 use Rattle.redraw.proofs.Names.{names_differ}
-use Rattle.redraw_design.specs.Again.{IsPastEnd, row_again}
-use Rattle.redraw_design.proofs.Again.{redrawn_is_read}
-use Rattle.redraw_design.proofs.Breaks.{redrawn_breaks}
-use Rattle.redraw_report.specs.Failed.{Failed, IsBroken, is_end_at, is_same, is_wide_on}
-use Rattle.redraw_report.specs.Redraw.{AnswersRedraw, Draws, AnswersEndWord, is_wide}
-use Rattle.words.specs.declared.job.SearchJob.TheVariants.{Bounds, Redraw}
-use Rattle.words.specs.Task.{KeepsLimits, searched, taken, task}
+use Rattle.redraw_laws.specs.DesignAgain.{IsPastEnd, row_again}
+use Rattle.redraw_laws.proofs.DesignAgain.{redrawn_is_read}
+use Rattle.redraw_laws.proofs.Breaks.{redrawn_breaks}
+use Rattle.job_redraw.specs.Failed.{Failed, IsBroken, is_end_at, is_same, is_wide_on}
+use Rattle.job_redraw.specs.Redraw.{AnswersRedraw, Draws, AnswersEndWord, is_wide}
+use Rattle.command_words.specs.declared.job.SearchJob.TheVariants.{Bounds, Redraw}
+use Rattle.command_words.specs.Task.{KeepsLimits, searched, taken, task}
 use Rattle.itv_cli.specs.Bounds.{AnswersBounds}
 use Rattle.itv_cli.specs.Job.{Answers, opening}
 use Rattle.itv_cli.specs.Run.{Call, HasAnswered, OutcomeMeans}
@@ -260,10 +260,10 @@ there : (files : Files) (name bytes : List ℕ) → file_of (finite.insert files
 there files name bytes =
     finite.get-insert nat_list_cmp_total files name bytes name ∙ ap (λ (b : Bool). cond b (Some bytes) (file_of files name)) ((eq_by_cmp_equiv nat_list_cmp_total).refl name)
 
-faithful_by : (shelf fresh : MemShelf) (name bytes : List ℕ) → shelf ≡ record fresh { files = finite.insert fresh.files name bytes } → fresh.failing ≡ [] → (shelf_state shelf).is_faithful ≡ true
-faithful_by shelf fresh name bytes added none = ap (λ (s : MemShelf). length s.failing == 0) added ∙ ap (λ (l : List ℕ). length l == 0) none
+faithful_by : (shelf fresh : ShelfMemView) (name bytes : List ℕ) → shelf ≡ record fresh { files = finite.insert fresh.files name bytes } → fresh.failing ≡ [] → (shelf_state shelf).is_faithful ≡ true
+faithful_by shelf fresh name bytes added none = ap (λ (s : ShelfMemView). length s.failing == 0) added ∙ ap (λ (l : List ℕ). length l == 0) none
 
-pub redrawn_ends : (first second : Call) (files : Files) (shelf fresh : MemShelf) (design name bytes : List ℕ) (budget most : ℕ) (cert : Bool) (result : ends.Outcome)
+pub redrawn_ends : (first second : Call) (files : Files) (shelf fresh : ShelfMemView) (design name bytes : List ℕ) (budget most : ℕ) (cert : Bool) (result : ends.Outcome)
     → first.shelf_before.files ≡ Some files → (m : HasAnswered first answers.SomeFail) → m.text ≡ bytes → taken first.words ≡ task (searched design Redraw budget)
     → second.shelf_before ≡ shelf_state shelf → shelf ≡ record fresh { files = finite.insert fresh.files name bytes } → fresh.failing ≡ [] → taken second.words ≡ task (searched name (Bounds cert) most)
     → OutcomeMeans second result → (result ≡ SomeFail) ⊎ ((result ≡ WriteFault) ⊎ (result ≡ NoMemory))
@@ -271,7 +271,7 @@ redrawn_ends first second files shelf fresh design name bytes budget most cert r
     let (drawn, draws, a) = redrawn_over files design budget answers.SomeFail bytes (answer_over first files (searched design Redraw budget) answers.SomeFail bytes known m is (record { words = words; own = refl })) in
     let (network, reads, always) = drawn_again files (finite.insert fresh.files name bytes) design name drawn budget bytes draws a (there fresh.files name bytes) in
     let holds : second.shelf_before.files ≡ Some (finite.insert fresh.files name bytes) =
-    ap (λ (t : ShelfState). t.files) on ∙ ap (λ (s : MemShelf). Some s.files) added in
+    ap (λ (t : ShelfState). t.files) on ∙ ap (λ (s : ShelfMemView). Some s.files) added in
     let faithful : second.shelf_before.is_faithful ≡ true = ap (λ (t : ShelfState). t.is_faithful) on ∙ faithful_by shelf fresh name bytes added none in
     let limits = subst KeepsLimits again (taken_limits second.words) in
     ends_with_fail second (finite.insert fresh.files name bytes) name most cert holds faithful again limits.low (record { again = network; reads = reads; always = always }) result means

@@ -2,50 +2,50 @@
 use Rattle.std.specs.Prelude.{◌≡◌, ℕ, ℤ, ◌≤ℤ◌, Bool, true, List, [], ◌++◌, Some, None, Ok, codes}
 use Rattle.std.specs.List.{AllZip}
 use Rattle.itv_base.specs.declared.names.Side.TheVariants.{Upper}
-use Rattle.itv_base.specs.Memory.{MemSink}
+use Rattle.itv_base.specs.Memory.{SinkMemView}
 use Rattle.itv_base.specs.Outside.{FailedFor, Files, ShelfState, file_of}
 use Rattle.design_gen.specs.Files.{design_files}
-use Rattle.bounds_report.specs.Reports.{Sums}
-use Rattle.bounds_report.specs.declared.summary.Summary.{Summary}
-use Rattle.jobs.specs.Ending.{answer_of}
-use Rattle.summary_report.specs.Summary.{summary_text}
-use Rattle.jobs.specs.declared.answer.Answer.{Answer}
+use Rattle.job_bounds.specs.Reports.{Sums}
+use Rattle.job_bounds.specs.declared.summary.Summary.{Summary}
+use Rattle.job_base.specs.Ending.{answer_of}
+use Rattle.job_self.specs.Summary.{summary_text}
+use Rattle.job_base.specs.declared.answer.Answer.{Answer}
 use Rattle.slack_report.specs.Entry.{Entry}
 use Rattle.slack_report.specs.declared.words.EndWord.{EndWord}
 use Rattle.slack_report.specs.Text.{report_text}
 use Rattle.right_report.specs.Right.LineClaims.{BeginsRightReport, IsRightReport}
 use Rattle.right_report.specs.Texts.{IsRefusedText, IsRightText}
-use Rattle.drawn.specs.Drawn.{Drawn}
-use Rattle.edits.specs.EditsFile.{edits_of}
-use Rattle.edits.specs.declared.edit.RangeEdit.{RangeEdit}
-use Rattle.reading.specs.declared.refusal_place.RefusalPlace.{RefusalPlace}
-use Rattle.reading.specs.declared.refusal.Refusal.{Refusal}
-use Rattle.reading.specs.Design.{design_at}
+use Rattle.drawn_networks.specs.Drawn.{Drawn}
+use Rattle.range_edits.specs.EditsFile.{edits_of}
+use Rattle.range_edits.specs.declared.edit.RangeEdit.{RangeEdit}
+use Rattle.design_reading.specs.declared.refusal_place.RefusalPlace.{RefusalPlace}
+use Rattle.design_reading.specs.declared.refusal.Refusal.{Refusal}
+use Rattle.design_reading.specs.Design.{design_at}
 use Rattle.moves.specs.Listed.{numbers_of}
 use Rattle.moves.specs.Moving.{moved_at, widened}
 use Rattle.moves.specs.Passing.{NoneBreaks}
 use Rattle.moves.specs.declared.margin.Margin.TheVariants.{Until}
 use Rattle.moves.specs.declared.number_seen.NumberSeen.{NumberSeen}
-use Rattle.margin_report.specs.Text.{margin_text}
-use Rattle.margin_report.specs.declared.number_found.NumberFound.{NumberFound}
-use Rattle.notes.specs.NotesKept.{NotesKept}
-use Rattle.plan.specs.Plan.{Planned}
-use Rattle.reading.specs.FileReading.{RunsTo, ready, refused, end_over, unread}
-use Rattle.reading.specs.Refusal.{refusal_text, unread_text}
-use Rattle.settle_report.specs.Settle.{IsSettleText}
-use Rattle.words.specs.declared.job.SearchJob.TheVariants.{Bounds, Settle}
-use Rattle.words.specs.declared.job.PlanJob.{PlanJob}
-use Rattle.words.specs.declared.job.PlanJob.TheVariants.{Why, Brief, Lint}
-use Rattle.words.specs.declared.job.CheckJob.TheVariants.{Check, Confirm}
-use Rattle.words.specs.Task.{Task, checked, margin, matrix, planned, searched, taken, task, whatif}
-use Rattle.warnings.specs.Warnings.{warnings_of}
-use Rattle.lint_report.specs.declared.lint_found.LintFound.{LintFound}
-use Rattle.lint_report.specs.Clean.{HasSearchedAll}
-use Rattle.lint_report.specs.Found.{IsLintFound}
-use Rattle.lint_report.specs.Lines.{is_clean, lines_of}
+use Rattle.job_margin.specs.Text.{margin_text}
+use Rattle.job_margin.specs.declared.number_found.NumberFound.{NumberFound}
+use Rattle.origin.specs.NotesKept.{NotesKept}
+use Rattle.design_plan.specs.Plan.{PlanView}
+use Rattle.design_reading.specs.FileReading.{RunsTo, ready, refused, end_over, unread}
+use Rattle.design_reading.specs.Refusal.{refusal_text, unread_text}
+use Rattle.job_settle.specs.Settle.{IsSettleText}
+use Rattle.command_words.specs.declared.job.SearchJob.TheVariants.{Bounds, Settle}
+use Rattle.command_words.specs.declared.job.PlanJob.{PlanJob}
+use Rattle.command_words.specs.declared.job.PlanJob.TheVariants.{Why, Brief, Lint}
+use Rattle.command_words.specs.declared.job.CheckJob.TheVariants.{Check, Confirm}
+use Rattle.command_words.specs.Task.{Task, checked, margin, matrix, planned, searched, taken, task, whatif}
+use Rattle.lint.specs.Warnings.{warnings_of}
+use Rattle.job_lint.specs.declared.lint_found.LintFound.{LintFound}
+use Rattle.job_lint.specs.Clean.{HasSearchedAll}
+use Rattle.job_lint.specs.Found.{IsLintFound}
+use Rattle.job_lint.specs.Lines.{is_clean, lines_of}
 use Rattle.compose.specs.Compose.{composed_on}
-use Rattle.compose.specs.Design.{Composed}
-use Rattle.plan.specs.Plan.{sheets_on}
+use Rattle.compose.specs.Design.{DesignView}
+use Rattle.design_plan.specs.Plan.{sheets_on}
 use Rattle.itv_cli.specs.Job.{Answers, made_for, opening, planned_at}
 use Rattle.itv_cli.specs.Run.{ToWrite, outcome_of}
 use Rattle.itv_cli.specs.declared.outcome.Outcome.{Outcome}
@@ -107,7 +107,7 @@ pub record IsUnreadOf (old new : ShelfState) (asked : Task) (bytes : List ℕ) :
 -- ---- jobs
 
 -- a run wrote a text of a kind behind what the sink held
-abbrev pub WroteOne : MemSink → MemSink → (List ℕ → Type 0) → Type 0
+abbrev pub WroteOne : SinkMemView → SinkMemView → (List ℕ → Type 0) → Type 0
 WroteOne old new Is = (text : List ℕ) × Is text × (new.bytes ≡ old.bytes ++ text)
 
 -- the run ended with one of the ends of a whole report
@@ -155,25 +155,25 @@ pub record AsksMatrix (given : List (List ℕ)) (files : Files) (drawn : Drawn) 
   pub draws : Draws files design drawn
 
 -- the words ask for a job of a design, and its files give a plan and the network that the plan draws
-pub record AsksPlanned (job : PlanJob) (given : List (List ℕ)) (files : Files) (budget : ℕ) (plan : Planned) (drawn : Drawn) : Type 0 where
+pub record AsksPlanned (job : PlanJob) (given : List (List ℕ)) (files : Files) (budget : ℕ) (plan : PlanView) (drawn : Drawn) : Type 0 where
   pub design : List ℕ
   pub words : taken given ≡ task (planned design job budget)
   pub plans : end_over files (planned_at design) ≡ ready (plan, drawn)
 
 -- the words ask why each bound of a design is what it is
-abbrev pub AsksWhy : List (List ℕ) → Files → ℕ → Planned → Drawn → Type 0
+abbrev pub AsksWhy : List (List ℕ) → Files → ℕ → PlanView → Drawn → Type 0
 AsksWhy given files budget plan drawn = AsksPlanned Why given files budget plan drawn
 
 -- the words ask for a line for each row of a design, in a table or not
-abbrev pub AsksBrief : List (List ℕ) → Files → ℕ → Bool → Planned → Drawn → Type 0
+abbrev pub AsksBrief : List (List ℕ) → Files → ℕ → Bool → PlanView → Drawn → Type 0
 AsksBrief given files budget csv plan drawn = AsksPlanned (Brief csv) given files budget plan drawn
 
 -- the words ask what in a design may say something else than was meant
-abbrev pub AsksLint : List (List ℕ) → Files → ℕ → Planned → Drawn → Type 0
+abbrev pub AsksLint : List (List ℕ) → Files → ℕ → PlanView → Drawn → Type 0
 AsksLint given files budget plan drawn = AsksPlanned Lint given files budget plan drawn
 
 -- the words ask how far each number of a design may be moved, and its files give a plan and the network that the plan draws
-pub record AsksMargin (given : List (List ℕ)) (files : Files) (budget : ℕ) (plan : Planned) (drawn : Drawn) : Type 0 where
+pub record AsksMargin (given : List (List ℕ)) (files : Files) (budget : ℕ) (plan : PlanView) (drawn : Drawn) : Type 0 where
   pub design : List ℕ
   pub words : taken given ≡ task (margin design None budget)
   pub plans : end_over files (planned_at design) ≡ ready (plan, drawn)
@@ -192,8 +192,8 @@ pub record HasSafeHighs (noted : NotesKept) (drawn : Drawn) (text : List ℕ) : 
   pub safe : AllZip (IsSafeHigh drawn) (numbers_of drawn) found
 
 -- The design that a plan draws has no line to print: all are silenced by notes, and what is found is right. The searches ended: nothing was left open.
-pub record IsLintClean (plan : Planned) (drawn : Drawn) : Type 0 where
-  pub design : Composed
+pub record IsLintClean (plan : PlanView) (drawn : Drawn) : Type 0 where
+  pub design : DesignView
   pub is_design : composed_on plan.netlist (sheets_on plan.sheets plan.netlist.parts) ≡ Ok design
   pub found : LintFound
   pub is_found : IsLintFound drawn found
@@ -213,7 +213,7 @@ pub record IsSettledFile (files : Files) (report : List ℕ) (drawn : Drawn) : T
   pub is_settled : IsSettleText drawn true bytes
 
 -- the file with a name is what a run wrote into a sink that was empty
-pub record IsWritten (files : Files) (name : List ℕ) (old new : MemSink) : Type 0 where
+pub record IsWritten (files : Files) (name : List ℕ) (old new : SinkMemView) : Type 0 where
   pub empty : old.bytes ≡ []
   pub is_file : file_of files name ≡ Some new.bytes
 

@@ -4,10 +4,10 @@ use Rattle.itv_base.specs.Outside.{ShelfState}
 use Rattle.slack_report.specs.Entry.{Entry}
 use Rattle.slack_report.specs.Text.{report_text}
 use Rattle.right_report.specs.Texts.{IsAcceptedText}
-use Rattle.drawn.specs.Drawn.{Drawn}
-use Rattle.reading.specs.Design.{design_at}
-use Rattle.reading.specs.FileReading.{RunsTo, ready}
-use Rattle.bounds_report.specs.Reports.{IsWrittenReport}
+use Rattle.drawn_networks.specs.Drawn.{Drawn}
+use Rattle.design_reading.specs.Design.{design_at}
+use Rattle.design_reading.specs.FileReading.{RunsTo, ready}
+use Rattle.job_bounds.specs.Reports.{IsWrittenReport}
 
 -- if the reading of a design comes to a drawn network, and job bounds writes a report for it with the lines of proofs, job check accepts the text of
 -- this report for the network

@@ -4,28 +4,28 @@ ghost use Rattle.std.specs.Prelude.{◌≡◌, ◌<◌, ◌⊎◌, ◌++◌, ℕ
 ghost use Rattle.event_graph.specs.Bounds.{IsInconsistent};
 ghost use Rattle.event_graph.specs.Edges.{cause_choices};
 ghost use Rattle.event_graph.specs.RootBound.{HasNoRoot};
-ghost use Rattle.matrix_report.specs.Matrix.{IsMatrixText};
-ghost use Rattle.report_check.specs.Check.{refused_text};
+ghost use Rattle.job_matrix.specs.Matrix.{IsMatrixText};
+ghost use Rattle.job_check.specs.Check.{refused_text};
 ghost use Rattle.right_report.specs.Laws.{AllMet, SomeBroken, SomeSatisfy};
 ghost use Rattle.right_report.specs.Texts.{IsAcceptedText};
-ghost use Rattle.drawn.specs.Drawn.{Drawn};
-ghost use Rattle.reading.specs.declared.refusal.Refusal.{Refusal};
-ghost use Rattle.reading.specs.declared.refusal_place.RefusalPlace.{RefusalPlace};
-ghost use Rattle.reading.specs.Refusal.{refusal_text};
-ghost use Rattle.words.specs.declared.job.SearchJob.TheVariants.{Bounds, Redraw};
-ghost use Rattle.words.specs.Task.{generated, searched, taken, task};
-ghost use Rattle.plan.specs.Notes.{plan_notes};
-ghost use Rattle.plan.specs.Plan.{Planned};
-ghost use Rattle.why_report.specs.Why.{AnswersWhy};
-ghost use Rattle.brief_report.specs.Brief.{AnswersBrief};
-ghost use Rattle.lint_report.specs.Lint.{AnswersLint};
-ghost use Rattle.margin_report.specs.Margin.{AnswersMargin};
+ghost use Rattle.drawn_networks.specs.Drawn.{Drawn};
+ghost use Rattle.design_reading.specs.declared.refusal.Refusal.{Refusal};
+ghost use Rattle.design_reading.specs.declared.refusal_place.RefusalPlace.{RefusalPlace};
+ghost use Rattle.design_reading.specs.Refusal.{refusal_text};
+ghost use Rattle.command_words.specs.declared.job.SearchJob.TheVariants.{Bounds, Redraw};
+ghost use Rattle.command_words.specs.Task.{generated, searched, taken, task};
+ghost use Rattle.design_plan.specs.Notes.{plan_notes};
+ghost use Rattle.design_plan.specs.Plan.{PlanView};
+ghost use Rattle.job_why.specs.Why.{AnswersWhy};
+ghost use Rattle.job_brief.specs.Brief.{AnswersBrief};
+ghost use Rattle.job_lint.specs.Lint.{AnswersLint};
+ghost use Rattle.job_margin.specs.Margin.{AnswersMargin};
 ghost use Rattle.moves.specs.Passing.{BreaksRow, Passes};
-ghost use Rattle.settle_report.specs.Settle.{AnswersSettle};
-ghost use Rattle.edits.specs.declared.edit.RangeEdit.{RangeEdit};
-ghost use Rattle.whatif_report.specs.Laws.{with_edits};
+ghost use Rattle.job_settle.specs.Settle.{AnswersSettle};
+ghost use Rattle.range_edits.specs.declared.edit.RangeEdit.{RangeEdit};
+ghost use Rattle.job_whatif.specs.Laws.{with_edits};
 ghost use Rattle.itv_cli.specs.Job.{turns_for};
-ghost use Rattle.jobs.specs.Ending.{answer_of};
+ghost use Rattle.job_base.specs.Ending.{answer_of};
 ghost use Rattle.conformance.specs.Clients.{AsksBounds, AsksBrief, AsksCheck, AsksConfirm, AsksLint, AsksMargin, AsksMatrix, AsksSettle, AsksWhatif, AsksWhy, HasNoWrong, HasSafeHighs, IsLintClean, IsReportEnd, IsRightFile, IsSettledFile, IsSummaryOf, IsWritten, IsWrongFile, WroteOne};
 
 use itv_base::{NoMemory, ShelfMem, SinkMem, Texts};
@@ -130,11 +130,11 @@ pub fn explained_of(
     shelf: &mut ShelfMem,
     sink: &mut SinkMem,
 ) -> Outcome
-    ensures wrote { (budget : ℕ) (plan : Planned) (drawn : Drawn) → AsksWhy words.now shelf.old.files budget plan drawn
+    ensures wrote { (budget : ℕ) (plan : PlanView) (drawn : Drawn) → AsksWhy words.now shelf.old.files budget plan drawn
         → (end : IsReportEnd result) → WroteOne sink.old sink.new (AnswersWhy (plan_notes plan) drawn budget (answer_of end.0)) }
-    ensures none { (budget : ℕ) (plan : Planned) (drawn : Drawn) → AsksWhy words.now shelf.old.files budget plan drawn
+    ensures none { (budget : ℕ) (plan : PlanView) (drawn : Drawn) → AsksWhy words.now shelf.old.files budget plan drawn
         → result ≡ Outcome.Inconsistent → IsInconsistent drawn.net }
-    ensures decides { (budget : ℕ) (plan : Planned) (drawn : Drawn) → AsksWhy words.now shelf.old.files budget plan drawn
+    ensures decides { (budget : ℕ) (plan : PlanView) (drawn : Drawn) → AsksWhy words.now shelf.old.files budget plan drawn
         → result ≡ Outcome.Undecided → budget < cause_choices drawn.net.constraints }
 {
     run(alloc, words, shelf, sink)
@@ -143,9 +143,9 @@ pub fn explained_of(
 /// A run of job brief. With any end of a report it writes the lines of the rows, as a table where the words want one. It ends undecided only if the budget is below the number
 /// of cause choices.
 pub fn briefed_of(alloc: Global, words: &Texts, shelf: &mut ShelfMem, sink: &mut SinkMem) -> Outcome
-    ensures wrote { (budget : ℕ) (csv : Bool) (plan : Planned) (drawn : Drawn) → AsksBrief words.now shelf.old.files budget csv plan drawn
+    ensures wrote { (budget : ℕ) (csv : Bool) (plan : PlanView) (drawn : Drawn) → AsksBrief words.now shelf.old.files budget csv plan drawn
         → (end : IsReportEnd result) → WroteOne sink.old sink.new (AnswersBrief (plan_notes plan) drawn budget csv (answer_of end.0)) }
-    ensures decides { (budget : ℕ) (csv : Bool) (plan : Planned) (drawn : Drawn) → AsksBrief words.now shelf.old.files budget csv plan drawn
+    ensures decides { (budget : ℕ) (csv : Bool) (plan : PlanView) (drawn : Drawn) → AsksBrief words.now shelf.old.files budget csv plan drawn
         → result ≡ Outcome.Undecided → budget < cause_choices drawn.net.constraints }
 {
     run(alloc, words, shelf, sink)
@@ -153,9 +153,9 @@ pub fn briefed_of(alloc: Global, words: &Texts, shelf: &mut ShelfMem, sink: &mut
 
 /// A run of job lint. If it passes, the design has no line to print: nothing was found but what notes say is meant, and nothing was left open.
 pub fn warned_of(alloc: Global, words: &Texts, shelf: &mut ShelfMem, sink: &mut SinkMem) -> Outcome
-    ensures wrote { (budget : ℕ) (plan : Planned) (drawn : Drawn) → AsksLint words.now shelf.old.files budget plan drawn
+    ensures wrote { (budget : ℕ) (plan : PlanView) (drawn : Drawn) → AsksLint words.now shelf.old.files budget plan drawn
         → (end : IsReportEnd result) → WroteOne sink.old sink.new (AnswersLint plan drawn budget (answer_of end.0)) }
-    ensures clean { (budget : ℕ) (plan : Planned) (drawn : Drawn) → AsksLint words.now shelf.old.files budget plan drawn
+    ensures clean { (budget : ℕ) (plan : PlanView) (drawn : Drawn) → AsksLint words.now shelf.old.files budget plan drawn
         → result ≡ Outcome.AllPass → IsLintClean plan drawn }
 {
     run(alloc, words, shelf, sink)
@@ -165,15 +165,15 @@ pub fn warned_of(alloc: Global, words: &Texts, shelf: &mut ShelfMem, sink: &mut 
 /// satisfying times break a requirement of the same design with this end greater by at most that. If it fails, some satisfying times break a requirement. If
 /// it ends inconsistent, no times satisfy.
 pub fn margins_of(alloc: Global, words: &Texts, shelf: &mut ShelfMem, sink: &mut SinkMem) -> Outcome
-    ensures wrote { (budget : ℕ) (plan : Planned) (drawn : Drawn) → AsksMargin words.now shelf.old.files budget plan drawn
+    ensures wrote { (budget : ℕ) (plan : PlanView) (drawn : Drawn) → AsksMargin words.now shelf.old.files budget plan drawn
         → (end : IsReportEnd result) → WroteOne sink.old sink.new (AnswersMargin (plan_notes plan) drawn None budget (answer_of end.0)) }
-    ensures passes { (budget : ℕ) (plan : Planned) (drawn : Drawn) → AsksMargin words.now shelf.old.files budget plan drawn
+    ensures passes { (budget : ℕ) (plan : PlanView) (drawn : Drawn) → AsksMargin words.now shelf.old.files budget plan drawn
         → result ≡ Outcome.AllPass → Passes drawn }
-    ensures safe { (budget : ℕ) (plan : Planned) (drawn : Drawn) → AsksMargin words.now shelf.old.files budget plan drawn
+    ensures safe { (budget : ℕ) (plan : PlanView) (drawn : Drawn) → AsksMargin words.now shelf.old.files budget plan drawn
         → result ≡ Outcome.AllPass → WroteOne sink.old sink.new (HasSafeHighs (plan_notes plan) drawn) }
-    ensures breaks { (budget : ℕ) (plan : Planned) (drawn : Drawn) → AsksMargin words.now shelf.old.files budget plan drawn
+    ensures breaks { (budget : ℕ) (plan : PlanView) (drawn : Drawn) → AsksMargin words.now shelf.old.files budget plan drawn
         → result ≡ Outcome.SomeFail → (row : ℕ) × BreaksRow drawn row }
-    ensures none { (budget : ℕ) (plan : Planned) (drawn : Drawn) → AsksMargin words.now shelf.old.files budget plan drawn
+    ensures none { (budget : ℕ) (plan : PlanView) (drawn : Drawn) → AsksMargin words.now shelf.old.files budget plan drawn
         → result ≡ Outcome.Inconsistent → IsInconsistent drawn.net }
 {
     run(alloc, words, shelf, sink)

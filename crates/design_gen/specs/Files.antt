@@ -5,7 +5,7 @@ use Rattle.std.specs.Str.{IsUtf8}
 use Rattle.serde_json.specs.Data.{Data}
 use Rattle.serde_json.specs.Read.{read}
 use Rattle.serde_json.specs.Written.{compact_text}
-use Rattle.itv_base.specs.Memory.{MemShelf}
+use Rattle.itv_base.specs.Memory.{ShelfMemView}
 use Rattle.itv_base.specs.Outside.{Files, file_of}
 use Rattle.itv_base.specs.declared.limits.TheConstants.{FILE_LIMIT, MAX_SELF_SIZE}
 use Rattle.design_gen.specs.Trees.{bus, master, merge, slave}
@@ -22,7 +22,7 @@ design_files n =
     with_tree (with_tree (with_tree (with_tree map.empty (codes "bus.json") (bus n)) (codes "master.json") master) (codes "slave.json") slave) (codes "merge.json") merge
 
 -- a new shelf with the files of the design; no call of the shelf is to fail
-abbrev pub IsDesignShelf : ℕ → MemShelf → Type 0
+abbrev pub IsDesignShelf : ℕ → ShelfMemView → Type 0
 IsDesignShelf n shelf = shelf ≡ record { files = design_files n; failing = []; calls = 0; faults = 0; last = [] }
 
 -- there is a design of this size

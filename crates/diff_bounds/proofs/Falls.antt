@@ -11,11 +11,11 @@ use Rattle.itv_base.specs.declared.names.EdgeName.{EdgeName}
 use Rattle.event_graph.specs.declared.edge.Edge.{Edge}
 use Rattle.event_graph.specs.Network.{Net}
 use Rattle.trail.specs.declared.stamp.Stamp.{Stamp}
-use Rattle.trail.specs.Stack.{Stack}
+use Rattle.trail.specs.Stack.{TrailView}
 use Rattle.diff_bounds.specs.declared.falling.Run.{Run}
 use Rattle.diff_bounds.specs.Labels.{Follows, GraphLabels, Scope, is_lower, labels_from}
 use Rattle.diff_bounds.specs.Step.Falling.{Falls, IsDone, IsPlaced, IsRunning, KeepsRuns, scope_of, with_stamps}
-use Rattle.diff_bounds.specs.Step.Waiting.{Pushes, Waiting, is_waiting}
+use Rattle.diff_bounds.specs.Step.Waiting.{Pushes, PendingView, is_waiting}
 use Rattle.diff_bounds.proofs.Forests.{lower_number}
 use Rattle.diff_bounds.proofs.Runs.{OneFall, after_fall, height_falls, label_here, label_there, run_kept}
 
@@ -28,7 +28,7 @@ running_on s run a b running keeps = record {
   ran = keeps running.old running.potential running.above running.meets running.ran;
 }
 
-pub falls_not : (s : Scope) (run : Run) (st : Stack) (w : Waiting) → Falls s run st st w w
+pub falls_not : (s : Scope) (run : Run) (st : TrailView) (w : PendingView) → Falls s run st st w w
 falls_not s run st w = record {
   stack = refl;
   count = refl;
@@ -38,10 +38,10 @@ falls_not s run st w = record {
   work = omega arith;
 }
 
-pub stack_on : (a b c : Stack) → b ≡ with_stamps a b.current.stamps → c ≡ with_stamps b c.current.stamps → c ≡ with_stamps a c.current.stamps
-stack_on a b c first second = second ∙ ap (λ (x : Stack). with_stamps x c.current.stamps) first
+pub stack_on : (a b c : TrailView) → b ≡ with_stamps a b.current.stamps → c ≡ with_stamps b c.current.stamps → c ≡ with_stamps a c.current.stamps
+stack_on a b c first second = second ∙ ap (λ (x : TrailView). with_stamps x c.current.stamps) first
 
-pub falls_on : (s : Scope) (run : Run) (a b c : Stack) (u v w : Waiting) → Falls s run a b u v → Falls s run b c v w → Falls s run a c u w
+pub falls_on : (s : Scope) (run : Run) (a b c : TrailView) (u v w : PendingView) → Falls s run a b u v → Falls s run b c v w → Falls s run a c u w
 falls_on s run a b c u v w first second = record {
   stack = stack_on a b c first.stack second.stack;
   count = second.count ∙ first.count;
@@ -51,7 +51,7 @@ falls_on s run a b c u v w first second = record {
   work = omega (arith, first.work, second.work);
 }
 
-pub placed_on : (net : Net) (s : Scope) (run : Run) (a b : Stack) (u v : Waiting) → IsPlaced net run a u → Falls s run a b u v → IsPlaced net run b v
+pub placed_on : (net : Net) (s : Scope) (run : Run) (a b : TrailView) (u v : PendingView) → IsPlaced net run a u → Falls s run a b u v → IsPlaced net run b v
 placed_on net s run a b u v placed falls = record {
   is_net = placed.is_net;
   slots = rw falls.count placed.slots;
@@ -61,8 +61,8 @@ placed_on net s run a b u v placed falls = record {
 }
 
 -- the scope does not change
-pub scope_same : (net : Net) (s : Scope) (run : Run) (a b : Stack) (u v : Waiting) → Falls s run a b u v → scope_of net b run ≡ scope_of net a run
-scope_same net s run a b u v falls = ap (λ (x : Stack). scope_of net x run) falls.stack
+pub scope_same : (net : Net) (s : Scope) (run : Run) (a b : TrailView) (u v : PendingView) → Falls s run a b u v → scope_of net b run ≡ scope_of net a run
+scope_same net s run a b u v falls = ap (λ (x : TrailView). scope_of net x run) falls.stack
 
 -- ---- one fall
 
@@ -94,14 +94,14 @@ follows_on label label' to sum e fallen off follows = λ near at.
       | inr apart ↦ record { far = was.far; here = fallen.others e.to.0 apart ∙ was.here; within = within }
     ]
 
-waits_on : (first to : ℕ) (old new : Waiting) (v : ℕ) → Pushes first to old new → v ≢ to → is_waiting old.marks v ≡ true → is_waiting new.marks v ≡ true
+waits_on : (first to : ℕ) (old new : PendingView) (v : ℕ) → Pushes first to old new → v ≢ to → is_waiting old.marks v ≡ true → is_waiting new.marks v ≡ true
 waits_on first to old new v pushes off waits =
     elim (cases_lt to first) [
       | inl below ↦ ap (λ (marks : List Bool). is_waiting marks v) (pushes.same below) ∙ waits
       | inr counts ↦ ap (λ (marks : List Bool). is_waiting marks v) (pushes.waits counts) ∙ get_or-set_other old.marks to v true false off ∙ waits
     ]
 
-done_on : (run : Run) (first to : ℕ) (sum : ℤ) (stamps stamps' : List Stamp) (old new : Waiting) (e : Edge) → FallenAt (labels_from stamps run.base) (labels_from stamps' run.base) to sum → Pushes first to old new → to < length old.marks
+done_on : (run : Run) (first to : ℕ) (sum : ℤ) (stamps stamps' : List Stamp) (old new : PendingView) (e : Edge) → FallenAt (labels_from stamps run.base) (labels_from stamps' run.base) to sum → Pushes first to old new → to < length old.marks
     → first ≤ e.from.0 → IsDone run stamps old.marks e → IsDone run stamps' new.marks e
 done_on run first to sum stamps stamps' old new e fallen pushes within counts done =
     elim (cases_eq e.from.0 to) [
@@ -113,18 +113,18 @@ done_on run first to sum stamps stamps' old new e fallen pushes within counts do
       ]
     ]
 
-marks_length : (first to : ℕ) (old new : Waiting) → Pushes first to old new → length new.marks ≡ length old.marks
+marks_length : (first to : ℕ) (old new : PendingView) → Pushes first to old new → length new.marks ≡ length old.marks
 marks_length first to old new pushes =
     elim (cases_lt to first) [ inl below ↦ ap length (pushes.same below) | inr counts ↦ ap length (pushes.waits counts) ∙ simp length-set ]
 
 -- the stack after one fall
-abbrev pub stack_after : (s : Scope) (run : Run) (st : Stack) (name : EdgeName) (e : Edge) → OneFall s run st.current.stamps name e → Stack
+abbrev pub stack_after : (s : Scope) (run : Run) (st : TrailView) (name : EdgeName) (e : Edge) → OneFall s run st.current.stamps name e → TrailView
 stack_after s run st name e f = with_stamps st (after_fall s run st.current.stamps name e f)
 
 less_work : (h h' c c' : ℕ) → h' < h → c' ≤ c + 1 → 2 * h' + c' ≤ 2 * h + c
 less_work h h' c c' less most = omega arith
 
-pub falls_once : (net : Net) (s : Scope) (run : Run) (st : Stack) (u v : Waiting) (name : EdgeName) (e : Edge) (f : OneFall s run st.current.stamps name e) → s.net ≡ net → s.first ≡ run.first → IsPlaced net run st u → IsRunning s run st.current.stamps
+pub falls_once : (net : Net) (s : Scope) (run : Run) (st : TrailView) (u v : PendingView) (name : EdgeName) (e : Edge) (f : OneFall s run st.current.stamps name e) → s.net ≡ net → s.first ≡ run.first → IsPlaced net run st u → IsRunning s run st.current.stamps
     → Pushes run.first e.to.0 u v → Falls s run st (stack_after s run st name e f) u v
 falls_once net s run st u v name e f is_net is_first placed running pushes =
     let few : s.net.events ≤ MAX_EVENTS = let P : Net → Type 0 = λ n. n.events ≤ MAX_EVENTS in subst P (sym is_net) placed.is_net.events in

@@ -3,18 +3,18 @@ use Rattle.std.proofs.Common.{◌≡◌, inl, inr, Option, Some, None, IfNone, l
 use Rattle.std.proofs.lemmas.Option.{none-some}
 use Rattle.event_graph.specs.declared.edge.Edge.{Edge}
 use Rattle.event_graph.specs.Network.{Net}
-use Rattle.trail.specs.Stack.{Stack}
+use Rattle.trail.specs.Stack.{TrailView}
 use Rattle.diff_bounds.specs.declared.arc.Arc.{Arc}
 use Rattle.diff_bounds.specs.declared.falling.Run.{Run}
 use Rattle.diff_bounds.specs.Labels.{Follows, HaveSettled, Scope, labels_from}
 use Rattle.diff_bounds.specs.Step.Falling.{AllDone, Falls, IsDone, RunsOn, scope_of}
 use Rattle.diff_bounds.specs.Step.Poised.{AreRestFollowed}
-use Rattle.diff_bounds.specs.Step.Waiting.{Waiting}
+use Rattle.diff_bounds.specs.Step.Waiting.{PendingView}
 use Rattle.diff_bounds.proofs.Parts.{runs_not, runs_on, runs_scope, runs_step}
 use Rattle.diff_bounds.proofs.Poising.{all_done_over}
 
 -- an edge from an event without a label is followed
-pub rest_settled : (net : Net) (run : Run) (a : Arc) (st : Stack) (end : Option Arc) → AreRestFollowed (scope_of net st run) a.edge (labels_from st.current.stamps run.base) → labels_from st.current.stamps run.base a.edge.from.0 ≡ None
+pub rest_settled : (net : Net) (run : Run) (a : Arc) (st : TrailView) (end : Option Arc) → AreRestFollowed (scope_of net st run) a.edge (labels_from st.current.stamps run.base) → labels_from st.current.stamps run.base a.edge.from.0 ≡ None
     → IfNone end (HaveSettled (scope_of net st run) (labels_from st.current.stamps run.base))
 rest_settled net run a st end rest none = if_none end
   where
@@ -33,28 +33,28 @@ rest_settled net run a st end rest none = if_none end
     if_none (Some x) = tt
 
 -- an edge was followed, with a queue that was cleared before
-pub record HasFollowed (net : Net) (run : Run) (a : Arc) (old new : Stack) (waited cleared waits : Waiting) : Type 0 where
+pub record HasFollowed (net : Net) (run : Run) (a : Arc) (old new : TrailView) (waited cleared waits : PendingView) : Type 0 where
   pub marks : length cleared.marks ≡ length waited.marks
   pub falls : Falls (scope_of net old run) run old new cleared waits
   pub done : IsDone run new.current.stamps waits.marks a.edge
 
-pub followed_runs : (net : Net) (run : Run) (a : Arc) (old new : Stack) (waited cleared waits : Waiting) → HasFollowed net run a old new waited cleared waits → RunsOn (scope_of net old run) run old new waited waits
+pub followed_runs : (net : Net) (run : Run) (a : Arc) (old new : TrailView) (waited cleared waits : PendingView) → HasFollowed net run a old new waited cleared waits → RunsOn (scope_of net old run) run old new waited waits
 followed_runs net run a old new waited cleared waits h = runs_step net run old old new waited waited cleared waits (runs_not (scope_of net old run) run old waited) h.marks h.falls
 
-pub followed_waits : (net : Net) (run : Run) (a : Arc) (old new : Stack) (waited cleared waits : Waiting) → HasFollowed net run a old new waited cleared waits
+pub followed_waits : (net : Net) (run : Run) (a : Arc) (old new : TrailView) (waited cleared waits : PendingView) → HasFollowed net run a old new waited cleared waits
     → AreRestFollowed (scope_of net old run) a.edge (labels_from old.current.stamps run.base) → AllDone (scope_of net new run) run new.current.stamps waits.marks
 followed_waits net run a old new waited cleared waits h rest =
     let P : Scope → Type 0 = λ s. AllDone s run new.current.stamps waits.marks in
     subst P (sym (runs_scope net (scope_of net old run) run old new waited waits (followed_runs net run a old new waited cleared waits h))) (all_done_over net run a old new cleared waits rest h.falls h.done)
 
-pub followed_then_runs : (net : Net) (run : Run) (a : Arc) (old mid new : Stack) (waited cleared waits left : Waiting) → HasFollowed net run a old mid waited cleared waits → RunsOn (scope_of net mid run) run mid new waits left
+pub followed_then_runs : (net : Net) (run : Run) (a : Arc) (old mid new : TrailView) (waited cleared waits left : PendingView) → HasFollowed net run a old mid waited cleared waits → RunsOn (scope_of net mid run) run mid new waits left
     → RunsOn (scope_of net old run) run old new waited left
 followed_then_runs net run a old mid new waited cleared waits left h next =
     let first = followed_runs net run a old mid waited cleared waits h in
     let P : Scope → Type 0 = λ s. RunsOn s run mid new waits left in
     runs_on (scope_of net old run) run old mid new waited waits left first (subst P (runs_scope net (scope_of net old run) run old mid waited waits first) next)
 
-pub followed_then_settled : (net : Net) (run : Run) (a : Arc) (old mid new : Stack) (waited cleared waits : Waiting) (end : Option Arc) → HasFollowed net run a old mid waited cleared waits
+pub followed_then_settled : (net : Net) (run : Run) (a : Arc) (old mid new : TrailView) (waited cleared waits : PendingView) (end : Option Arc) → HasFollowed net run a old mid waited cleared waits
     → IfNone end (HaveSettled (scope_of net mid run) (labels_from new.current.stamps run.base)) → IfNone end (HaveSettled (scope_of net old run) (labels_from new.current.stamps run.base))
 followed_then_settled net run a old mid new waited cleared waits end h settled =
     let P : Scope → Type 0 = λ s. IfNone end (HaveSettled s (labels_from new.current.stamps run.base)) in

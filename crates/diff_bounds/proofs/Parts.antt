@@ -12,7 +12,7 @@ use Rattle.event_graph.specs.declared.edge.Edge.{Edge}
 use Rattle.event_graph.specs.Edges.{edge}
 use Rattle.event_graph.specs.Network.{Net}
 use Rattle.trail.specs.declared.stamp.Stamp.{Stamp}
-use Rattle.trail.specs.Stack.{Stack}
+use Rattle.trail.specs.Stack.{TrailView}
 use Rattle.diff_bounds.specs.declared.arc.Arc.{Arc}
 use Rattle.diff_bounds.specs.declared.falling.Run.{Run}
 use Rattle.event_graph.specs.EventLists.{at_event}
@@ -20,25 +20,25 @@ use Rattle.diff_bounds.specs.Arcs.{AreAlwaysArcs, AreChosenArcs, HasLight, IsArc
 use Rattle.diff_bounds.specs.Current.{IsCurrent}
 use Rattle.diff_bounds.specs.Labels.{Follows, HaveSettled, IsAmong, GraphLabels, Scope, labels_from}
 use Rattle.diff_bounds.specs.Step.Falling.{AllDone, Closes, Falls, IsAmongFrom, IsDone, IsDoneFrom, IsPlaced, IsRunning, RunsOn, scope_of}
-use Rattle.diff_bounds.specs.Step.Waiting.{Waiting, is_waiting}
+use Rattle.diff_bounds.specs.Step.Waiting.{PendingView, is_waiting}
 use Rattle.diff_bounds.proofs.Falls.{falls_on, placed_on, running_on, scope_same, stack_on}
 
 -- ---- some edges were tried
 
-pub record Tried (net : Net) (run : Run) (from : ℕ) (arcs : List Arc) (t₀ t : Stack) (p₀ p : Waiting) (count : ℕ) : Type 0 where
+pub record Tried (net : Net) (run : Run) (from : ℕ) (arcs : List Arc) (t₀ t : TrailView) (p₀ p : PendingView) (count : ℕ) : Type 0 where
   pub falls : Falls (scope_of net t₀ run) run t₀ t p₀ p
   pub done : AllWithin (IsDoneFrom run from t.current.stamps p.marks) arcs 0 count
 
 -- what a part of a fall does, said of the scope at first
-pub falls_first : (net : Net) (run : Run) (t₀ t t' : Stack) (p₀ p p' : Waiting) → Falls (scope_of net t₀ run) run t₀ t p₀ p → Falls (scope_of net t run) run t t' p p' → Falls (scope_of net t₀ run) run t t' p p'
+pub falls_first : (net : Net) (run : Run) (t₀ t t' : TrailView) (p₀ p p' : PendingView) → Falls (scope_of net t₀ run) run t₀ t p₀ p → Falls (scope_of net t run) run t t' p p' → Falls (scope_of net t₀ run) run t t' p p'
 falls_first net run t₀ t t' p₀ p p' first next =
     let P : Scope → Type 0 = λ s. Falls s run t t' p p' in subst P (scope_same net (scope_of net t₀ run) run t₀ t p₀ p first) next
 
-pub tried_falls : (net : Net) (run : Run) (from : ℕ) (arcs : List Arc) (t₀ t t' : Stack) (p₀ p p' : Waiting) (count : ℕ) → Tried net run from arcs t₀ t p₀ p count → Falls (scope_of net t run) run t t' p p' → Falls (scope_of net t₀ run) run t₀ t' p₀ p'
+pub tried_falls : (net : Net) (run : Run) (from : ℕ) (arcs : List Arc) (t₀ t t' : TrailView) (p₀ p p' : PendingView) (count : ℕ) → Tried net run from arcs t₀ t p₀ p count → Falls (scope_of net t run) run t t' p p' → Falls (scope_of net t₀ run) run t₀ t' p₀ p'
 tried_falls net run from arcs t₀ t t' p₀ p p' count tried falls =
     falls_on (scope_of net t₀ run) run t₀ t t' p₀ p p' tried.falls (falls_first net run t₀ t t' p₀ p p' tried.falls falls)
 
-pub tried_on : (net : Net) (run : Run) (from : ℕ) (arcs : List Arc) (t₀ t t' : Stack) (p₀ p p' : Waiting) (count : ℕ) (a : Arc) → Tried net run from arcs t₀ t p₀ p count → All (IsAmongFrom (scope_of net t₀ run) from) arcs
+pub tried_on : (net : Net) (run : Run) (from : ℕ) (arcs : List Arc) (t₀ t t' : TrailView) (p₀ p p' : PendingView) (count : ℕ) (a : Arc) → Tried net run from arcs t₀ t p₀ p count → All (IsAmongFrom (scope_of net t₀ run) from) arcs
     → count < length arcs → a ≡ get_or arcs count a → Falls (scope_of net t run) run t t' p p' → IsDoneFrom run from t'.current.stamps p'.marks a → Tried net run from arcs t₀ t' p₀ p' (count + 1)
 tried_on net run from arcs t₀ t t' p₀ p p' count a tried among below is falls done =
     let here = falls_first net run t₀ t t' p₀ p p' tried.falls falls in
@@ -50,32 +50,32 @@ tried_on net run from arcs t₀ t t' p₀ p p' count a tried among below is fall
           (λ d. let P : Arc → Type 0 = IsDoneFrom run from t'.current.stamps p'.marks in subst P (is ∙ get_or_default arcs count a d below) done);
     }
 
-pub tried_placed : (net : Net) (run : Run) (from : ℕ) (arcs : List Arc) (t₀ t : Stack) (p₀ p : Waiting) (count : ℕ) → Tried net run from arcs t₀ t p₀ p count → IsPlaced net run t₀ p₀ → IsPlaced net run t p
+pub tried_placed : (net : Net) (run : Run) (from : ℕ) (arcs : List Arc) (t₀ t : TrailView) (p₀ p : PendingView) (count : ℕ) → Tried net run from arcs t₀ t p₀ p count → IsPlaced net run t₀ p₀ → IsPlaced net run t p
 tried_placed net run from arcs t₀ t p₀ p count tried placed = placed_on net (scope_of net t₀ run) run t₀ t p₀ p placed tried.falls
 
-pub tried_running : (net : Net) (run : Run) (from : ℕ) (arcs : List Arc) (t₀ t : Stack) (p₀ p : Waiting) (count : ℕ) → Tried net run from arcs t₀ t p₀ p count → IsRunning (scope_of net t₀ run) run t₀.current.stamps → IsRunning (scope_of net t run) run t.current.stamps
+pub tried_running : (net : Net) (run : Run) (from : ℕ) (arcs : List Arc) (t₀ t : TrailView) (p₀ p : PendingView) (count : ℕ) → Tried net run from arcs t₀ t p₀ p count → IsRunning (scope_of net t₀ run) run t₀.current.stamps → IsRunning (scope_of net t run) run t.current.stamps
 tried_running net run from arcs t₀ t p₀ p count tried running =
     let P : Scope → Type 0 = λ s. IsRunning s run t.current.stamps in
     subst P (sym (scope_same net (scope_of net t₀ run) run t₀ t p₀ p tried.falls)) (running_on (scope_of net t₀ run) run t₀.current.stamps t.current.stamps running tried.falls.keeps)
 
-pub tried_among : (net : Net) (run : Run) (from : ℕ) (arcs : List Arc) (t₀ t : Stack) (p₀ p : Waiting) (count : ℕ) (a : Arc) → Tried net run from arcs t₀ t p₀ p count → IsAmong (scope_of net t₀ run) a.name a.edge → IsAmong (scope_of net t run) a.name a.edge
+pub tried_among : (net : Net) (run : Run) (from : ℕ) (arcs : List Arc) (t₀ t : TrailView) (p₀ p : PendingView) (count : ℕ) (a : Arc) → Tried net run from arcs t₀ t p₀ p count → IsAmong (scope_of net t₀ run) a.name a.edge → IsAmong (scope_of net t run) a.name a.edge
 tried_among net run from arcs t₀ t p₀ p count a tried among =
     let P : Scope → Type 0 = λ s. IsAmong s a.name a.edge in subst P (sym (scope_same net (scope_of net t₀ run) run t₀ t p₀ p tried.falls)) among
 
-pub tried_closes : (net : Net) (run : Run) (from : ℕ) (arcs : List Arc) (t₀ t : Stack) (p₀ p : Waiting) (count : ℕ) (stamps : List Stamp) (a : Arc) → Tried net run from arcs t₀ t p₀ p count
+pub tried_closes : (net : Net) (run : Run) (from : ℕ) (arcs : List Arc) (t₀ t : TrailView) (p₀ p : PendingView) (count : ℕ) (stamps : List Stamp) (a : Arc) → Tried net run from arcs t₀ t p₀ p count
     → Closes (scope_of net t run) run stamps a → Closes (scope_of net t₀ run) run stamps a
 tried_closes net run from arcs t₀ t p₀ p count stamps a tried closes =
     let P : Scope → Type 0 = λ s. Closes s run stamps a in subst P (scope_same net (scope_of net t₀ run) run t₀ t p₀ p tried.falls) closes
 
 -- ---- the loop of a fall
 
-pub runs_of : (s : Scope) (run : Run) (a b : Stack) (u v : Waiting) → Falls s run a b u v → RunsOn s run a b u v
+pub runs_of : (s : Scope) (run : Run) (a b : TrailView) (u v : PendingView) → Falls s run a b u v → RunsOn s run a b u v
 runs_of s run a b u v falls = record { stack = falls.stack; count = falls.count; keeps = falls.keeps; marks = falls.marks }
 
-pub runs_not : (s : Scope) (run : Run) (st : Stack) (w : Waiting) → RunsOn s run st st w w
+pub runs_not : (s : Scope) (run : Run) (st : TrailView) (w : PendingView) → RunsOn s run st st w w
 runs_not s run st w = record { stack = refl; count = refl; keeps = λ old potential above meets ran. ran; marks = refl }
 
-pub runs_on : (s : Scope) (run : Run) (a b c : Stack) (u v w : Waiting) → RunsOn s run a b u v → RunsOn s run b c v w → RunsOn s run a c u w
+pub runs_on : (s : Scope) (run : Run) (a b c : TrailView) (u v w : PendingView) → RunsOn s run a b u v → RunsOn s run b c v w → RunsOn s run a c u w
 runs_on s run a b c u v w first second = record {
   stack = stack_on a b c first.stack second.stack;
   count = second.count ∙ first.count;
@@ -84,13 +84,13 @@ runs_on s run a b c u v w first second = record {
 }
 
 -- an event has been taken from the queue
-pub runs_taken : (s : Scope) (run : Run) (a b : Stack) (u v w : Waiting) → RunsOn s run a b u v → length w.marks ≡ length v.marks → RunsOn s run a b u w
+pub runs_taken : (s : Scope) (run : Run) (a b : TrailView) (u v w : PendingView) → RunsOn s run a b u v → length w.marks ≡ length v.marks → RunsOn s run a b u w
 runs_taken s run a b u v w runs marks = record { stack = runs.stack; count = runs.count; keeps = runs.keeps; marks = marks ∙ runs.marks }
 
-pub runs_scope : (net : Net) (s : Scope) (run : Run) (a b : Stack) (u v : Waiting) → RunsOn s run a b u v → scope_of net b run ≡ scope_of net a run
-runs_scope net s run a b u v runs = ap (λ (x : Stack). scope_of net x run) runs.stack
+pub runs_scope : (net : Net) (s : Scope) (run : Run) (a b : TrailView) (u v : PendingView) → RunsOn s run a b u v → scope_of net b run ≡ scope_of net a run
+runs_scope net s run a b u v runs = ap (λ (x : TrailView). scope_of net x run) runs.stack
 
-pub runs_placed : (net : Net) (s : Scope) (run : Run) (a b : Stack) (u v : Waiting) → IsPlaced net run a u → RunsOn s run a b u v → IsPlaced net run b v
+pub runs_placed : (net : Net) (s : Scope) (run : Run) (a b : TrailView) (u v : PendingView) → IsPlaced net run a u → RunsOn s run a b u v → IsPlaced net run b v
 runs_placed net s run a b u v placed runs = record {
   is_net = placed.is_net;
   slots = rw runs.count placed.slots;
@@ -99,13 +99,13 @@ runs_placed net s run a b u v placed runs = record {
   marks = runs.marks ∙ placed.marks;
 }
 
-pub runs_running : (net : Net) (run : Run) (a b : Stack) (u v : Waiting) → IsRunning (scope_of net a run) run a.current.stamps → RunsOn (scope_of net a run) run a b u v → IsRunning (scope_of net b run) run b.current.stamps
+pub runs_running : (net : Net) (run : Run) (a b : TrailView) (u v : PendingView) → IsRunning (scope_of net a run) run a.current.stamps → RunsOn (scope_of net a run) run a b u v → IsRunning (scope_of net b run) run b.current.stamps
 runs_running net run a b u v running runs =
     let P : Scope → Type 0 = λ s. IsRunning s run b.current.stamps in
     subst P (sym (runs_scope net (scope_of net a run) run a b u v runs)) (running_on (scope_of net a run) run a.current.stamps b.current.stamps running runs.keeps)
 
 -- the always-edges out of an event are of the scope
-pub always_among : (net : Net) (st : Stack) (run : Run) (out : List (List Arc)) (v : ℕ) → AreAlwaysArcs net out → run.first ≤ v → All (IsAmongFrom (scope_of net st run) v) (at_event out v)
+pub always_among : (net : Net) (st : TrailView) (run : Run) (out : List (List Arc)) (v : ℕ) → AreAlwaysArcs net out → run.first ≤ v → All (IsAmongFrom (scope_of net st run) v) (at_event out v)
 always_among net st run out v are counts k d below starts = record {
   is = (are.each v k d below).is;
   current = inl (are.sound v k d below);
@@ -123,7 +123,7 @@ from_map arcs name k below is =
     (get_or arcs k d, Contains-get_or arcs k d within, sym (get_or-map (λ (x : Arc). x.name) arcs k d name within) ∙ is)
 
 -- the chosen edges out of an event are of the scope
-pub chosen_among : (net : Net) (st : Stack) (run : Run) (arcs : List Arc) (v : ℕ) → AreChosenArcs net st.current.edges arcs → run.first ≤ v → All (IsAmongFrom (scope_of net st run) v) arcs
+pub chosen_among : (net : Net) (st : TrailView) (run : Run) (arcs : List Arc) (v : ℕ) → AreChosenArcs net st.current.edges arcs → run.first ≤ v → All (IsAmongFrom (scope_of net st run) v) arcs
 chosen_among net st run arcs v are counts k d below starts = record {
   is = (are.each k d below).is;
   current = let P : List EdgeName → Type 0 = λ names. Contains names (get_or arcs k d).name in
@@ -132,7 +132,7 @@ chosen_among net st run arcs v are counts k d below starts = record {
 }
 
 -- each edge of the scope has a light one among the edges that were tried
-pub found_among : (net : Net) (st : Stack) (run : Run) (out : List (List Arc)) (arcs : List Arc) (name : EdgeName) (e : Edge) → AreAlwaysArcs net out → AreChosenArcs net st.current.edges arcs → IsAmong (scope_of net st run) name e
+pub found_among : (net : Net) (st : TrailView) (run : Run) (out : List (List Arc)) (arcs : List Arc) (name : EdgeName) (e : Edge) → AreAlwaysArcs net out → AreChosenArcs net st.current.edges arcs → IsAmong (scope_of net st run) name e
     → HasLight (at_event out e.from.0) e ⊎ Contains arcs (record { name = name; edge = e })
 found_among net st run out arcs name e always chosen among = of_current among.current
   where
@@ -164,7 +164,7 @@ done_elsewhere run v stamps marks marks' e is off (inl follows) = inl follows
 done_elsewhere run v stamps marks marks' e is off (inr waits) = inr (ap (λ (m : List Bool). is_waiting m e.from.0) is ∙ get_or-set_other marks v e.from.0 false false off ∙ waits)
 
 -- after an event was taken, and its edges were tried, all edges are done
-pub done_again : (net : Net) (run : Run) (out : List (List Arc)) (arcs : List Arc) (v : ℕ) (t₀ t t₁ t₂ : Stack) (p p' p₁ p₂ : Waiting) → AreAlwaysArcs net out → AreChosenArcs net t₀.current.edges arcs
+pub done_again : (net : Net) (run : Run) (out : List (List Arc)) (arcs : List Arc) (v : ℕ) (t₀ t t₁ t₂ : TrailView) (p p' p₁ p₂ : PendingView) → AreAlwaysArcs net out → AreChosenArcs net t₀.current.edges arcs
     → AllDone (scope_of net t₀ run) run t.current.stamps p.marks → p'.marks ≡ set p.marks v false
     → Falls (scope_of net t₀ run) run t t₁ p' p₁ → All (IsDoneFrom run v t₁.current.stamps p₁.marks) (at_event out v)
     → Falls (scope_of net t₀ run) run t₁ t₂ p₁ p₂ → All (IsDoneFrom run v t₂.current.stamps p₂.marks) arcs
@@ -185,7 +185,7 @@ done_again net run out arcs v t₀ t t₁ t₂ p p' p₁ p₂ always chosen all 
     ]
 
 -- an event whose edges do not count was taken
-pub done_below : (s : Scope) (run : Run) (v : ℕ) (stamps : List Stamp) (p p' : Waiting) → AllDone s run stamps p.marks → p'.marks ≡ set p.marks v false → v < s.first → AllDone s run stamps p'.marks
+pub done_below : (s : Scope) (run : Run) (v : ℕ) (stamps : List Stamp) (p p' : PendingView) → AllDone s run stamps p.marks → p'.marks ≡ set p.marks v false → v < s.first → AllDone s run stamps p'.marks
 done_below s run v stamps p p' all taken below name e among =
     let from = among.from in
     done_elsewhere run v stamps p.marks p'.marks e taken (λ same. absurd (omega arith)) (all name e among)
@@ -197,20 +197,20 @@ settled s run stamps marks all none name e among =
 
 -- ---- the scope as it was at first
 
-pub at_first : (net : Net) (run : Run) (a b c d : Stack) (u v v' w : Waiting) → RunsOn (scope_of net a run) run a b u v → Falls (scope_of net b run) run c d v' w → Falls (scope_of net a run) run c d v' w
+pub at_first : (net : Net) (run : Run) (a b c d : TrailView) (u v v' w : PendingView) → RunsOn (scope_of net a run) run a b u v → Falls (scope_of net b run) run c d v' w → Falls (scope_of net a run) run c d v' w
 at_first net run a b c d u v v' w runs falls =
     let P : Scope → Type 0 = λ s. Falls s run c d v' w in subst P (runs_scope net (scope_of net a run) run a b u v runs) falls
 
-pub closes_first : (net : Net) (run : Run) (a b : Stack) (u v : Waiting) (stamps : List Stamp) (x : Arc) → RunsOn (scope_of net a run) run a b u v → Closes (scope_of net b run) run stamps x → Closes (scope_of net a run) run stamps x
+pub closes_first : (net : Net) (run : Run) (a b : TrailView) (u v : PendingView) (stamps : List Stamp) (x : Arc) → RunsOn (scope_of net a run) run a b u v → Closes (scope_of net b run) run stamps x → Closes (scope_of net a run) run stamps x
 closes_first net run a b u v stamps x runs closes =
     let P : Scope → Type 0 = λ s. Closes s run stamps x in subst P (runs_scope net (scope_of net a run) run a b u v runs) closes
 
-pub chosen_now : (net : Net) (run : Run) (a b : Stack) (u v : Waiting) (arcs : List Arc) → RunsOn (scope_of net a run) run a b u v → AreChosenArcs net a.current.edges arcs → AreChosenArcs net b.current.edges arcs
+pub chosen_now : (net : Net) (run : Run) (a b : TrailView) (u v : PendingView) (arcs : List Arc) → RunsOn (scope_of net a run) run a b u v → AreChosenArcs net a.current.edges arcs → AreChosenArcs net b.current.edges arcs
 chosen_now net run a b u v arcs runs chosen =
-    let P : Stack → Type 0 = λ x. AreChosenArcs net x.current.edges arcs in subst P (sym runs.stack) chosen
+    let P : TrailView → Type 0 = λ x. AreChosenArcs net x.current.edges arcs in subst P (sym runs.stack) chosen
 
 -- an event was taken, and edges were tried
-pub runs_step : (net : Net) (run : Run) (t₀ t t₁ : Stack) (p₀ p p' p₁ : Waiting) → RunsOn (scope_of net t₀ run) run t₀ t p₀ p → length p'.marks ≡ length p.marks → Falls (scope_of net t run) run t t₁ p' p₁ → RunsOn (scope_of net t₀ run) run t₀ t₁ p₀ p₁
+pub runs_step : (net : Net) (run : Run) (t₀ t t₁ : TrailView) (p₀ p p' p₁ : PendingView) → RunsOn (scope_of net t₀ run) run t₀ t p₀ p → length p'.marks ≡ length p.marks → Falls (scope_of net t run) run t t₁ p' p₁ → RunsOn (scope_of net t₀ run) run t₀ t₁ p₀ p₁
 runs_step net run t₀ t t₁ p₀ p p' p₁ runs marks falls =
     let s : Scope = scope_of net t₀ run in
     runs_on s run t₀ t t₁ p₀ p' p₁ (runs_taken s run t₀ t p₀ p p' runs marks) (runs_of s run t t₁ p' p₁ (at_first net run t₀ t t t₁ p₀ p p' p₁ runs falls))

@@ -7,7 +7,7 @@ use Rattle.itv_base.specs.declared.names.EventId.{EventId}
 use Rattle.event_graph.specs.declared.edge.Edge.{Edge}
 use Rattle.event_graph.specs.Network.{IsNet, Net}
 use Rattle.trail.specs.declared.stamp.Stamp.{Stamp}
-use Rattle.trail.specs.Stack.{Stack}
+use Rattle.trail.specs.Stack.{TrailView}
 use Rattle.diff_bounds.specs.declared.arc.Arc.{Arc}
 use Rattle.diff_bounds.specs.declared.falling.Run.{Run}
 use Rattle.diff_bounds.specs.Labels.{Follows, HasFallen, HaveSettled, IsClimb, IsForest, IsRooted, GraphLabels, Parents, Scope, is_lower, labels_from, number, parents_from, stamp_at}
@@ -15,7 +15,7 @@ use Rattle.event_graph.specs.Limits.{weight_limit}
 use Rattle.diff_bounds.specs.Settled.{AreLabelsNear, HaveLabels, IsFeasible, IsSettled, at_source, zeros}
 use Rattle.diff_bounds.specs.Step.Falling.{AllDone, AreAbove, Closes, Falls, RunHasFallen, IsDone, IsPlaced, IsPotential, IsRunning, RunsOn, fresh, scope_of, with_stamps}
 use Rattle.diff_bounds.specs.Step.Poised.{AreLow, AreOthersFollowed, AreRestFollowed, IsPoised, IsRunReady, feasible_run, scope_from, upper_run}
-use Rattle.diff_bounds.specs.Step.Waiting.{Waiting, is_waiting}
+use Rattle.diff_bounds.specs.Step.Waiting.{PendingView, is_waiting}
 use Rattle.diff_bounds.specs.Step.Walking.{HasLoop}
 use Rattle.diff_bounds.proofs.NamedWalks.{event}
 use Rattle.diff_bounds.proofs.Climbs.{rest_of}
@@ -32,7 +32,7 @@ all_done s run from stamps marks others waits name e among =
     elim (others name e among) [ inl same ↦ inr (ap (is_waiting marks) same ∙ waits) | inr follows ↦ inl follows ]
 
 -- where an edge was followed, all edges are followed or wait, if the others were followed
-pub all_done_over : (net : Net) (run : Run) (a : Arc) (st st' : Stack) (u u' : Waiting) → AreRestFollowed (scope_of net st run) a.edge (labels_from st.current.stamps run.base) → Falls (scope_of net st run) run st st' u u'
+pub all_done_over : (net : Net) (run : Run) (a : Arc) (st st' : TrailView) (u u' : PendingView) → AreRestFollowed (scope_of net st run) a.edge (labels_from st.current.stamps run.base) → Falls (scope_of net st run) run st st' u u'
     → IsDone run st'.current.stamps u'.marks a.edge → AllDone (scope_of net st run) run st'.current.stamps u'.marks
 all_done_over net run a st st' u u' rest falls done name e among =
     elim (rest name e among) [
@@ -103,13 +103,13 @@ zeros_above s label parent forest = above_start s zeros label parent forest (λ 
 pub source_above : (s : Scope) (source : EventId) (label : GraphLabels) (parent : Parents) → IsForest s (at_source source) label parent → AreAbove s.net.events label
 source_above s source label parent forest = above_start s (at_source source) label parent forest (λ v below. source_low_if (nat_eq v source.0))
 
-pub placed_of : (net : Net) (out : List (List Arc)) (arcs : List Arc) (run : Run) (from : EventId) (start : GraphLabels) (st : Stack) (w : Waiting) → IsRunReady net out arcs run from start st w → run.base ≤ net.events → IsPlaced net run st w
+pub placed_of : (net : Net) (out : List (List Arc)) (arcs : List Arc) (run : Run) (from : EventId) (start : GraphLabels) (st : TrailView) (w : PendingView) → IsRunReady net out arcs run from start st w → run.base ≤ net.events → IsPlaced net run st w
 placed_of net out arcs run from start st w ready base =
     let slots = ready.slots in
     let few = ready.is_net.events in
     record { is_net = ready.is_net; slots = omega arith; halves = omega arith; most = omega arith; marks = ready.marks }
 
-pub feasible_running : (net : Net) (out : List (List Arc)) (arcs : List Arc) (from : EventId) (first : ℕ) (st : Stack) (w : Waiting) → IsRunReady net out arcs (feasible_run net from first) from zeros st w
+pub feasible_running : (net : Net) (out : List (List Arc)) (arcs : List Arc) (from : EventId) (first : ℕ) (st : TrailView) (w : PendingView) → IsRunReady net out arcs (feasible_run net from first) from zeros st w
     → IsRunning (scope_from net st first) (feasible_run net from first) st.current.stamps
 feasible_running net out arcs from first st w ready = record {
   old = st.current.stamps;
@@ -119,7 +119,7 @@ feasible_running net out arcs from first st w ready = record {
   ran = run_not (scope_from net st first) (feasible_run net from first) st.current.stamps ready.near;
 }
 
-pub upper_running : (net : Net) (out : List (List Arc)) (arcs : List Arc) (from source : EventId) (st : Stack) (w : Waiting) → IsRunReady net out arcs upper_run from (at_source source) st w → IsFeasible (scope_from net st 0) st.current.stamps
+pub upper_running : (net : Net) (out : List (List Arc)) (arcs : List Arc) (from source : EventId) (st : TrailView) (w : PendingView) → IsRunReady net out arcs upper_run from (at_source source) st w → IsFeasible (scope_from net st 0) st.current.stamps
     → IsRunning (scope_from net st 0) upper_run st.current.stamps
 upper_running net out arcs from source st w ready feasible = record {
   old = st.current.stamps;
@@ -132,7 +132,7 @@ upper_running net out arcs from source st w ready feasible = record {
 -- ---- after a fall
 
 -- what a fall has run from
-pub ran_of : (s : Scope) (run : Run) (a b : Stack) (u v : Waiting) (running : IsRunning s run a.current.stamps) → AreLabelsNear a.current.stamps → AreAbove s.net.events (labels_from a.current.stamps run.base) → RunsOn s run a b u v → RunHasFallen s run a.current.stamps b.current.stamps
+pub ran_of : (s : Scope) (run : Run) (a b : TrailView) (u v : PendingView) (running : IsRunning s run a.current.stamps) → AreLabelsNear a.current.stamps → AreAbove s.net.events (labels_from a.current.stamps run.base) → RunsOn s run a b u v → RunHasFallen s run a.current.stamps b.current.stamps
 ran_of s run a b u v running near above runs = runs.keeps a.current.stamps running.potential above running.meets (run_not s run a.current.stamps near)
 
 either_at : (old new : Stamp) → HasFallen old new → ((new.label ≡ old.label) × (new.parent ≡ old.parent)) ⊎ (is_lower new.label old.label ≡ true)
@@ -169,7 +169,7 @@ low_kept s run old new parent base forest low ran v label below is =
     (label_fallen (stamp_at old (s.net.events + v)) (stamp_at new (s.net.events + v)) (ran.fallen (s.net.events + v))) was.1 (low v was.0 below was.1) is
 
 -- the feasible times after a fall that settled
-pub feasible_after : (net : Net) (out : List (List Arc)) (arcs : List Arc) (from : EventId) (first : ℕ) (st : Stack) (w : Waiting) (new : List Stamp) → IsRunReady net out arcs (feasible_run net from first) from zeros st w → AreLow net.events st.current.stamps
+pub feasible_after : (net : Net) (out : List (List Arc)) (arcs : List Arc) (from : EventId) (first : ℕ) (st : TrailView) (w : PendingView) (new : List Stamp) → IsRunReady net out arcs (feasible_run net from first) from zeros st w → AreLow net.events st.current.stamps
     → RunHasFallen (scope_from net st first) (feasible_run net from first) st.current.stamps new → HaveSettled (scope_from net st first) (labels_from new net.events) → IsFeasible (scope_from net st first) new
 feasible_after net out arcs from first st w new ready low ran settled = record {
   slots = ran.count ∙ ready.slots;
@@ -231,7 +231,7 @@ feasible_stay s old new is_net count same feasible = record {
 }
 
 -- the labels from a source after a fall that settled
-pub settled_after : (net : Net) (out : List (List Arc)) (arcs : List Arc) (from source : EventId) (st : Stack) (w : Waiting) (new : List Stamp) → IsRunReady net out arcs upper_run from (at_source source) st w → source.0 < net.events → IsFeasible (scope_from net st 0) st.current.stamps
+pub settled_after : (net : Net) (out : List (List Arc)) (arcs : List Arc) (from source : EventId) (st : TrailView) (w : PendingView) (new : List Stamp) → IsRunReady net out arcs upper_run from (at_source source) st w → source.0 < net.events → IsFeasible (scope_from net st 0) st.current.stamps
     → RunHasFallen (scope_from net st 0) upper_run st.current.stamps new → HaveSettled (scope_from net st 0) (labels_from new 0) → IsSettled (scope_from net st 0) (Some source) new
 settled_after net out arcs from source st w new ready within feasible ran settled = record {
   feasible = feasible_stay (scope_from net st 0) st.current.stamps new ready.is_net ran.count (λ v below. ran.after (net.events + v) (omega arith)) feasible;
@@ -241,7 +241,7 @@ settled_after net out arcs from source st w new ready within feasible ran settle
 
 -- ---- the loop
 
-pub loop_of : (net : Net) (out : List (List Arc)) (arcs : List Arc) (from : EventId) (first : ℕ) (st : Stack) (w : Waiting) (new : List Stamp) (a : Arc) → IsRunReady net out arcs (feasible_run net from first) from zeros st w
+pub loop_of : (net : Net) (out : List (List Arc)) (arcs : List Arc) (from : EventId) (first : ℕ) (st : TrailView) (w : PendingView) (new : List Stamp) (a : Arc) → IsRunReady net out arcs (feasible_run net from first) from zeros st w
     → RunHasFallen (scope_from net st first) (feasible_run net from first) st.current.stamps new → Closes (scope_from net st first) (feasible_run net from first) new a → HasLoop net (with_stamps st new) a
 loop_of net out arcs from first st w new a ready ran closes =
     let s : Scope = scope_from net st first in
@@ -277,13 +277,13 @@ loop_of net out arcs from first st w new a ready ran closes =
       short = walk.short;
     }
 
-pub feasible_ran : (net : Net) (out : List (List Arc)) (arcs : List Arc) (from : EventId) (first : ℕ) (st st' : Stack) (w u u' : Waiting) → IsRunReady net out arcs (feasible_run net from first) from zeros st w
+pub feasible_ran : (net : Net) (out : List (List Arc)) (arcs : List Arc) (from : EventId) (first : ℕ) (st st' : TrailView) (w u u' : PendingView) → IsRunReady net out arcs (feasible_run net from first) from zeros st w
     → RunsOn (scope_from net st first) (feasible_run net from first) st st' u u' → RunHasFallen (scope_from net st first) (feasible_run net from first) st.current.stamps st'.current.stamps
 feasible_ran net out arcs from first st st' w u u' ready runs =
     ran_of (scope_from net st first) (feasible_run net from first) st st' u u' (feasible_running net out arcs from first st w ready) ready.near
     (zeros_above (scope_from net st first) (labels_from st.current.stamps net.events) (parents_from st.current.stamps net.events) ready.poised.forest) runs
 
-pub upper_ran : (net : Net) (out : List (List Arc)) (arcs : List Arc) (from source : EventId) (st st' : Stack) (w u u' : Waiting) → IsRunReady net out arcs upper_run from (at_source source) st w → IsFeasible (scope_from net st 0) st.current.stamps
+pub upper_ran : (net : Net) (out : List (List Arc)) (arcs : List Arc) (from source : EventId) (st st' : TrailView) (w u u' : PendingView) → IsRunReady net out arcs upper_run from (at_source source) st w → IsFeasible (scope_from net st 0) st.current.stamps
     → RunsOn (scope_from net st 0) upper_run st st' u u' → RunHasFallen (scope_from net st 0) upper_run st.current.stamps st'.current.stamps
 upper_ran net out arcs from source st st' w u u' ready feasible runs =
     ran_of (scope_from net st 0) upper_run st st' u u' (upper_running net out arcs from source st w ready feasible) ready.near

@@ -18,14 +18,14 @@ use Rattle.event_graph.specs.RootBound.{HasNoRoot, MeetsAlways}
 use Rattle.event_graph.specs.Times.{raised, separation, time_of}
 use Rattle.event_graph.proofs.Rays.{get_or-raised_in, get_or-raised_out, length-raised}
 use Rattle.trail.specs.declared.stamp.Stamp.{Stamp}
-use Rattle.trail.specs.Stack.{Graph, Stack}
+use Rattle.trail.specs.Stack.{Graph, TrailView}
 use Rattle.diff_bounds.specs.declared.arc.Arc.{Arc}
 use Rattle.diff_bounds.specs.Arcs.{AreAlwaysArcs, AreChosenArcs, IsArc}
 use Rattle.diff_bounds.specs.Current.{HasNoTimes, IsCurrent, IsLoop, IsPath, IsUpper, MeetsCurrent}
 use Rattle.diff_bounds.specs.Labels.{labels_from, number, parents_from}
 use Rattle.event_graph.specs.Limits.{IsReach, weight_limit}
 use Rattle.diff_bounds.specs.Settled.{AddsOne, AreSettled, IsFeasible, IsRootGraph, IsSettled, bottom, whole}
-use Rattle.diff_bounds.specs.Standing.{AreTimesOf, IsMadeFor, IsRayOf, Standing, Stands, chosen_of, feasible_of, lifted, upper_of}
+use Rattle.diff_bounds.specs.Standing.{AreTimesOf, IsMadeFor, IsRayOf, BoundsView, Stands, chosen_of, feasible_of, lifted, upper_of}
 use Rattle.diff_bounds.specs.Step.Timing.{AreInReach, IsInReach}
 use Rattle.diff_bounds.specs.Step.Walking.{HasLoop, IsOneClimb}
 use Rattle.diff_bounds.proofs.NamedWalks.{MeetsNamed, event, walk_bounds}
@@ -80,7 +80,7 @@ chosen_more net edges arcs a chosen here = record {
 -- ---- what stands
 
 -- a graph stands where all graphs have settled
-pub stands_on : (net : Net) (b b' : Standing) → IsMadeFor net b → b'.events ≡ b.events → b'.out ≡ b.out → b'.trail.levels ≡ b.trail.levels → b'.waiting ≡ b.waiting → AreSettled net b'.source b'.trail.current b'.trail.below
+pub stands_on : (net : Net) (b b' : BoundsView) → IsMadeFor net b → b'.events ≡ b.events → b'.out ≡ b.out → b'.trail.levels ≡ b.trail.levels → b'.waiting ≡ b.waiting → AreSettled net b'.source b'.trail.current b'.trail.below
     → AreChosenArcs net b'.trail.current.edges b'.arcs → Stands net b'
 stands_on net b b' made events out levels waiting settled chosen = record {
   made = record {
@@ -96,7 +96,7 @@ stands_on net b b' made events out levels waiting settled chosen = record {
   chosen = chosen;
 }
 
-pub stands_settled : (net : Net) (b : Standing) → Stands net b → IsSettled (whole net (chosen_of b)) b.source b.trail.current.stamps
+pub stands_settled : (net : Net) (b : BoundsView) → Stands net b → IsSettled (whole net (chosen_of b)) b.source b.trail.current.stamps
 stands_settled net b stands = current_settled net b.source b.trail.current b.trail.below stands.graphs
 
 bounding : (net : Net) (edges : List EdgeName) (source : EventId) (stamps : List Stamp) → IsNet net → IsSettled (whole net edges) (Some source) stamps
@@ -109,13 +109,13 @@ bounding net edges source stamps is_net settled = record {
   origin = settled.uppers.0;
 }
 
-pub stands_bounding : (net : Net) (b : Standing) (source : EventId) → Stands net b → b.source ≡ Some source
+pub stands_bounding : (net : Net) (b : BoundsView) (source : EventId) → Stands net b → b.source ≡ Some source
     → IsBounding net (chosen_of b) source (upper_of b) (labels_from b.trail.current.stamps net.events) (parents_from b.trail.current.stamps 0)
 stands_bounding net b source stands from =
     let P : Option EventId → Type 0 = λ o. IsSettled (whole net (chosen_of b)) o b.trail.current.stamps in
     bounding net (chosen_of b) source b.trail.current.stamps stands.made.is_net (subst P from (stands_settled net b stands))
 
-pub upper_greatest : (net : Net) (b : Standing) (source : EventId) (e : EventId) (label : Option ℤ) → Stands net b → b.source ≡ Some source → e.0 < b.events → upper_of b e.0 ≡ label → IsUpper net (chosen_of b) source e label
+pub upper_greatest : (net : Net) (b : BoundsView) (source : EventId) (e : EventId) (label : Option ℤ) → Stands net b → b.source ≡ Some source → e.0 < b.events → upper_of b e.0 ≡ label → IsUpper net (chosen_of b) source e label
 upper_greatest net b source e label stands from below at =
     let events = stands.made.events in
     is_upper net (chosen_of b) source (upper_of b) (labels_from b.trail.current.stamps net.events) (parents_from b.trail.current.stamps 0) (stands_bounding net b source stands from) e.0 label (omega arith) at
@@ -138,7 +138,7 @@ upper_reach net edges (Some source) stamps v is_net settled below =
     if_some (labels_from stamps 0 v) IsReach
     (λ label at. in_reach net edges source (labels_from stamps 0) (labels_from stamps net.events) (parents_from stamps 0) (bounding net edges source stamps is_net settled) v label below at)
 
-pub stands_reach : (net : Net) (b : Standing) → Stands net b → AreInReach b.events b.trail.current.stamps
+pub stands_reach : (net : Net) (b : BoundsView) → Stands net b → AreInReach b.events b.trail.current.stamps
 stands_reach net b stands v below =
     let events = stands.made.events in
     let settled = stands_settled net b stands in
@@ -150,12 +150,12 @@ stands_reach net b stands v below =
 -- ---- times
 
 -- the times of bounds from a source are lifted times
-times_lifted : (net : Net) (b : Standing) (times : List ℤ) → Stands net b → (are : AreTimesOf b times) → AreTimes net.events (lifted_by (upper_of b) (labels_from b.trail.current.stamps net.events) are.lift) times
+times_lifted : (net : Net) (b : BoundsView) (times : List ℤ) → Stands net b → (are : AreTimesOf b times) → AreTimes net.events (lifted_by (upper_of b) (labels_from b.trail.current.stamps net.events) are.lift) times
 times_lifted net b times stands are =
     let P : ℕ → Type 0 = λ n. AreTimes n (lifted_by (upper_of b) (labels_from b.trail.current.stamps n) are.lift) times in
     subst P stands.made.events (record { count = are.count; each = λ v below. are.each (event v) below })
 
-times_above : (net : Net) (b : Standing) (times : List ℤ) → Stands net b → (are : AreTimesOf b times) → (v : ℕ) (label : ℤ) → v < net.events → upper_of b v ≡ Some label → label ≤ℤ (number (labels_from b.trail.current.stamps net.events v) +ℤ are.lift)
+times_above : (net : Net) (b : BoundsView) (times : List ℤ) → Stands net b → (are : AreTimesOf b times) → (v : ℕ) (label : ℤ) → v < net.events → upper_of b v ≡ Some label → label ≤ℤ (number (labels_from b.trail.current.stamps net.events v) +ℤ are.lift)
 times_above net b times stands are =
     let P : ℕ → Type 0 = λ n. (v : ℕ) (label : ℤ) → v < n → upper_of b v ≡ Some label → label ≤ℤ (number (labels_from b.trail.current.stamps n v) +ℤ are.lift) in
     subst P stands.made.events are.is_lift
@@ -178,17 +178,17 @@ meet_by net edges None stamps lift times is_net settled above are = unsourced_me
 meet_by net edges (Some source) stamps lift times is_net settled above are =
     lifted_meet net edges source (labels_from stamps 0) (labels_from stamps net.events) (parents_from stamps 0) lift times (bounding net edges source stamps is_net settled) above are
 
-pub times_met : (net : Net) (b : Standing) (times : List ℤ) → Stands net b → AreTimesOf b times → MeetsCurrent net (chosen_of b) times
+pub times_met : (net : Net) (b : BoundsView) (times : List ℤ) → Stands net b → AreTimesOf b times → MeetsCurrent net (chosen_of b) times
 times_met net b times stands are =
     meet_by net (chosen_of b) b.source b.trail.current.stamps are.lift times stands.made.is_net (stands_settled net b stands) (times_above net b times stands are) (times_lifted net b times stands are)
 
-pub times_attain : (net : Net) (b : Standing) (times : List ℤ) (source e : EventId) (value : ℤ) → Stands net b → AreTimesOf b times → b.source ≡ Some source → e.0 < b.events → upper_of b e.0 ≡ Some value → separation times source e ≡ value
+pub times_attain : (net : Net) (b : BoundsView) (times : List ℤ) (source e : EventId) (value : ℤ) → Stands net b → AreTimesOf b times → b.source ≡ Some source → e.0 < b.events → upper_of b e.0 ≡ Some value → separation times source e ≡ value
 times_attain net b times source e value stands are from below at =
     let events = stands.made.events in
     lifted_attain net (chosen_of b) source (upper_of b) (labels_from b.trail.current.stamps net.events) (parents_from b.trail.current.stamps 0) are.lift times (stands_bounding net b source stands from)
     (times_lifted net b times stands are) e.0 value (omega arith) at
 
-pub times_origin : (net : Net) (b : Standing) (times : List ℤ) (source : EventId) → Stands net b → AreTimesOf b times → b.source ≡ Some source → time_of times source ≡ pos 0
+pub times_origin : (net : Net) (b : BoundsView) (times : List ℤ) (source : EventId) → Stands net b → AreTimesOf b times → b.source ≡ Some source → time_of times source ≡ pos 0
 times_origin net b times source stands are from =
     lifted_origin net (chosen_of b) source (upper_of b) (labels_from b.trail.current.stamps net.events) (parents_from b.trail.current.stamps 0) are.lift times (stands_bounding net b source stands from)
     (times_lifted net b times stands are)
@@ -198,7 +198,7 @@ raised_time : (o : Option ℤ) (f lift : ℤ) (by : ℕ) (time after : ℤ) → 
 raised_time None f lift by time after is up stay = let e : after ≡ time +ℤ pos by = up refl in omega (arith, ints)
 raised_time (Some z) f lift by time after is up stay = stay z refl ∙ is
 
-pub ray_raised : (net : Net) (b : Standing) (set : List Bool) (times : List ℤ) (by : ℕ) → IsRayOf b set → Stands net b → AreTimesOf b times → MeetsCurrent net (chosen_of b) (raised set by times)
+pub ray_raised : (net : Net) (b : BoundsView) (set : List Bool) (times : List ℤ) (by : ℕ) → IsRayOf b set → Stands net b → AreTimesOf b times → MeetsCurrent net (chosen_of b) (raised set by times)
 ray_raised net b set times by ray stands are =
     times_met net b (raised set by times) stands (record {
       count = length-raised set by times ∙ are.count;
@@ -221,7 +221,7 @@ has_times net edges stamps is_net feasible none =
     (times_meet net edges g (table g 0 net.events) is_net
     (new_potential (whole net edges) (labels_from stamps net.events) (parents_from stamps net.events) is_net feasible.labels.forest feasible.labels.settled) (table_times net.events g))
 
-pub loop_none : (net : Net) (st : Stack) (a : Arc) → HasLoop net st a → HasNoTimes net st.current.edges
+pub loop_none : (net : Net) (st : TrailView) (a : Arc) → HasLoop net st a → HasNoTimes net st.current.edges
 loop_none net st a loop times met =
     let names : List EdgeName = reverse loop.way ++ a.name ∷ [] in
     let all : All (MeetsNamed net times) names = λ k d below e is. met.each (get_or names k d) e (loop.current k d below) is in
@@ -229,7 +229,7 @@ loop_none net st a loop times met =
     let negative : path_sum net names <ℤ pos 0 = loop.negative in
     omega (arith, ints)
 
-pub loop_is : (net : Net) (st : Stack) (a : Arc) (edges walk : List EdgeName) → (h : HasLoop net st a) → st.current.edges ≡ edges → walk ≡ reverse h.way ++ a.name ∷ [] → IsLoop net edges walk
+pub loop_is : (net : Net) (st : TrailView) (a : Arc) (edges walk : List EdgeName) → (h : HasLoop net st a) → st.current.edges ≡ edges → walk ≡ reverse h.way ++ a.name ∷ [] → IsLoop net edges walk
 loop_is net st a edges walk h same is =
     let P : List EdgeName → Type 0 = λ names. IsLoop net edges names in
     let Q : List EdgeName → Type 0 = λ chosen. All (IsCurrent net chosen) (reverse h.way ++ a.name ∷ []) in
@@ -257,7 +257,7 @@ root_none net none times met = none times (always_meets net times met)
 
 -- ---- paths
 
-pub one_path : (net : Net) (b : Standing) (source e : EventId) (z : ℤ) → Stands net b → b.source ≡ Some source → e.0 < net.events → upper_of b e.0 ≡ Some z
+pub one_path : (net : Net) (b : BoundsView) (source e : EventId) (z : ℤ) → Stands net b → b.source ≡ Some source → e.0 < net.events → upper_of b e.0 ≡ Some z
     → (names : List EdgeName) × IsOneClimb net (parents_from b.trail.current.stamps 0) (parents_from b.trail.current.stamps 0) e.0 names source.0 × (length names < net.events) × IsPath net (chosen_of b) source e z (reverse names)
 one_path net b source e z stands from below at =
     let bounding = stands_bounding net b source stands from in
@@ -271,7 +271,7 @@ one_path net b source e z stands from below at =
     )
 
 -- the source has the label 0
-pub stands_source : (net : Net) (b : Standing) (source : EventId) → Stands net b → b.source ≡ Some source → upper_of b source.0 ≡ Some (pos 0)
+pub stands_source : (net : Net) (b : BoundsView) (source : EventId) → Stands net b → b.source ≡ Some source → upper_of b source.0 ≡ Some (pos 0)
 stands_source net b source stands from =
     let bounding = stands_bounding net b source stands from in
     source_zero (whole net (chosen_of b)) source (upper_of b) (parents_from b.trail.current.stamps 0) bounding.forest bounding.origin

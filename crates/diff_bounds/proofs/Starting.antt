@@ -11,7 +11,7 @@ use Rattle.event_graph.specs.declared.edge.Edge.{Edge}
 use Rattle.event_graph.specs.Edges.{edge}
 use Rattle.event_graph.specs.Network.{IsNet, Net}
 use Rattle.trail.specs.declared.stamp.Stamp.{Stamp}
-use Rattle.trail.specs.Stack.{Stack, empty_stamp}
+use Rattle.trail.specs.Stack.{TrailView, empty_stamp}
 use Rattle.diff_bounds.specs.declared.arc.Arc.{Arc}
 use Rattle.diff_bounds.specs.Arcs.{AreAlwaysArcs, AreChosenArcs, IsArc}
 use Rattle.diff_bounds.specs.Current.{IsCurrent}
@@ -19,7 +19,7 @@ use Rattle.diff_bounds.specs.Labels.{Follows, IsAmong, IsForest, GraphLabels, Pa
 use Rattle.diff_bounds.specs.Settled.{AreLabelsNear, HaveLabels, IsFeasible, IsSettled, at_source, whole, zeros}
 use Rattle.diff_bounds.specs.Step.Falling.{with_stamps}
 use Rattle.diff_bounds.specs.Step.Poised.{AreLow, AreRestFollowed, HasBegun, HasCleared, IsPoised, IsRunReady, feasible_run, scope_by, scope_from, upper_run, zero_stamp}
-use Rattle.diff_bounds.specs.Step.Waiting.{Waiting}
+use Rattle.diff_bounds.specs.Step.Waiting.{PendingView}
 use Rattle.diff_bounds.proofs.Networks.{edge_within}
 use Rattle.diff_bounds.proofs.Poising.{feasible_stay}
 use Rattle.diff_bounds.proofs.Runs.{stamp_other, stamp_same}
@@ -81,7 +81,7 @@ next_others net chosen first first' is name e among =
 pub no_arcs : (net : Net) (arcs : List Arc) → arcs ≡ [] → AreChosenArcs net [] arcs
 no_arcs net arcs none = subst (AreChosenArcs net []) (sym none) (record { each = All-nil (IsArc net); names = refl })
 
-pub ready_next : (net : Net) (out : List (List Arc)) (arcs : List Arc) (first first' : ℕ) (st : Stack) (w : Waiting) → IsNet net → AreAlwaysArcs net out → arcs ≡ [] → st.current.edges ≡ [] → first ≡ first' + 1 → first ≤ net.events → AreLabelsNear st.current.stamps
+pub ready_next : (net : Net) (out : List (List Arc)) (arcs : List Arc) (first first' : ℕ) (st : TrailView) (w : PendingView) → IsNet net → AreAlwaysArcs net out → arcs ≡ [] → st.current.edges ≡ [] → first ≡ first' + 1 → first ≤ net.events → AreLabelsNear st.current.stamps
     → IsFeasible (scope_from net st first) st.current.stamps → length w.marks ≡ net.events → IsRunReady net out arcs (feasible_run net (record { 0 = first' }) first') (record { 0 = first' }) zeros st w
 ready_next net out arcs first first' st w is_net always none edges is most near feasible marks = record {
   is_net = is_net;
@@ -184,10 +184,10 @@ seeded_at net old mid source within cleared v below =
           (label_zero (set mid source.0 zero_stamp) v ∙ ap (λ (x : Stamp). x.label) here ∙ sym (cond-false (nat_eq v source.0) (Some (pos 0)) None (ne_eqb v source.0 off)), parent_zero (set mid source.0 zero_stamp) v ∙ ap (λ (x : Stamp). x.parent) here)
     ]
 
-pub seeded_ready : (net : Net) (out : List (List Arc)) (arcs : List Arc) (old : List Stamp) (mid st : Stack) (source : EventId) (w : Waiting) → IsNet net → AreAlwaysArcs net out → arcs ≡ [] → mid.current.edges ≡ [] → source.0 < net.events → HasCleared net.events old mid.current.stamps
+pub seeded_ready : (net : Net) (out : List (List Arc)) (arcs : List Arc) (old : List Stamp) (mid st : TrailView) (source : EventId) (w : PendingView) → IsNet net → AreAlwaysArcs net out → arcs ≡ [] → mid.current.edges ≡ [] → source.0 < net.events → HasCleared net.events old mid.current.stamps
     → IsFeasible (whole net mid.current.edges) mid.current.stamps → st ≡ with_stamps mid (set mid.current.stamps source.0 zero_stamp) → length w.marks ≡ net.events → IsRunReady net out arcs upper_run source (at_source source) st w
 seeded_ready net out arcs old mid st source w is_net always none edges within cleared feasible is marks =
-    let P : Stack → Type 0 = λ x. IsRunReady net out arcs upper_run source (at_source source) x w in
+    let P : TrailView → Type 0 = λ x. IsRunReady net out arcs upper_run source (at_source source) x w in
     let new : List Stamp = set mid.current.stamps source.0 zero_stamp in
     let s : Scope = whole net mid.current.edges in
     let slots = feasible.slots in

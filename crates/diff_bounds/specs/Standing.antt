@@ -5,7 +5,7 @@ use Rattle.itv_base.specs.declared.names.EdgeName.{EdgeName}
 use Rattle.itv_base.specs.declared.names.EventId.{EventId}
 use Rattle.event_graph.specs.Network.{IsNet, Net, splittable_count}
 use Rattle.event_graph.specs.Times.{time_of}
-use Rattle.trail.specs.Stack.{Stack}
+use Rattle.trail.specs.Stack.{TrailView}
 use Rattle.diff_bounds.specs.declared.arc.Arc.{Arc}
 use Rattle.diff_bounds.specs.declared.bounds.Bounds.TheInside.{Inside}
 use Rattle.diff_bounds.specs.Arcs.{AreAlwaysArcs, AreChosenArcs}
@@ -15,17 +15,17 @@ use Rattle.diff_bounds.specs.Settled.{AreSettled, IsRootGraph, bottom}
 
 -- the number of events, the always-edges by the event where they start, the chosen edges, the stack of graphs, how many events the queue is made for,
 -- whether the feasible times of the first graph have settled, the source, and the walk that was found last
-pub record Standing : Type 0 where
+pub record BoundsView : Type 0 where
   pub events : ℕ
   pub out : List (List Arc)
   pub arcs : List Arc
-  pub trail : Stack
+  pub trail : TrailView
   pub waiting : ℕ
   pub settled : Bool
   pub source : Option EventId
   pub walk : List EdgeName
 
-abbrev pub standing_in : Inside → Standing
+abbrev pub standing_in : Inside → BoundsView
 standing_in b = record {
   events = b.events;
   out = b.out;
@@ -47,7 +47,7 @@ pub record HasRoom (b : Inside) : Type 0 where
   pub events : b.events ≤ MAX_EVENTS
 
 -- the bounds are made for a network: the trail has two slots for each event, and a level for each constraint with two or more causes
-pub record IsMadeFor (net : Net) (b : Standing) : Type 0 where
+pub record IsMadeFor (net : Net) (b : BoundsView) : Type 0 where
   pub is_net : IsNet net
   pub events : b.events ≡ net.events
   pub out : AreAlwaysArcs net b.out
@@ -57,21 +57,21 @@ pub record IsMadeFor (net : Net) (b : Standing) : Type 0 where
   pub root : IsTrue b.settled → IsRootGraph net (bottom b.trail.current b.trail.below)
 
 -- a graph stands: the labels of all graphs of the stack have settled
-pub record Stands (net : Net) (b : Standing) : Type 0 where
+pub record Stands (net : Net) (b : BoundsView) : Type 0 where
   pub made : IsMadeFor net b
   pub graphs : AreSettled net b.source b.trail.current b.trail.below
   pub chosen : AreChosenArcs net b.trail.current.edges b.arcs
 
 -- the chosen edges of the current graph, the latest one last
-abbrev pub chosen_of : Standing → List EdgeName
+abbrev pub chosen_of : BoundsView → List EdgeName
 chosen_of b = b.trail.current.edges
 
 -- the label of an event from the source; its slot in the trail is the number of the event
-abbrev pub upper_of : Standing → ℕ → Option ℤ
+abbrev pub upper_of : BoundsView → ℕ → Option ℤ
 upper_of b event = labels_from b.trail.current.stamps 0 event
 
 -- the feasible time of an event; its slot is in the second half
-abbrev pub feasible_of : Standing → ℕ → ℤ
+abbrev pub feasible_of : BoundsView → ℕ → ℤ
 feasible_of b event = number (labels_from b.trail.current.stamps b.events event)
 
 -- a label, or a time where there is no label
@@ -80,24 +80,24 @@ lifted None time = time
 lifted (Some label) time = label
 
 -- a number that makes feasible times late enough: no label from the source is above the feasible time of its event plus this number
-abbrev pub IsLift : Standing → ℤ → Type 0
+abbrev pub IsLift : BoundsView → ℤ → Type 0
 IsLift b lift = (event : ℕ) (label : ℤ) → event < b.events → upper_of b event ≡ Some label → label ≤ℤ (feasible_of b event +ℤ lift)
 
 -- the times that `times_into` writes: an event with a label from the source has this label as its time; each other event has its feasible time plus
 -- one number, which is the same for all
-pub record AreTimesOf (b : Standing) (times : List ℤ) : Type 0 where
+pub record AreTimesOf (b : BoundsView) (times : List ℤ) : Type 0 where
   pub count : length times ≡ b.events
   pub lift : ℤ
   pub is_lift : IsLift b lift
   pub each : (event : EventId) → event.0 < b.events → time_of times event ≡ lifted (upper_of b event.0) (feasible_of b event.0 +ℤ lift)
 
 -- a flag for each event: whether it has no label from the source
-pub record IsRayOf (b : Standing) (set : List Bool) : Type 0 where
+pub record IsRayOf (b : BoundsView) (set : List Bool) : Type 0 where
   pub count : length set ≡ b.events
   pub each : (event : EventId) → event.0 < b.events → slice_get set event.0 ≡ Some (is_none (upper_of b event.0))
 
 -- a descent put one graph on the stack: its edges are the old ones, and the choice if this names an edge; each stamp is as it was or lower
-pub record HasDescended (net : Net) (choice : EdgeName) (old new : Standing) : Type 0 where
+pub record HasDescended (net : Net) (choice : EdgeName) (old new : BoundsView) : Type 0 where
   pub levels : new.trail.levels ≡ old.trail.levels
   pub below : new.trail.below ≡ old.trail.current ∷ old.trail.below
   pub edges : chosen_of new ≡ with_choice net (chosen_of old) choice

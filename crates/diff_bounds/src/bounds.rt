@@ -55,9 +55,9 @@ pub struct Bounds {
 }
 
 impl Model for Bounds {
-    ghost use Rattle.diff_bounds.specs.Standing.{HasRoom, Standing, standing_in};
+    ghost use Rattle.diff_bounds.specs.Standing.{HasRoom, BoundsView, standing_in};
 
-    ghost Value = { Standing };
+    ghost Value = { BoundsView };
 
     ghost view = { standing_in };
 

@@ -22,9 +22,9 @@ pub struct ChosenEdges {
 }
 
 impl Model for ChosenEdges {
-    ghost use Rattle.diff_bounds.specs.Step.Chosen.{AreKept, Chosen, chosen_in};
+    ghost use Rattle.diff_bounds.specs.Step.Chosen.{AreKept, ChosenEdgesView, chosen_in};
 
-    ghost Value = { Chosen };
+    ghost Value = { ChosenEdgesView };
 
     ghost view = { chosen_in };
 

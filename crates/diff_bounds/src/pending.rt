@@ -22,9 +22,9 @@ pub struct Pending {
 }
 
 impl Model for Pending {
-    ghost use Rattle.diff_bounds.specs.Step.Waiting.{IsQueue, Waiting, waiting_in};
+    ghost use Rattle.diff_bounds.specs.Step.Waiting.{IsQueue, PendingView, waiting_in};
 
-    ghost Value = { Waiting };
+    ghost Value = { PendingView };
 
     ghost view = { waiting_in };
 

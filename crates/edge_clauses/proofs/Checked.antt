@@ -4,7 +4,7 @@ use Rattle.itv_base.specs.declared.text.NoMemory.{NoMemory}
 use Rattle.event_graph.specs.Network.{Net}
 use Rattle.falling.specs.DerivationEnds.{AreLimits}
 use Rattle.edge_clauses.specs.Lines.{ClauseLine, Goal, IsLine, ProofLeads, State, claiming, starting}
-use Rattle.edge_clauses.specs.Checking.{Checking, IsChecking, TakesLine}
+use Rattle.edge_clauses.specs.Checking.{ClauseCheckerView, IsChecking, TakesLine}
 use Rattle.edge_clauses.specs.Laws.{RaisedKeepsChecking, StartIsChecking, TakenLineKeepsChecking}
 use Rattle.edge_clauses.proofs.Proving.{claim_can_rise}
 
@@ -55,7 +55,7 @@ raised_keeps_checking net old new claim checking more same_limits is_goal same_s
     }
 
 -- `IsChecking` holds after a line, whether it was taken, refused, or memory was lacking
-pub still_checking : (net : Net) (old new : Checking) (line : ClauseLine) (r : Result Bool NoMemory) → IsChecking net old → IfOk r (λ taken. IsTrue taken → TakesLine net old line new)
+pub still_checking : (net : Net) (old new : ClauseCheckerView) (line : ClauseLine) (r : Result Bool NoMemory) → IsChecking net old → IfOk r (λ taken. IsTrue taken → TakesLine net old line new)
     → IfOk r (λ taken. IsFalse taken → new ≡ old) → OnErr r (new ≡ old) → IsChecking net new
 still_checking net old new line (Ok true) checking takes refused lacking = taken_line_keeps_checking net old new line checking (takes refl)
 still_checking net old new line (Ok false) checking takes refused lacking = subst (IsChecking net) (sym (refused refl)) checking

@@ -4,7 +4,7 @@ use Rattle.std.proofs.lemmas.List.{map-append}
 use Rattle.itv_base.specs.declared.names.EventId.{EventId}
 use Rattle.event_graph.specs.Network.{Net}
 use Rattle.falling.specs.DerivationEnds.{AreLimits}
-use Rattle.edge_clauses.specs.Checking.{Checking, TakesLine}
+use Rattle.edge_clauses.specs.Checking.{ClauseCheckerView, TakesLine}
 use Rattle.edge_clauses.specs.Lines.{ClauseLine, Goal, ProofLeads, State, claiming, starting}
 use Rattle.edge_clauses.proofs.Checked.{leads_more, raised_keeps_checking, start_is_checking, taken_line_keeps_checking, led_in}
 use Rattle.edge_clauses.proofs.Proving.{claim_can_rise}
@@ -12,7 +12,7 @@ use Rattle.edge_clauses.specs.declared.line.StoredLine.{StoredLine}
 use Rattle.edge_clauses.specs.Proofs.{IsProving, line_of, lines_of}
 
 -- the empty list of lines leads to the start
-pub start_proving : (net : Net) (check : Checking) (lines : List StoredLine) (from to : EventId) (claim : ℤ) → AreLimits net check.limits
+pub start_proving : (net : Net) (check : ClauseCheckerView) (lines : List StoredLine) (from to : EventId) (claim : ℤ) → AreLimits net check.limits
     → check.goal ≡ record { from = from; to = to; claim = claim } → check.state ≡ starting net from → from.0 < net.events → to.0 < net.events → lines ≡ []
     → IsProving net (record { check = check; lines = lines })
 start_proving net check lines from to claim are_limits is_goal is_start in_from in_to none =
@@ -25,7 +25,7 @@ start_proving net check lines from to claim are_limits is_goal is_start in_from 
     })
 
 -- a line that is taken comes after the others
-pub taken_proving : (net : Net) (check next : Checking) (lines : List StoredLine) (line : StoredLine) → IsProving net (record { check = check; lines = lines })
+pub taken_proving : (net : Net) (check next : ClauseCheckerView) (lines : List StoredLine) (line : StoredLine) → IsProving net (record { check = check; lines = lines })
     → TakesLine net check (line_of line) next → IsProving net (record { check = next; lines = lines ++ line ∷ [] })
 taken_proving net check next lines line proving takes = record {
   checking = taken_line_keeps_checking net check next (line_of line) proving.checking takes;
@@ -35,7 +35,7 @@ taken_proving net check next lines line proving takes = record {
 }
 
 -- the lines still lead to the checker's state where the claim is raised
-pub raised_proving : (net : Net) (old new : Checking) (lines : List StoredLine) (claim : ℤ) → IsProving net (record { check = old; lines = lines })
+pub raised_proving : (net : Net) (old new : ClauseCheckerView) (lines : List StoredLine) (claim : ℤ) → IsProving net (record { check = old; lines = lines })
     → old.goal.claim ≤ℤ claim → new.limits ≡ old.limits → new.goal ≡ claiming old.goal claim → new.state ≡ old.state
     → IsProving net (record { check = new; lines = lines })
 raised_proving net old new lines claim proving more same_limits is_goal same_state = record {

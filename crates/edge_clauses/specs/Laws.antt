@@ -9,7 +9,7 @@ use Rattle.falling.specs.Cap.{far_line}
 use Rattle.falling.specs.DerivationEnds.{AreLimits}
 use Rattle.falling.specs.Kinds.{negated}
 use Rattle.edge_clauses.specs.Lines.{ClauseLine, Goal, IsClauseProof, ProofLeads, State, claiming, starting}
-use Rattle.edge_clauses.specs.Checking.{Checking, IsChecking, TakesLine}
+use Rattle.edge_clauses.specs.Checking.{ClauseCheckerView, IsChecking, TakesLine}
 
 -- if the claim of a proof is below the far line, no satisfying times have a greater separation of the pair
 abbrev pub ClauseProofBounds : Type 0
@@ -45,14 +45,14 @@ ProofAndTimesClose = (net : Net) (goal : Goal) (lines : List ClauseLine) (times 
 
 -- `IsChecking` holds of a checker at the start of a goal
 abbrev pub StartIsChecking : Type 0
-StartIsChecking = (net : Net) (check : Checking) → AreLimits net check.limits → check.goal.from.0 < net.events → check.goal.to.0 < net.events
+StartIsChecking = (net : Net) (check : ClauseCheckerView) → AreLimits net check.limits → check.goal.from.0 < net.events → check.goal.to.0 < net.events
     → check.state ≡ starting net check.goal.from → IsChecking net check
 
 -- `IsChecking` still holds after a checker takes a line
 abbrev pub TakenLineKeepsChecking : Type 0
-TakenLineKeepsChecking = (net : Net) (old new : Checking) (line : ClauseLine) → IsChecking net old → TakesLine net old line new → IsChecking net new
+TakenLineKeepsChecking = (net : Net) (old new : ClauseCheckerView) (line : ClauseLine) → IsChecking net old → TakesLine net old line new → IsChecking net new
 
 -- `IsChecking` still holds after a checker raises its claim
 abbrev pub RaisedKeepsChecking : Type 0
-RaisedKeepsChecking = (net : Net) (old new : Checking) (claim : ℤ) → IsChecking net old → old.goal.claim ≤ℤ claim → new.limits ≡ old.limits → new.goal ≡ claiming old.goal claim
+RaisedKeepsChecking = (net : Net) (old new : ClauseCheckerView) (claim : ℤ) → IsChecking net old → old.goal.claim ≤ℤ claim → new.limits ≡ old.limits → new.goal ≡ claiming old.goal claim
     → new.state ≡ old.state → IsChecking net new

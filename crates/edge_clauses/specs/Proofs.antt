@@ -7,7 +7,7 @@ use Rattle.falling.specs.declared.view.View.TheVariants.{Plain, Negated}
 use Rattle.falling.specs.Kinds.{negated}
 use Rattle.edge_clauses.specs.declared.line.StoredLine.{StoredLine}
 use Rattle.edge_clauses.specs.declared.line.StoredLine.TheVariants.{Fall as FallTo, Rise as RiseTo, Know as KnowBy, Loop as LoopBack, Assume as AssumeAll, Close as CloseBlock}
-use Rattle.edge_clauses.specs.Checking.{Checking, IsChecking}
+use Rattle.edge_clauses.specs.Checking.{ClauseCheckerView, IsChecking}
 use Rattle.edge_clauses.specs.Lines.{Assume, ClauseLine, Close, Fall, IsClauseProof, Know, Loop, ProofLeads, Rise, starting}
 
 -- the line of a proof that is stored
@@ -29,11 +29,11 @@ IsProofAs Plain net from to claim lines = IsClauseProof net (record { from = fro
 IsProofAs Negated net from to claim lines = IsClauseProof (negated net) (record { from = to; to = from; claim = claim }) (lines_of lines)
 
 -- a checker, and the lines that it has taken
-pub record Proving : Type 0 where
-  pub check : Checking
+pub record ProverView : Type 0 where
+  pub check : ClauseCheckerView
   pub lines : List StoredLine
 
 -- the lines lead from the start to the state of the checker
-pub record IsProving (net : Net) (proving : Proving) : Type 0 where
+pub record IsProving (net : Net) (proving : ProverView) : Type 0 where
   pub checking : IsChecking net proving.check
   pub lines : ProofLeads net proving.check.goal (starting net proving.check.goal.from) (lines_of proving.lines) proving.check.state

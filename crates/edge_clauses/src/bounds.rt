@@ -37,9 +37,9 @@ pub struct EventBounds {
 }
 
 impl Model for EventBounds {
-    ghost use Rattle.edge_clauses.specs.Step.Bounding.{AreCrossedAs, BoundPair, pair_of};
+    ghost use Rattle.edge_clauses.specs.Step.Bounding.{AreCrossedAs, EventBoundsView, pair_of};
 
-    ghost Value = { BoundPair };
+    ghost Value = { EventBoundsView };
 
     ghost view = { λ b. pair_of b.changes.items b.up.items b.low.items };
 

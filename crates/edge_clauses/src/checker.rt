@@ -37,9 +37,9 @@ pub struct ClauseChecker {
 }
 
 impl Model for ClauseChecker {
-    ghost use Rattle.edge_clauses.specs.Checking.{Checking};
+    ghost use Rattle.edge_clauses.specs.Checking.{ClauseCheckerView};
 
-    ghost Value = { Checking };
+    ghost Value = { ClauseCheckerView };
 
     ghost use Rattle.edge_clauses.specs.Step.Standing.{check_of};
 

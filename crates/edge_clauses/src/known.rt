@@ -30,9 +30,9 @@ pub struct KnownEdges {
 
 impl Model for KnownEdges {
     ghost use Rattle.std.specs.Prelude.{◌≤◌, length, take};
-    ghost use Rattle.edge_clauses.specs.Step.Knowing.{IsChained, KnownPair};
+    ghost use Rattle.edge_clauses.specs.Step.Knowing.{IsChained, KnownEdgesView};
 
-    ghost Value = { KnownPair };
+    ghost Value = { KnownEdgesView };
 
     ghost view = { λ k. record { outside = take k.outside k.chains.edges.items; now = k.chains.edges.items } };
 

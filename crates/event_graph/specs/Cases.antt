@@ -4,7 +4,7 @@ use Rattle.event_graph.specs.Network.{Net}
 use Rattle.event_graph.specs.Proof.{Case, MaySplit, cases_from, count_causes}
 
 -- the number of constraints for which there is room, and the choices of a case, the latest one first
-pub record Chosen : Type 0 where
+pub record DecisionsView : Type 0 where
   pub room : ℕ
   pub chosen : Case
 

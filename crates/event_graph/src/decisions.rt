@@ -20,10 +20,10 @@ pub struct Decisions {
 }
 
 impl Model for Decisions {
-    ghost use Rattle.event_graph.specs.Cases.{Chosen};
+    ghost use Rattle.event_graph.specs.Cases.{DecisionsView};
     ghost use Rattle.event_graph.specs.Step.Noted.{IsNoted, chosen_in};
 
-    ghost Value = { Chosen };
+    ghost Value = { DecisionsView };
 
     ghost view = { chosen_in };
 

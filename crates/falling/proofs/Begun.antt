@@ -8,7 +8,7 @@ use Rattle.falling.specs.declared.fault.FallCheckFault.{FallCheckFault}
 use Rattle.falling.specs.declared.fault.FallCheckFault.TheVariants.{AfterEnd, NotLower, NoEdge, NoLate, WrongValue}
 use Rattle.falling.specs.declared.limits.Limits.{Limits}
 use Rattle.falling.specs.declared.line.FallLine.{FallLine}
-use Rattle.falling.specs.Checking.{Checking, IsBegun, IsCheckFault, IsFallCheckFault}
+use Rattle.falling.specs.Checking.{FallCheckerView, IsBegun, IsCheckFault, IsFallCheckFault}
 use Rattle.falling.specs.Step.DerivationEnds.{EndsDerivation}
 use Rattle.falling.specs.Derivation.{IsLineAllowed, IsEnded, fallen, starting_values}
 use Rattle.falling.proofs.Counting.{due_within}
@@ -25,13 +25,13 @@ line_fault_is net from values line (WrongValue due) goes_on h = (goes_on, h)
 not_true : (b : Bool) → b ≡ false → IsTrue b → ⊥
 not_true b is_false is_true = cc
 
-pub open_checker : (net : Net) (check : Checking) → IsBegun net check → check.ended ≡ false → IsEnded net check.source check.values → ⊥
+pub open_checker : (net : Net) (check : FallCheckerView) → IsBegun net check → check.ended ≡ false → IsEnded net check.source check.values → ⊥
 open_checker net check begun goes_on ended = not_true check.ended goes_on (begun.ended.1 ended)
 
-abbrev pub checking : Limits → EventId → List ℤ → Bool → Checking
+abbrev pub checking : Limits → EventId → List ℤ → Bool → FallCheckerView
 checking limits source values ended = record { limits = limits; source = source; values = values; ended = ended }
 
-pub begun_after : (net : Net) (check : Checking) (line : FallLine) (values : List ℤ) (ended : Bool) → IsNet net → IsBegun net check → check.ended ≡ false
+pub begun_after : (net : Net) (check : FallCheckerView) (line : FallLine) (values : List ℤ) (ended : Bool) → IsNet net → IsBegun net check → check.ended ≡ false
     → IsLineAllowed net check.values line → values ≡ fallen check.values line → (IsTrue ended ↔ EndsDerivation line check.source check.limits.lowest)
     → IsBegun net (checking check.limits check.source values ended)
 begun_after net check line values ended is_net begun goes_on allowed is ends =
@@ -55,15 +55,15 @@ begun_after net check line values ended is_net begun goes_on allowed is ends =
     })
 
 -- the same of a checker that is given by its parts
-pub begun_at : (net : Net) (check before : Checking) (line : FallLine) (values given : List ℤ) (ended : Bool) → before ≡ check → IsNet net → IsBegun net check → before.ended ≡ false
+pub begun_at : (net : Net) (check before : FallCheckerView) (line : FallLine) (values given : List ℤ) (ended : Bool) → before ≡ check → IsNet net → IsBegun net check → before.ended ≡ false
     → given ≡ before.values → IsLineAllowed net given line → values ≡ fallen given line → (IsTrue ended ↔ EndsDerivation line before.source before.limits.lowest)
     → IsBegun net (checking before.limits before.source values ended)
 begun_at net check before line values given ended same is_net begun goes_on is_given allowed is ends =
     begun_after net before line values ended is_net (subst (IsBegun net) (sym same) begun) goes_on (subst (λ v. IsLineAllowed net v line) is_given allowed)
     (is ∙ ap (λ v. fallen v line) is_given) ends
 
-pub fault_at : (net : Net) (check before : Checking) (line : FallLine) (given : List ℤ) (fault : FallCheckFault) → before ≡ check → IsBegun net check → before.ended ≡ false
+pub fault_at : (net : Net) (check before : FallCheckerView) (line : FallLine) (given : List ℤ) (fault : FallCheckFault) → before ≡ check → IsBegun net check → before.ended ≡ false
     → given ≡ before.values → IsFallCheckFault net given line fault → IsCheckFault net check.source check.values line fault
 fault_at net check before line given fault same begun goes_on is_given h =
-    line_fault_is net check.source check.values line fault (open_checker net check begun (ap (λ (x : Checking). x.ended) (sym same) ∙ goes_on))
-    (subst (λ v. IsFallCheckFault net v line fault) (is_given ∙ ap (λ (x : Checking). x.values) same) h)
+    line_fault_is net check.source check.values line fault (open_checker net check begun (ap (λ (x : FallCheckerView). x.ended) (sym same) ∙ goes_on))
+    (subst (λ v. IsFallCheckFault net v line fault) (is_given ∙ ap (λ (x : FallCheckerView). x.values) same) h)

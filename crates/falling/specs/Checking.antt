@@ -51,19 +51,19 @@ IsCheckFault net from values line NoLate = (IsEnded net from values → ⊥) × 
 IsCheckFault net from values line (WrongValue due) = (IsEnded net from values → ⊥) × IsFallCheckFault net values line (WrongValue due)
 
 -- the state of a checker: its limits, its source, the values, and whether the derivation has ended
-pub record Checking : Type 0 where
+pub record FallCheckerView : Type 0 where
   pub limits : Limits
   pub source : EventId
   pub values : List ℤ
   pub ended : Bool
 
 -- a checker made for a network
-pub record IsCheckerFor (net : Net) (check : Checking) : Type 0 where
+pub record IsCheckerFor (net : Net) (check : FallCheckerView) : Type 0 where
   pub limits : AreLimits net check.limits
   pub count : length check.values ≡ net.events
 
 -- a checker that was begun: a derivation from its source gives the values
-pub record IsBegun (net : Net) (check : Checking) : Type 0 where
+pub record IsBegun (net : Net) (check : FallCheckerView) : Type 0 where
   pub made : IsCheckerFor net check
   pub source : check.source.0 < net.events
   pub lines : (lines : List FallLine) × IsDerivation net check.source lines check.values

@@ -21,7 +21,7 @@ use Rattle.falling.specs.View.{IsViewOf}
 
 -- the state of a solver: the negation, if it is the network that is solved; the limits; a number of turns that is enough; the agenda; the times, the ray
 -- and the turns of the last answer
-pub record Solving : Type 0 where
+pub record FallingView : Type 0 where
   pub negation : Option Net
   pub limits : Limits
   pub enough : ℕ
@@ -41,7 +41,7 @@ solved net None = net
 solved net (Some negation) = negation
 
 -- a solver made for a network
-pub record IsMadeFor (net : Net) (solving : Solving) : Type 0 where
+pub record IsMadeFor (net : Net) (solving : FallingView) : Type 0 where
   pub negation : IsNegationOf net solving.negation
   pub limits : AreLimits net solving.limits
   pub enough : solving.enough ≡ enough_turns net

@@ -30,9 +30,9 @@ pub struct FallChecker {
 }
 
 impl Model for FallChecker {
-    ghost use Rattle.falling.specs.Checking.{Checking};
+    ghost use Rattle.falling.specs.Checking.{FallCheckerView};
 
-    ghost Value = { Checking };
+    ghost Value = { FallCheckerView };
 
     ghost view = { λ f. record { limits = f.limits; source = f.source; values = f.values.items; ended = f.is_ended } };
 }

@@ -44,9 +44,9 @@ pub struct Falling {
 
 impl Model for Falling {
     ghost use Rattle.falling.specs.Fallen.{asked_of};
-    ghost use Rattle.falling.specs.Solving.{Solving};
+    ghost use Rattle.falling.specs.Solving.{FallingView};
 
-    ghost Value = { Solving };
+    ghost Value = { FallingView };
 
     ghost view = { λ f. record { negation = f.negation; limits = f.guide.limits; enough = f.enough; agenda = f.guide.agenda; times = f.times.items; ray = f.ray.items; turns = f.turns } };
 }

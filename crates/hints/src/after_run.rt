@@ -3,13 +3,13 @@
 use crate::answered::put_answered;
 use crate::budget::put_open;
 use crate::margin_fault::put_margin_refusal;
+use command_words::{Invocation, PlanJob, Task, read_words};
 use itv_base::{NoMemory, Shelf, Texts};
 use refusal_hints::{
     Hint, Looked, NameLook, can_read_again, files_of, put_refusal, put_unread, put_words_fault,
     words_fault,
 };
 use std::alloc::Global;
-use words::{Invocation, PlanJob, Task, read_words};
 
 // What is said where a reading does not show why something was refused.
 const REFUSED: &str = "docs/drawing.md says under \"Refusals\" what this line means";

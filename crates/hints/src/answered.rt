@@ -2,10 +2,10 @@
 
 use crate::counted::put_warnings;
 use crate::unbounded::put_unbounded;
-use drawn::DrawnNetwork;
+use design_plan::Plan;
+use design_reading::{draw_plan, open_plan};
+use drawn_networks::DrawnNetwork;
 use itv_base::Shelf;
-use plan::Plan;
-use reading::{draw_plan, open_plan};
 use refusal_hints::Hint;
 
 // The status of a run where some requirement is broken.

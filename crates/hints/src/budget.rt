@@ -1,7 +1,7 @@
 //! What is said of a run whose budget ended a search.
 
+use command_words::{SearchJob, Task};
 use refusal_hints::Hint;
-use words::{SearchJob, Task};
 
 /// Puts that the budget left an answer open, be it to a question or to a requirement, and what may settle the answer.
 pub fn put_open(hint: &mut Hint, task: Task<'_>) {

@@ -2,9 +2,9 @@
 
 use crate::lint_cost::{cases_for, is_countable};
 use crate::lint_count::{LintCount, count_drawn, count_searched};
-use drawn::DrawnNetwork;
+use design_plan::Plan;
+use drawn_networks::DrawnNetwork;
 use itv_base::NoMemory;
-use plan::Plan;
 use refusal_hints::Hint;
 use std::alloc::Global;
 

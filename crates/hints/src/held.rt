@@ -2,7 +2,7 @@
 
 ghost use Rattle.std.specs.Prelude.{◌<◌, length};
 
-use drawn::DrawnNetwork;
+use drawn_networks::DrawnNetwork;
 use event_graph::{Edge, Network};
 use itv_base::{EdgeName, EventId, NoMemory, Side};
 use origin::Origin;

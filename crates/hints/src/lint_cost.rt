@@ -4,9 +4,9 @@ ghost use Rattle.std.specs.Prelude.{◌≤◌, IfSome};
 ghost use Rattle.itv_base.specs.declared.limits.TheConstants.{MAX_BUDGET};
 
 use compose::SheetKey;
-use drawn::DrawnNetwork;
+use design_plan::Plan;
+use drawn_networks::DrawnNetwork;
 use itv_base::NoMemory;
-use plan::Plan;
 use std::alloc::Global;
 
 // The most edges and pins of a design whose drawing is looked at for a hint. The time of job lint grows with their square.

@@ -3,17 +3,16 @@
 ghost use Rattle.std.specs.Prelude.{◌≡◌, ◌≤◌, Ok};
 ghost use Rattle.compose.specs.Compose.{composed_on};
 ghost use Rattle.itv_base.specs.declared.limits.TheConstants.{MAX_BUDGET};
-ghost use Rattle.plan.specs.Plan.{sheets_on};
+ghost use Rattle.design_plan.specs.Plan.{sheets_on};
 
 use compose::{Design, compose};
-use drawn::DrawnNetwork;
+use design_plan::Plan;
+use drawn_networks::DrawnNetwork;
 use itv_base::{NoMemory, SinkMem};
-use lint_report::write_lint;
-use notes::Notes;
-use origin::Origin;
-use plan::Plan;
+use job_lint::write_lint;
+use lint::{DrawnPlace, Warning, warnings_of};
+use origin::{Notes, Origin};
 use std::alloc::Global;
-use warnings::{DrawnPlace, Warning, warnings_of};
 
 /// How many warnings job lint has, as far as it was looked.
 #[derive(Clone, Copy)]

@@ -1,11 +1,11 @@
 //! Why job margin refuses a design with too many numbers, or a list of numbers.
 
-use drawn::DrawnNetwork;
+use design_plan::Plan;
+use design_reading::{draw_plan, open_plan};
+use drawn_networks::DrawnNetwork;
 use itv_base::{NoMemory, Shelf};
-use margin_report::{ListFault, read_numbers};
+use job_margin::{ListFault, read_numbers};
 use moves::numbers_of;
-use plan::Plan;
-use reading::{draw_plan, open_plan};
 use refusal_hints::{Hint, put_too_many};
 use unroll::{Limit, MAX_NUMBERS};
 

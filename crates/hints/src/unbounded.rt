@@ -1,7 +1,7 @@
 //! Events of requirements that nothing bounds.
 
 use crate::held::{Held, Holder, holders_of};
-use drawn::{DrawnNetwork, Row};
+use drawn_networks::{DrawnNetwork, Row};
 use itv_base::{EventId, NoMemory, RowKind, Side};
 use refusal_hints::Hint;
 

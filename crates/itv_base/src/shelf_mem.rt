@@ -39,9 +39,9 @@ pub struct ShelfMem {
 
 impl Model for ShelfMem {
     ghost use Rattle.std.specs.FinMap as map;
-    ghost use Rattle.itv_base.specs.Memory.{MemShelf, mem_shelf_code};
+    ghost use Rattle.itv_base.specs.Memory.{ShelfMemView, mem_shelf_code};
 
-    ghost Value = { MemShelf };
+    ghost Value = { ShelfMemView };
 
     ghost coded = { mem_shelf_code };
 

@@ -22,9 +22,9 @@ pub struct SinkMem {
 
 impl Model for SinkMem {
     ghost use Rattle.std.specs.Prelude.{◌≤◌, length, vec_capacity};
-    ghost use Rattle.itv_base.specs.Memory.{MemSink};
+    ghost use Rattle.itv_base.specs.Memory.{SinkMemView};
 
-    ghost Value = { MemSink };
+    ghost Value = { SinkMemView };
 
     ghost view = { λ s. record { bytes = s.bytes.items; room = s.room; failing = s.failing; calls = s.calls; faults = s.faults } };
 

@@ -2,20 +2,20 @@
 use Rattle.std.proofs.Common.{IsOk, Result, Ok, Err, refl}
 use Rattle.itv_base.specs.Outside.{ShelfState}
 use Rattle.compose.specs.Compose.{composed_on}
-use Rattle.compose.specs.Design.{Composed}
+use Rattle.compose.specs.Design.{DesignView}
 use Rattle.compose.specs.declared.fault.JoinFault.{JoinFault}
 use Rattle.unroll.specs.Limits.{unrolled}
-use Rattle.drawn.specs.Drawn.{Drawn}
-use Rattle.plan.specs.Plan.{Planned, sheets_on}
-use Rattle.reading.specs.declared.refusal_place.RefusalPlace.TheVariants.{Design}
-use Rattle.reading.specs.declared.refusal.Refusal.TheVariants.{Joins, Limits}
-use Rattle.reading.specs.Design.{drawn_at}
-use Rattle.reading.specs.FileReading.{RunsTo, ready, at, ◌>>=◌}
+use Rattle.drawn_networks.specs.Drawn.{Drawn}
+use Rattle.design_plan.specs.Plan.{PlanView, sheets_on}
+use Rattle.design_reading.specs.declared.refusal_place.RefusalPlace.TheVariants.{Design}
+use Rattle.design_reading.specs.declared.refusal.Refusal.TheVariants.{Joins, Limits}
+use Rattle.design_reading.specs.Design.{drawn_at}
+use Rattle.design_reading.specs.FileReading.{RunsTo, ready, at, ◌>>=◌}
 
-composed_by : (shelf : ShelfState) (composed : Result Composed JoinFault) (drawn : Drawn) → RunsTo shelf (at Design Joins composed >>= (λ design. at Design Limits (unrolled design))) (ready drawn) → IsOk composed
+composed_by : (shelf : ShelfState) (composed : Result DesignView JoinFault) (drawn : Drawn) → RunsTo shelf (at Design Joins composed >>= (λ design. at Design Limits (unrolled design))) (ready drawn) → IsOk composed
 composed_by shelf (Ok design) drawn h = refl
 composed_by shelf (Err fault) drawn h = absurd (cc h)
 
-pub drawn_composed : (shelf : ShelfState) (plan : Planned) (drawn : Drawn) → RunsTo shelf (drawn_at plan.netlist plan.sheets) (ready drawn) → IsOk (composed_on plan.netlist (sheets_on plan.sheets plan.netlist.parts))
+pub drawn_composed : (shelf : ShelfState) (plan : PlanView) (drawn : Drawn) → RunsTo shelf (drawn_at plan.netlist plan.sheets) (ready drawn) → IsOk (composed_on plan.netlist (sheets_on plan.sheets plan.netlist.parts))
 unfolding drawn_at
 drawn_composed shelf plan drawn h = composed_by shelf (composed_on plan.netlist (sheets_on plan.sheets plan.netlist.parts)) drawn h

@@ -2,21 +2,21 @@
 use Rattle.std.proofs.Common.{◌≡◌, ◌<◌, ◌∙◌, ℕ, Bool, true, false, if◌then◌else◌, List, Some, refl, sym, subst}
 use Rattle.event_graph.specs.Edges.{cause_choices}
 use Rattle.event_graph.specs.Network.{IsNet}
-use Rattle.jobs.specs.declared.answer.Answer.{Answer}
-use Rattle.jobs.specs.declared.answer.Answer.TheVariants as answers
+use Rattle.job_base.specs.declared.answer.Answer.{Answer}
+use Rattle.job_base.specs.declared.answer.Answer.TheVariants as answers
 use Rattle.slack_report.specs.declared.words.EndWord.{EndWord}
 use Rattle.slack_report.specs.declared.words.EndWord.TheVariants as endings
 use Rattle.slack_report.specs.Entry.{Entry}
-use Rattle.drawn.specs.Drawn.{Drawn}
+use Rattle.drawn_networks.specs.Drawn.{Drawn}
 use Rattle.right_report.specs.ReportContents.{end_in}
 use Rattle.right_report.proofs.Undecided.{bare_undecided_is_below, shown_undecided_is_below}
-use Rattle.jobs.specs.Ending.{answer_of}
-use Rattle.bounds_report.specs.Reports.{IsWrittenReport, Reports, Sums}
-use Rattle.bounds_report.specs.declared.summary.Summary.{Summary}
-use Rattle.bounds_report.proofs.WrittenLaws.{written_is_bare, written_is_shown}
-use Rattle.summary_report.specs.Summary.{AnswersSummary}
-use Rattle.redraw_report.specs.Redraw.{AnswersRedraw, AnswersEndWord, is_wide}
-use Rattle.words.specs.declared.job.SearchJob.TheVariants.{Redraw}
+use Rattle.job_base.specs.Ending.{answer_of}
+use Rattle.job_bounds.specs.Reports.{IsWrittenReport, Reports, Sums}
+use Rattle.job_bounds.specs.declared.summary.Summary.{Summary}
+use Rattle.job_bounds.proofs.WrittenLaws.{written_is_bare, written_is_shown}
+use Rattle.job_self.specs.Summary.{AnswersSummary}
+use Rattle.job_redraw.specs.Redraw.{AnswersRedraw, AnswersEndWord, is_wide}
+use Rattle.command_words.specs.declared.job.SearchJob.TheVariants.{Redraw}
 use Rattle.itv_cli.specs.Bounds.{AnswersBounds, DecidesWithin}
 use Rattle.itv_cli.specs.Job.{Answers}
 use Rattle.itv_cli.specs.declared.ready.Ready.TheVariants as ready

@@ -2,15 +2,15 @@
 use Rattle.std.proofs.Common.{◌≡◌, ℕ, List, Ok, Err, refl}
 use Rattle.itv_base.specs.Outside.{ShelfState}
 use Rattle.itv_base.specs.Reading.{IsReadingFault}
-use Rattle.drawn.specs.Drawn.{Drawn}
-use Rattle.edits.specs.EditsFile.{edits_of, is_memory}
-use Rattle.edits.specs.declared.edit.RangeEdit.{RangeEdit}
-use Rattle.edits.specs.declared.fault.EditsFault.{EditsFault}
-use Rattle.reading.specs.declared.refusal_place.RefusalPlace.TheVariants.{Edits}
-use Rattle.reading.specs.declared.refusal.Refusal.TheVariants as refusals
-use Rattle.reading.specs.FileReading.{gives, at}
-use Rattle.reading.specs.Step.{Opens, stop_of}
-use Rattle.reading.proofs.Opens.{at_err, at_ok, opens_stop, opens_then}
+use Rattle.drawn_networks.specs.Drawn.{Drawn}
+use Rattle.range_edits.specs.EditsFile.{edits_of, is_memory}
+use Rattle.range_edits.specs.declared.edit.RangeEdit.{RangeEdit}
+use Rattle.range_edits.specs.declared.fault.EditsFault.{EditsFault}
+use Rattle.design_reading.specs.declared.refusal_place.RefusalPlace.TheVariants.{Edits}
+use Rattle.design_reading.specs.declared.refusal.Refusal.TheVariants as refusals
+use Rattle.design_reading.specs.FileReading.{gives, at}
+use Rattle.design_reading.specs.Step.{Opens, stop_of}
+use Rattle.design_reading.proofs.Opens.{at_err, at_ok, opens_stop, opens_then}
 use Rattle.itv_cli.specs.declared.ready.Ready.{Ready}
 use Rattle.itv_cli.specs.declared.ready.Ready.TheVariants.{Whatif}
 use Rattle.itv_cli.specs.Job.{edits_in}

@@ -3,19 +3,19 @@ use Rattle.std.proofs.Common.{◌≡◌, ◌<◌, ◌∙◌, inl, inr, List, ℕ
 use Rattle.std.specs.Bool.{⊤}
 use Rattle.itv_base.specs.Outside.{Files, ShelfState, SinkState, Puts, FaultCounted}
 use Rattle.itv_base.proofs.Options.{if_some}
-use Rattle.jobs.specs.JobWrote.{JobWrote}
-use Rattle.jobs.specs.declared.answer.Answer.{Answer}
-use Rattle.jobs.specs.declared.answer.Answer.TheVariants as answers
-use Rattle.jobs.specs.declared.unanswered.Unanswered.{Unanswered}
-use Rattle.jobs.specs.declared.unanswered.Unanswered.TheVariants as unanswered
-use Rattle.reading.specs.declared.refusal_place.RefusalPlace.{RefusalPlace}
-use Rattle.reading.specs.declared.refusal.Refusal.{Refusal}
-use Rattle.reading.specs.declared.stop.Stop.{Stop}
-use Rattle.reading.specs.declared.stop.Stop.TheVariants as stops
-use Rattle.reading.specs.FileReading.{End, ready, refused, unread, end_over}
-use Rattle.reading.specs.Refusal.{refusal_text, unread_text}
-use Rattle.reading.proofs.Opens.{told_ready, told_refused}
-use Rattle.words.specs.Task.{Task, taken, task, help, bad_words}
+use Rattle.job_base.specs.JobWrote.{JobWrote}
+use Rattle.job_base.specs.declared.answer.Answer.{Answer}
+use Rattle.job_base.specs.declared.answer.Answer.TheVariants as answers
+use Rattle.job_base.specs.declared.unanswered.Unanswered.{Unanswered}
+use Rattle.job_base.specs.declared.unanswered.Unanswered.TheVariants as unanswered
+use Rattle.design_reading.specs.declared.refusal_place.RefusalPlace.{RefusalPlace}
+use Rattle.design_reading.specs.declared.refusal.Refusal.{Refusal}
+use Rattle.design_reading.specs.declared.stop.Stop.{Stop}
+use Rattle.design_reading.specs.declared.stop.Stop.TheVariants as stops
+use Rattle.design_reading.specs.FileReading.{End, ready, refused, unread, end_over}
+use Rattle.design_reading.specs.Refusal.{refusal_text, unread_text}
+use Rattle.design_reading.proofs.Opens.{told_ready, told_refused}
+use Rattle.command_words.specs.Task.{Task, taken, task, help, bad_words}
 use Rattle.itv_cli.specs.declared.outcome.Outcome.{Outcome}
 use Rattle.itv_cli.specs.declared.outcome.Outcome.TheVariants.{AllPass, Help, SomeFail, Inconsistent, Undecided, Refused, ReadFault, WriteFault, NoMemory, BadWords, CheckRefused}
 use Rattle.itv_cli.specs.declared.ready.Ready.{Ready}

@@ -1,13 +1,13 @@
 -- What the reading for a task answers, by what its steps do.
 use Rattle.std.proofs.Common.{◌≡◌, ℕ, true, List, Some, None, IsNone, Result, Ok, Err, refl, sym, ap, subst}
-use Rattle.itv_base.specs.Memory.{MemShelf, shelf_state}
+use Rattle.itv_base.specs.Memory.{ShelfMemView, shelf_state}
 use Rattle.itv_base.specs.Outside.{FailedFor, Files, IsMissing, ShelfState, file_of}
 use Rattle.design_gen.specs.Files.{IsDesignShelf, design_files}
-use Rattle.reading.specs.declared.stop.Stop.{Stop}
-use Rattle.reading.specs.declared.stop.Stop.TheVariants.{Refused, ReadFault, NoMemory}
-use Rattle.reading.proofs.Opens.{told_ready, told_refused, told_unread}
-use Rattle.reading.specs.Step.{Opens}
-use Rattle.words.specs.Task.{Task, generated}
+use Rattle.design_reading.specs.declared.stop.Stop.{Stop}
+use Rattle.design_reading.specs.declared.stop.Stop.TheVariants.{Refused, ReadFault, NoMemory}
+use Rattle.design_reading.proofs.Opens.{told_ready, told_refused, told_unread}
+use Rattle.design_reading.specs.Step.{Opens}
+use Rattle.command_words.specs.Task.{Task, generated}
 use Rattle.itv_cli.specs.declared.ready.Ready.{Ready}
 use Rattle.itv_cli.specs.Job.{made_for, opening}
 use Rattle.itv_cli.specs.Step.{OpensFor, OpensMade}
@@ -28,7 +28,7 @@ opens_made standing files asked (Err NoMemory) made h = refl
 
 -- ---- a made shelf
 
-module _ (size most : ℕ) (made : MemShelf) (after : ShelfState) (is : IsDesignShelf size made) where
+module _ (size most : ℕ) (made : ShelfMemView) (after : ShelfState) (is : IsDesignShelf size made) where
   files_are : (shelf_state made).files ≡ Some (design_files size)
   files_are = ap (λ s. (shelf_state s).files) is
 

@@ -1,10 +1,10 @@
 -- The names and the ranges of a design that was read.
 use Rattle.std.proofs.Common.{ℕ, List}
 use Rattle.itv_base.specs.Outside.{ShelfState}
-use Rattle.drawn.specs.Drawn.{Drawn}
-use Rattle.reading.specs.Design.{design_at}
-use Rattle.reading.specs.FileReading.{RunsToEnd, ready}
-use Rattle.drawn_names.proofs.Designs.{drawn_names_have_form, drawn_ranges_have_form}
+use Rattle.drawn_networks.specs.Drawn.{Drawn}
+use Rattle.design_reading.specs.Design.{design_at}
+use Rattle.design_reading.specs.FileReading.{RunsToEnd, ready}
+use Rattle.drawn_laws.proofs.Designs.{drawn_names_have_form, drawn_ranges_have_form}
 use Rattle.itv_cli.specs.Step.{HasForm}
 
 -- the names and the ranges have their form

@@ -1,13 +1,13 @@
 -- What a job reads that reads a design and then goes on.
 use Rattle.std.proofs.Common.{◌≡◌, ℕ, List, Result, Ok, Err, IsErrAnd, refl}
 use Rattle.itv_base.specs.Outside.{ShelfState}
-use Rattle.drawn.specs.Drawn.{Drawn}
-use Rattle.reading.specs.declared.stop.Stop.{Stop}
-use Rattle.reading.specs.Design.{design_at}
-use Rattle.reading.specs.FileReading.{FileReading, gives, ◌>>=◌}
-use Rattle.reading.specs.Step.{Opens}
-use Rattle.reading.proofs.Opens.{opens_then, opens_up}
-use Rattle.plan.specs.Plan.{Planned}
+use Rattle.drawn_networks.specs.Drawn.{Drawn}
+use Rattle.design_reading.specs.declared.stop.Stop.{Stop}
+use Rattle.design_reading.specs.Design.{design_at}
+use Rattle.design_reading.specs.FileReading.{FileReading, gives, ◌>>=◌}
+use Rattle.design_reading.specs.Step.{Opens}
+use Rattle.design_reading.proofs.Opens.{opens_then, opens_up}
+use Rattle.design_plan.specs.Plan.{PlanView}
 use Rattle.itv_cli.specs.Job.{planned_at}
 use Rattle.itv_cli.specs.declared.planned_network.PlannedNetwork as code
 use Rattle.itv_cli.specs.declared.ready.Ready.{Ready}
@@ -30,18 +30,18 @@ design_ready name f old new drawn h = design_then name (λ d. gives (f d)) old n
 -- ---- the same of a plan with what it draws
 
 -- a plan with the network that it draws, without where they lie in memory
-abbrev pub both : code.PlannedNetwork → Planned × Drawn
+abbrev pub both : code.PlannedNetwork → PlanView × Drawn
 both p = (p.plan, p.drawn)
 
-pub planned_up : (name : List ℕ) (f : Planned × Drawn → FileReading Ready) (old new : ShelfState) (s : Stop) (r : Result Ready Stop) → IsErrAnd r (λ e. e ≡ s) → Opens both old new (planned_at name) (Err s)
+pub planned_up : (name : List ℕ) (f : PlanView × Drawn → FileReading Ready) (old new : ShelfState) (s : Stop) (r : Result Ready Stop) → IsErrAnd r (λ e. e ≡ s) → Opens both old new (planned_at name) (Err s)
     → Opens (λ given. given) old new (planned_at name >>= f) r
 planned_up name f old new s r is h = opens_up both (λ given. given) (planned_at name) f old new s r is h
 
 -- the plan was read, and then the rest is
-pub planned_then : (name : List ℕ) (f : Planned × Drawn → FileReading Ready) (old mid new : ShelfState) (p : code.PlannedNetwork) (r : Result Ready Stop) → Opens both old mid (planned_at name) (Ok p)
+pub planned_then : (name : List ℕ) (f : PlanView × Drawn → FileReading Ready) (old mid new : ShelfState) (p : code.PlannedNetwork) (r : Result Ready Stop) → Opens both old mid (planned_at name) (Ok p)
     → Opens (λ given. given) mid new (f (both p)) r → Opens (λ given. given) old new (planned_at name >>= f) r
 planned_then name f old mid new p r h next = opens_then both (λ given. given) (planned_at name) f old mid new p r h next
 
-pub planned_ready : (name : List ℕ) (f : Planned × Drawn → Ready) (old new : ShelfState) (p : code.PlannedNetwork) → Opens both old new (planned_at name) (Ok p)
+pub planned_ready : (name : List ℕ) (f : PlanView × Drawn → Ready) (old new : ShelfState) (p : code.PlannedNetwork) → Opens both old new (planned_at name) (Ok p)
     → Opens (λ given. given) old new (planned_at name >>= (λ d. gives (f d))) (Ok (f (both p)))
 planned_ready name f old new p h = opens_then both (λ given. given) (planned_at name) (λ d. gives (f d)) old new new p (Ok (f (both p))) h (refl, refl)

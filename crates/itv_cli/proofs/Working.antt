@@ -1,9 +1,9 @@
 -- What a job answers that goes on with the answer of another part.
 use Rattle.std.proofs.Common.{◌≡◌, ℕ, List, Result, Ok, Err, IsErrAnd}
 use Rattle.itv_base.specs.Outside.{SinkState}
-use Rattle.jobs.specs.JobWrote.{JobWrote}
-use Rattle.jobs.specs.declared.unanswered.Unanswered.{Unanswered}
-use Rattle.jobs.specs.declared.unanswered.Unanswered.TheVariants.{PutFailed, NoMemory}
+use Rattle.job_base.specs.JobWrote.{JobWrote}
+use Rattle.job_base.specs.declared.unanswered.Unanswered.{Unanswered}
+use Rattle.job_base.specs.declared.unanswered.Unanswered.TheVariants.{PutFailed, NoMemory}
 
 module _ {A B : Type 0} (Answers : A → List ℕ → Type 0) (Others : B → List ℕ → Type 0) (Begins : List ℕ → Type 0) where
   -- there is no answer

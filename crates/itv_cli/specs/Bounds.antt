@@ -1,12 +1,12 @@
 -- What job bounds answers, and when its budget may leave a search open.
 use Rattle.std.specs.Prelude.{◌≡◌, ◌<◌, ℕ, Bool, List}
 use Rattle.event_graph.specs.Edges.{cause_choices}
-use Rattle.jobs.specs.declared.answer.Answer.{Answer}
-use Rattle.jobs.specs.declared.answer.Answer.TheVariants.{Undecided}
-use Rattle.drawn.specs.Drawn.{Drawn}
-use Rattle.jobs.specs.Ending.{answer_of}
-use Rattle.bounds_report.specs.Reports.{Reports}
-use Rattle.bounds_report.specs.declared.summary.Summary.{Summary}
+use Rattle.job_base.specs.declared.answer.Answer.{Answer}
+use Rattle.job_base.specs.declared.answer.Answer.TheVariants.{Undecided}
+use Rattle.drawn_networks.specs.Drawn.{Drawn}
+use Rattle.job_base.specs.Ending.{answer_of}
+use Rattle.job_bounds.specs.Reports.{Reports}
+use Rattle.job_bounds.specs.declared.summary.Summary.{Summary}
 
 -- an answer is undecided only where the budget of a search is below the number of cause choices
 abbrev pub DecidesWithin : Drawn → ℕ → Answer → Type 0

@@ -4,46 +4,46 @@ use Rattle.std.specs.Option.{option_map_or}
 use Rattle.itv_base.specs.declared.limits.TheConstants.{MAX_MATRIX_EVENTS, REPORT_LIMIT}
 use Rattle.itv_base.specs.Outside.{Files}
 use Rattle.design_gen.specs.Files.{design_files}
-use Rattle.jobs.specs.declared.answer.Answer.{Answer}
-use Rattle.drawn.specs.Drawn.{Drawn}
+use Rattle.job_base.specs.declared.answer.Answer.{Answer}
+use Rattle.drawn_networks.specs.Drawn.{Drawn}
 use Rattle.unroll.specs.declared.fault.UnrollFault.TheVariants.{TooMany}
 use Rattle.unroll.specs.declared.limit.Limit.TheVariants.{MatrixEvents, Numbers, SessionRows}
 use Rattle.unroll.specs.declared.limit.TheConstants.{MAX_NUMBERS, MAX_SESSION_ROWS}
-use Rattle.reading.specs.declared.refusal_place.RefusalPlace.TheVariants.{Design, Edits, Report}
-use Rattle.reading.specs.declared.refusal.Refusal.TheVariants as refusals
-use Rattle.plan.specs.Notes.{plan_notes}
-use Rattle.plan.specs.Plan.{Planned}
-use Rattle.reading.specs.Design.{design_at, drawn_at, plan_at}
-use Rattle.reading.specs.FileReading.{FileReading, gives, refuses, ◌>>=◌, at, file_at}
-use Rattle.words.specs.declared.job.SearchJob.TheVariants.{Bounds, Settle, Redraw}
-use Rattle.words.specs.declared.job.PlanJob.TheVariants.{Why, Brief, Lint}
-use Rattle.words.specs.declared.job.CheckJob.TheVariants.{Check, Confirm}
-use Rattle.words.specs.Task.{Task, searched, planned, checked, fall, matrix, generated, whatif, margin}
-use Rattle.bounds_report.specs.Reports.{MayHaveBegun}
-use Rattle.brief_report.specs.Brief.{AnswersBrief}
-use Rattle.fall_report.specs.Fall.{AnswersFall, BeginsFall}
+use Rattle.design_reading.specs.declared.refusal_place.RefusalPlace.TheVariants.{Design, Edits, Report}
+use Rattle.design_reading.specs.declared.refusal.Refusal.TheVariants as refusals
+use Rattle.design_plan.specs.Notes.{plan_notes}
+use Rattle.design_plan.specs.Plan.{PlanView}
+use Rattle.design_reading.specs.Design.{design_at, drawn_at, plan_at}
+use Rattle.design_reading.specs.FileReading.{FileReading, gives, refuses, ◌>>=◌, at, file_at}
+use Rattle.command_words.specs.declared.job.SearchJob.TheVariants.{Bounds, Settle, Redraw}
+use Rattle.command_words.specs.declared.job.PlanJob.TheVariants.{Why, Brief, Lint}
+use Rattle.command_words.specs.declared.job.CheckJob.TheVariants.{Check, Confirm}
+use Rattle.command_words.specs.Task.{Task, searched, planned, checked, fall, matrix, generated, whatif, margin}
+use Rattle.job_bounds.specs.Reports.{MayHaveBegun}
+use Rattle.job_brief.specs.Brief.{AnswersBrief}
+use Rattle.job_fall.specs.Fall.{AnswersFall, BeginsFall}
 use Rattle.falling.specs.View.{view_of}
 use Rattle.falling.specs.declared.fault.Mixed.{Mixed}
 use Rattle.falling.specs.declared.view.View.{View}
-use Rattle.lint_report.specs.Lint.{AnswersLint}
-use Rattle.margin_report.specs.Margin.{AnswersMargin}
-use Rattle.margin_report.specs.Named.{numbers_in}
-use Rattle.matrix_report.specs.Matrix.{AnswersMatrix}
+use Rattle.job_lint.specs.Lint.{AnswersLint}
+use Rattle.job_margin.specs.Margin.{AnswersMargin}
+use Rattle.job_margin.specs.Named.{numbers_in}
+use Rattle.job_matrix.specs.Matrix.{AnswersMatrix}
 use Rattle.moves.specs.Listed.{numbers_of}
 use Rattle.moves.specs.declared.number_seen.NumberSeen.{NumberSeen}
-use Rattle.redraw_report.specs.Redraw.{AnswersRedraw}
-use Rattle.settle_check.specs.Confirm.{AnswersConfirm}
-use Rattle.settle_report.specs.Settle.{AnswersSettle}
-use Rattle.report_check.specs.Check.{AnswersCheck}
-use Rattle.summary_report.specs.Summary.{AnswersSummary}
-use Rattle.edits.specs.EditsFile.{edits_of}
-use Rattle.edits.specs.declared.file.TheConstants.{MAX_EDITS_BYTES}
-use Rattle.whatif_report.specs.Whatif.{AnswersWhatif}
-use Rattle.why_report.specs.Why.{AnswersWhy}
+use Rattle.job_redraw.specs.Redraw.{AnswersRedraw}
+use Rattle.job_confirm.specs.Confirm.{AnswersConfirm}
+use Rattle.job_settle.specs.Settle.{AnswersSettle}
+use Rattle.job_check.specs.Check.{AnswersCheck}
+use Rattle.job_self.specs.Summary.{AnswersSummary}
+use Rattle.range_edits.specs.EditsFile.{edits_of}
+use Rattle.range_edits.specs.declared.file.TheConstants.{MAX_EDITS_BYTES}
+use Rattle.job_whatif.specs.Whatif.{AnswersWhatif}
+use Rattle.job_why.specs.Why.{AnswersWhy}
 use Rattle.itv_cli.specs.Bounds.{AnswersBounds, DecidesWithin}
 use Rattle.itv_cli.specs.declared.ready.Ready.{Ready}
 use Rattle.itv_cli.specs.declared.ready.Ready.TheVariants as ready
-use Rattle.jobs.specs.JobWrote.{Answered}
+use Rattle.job_base.specs.JobWrote.{Answered}
 
 -- ---- what each job reads
 
@@ -77,7 +77,7 @@ whatif_at edits budget drawn =
     if nat_lt MAX_SESSION_ROWS (length drawn.rows) then refuses Design (refusals.Limits (TooMany SessionRows (length drawn.rows))) else edits_at edits budget drawn
 
 -- the plan of the design of a file, and the network that it draws
-abbrev pub planned_at : List ℕ → FileReading (Planned × Drawn)
+abbrev pub planned_at : List ℕ → FileReading (PlanView × Drawn)
 planned_at name = do
   plan ← plan_at name
   drawn ← drawn_at plan.netlist plan.sheets

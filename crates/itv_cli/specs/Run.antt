@@ -2,13 +2,13 @@
 -- and the definitions below follow from it. Nothing here is about one job: `Job` says what each job reads and answers.
 use Rattle.std.specs.Prelude.{◌≡◌, ◌<◌, ◌⊎◌, ℕ, List, Option, Some, None, IfSome, codes}
 use Rattle.itv_base.specs.Outside.{Files, ShelfState, SinkState, FaultCounted, grown, CutShort}
-use Rattle.jobs.specs.declared.answer.Answer.{Answer}
-use Rattle.jobs.specs.declared.answer.Answer.TheVariants as answers
-use Rattle.reading.specs.declared.refusal_place.RefusalPlace.{RefusalPlace}
-use Rattle.reading.specs.declared.refusal.Refusal.{Refusal}
-use Rattle.reading.specs.FileReading.{End, RunsToEnd, ready, refused, unread, end_over}
-use Rattle.reading.specs.Refusal.{refusal_text, unread_text}
-use Rattle.words.specs.Task.{Task, taken, task, help, bad_words}
+use Rattle.job_base.specs.declared.answer.Answer.{Answer}
+use Rattle.job_base.specs.declared.answer.Answer.TheVariants as answers
+use Rattle.design_reading.specs.declared.refusal_place.RefusalPlace.{RefusalPlace}
+use Rattle.design_reading.specs.declared.refusal.Refusal.{Refusal}
+use Rattle.design_reading.specs.FileReading.{End, RunsToEnd, ready, refused, unread, end_over}
+use Rattle.design_reading.specs.Refusal.{refusal_text, unread_text}
+use Rattle.command_words.specs.Task.{Task, taken, task, help, bad_words}
 use Rattle.itv_cli.specs.declared.outcome.Outcome.{Outcome}
 use Rattle.itv_cli.specs.declared.outcome.Outcome.TheVariants.{AllPass, Help, SomeFail, Inconsistent, Undecided, Refused, ReadFault, WriteFault, NoMemory, BadWords, CheckRefused}
 use Rattle.itv_cli.specs.declared.ready.Ready.{Ready}

@@ -4,25 +4,25 @@ use Rattle.std.specs.Option.{option_map_or}
 use Rattle.itv_base.specs.declared.limits.TheConstants.{MAX_MATRIX_EVENTS}
 use Rattle.itv_base.specs.Outside.{Files, ShelfState, SinkState, grown, CutShort}
 use Rattle.compose.specs.Compose.{composed_on}
-use Rattle.drawn.specs.Drawn.{Drawn}
+use Rattle.drawn_networks.specs.Drawn.{Drawn}
 use Rattle.falling.specs.View.{IsViewOf}
 use Rattle.slack_report.specs.Entry.{IsName}
-use Rattle.bounds_report.specs.Reports.{HasRowRanges}
+use Rattle.job_bounds.specs.Reports.{HasRowRanges}
 use Rattle.unroll.specs.declared.limit.TheConstants.{MAX_SESSION_ROWS}
-use Rattle.edits.specs.Subject.{IsThere}
-use Rattle.jobs.specs.declared.answer.Answer.{Answer}
-use Rattle.jobs.specs.declared.unanswered.Unanswered.{Unanswered}
-use Rattle.jobs.specs.declared.unanswered.Unanswered.TheVariants as unanswered
-use Rattle.reading.specs.declared.stop.Stop.{Stop}
-use Rattle.reading.specs.declared.stop.Stop.TheVariants.{Refused, ReadFault, NoMemory}
-use Rattle.reading.specs.FileReading.{FileReading, at, gives, ready, refused, end_over, unread, ◌>>=◌}
-use Rattle.reading.specs.Refusal.{refusal_text, unread_text}
-use Rattle.plan.specs.Plan.{Planned, sheets_on}
+use Rattle.range_edits.specs.Subject.{IsThere}
+use Rattle.job_base.specs.declared.answer.Answer.{Answer}
+use Rattle.job_base.specs.declared.unanswered.Unanswered.{Unanswered}
+use Rattle.job_base.specs.declared.unanswered.Unanswered.TheVariants as unanswered
+use Rattle.design_reading.specs.declared.stop.Stop.{Stop}
+use Rattle.design_reading.specs.declared.stop.Stop.TheVariants.{Refused, ReadFault, NoMemory}
+use Rattle.design_reading.specs.FileReading.{FileReading, at, gives, ready, refused, end_over, unread, ◌>>=◌}
+use Rattle.design_reading.specs.Refusal.{refusal_text, unread_text}
+use Rattle.design_plan.specs.Plan.{PlanView, sheets_on}
 use Rattle.moves.specs.declared.number_seen.NumberSeen.{NumberSeen}
-use Rattle.margin_report.specs.Named.{numbers_in}
-use Rattle.reading.specs.declared.refusal.Refusal.TheVariants as refusals
-use Rattle.reading.specs.declared.refusal_place.RefusalPlace.TheVariants.{Design}
-use Rattle.words.specs.Task.{IsBudget, Task}
+use Rattle.job_margin.specs.Named.{numbers_in}
+use Rattle.design_reading.specs.declared.refusal.Refusal.TheVariants as refusals
+use Rattle.design_reading.specs.declared.refusal_place.RefusalPlace.TheVariants.{Design}
+use Rattle.command_words.specs.Task.{IsBudget, Task}
 use Rattle.itv_cli.specs.declared.outcome.Outcome.{Outcome}
 use Rattle.itv_cli.specs.declared.outcome.Outcome.TheVariants as ends
 use Rattle.itv_cli.specs.declared.ready.Ready.{Ready}
@@ -40,7 +40,7 @@ abbrev pub list_in : Drawn → Option (List ℕ) → FileReading (Option (List N
 list_in drawn list = option_map_or (λ text. at Design refusals.Number (numbers_in drawn text) >>= λ numbers. gives (Some numbers)) list (gives None)
 
 -- what is read for job margin, by a plan and the network that it draws
-abbrev pub margin_at : Planned → Drawn → Option (List ℕ) → ℕ → FileReading Ready
+abbrev pub margin_at : PlanView → Drawn → Option (List ℕ) → ℕ → FileReading Ready
 margin_at plan drawn list budget = list_at drawn list >>= λ numbers. gives (given.Margin plan drawn numbers budget)
 
 -- what a job may be given

@@ -2,33 +2,33 @@
 
 ghost use Rattle.std.specs.Prelude.{◌≡◌, IsOk};
 ghost use Rattle.compose.specs.Compose.{composed_on};
-ghost use Rattle.jobs.specs.JobWrote.{JobWrote};
-ghost use Rattle.plan.specs.Plan.{sheets_on};
+ghost use Rattle.job_base.specs.JobWrote.{JobWrote};
+ghost use Rattle.design_plan.specs.Plan.{sheets_on};
 ghost use Rattle.itv_cli.specs.Job.{Answers, MayHaveWritten, turns_for};
 ghost use Rattle.itv_cli.specs.declared.ready.Ready.TheVariants as ready;
-ghost use Rattle.words.specs.Task.{IsBudget};
+ghost use Rattle.command_words.specs.Task.{IsBudget};
 ghost use Rattle.itv_cli.specs.Step.{HasForm, IsAllowed};
 
 use crate::ready::Ready;
-use bounds_report::write_bounds;
-use brief_report::write_brief;
-use drawn::DrawnNetwork;
-use fall_report::write_fall;
+use command_words::{CheckJob, PlanJob, SearchJob};
+use design_plan::Plan;
+use drawn_networks::DrawnNetwork;
 use itv_base::Sink;
-use jobs::{Answer, Unanswered, answer_of};
-use lint_report::write_lint;
-use margin_report::write_margin;
-use matrix_report::write_matrix;
-use plan::Plan;
-use redraw_report::write_redraw;
-use report_check::answer_check;
-use settle_check::answer_confirm;
-use settle_report::write_settle;
+use job_base::{Answer, Unanswered, answer_of};
+use job_bounds::write_bounds;
+use job_brief::write_brief;
+use job_check::write_check;
+use job_confirm::write_confirm;
+use job_fall::write_fall;
+use job_lint::write_lint;
+use job_margin::write_margin;
+use job_matrix::write_matrix;
+use job_redraw::write_redraw;
+use job_self::write_summary;
+use job_settle::write_settle;
+use job_whatif::write_whatif;
+use job_why::write_why;
 use std::alloc::Global;
-use summary_report::write_summary;
-use whatif_report::write_whatif;
-use why_report::write_why;
-use words::{CheckJob, PlanJob, SearchJob};
 
 /// Does the job for which all was read, and writes its answer. All memory is taken before the first put.
 pub fn answer<K: Sink>(alloc: Global, given: &Ready, sink: &mut K) -> Result<Answer, Unanswered>
@@ -127,8 +127,8 @@ fn answer_checked<K: Sink>(
         (K.state sink.old) (K.state sink.new) result }
 {
     match job {
-        CheckJob::Check => answer_check(alloc, drawn, report, sink),
-        CheckJob::Confirm => answer_confirm(alloc, drawn, report, sink),
+        CheckJob::Check => write_check(alloc, drawn, report, sink),
+        CheckJob::Confirm => write_confirm(alloc, drawn, report, sink),
     }
 }
 

@@ -2,10 +2,10 @@
 
 ghost use Rattle.std.specs.Prelude.{◌≡◌, ◌≤◌, IfOk, codes, length, option_map};
 ghost use Rattle.design_gen.specs.Files.{IsSize, design_files};
-ghost use Rattle.reading.specs.Step.{Opens, ReadsAs};
-ghost use Rattle.words.specs.Task.{IsBudget, IsWithinLimits};
-ghost use Rattle.words.specs.Task as said;
-ghost use Rattle.words.specs.View.{task_view};
+ghost use Rattle.design_reading.specs.Step.{Opens, ReadsAs};
+ghost use Rattle.command_words.specs.Task.{IsBudget, IsWithinLimits};
+ghost use Rattle.command_words.specs.Task as said;
+ghost use Rattle.command_words.specs.View.{task_view};
 ghost use Rattle.unroll.specs.declared.limit.TheConstants.{MAX_SESSION_ROWS};
 ghost use Rattle.itv_cli.specs.Job.{edits_at, edits_in, fall_at, list_at, matrix_at, opening, whatif_at};
 ghost use Rattle.itv_cli.specs.Step.{IsAllowed, OpensFor, OpensMade, list_in, margin_at};
@@ -13,18 +13,18 @@ ghost use Rattle.moves.specs.Listed.{numbers_of};
 
 use crate::planned_network::{PlannedNetwork, open_planned};
 use crate::ready::Ready;
+use command_words::{CheckJob, PlanJob, SearchJob, Task};
 use design_gen::{GenFault, make};
-use drawn::DrawnNetwork;
-use edits::{MAX_EDITS_BYTES, read_edits};
+use design_plan::Plan;
+use design_reading::{Refusal, RefusalPlace, Stop, edits_stop, fetch_file, open_design};
+use drawn_networks::DrawnNetwork;
 use falling::{Mixed, View};
 use itv_base::{Listing, MAX_MATRIX_EVENTS, NoMemory, REPORT_LIMIT, Shelf};
-use margin_report::{ListFault, read_numbers};
+use job_margin::{ListFault, read_numbers};
 use moves::{NumberSeen, numbers_of};
-use plan::Plan;
-use reading::{Refusal, RefusalPlace, Stop, edits_stop, fetch_file, open_design};
+use range_edits::{MAX_EDITS_BYTES, read_edits};
 use std::alloc::Global;
 use unroll::{Limit, MAX_NUMBERS, MAX_SESSION_ROWS, UnrollFault};
-use words::{CheckJob, PlanJob, SearchJob, Task};
 
 /// What a task reads. The files are the files of the shelf. For a generated design they are made for it, and the shelf is left alone.
 pub fn open<H: Shelf>(alloc: Global, task: Task<'_>, shelf: &mut H) -> Result<Ready, Stop>

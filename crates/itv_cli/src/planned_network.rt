@@ -2,14 +2,14 @@
 
 ghost use Rattle.std.specs.Prelude.{IfOk, IsOk};
 ghost use Rattle.compose.specs.Compose.{composed_on};
-ghost use Rattle.plan.specs.Plan.{sheets_on};
-ghost use Rattle.reading.specs.Step.{Opens};
+ghost use Rattle.design_plan.specs.Plan.{sheets_on};
+ghost use Rattle.design_reading.specs.Step.{Opens};
 ghost use Rattle.itv_cli.specs.Job.{planned_at};
 
-use drawn::DrawnNetwork;
+use design_plan::Plan;
+use design_reading::{Stop, draw_plan, open_plan};
+use drawn_networks::DrawnNetwork;
 use itv_base::Shelf;
-use plan::Plan;
-use reading::{Stop, draw_plan, open_plan};
 use std::alloc::Global;
 
 /// A plan, and the network that it draws.

@@ -1,12 +1,12 @@
 //! What is read for a job.
 
-use drawn::DrawnNetwork;
-use edits::Edits;
+use command_words::{CheckJob, PlanJob, SearchJob};
+use design_plan::Plan;
+use drawn_networks::DrawnNetwork;
 use falling::View;
 use itv_base::Listing;
 use moves::NumberSeen;
-use plan::Plan;
-use words::{CheckJob, PlanJob, SearchJob};
+use range_edits::Edits;
 
 /// What is read for a job, with what its words ask for.
 #[derive(Drop)]

@@ -1,21 +1,21 @@
 //! The top call: from words, files and a sink to an end.
 
 ghost use Rattle.std.specs.Prelude.{◌≡◌, ℕ, List};
-ghost use Rattle.reading.specs.Refusal.{refusal_text, unread_text};
-ghost use Rattle.words.specs.Task.{IsWithinLimits, taken};
-ghost use Rattle.words.specs.Task as said;
-ghost use Rattle.words.specs.View.{task_view};
+ghost use Rattle.design_reading.specs.Refusal.{refusal_text, unread_text};
+ghost use Rattle.command_words.specs.Task.{IsWithinLimits, taken};
+ghost use Rattle.command_words.specs.Task as said;
+ghost use Rattle.command_words.specs.View.{task_view};
 ghost use Rattle.itv_cli.specs.Run.{call_of, OutcomeMeans, Completes, RefusesWords, ShowsFaults};
 ghost use Rattle.itv_cli.specs.Step.{Stops, EndsWithText, answered, end_after};
 
 use crate::job::answer;
 use crate::opening::open;
 use crate::outcome::Outcome;
+use command_words::{Invocation as Words, Task, read_words};
+use design_reading::{Refusal, RefusalPlace, Stop, put_refusal, put_unread};
 use itv_base::{NoMemory, PutFailed, Shelf, Sink, Texts};
-use jobs::{Answer, Unanswered};
-use reading::{Refusal, RefusalPlace, Stop, put_refusal, put_unread};
+use job_base::{Answer, Unanswered};
 use std::alloc::Global;
-use words::{Invocation as Words, Task, read_words};
 
 /// Does what the words ask for: reads the files of a job, and writes what the job answers.
 ///

@@ -5,3 +5,7 @@ pub use Rattle.serde_json.specs.Find
 pub use Rattle.serde_json.specs.View
 pub mod Words
 pub mod Pairs
+-- The definitions of this crate: the near keys of sheets and the stray keys of netlists.
+pub use Rattle.serde_json.specs.View
+pub mod NearKeys
+pub mod StrayKeys

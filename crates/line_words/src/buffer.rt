@@ -19,9 +19,9 @@ pub struct LineBuffer {
 
 impl Model for LineBuffer {
     ghost use Rattle.std.specs.Prelude.{◌≤◌, length, vec_capacity};
-    ghost use Rattle.line_words.specs.Buffer.{Gathered};
+    ghost use Rattle.line_words.specs.Buffer.{BufferView};
 
-    ghost Value = { Gathered };
+    ghost Value = { BufferView };
 
     ghost view = { λ b. record { bytes = b.bytes.items; room = b.room; faults = b.faults } };
 

@@ -11,9 +11,9 @@ use Rattle.origin.specs.declared.origin.Origin.{Origin}
 use Rattle.event_graph.specs.declared.cause.Cause.{Cause}
 use Rattle.event_graph.specs.Network.{Constraint, IsNet}
 use Rattle.event_graph.proofs.Ends.{HasOwnEnds, all_own}
-use Rattle.drawn.specs.Drawn.{Drawn, OriginsFit, name_of}
-use Rattle.numbers.specs.Numbers.{origins_of, part_of_target}
-use Rattle.numbers.specs.declared.drawn_number.DrawnNumber.{DrawnNumber}
+use Rattle.drawn_networks.specs.Drawn.{Drawn, OriginsFit, name_of}
+use Rattle.drawn_numbers.specs.Numbers.{origins_of, part_of_target}
+use Rattle.drawn_numbers.specs.declared.drawn_number.DrawnNumber.{DrawnNumber}
 use Rattle.moves.specs.Moving.{constraint_moved, any_draws, each_by, opened, widened}
 use Rattle.moves.specs.Step.{IsMoveBy, cause_moved, causes_at}
 use Rattle.margins.specs.Reaching.{IsReachOf, IsStill, any_reach, reach_along, reach_over, reach_within}

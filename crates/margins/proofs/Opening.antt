@@ -10,10 +10,10 @@ use Rattle.event_graph.specs.Network.{Constraint, Net}
 use Rattle.event_graph.specs.Widening.{IsWider, IsWiderCause, IsWiderConstraint}
 use Rattle.event_graph.proofs.EdgesMet.{at_some}
 use Rattle.event_graph.proofs.Widening.{wider_keeps_satisfying}
-use Rattle.drawn.specs.Drawn.{Drawn, name_of}
-use Rattle.drawn.specs.declared.row.Row.{Row}
-use Rattle.numbers.specs.Numbers.{draws}
-use Rattle.numbers.specs.declared.drawn_number.DrawnNumber.{DrawnNumber}
+use Rattle.drawn_networks.specs.Drawn.{Drawn, name_of}
+use Rattle.drawn_networks.specs.declared.row.Row.{Row}
+use Rattle.drawn_numbers.specs.Numbers.{draws}
+use Rattle.drawn_numbers.specs.declared.drawn_number.DrawnNumber.{DrawnNumber}
 use Rattle.moves.specs.Networks.{IsNetFound}
 use Rattle.moves.specs.Moving.{constraint_moved, any_draws, net_moved, opened, widened}
 use Rattle.moves.specs.Passing.{Passes}

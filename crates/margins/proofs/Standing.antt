@@ -7,8 +7,8 @@ use Rattle.std.proofs.lemmas.List.{map-append, take_all, take_more}
 use Rattle.std.proofs.lemmas.List.Elements.{Contains-append_left}
 use Rattle.std.proofs.lemmas.Option.{IfSome_then}
 use Rattle.itv_base.specs.declared.names.Side.{Side}
-use Rattle.drawn.specs.Drawn.{Drawn}
-use Rattle.numbers.specs.declared.drawn_number.DrawnNumber.{DrawnNumber}
+use Rattle.drawn_networks.specs.Drawn.{Drawn}
+use Rattle.drawn_numbers.specs.declared.drawn_number.DrawnNumber.{DrawnNumber}
 use Rattle.moves.specs.Found.{IsEndMargin}
 use Rattle.moves.specs.Moving.{net_moved, opened}
 use Rattle.moves.specs.Passing.{Passes}

@@ -5,8 +5,8 @@ use Rattle.itv_base.specs.declared.names.Side.{Side}
 use Rattle.itv_base.specs.declared.names.Side.TheVariants.{Lower, Upper}
 use Rattle.event_graph.specs.Widening.{IsWider}
 use Rattle.event_graph.proofs.Widening.{wider_keeps_satisfying}
-use Rattle.drawn.specs.Drawn.{Drawn}
-use Rattle.numbers.specs.declared.drawn_number.DrawnNumber.{DrawnNumber}
+use Rattle.drawn_networks.specs.Drawn.{Drawn}
+use Rattle.drawn_numbers.specs.declared.drawn_number.DrawnNumber.{DrawnNumber}
 use Rattle.moves.specs.Moving.{opened, widened}
 use Rattle.moves.specs.Step.{IsConsistent, opened_at, widened_at}
 use Rattle.moves.proofs.Widened.{IsWithinRange, higher_same, lower_same, nets_wider, opened_holds, widened_more}

@@ -1,7 +1,7 @@
 -- How far both ends of a number may be moved.
 use Rattle.std.specs.Prelude.{◌≡◌, ℕ, IfSome, is_some}
 use Rattle.itv_base.specs.declared.names.Side.TheVariants.{Lower, Upper}
-use Rattle.drawn.specs.Drawn.{Drawn}
+use Rattle.drawn_networks.specs.Drawn.{Drawn}
 use Rattle.moves.specs.Found.{IsEndMargin}
 use Rattle.moves.specs.declared.number_seen.NumberSeen.{NumberSeen}
 use Rattle.margins.specs.declared.ends.EndsFound.{EndsFound}

@@ -8,8 +8,8 @@ use Rattle.itv_base.specs.declared.names.Side.TheVariants.{Lower, Upper}
 use Rattle.origin.specs.declared.origin.Origin.{Origin}
 use Rattle.event_graph.specs.declared.cause.Cause.{Cause}
 use Rattle.event_graph.specs.Network.{Constraint}
-use Rattle.drawn.specs.Drawn.{Drawn, name_of}
-use Rattle.numbers.specs.declared.drawn_number.DrawnNumber.{DrawnNumber}
+use Rattle.drawn_networks.specs.Drawn.{Drawn, name_of}
+use Rattle.drawn_numbers.specs.declared.drawn_number.DrawnNumber.{DrawnNumber}
 use Rattle.moves.specs.Found.{CanBeDrawn}
 use Rattle.moves.specs.Moving.{any_draws}
 use Rattle.moves.specs.Step.{IsMoveBy, opened_at, widened_at}

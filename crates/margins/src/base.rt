@@ -5,7 +5,7 @@ ghost use Rattle.event_graph.specs.Edges.{cause_choices};
 ghost use Rattle.moves.specs.Networks.{IsNetFound, is_net_open};
 ghost use Rattle.probing.specs.Step.{IsProbed};
 
-use drawn::DrawnNetwork;
+use drawn_networks::DrawnNetwork;
 use extremes::RunTurns;
 use itv_base::NoMemory;
 use probing::{Probed, probe};

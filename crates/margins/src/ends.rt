@@ -15,7 +15,7 @@ use crate::free::{free_ends, has_end, none_free};
 use crate::passing::margin_from_pass;
 use crate::reach::reach_of;
 use crate::sought::EndSought;
-use drawn::DrawnNetwork;
+use drawn_networks::DrawnNetwork;
 use extremes::RunTurns;
 use itv_base::{NoMemory, Side};
 use moves::{Margin, NetFound, NumberSeen};

@@ -7,11 +7,11 @@ ghost use Rattle.moves.specs.declared.number_seen.NumberSeen.{NumberSeen as Seen
 ghost use Rattle.margins.specs.Step.{AreFree, IsFreeBetween, IsOpeningOf, end_on};
 
 use crate::sought::probe_opened;
-use drawn::DrawnNetwork;
+use drawn_networks::DrawnNetwork;
+use drawn_numbers::DrawnNumber;
 use extremes::RunTurns;
 use itv_base::{NoMemory, Side};
 use moves::{NetFound, NumberSeen};
-use numbers::DrawnNumber;
 use probing::{Probed, SideChain, Step, room};
 use std::alloc::Global;
 

@@ -3,15 +3,15 @@
 ghost use Rattle.std.specs.Prelude.{◌≡◌, ◌<◌, ◌∷◌, [], neg_ℤ, ◌+ℤ◌, ◌-ℤ◌, Some, length, unwrap_or};
 ghost use Rattle.itv_base.specs.Range.{IsEnd};
 ghost use Rattle.itv_base.specs.declared.limits.TheConstants.{END_LIMIT};
-ghost use Rattle.numbers.specs.Numbers.{origins_of, part_of_target};
+ghost use Rattle.drawn_numbers.specs.Numbers.{origins_of, part_of_target};
 ghost use Rattle.moves.specs.Moving.{any_draws};
 ghost use Rattle.moves.specs.Step.{causes_at};
 ghost use Rattle.margins.specs.Reaching.{IsReachOf, reach_over, reach_with, reach_within};
 
-use drawn::DrawnNetwork;
+use drawn_networks::DrawnNetwork;
+use drawn_numbers::DrawnNumber;
 use itv_base::{END_LIMIT, Range, Side};
 use moves::{MOVE_LIMIT, any_draws, cause_of, origins_of, part_of_target, read_drawn};
-use numbers::DrawnNumber;
 
 /// How far an end can be moved outward, in picoseconds: at least and at most.
 #[derive(Clone, Copy)]

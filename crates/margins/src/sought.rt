@@ -10,12 +10,12 @@ ghost use Rattle.probing.specs.Step.{AreFitting, IsProbed};
 ghost use Rattle.margins.specs.Step.{IsNetOf, IsProbedAt, IsProbedIn, IsProbedOpen, IsEndSought};
 
 use crate::reach::Reach;
-use drawn::{DrawnNetwork, Row};
+use drawn_networks::{DrawnNetwork, Row};
+use drawn_numbers::DrawnNumber;
 use event_graph::{Network, separation};
 use extremes::RunTurns;
 use itv_base::{NoMemory, RowKind, Side};
 use moves::{Move, moved_network};
-use numbers::DrawnNumber;
 use probing::{Probed, SideChain, Step, excess, need, probe, room};
 use std::alloc::Global;
 

@@ -13,9 +13,9 @@ use Rattle.origin.specs.declared.origin.Origin.{Origin}
 use Rattle.event_graph.proofs.Ends.{HasOwnEnds, all_own}
 use Rattle.event_graph.specs.declared.cause.Cause.{Cause}
 use Rattle.event_graph.specs.Network.{AreEnds, Constraint, IsNet}
-use Rattle.drawn.specs.Drawn.{Drawn, name_of}
-use Rattle.drawn.specs.declared.row.Row.{Row}
-use Rattle.numbers.specs.declared.drawn_number.DrawnNumber.{DrawnNumber}
+use Rattle.drawn_networks.specs.Drawn.{Drawn, name_of}
+use Rattle.drawn_networks.specs.declared.row.Row.{Row}
+use Rattle.drawn_numbers.specs.declared.drawn_number.DrawnNumber.{DrawnNumber}
 use Rattle.moves.specs.Moving.{any_draws, constraint_moved, each_by, kind_moved, moved_up, row_moved, shifted_at}
 use Rattle.moves.specs.Passing.{HasDrawableRanges, IsKindRange}
 use Rattle.moves.specs.Step.{AreKindEnds, IsLesserMove, cause_moved}

@@ -12,7 +12,7 @@ use Rattle.event_graph.specs.declared.cause.Cause.{Cause}
 use Rattle.event_graph.specs.Network.{Constraint, Net}
 use Rattle.event_graph.specs.Satisfying.{Satisfies}
 use Rattle.event_graph.specs.Times.{separation}
-use Rattle.drawn.specs.declared.row.Row.{Row}
+use Rattle.drawn_networks.specs.declared.row.Row.{Row}
 use Rattle.moves.specs.Covers.{IsTighterRow, cause_counted, constraint_counted, lag, net_counted, row_counted, times_counted}
 use Rattle.moves.specs.Laws.{CoreBreaks}
 use Rattle.moves.specs.Moving.{kind_moved, moved_up, shifted_at}

@@ -16,9 +16,9 @@ use Rattle.event_graph.specs.Network.{Constraint}
 use Rattle.event_graph.specs.Satisfying.{Satisfies}
 use Rattle.event_graph.specs.Times.{separation}
 use Rattle.event_graph.specs.Widening.{IsHigherEnd, IsLowerEnd, IsWiderCause, IsWiderConstraint}
-use Rattle.drawn.specs.Drawn.{Drawn, name_of}
-use Rattle.drawn.specs.declared.row.Row.{Row}
-use Rattle.numbers.specs.declared.drawn_number.DrawnNumber.{DrawnNumber}
+use Rattle.drawn_networks.specs.Drawn.{Drawn, name_of}
+use Rattle.drawn_networks.specs.declared.row.Row.{Row}
+use Rattle.drawn_numbers.specs.declared.drawn_number.DrawnNumber.{DrawnNumber}
 use Rattle.moves.specs.Covers.{Covers, IsTighterRow, cause_counted, constraint_counted, times_counted, lag, net_counted, row_counted}
 use Rattle.moves.specs.Laws.{CoverContradicts, CoverHolds, CoversBetween}
 use Rattle.moves.specs.Moving.{constraint_moved, any_draws, kind_moved, row_moved, moved_up, shifted_at}

@@ -10,8 +10,8 @@ use Rattle.event_graph.proofs.EdgesMet.{All-found}
 use Rattle.event_graph.specs.declared.cause.Cause.{Cause}
 use Rattle.event_graph.specs.Network.{Constraint, IsConstraint, IsNet, Net, cause_at}
 use Rattle.event_graph.proofs.Causes.{few_causes}
-use Rattle.drawn.specs.Drawn.{Drawn, OriginsFit}
-use Rattle.numbers.specs.Numbers.{origins_of}
+use Rattle.drawn_networks.specs.Drawn.{Drawn, OriginsFit}
+use Rattle.drawn_numbers.specs.Numbers.{origins_of}
 use Rattle.moves.specs.Step.{causes_at}
 
 -- ---- a constraint within the limits

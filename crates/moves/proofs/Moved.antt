@@ -10,9 +10,9 @@ use Rattle.origin.specs.declared.origin.Origin.{Origin}
 use Rattle.event_graph.specs.Edges.{cause_choices, choices_of}
 use Rattle.event_graph.specs.declared.cause.Cause.{Cause}
 use Rattle.event_graph.specs.Network.{Constraint, IsNet, Net, with_constraint}
-use Rattle.drawn.specs.Drawn.{Drawn, OriginsFit, name_of}
-use Rattle.numbers.specs.Numbers.{origins_of, part_of_target}
-use Rattle.numbers.specs.declared.drawn_number.DrawnNumber.{DrawnNumber}
+use Rattle.drawn_networks.specs.Drawn.{Drawn, OriginsFit, name_of}
+use Rattle.drawn_numbers.specs.Numbers.{origins_of, part_of_target}
+use Rattle.drawn_numbers.specs.declared.drawn_number.DrawnNumber.{DrawnNumber}
 use Rattle.moves.specs.Moving.{constraint_moved, any_draws, each_by, net_moved}
 use Rattle.moves.specs.Passing.{HasDrawableCauses}
 use Rattle.moves.specs.Step.{AreDrawable, HasEventsOf, cause_moved, causes_at, causes_moved}

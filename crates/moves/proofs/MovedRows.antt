@@ -8,9 +8,9 @@ use Rattle.itv_base.specs.Range.{Ends}
 use Rattle.itv_base.proofs.Lists.{take_get}
 use Rattle.event_graph.proofs.EdgesMet.{All-found}
 use Rattle.event_graph.specs.Network.{Net}
-use Rattle.drawn.specs.Drawn.{Drawn, IsRowOf, name_of}
-use Rattle.drawn.specs.declared.row.Row.{Row}
-use Rattle.numbers.specs.declared.drawn_number.DrawnNumber.{DrawnNumber}
+use Rattle.drawn_networks.specs.Drawn.{Drawn, IsRowOf, name_of}
+use Rattle.drawn_networks.specs.declared.row.Row.{Row}
+use Rattle.drawn_numbers.specs.declared.drawn_number.DrawnNumber.{DrawnNumber}
 use Rattle.moves.specs.Moving.{any_draws, kind_moved, row_moved}
 use Rattle.moves.specs.Passing.{HasDrawableRows, IsKindRange}
 

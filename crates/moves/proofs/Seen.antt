@@ -6,9 +6,9 @@ use Rattle.std.proofs.lemmas.List.Sums.{fold_push}
 use Rattle.origin.specs.declared.origin.Origin.{Origin}
 use Rattle.event_graph.specs.declared.cause.Cause.{Cause}
 use Rattle.event_graph.specs.Network.{Constraint}
-use Rattle.drawn.specs.Drawn.{Drawn, OriginsFit, name_of}
-use Rattle.drawn.specs.declared.row.Row.{Row}
-use Rattle.numbers.specs.Numbers.{origins_of, part_of_target}
+use Rattle.drawn_networks.specs.Drawn.{Drawn, OriginsFit, name_of}
+use Rattle.drawn_networks.specs.declared.row.Row.{Row}
+use Rattle.drawn_numbers.specs.Numbers.{origins_of, part_of_target}
 use Rattle.moves.specs.declared.number_seen.NumberSeen.{NumberSeen}
 use Rattle.moves.specs.Listed.{all_numbers_of, numbers_of, with_cause, with_causes, with_kind}
 use Rattle.moves.specs.Step.{causes_at}

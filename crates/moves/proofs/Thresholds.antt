@@ -5,9 +5,9 @@ use Rattle.std.proofs.lemmas.Int.{ints}
 use Rattle.itv_base.specs.declared.names.Side.{Side}
 use Rattle.event_graph.proofs.EdgesMet.{All-found}
 use Rattle.event_graph.proofs.Widening.{wider_keeps_satisfying}
-use Rattle.drawn.specs.Drawn.{Drawn}
-use Rattle.drawn.specs.declared.row.Row.{Row}
-use Rattle.numbers.specs.declared.drawn_number.DrawnNumber.{DrawnNumber}
+use Rattle.drawn_networks.specs.Drawn.{Drawn}
+use Rattle.drawn_networks.specs.declared.row.Row.{Row}
+use Rattle.drawn_numbers.specs.declared.drawn_number.DrawnNumber.{DrawnNumber}
 use Rattle.moves.specs.Laws.{FreeIsForAll, MarginIsThreshold, OneMargin}
 use Rattle.moves.specs.Moving.{opened, widened}
 use Rattle.moves.specs.Passing.{BreaksRow, NoneBreaks}

@@ -9,8 +9,8 @@ use Rattle.origin.specs.declared.origin.Origin.{Origin}
 use Rattle.event_graph.specs.declared.cause.Cause.{Cause}
 use Rattle.event_graph.specs.Network.{Constraint}
 use Rattle.event_graph.specs.Widening.{IsHigherEnd, IsLowerEnd, IsWider, IsWiderCause, IsWiderConstraint}
-use Rattle.drawn.specs.Drawn.{Drawn, name_of}
-use Rattle.numbers.specs.declared.drawn_number.DrawnNumber.{DrawnNumber}
+use Rattle.drawn_networks.specs.Drawn.{Drawn, name_of}
+use Rattle.drawn_numbers.specs.declared.drawn_number.DrawnNumber.{DrawnNumber}
 use Rattle.moves.specs.Moving.{constraint_moved, any_draws, net_moved, opened, widened}
 use Rattle.moves.specs.Step.{cause_moved}
 use Rattle.moves.proofs.Lists.{all_own, each_related}

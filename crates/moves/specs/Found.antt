@@ -4,8 +4,8 @@ use Rattle.itv_base.specs.declared.names.Side.{Side}
 use Rattle.event_graph.specs.Bounds.{IsInconsistent}
 use Rattle.event_graph.specs.Edges.{cause_choices}
 use Rattle.event_graph.specs.Satisfying.{Satisfies}
-use Rattle.drawn.specs.Drawn.{Drawn}
-use Rattle.numbers.specs.declared.drawn_number.DrawnNumber.{DrawnNumber}
+use Rattle.drawn_networks.specs.Drawn.{Drawn}
+use Rattle.drawn_numbers.specs.declared.drawn_number.DrawnNumber.{DrawnNumber}
 use Rattle.moves.specs.Moving.{moved_at, opened, shifted_at, widened}
 use Rattle.moves.specs.Passing.{BreaksRow, HasDrawableCauses, HasDrawableRanges, NoneBreaks, Passes}
 use Rattle.moves.specs.declared.margin.Margin.{Margin}

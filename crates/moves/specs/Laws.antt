@@ -6,10 +6,10 @@ use Rattle.itv_base.specs.declared.names.Side.{Side}
 use Rattle.event_graph.specs.Bounds.{IsInconsistent}
 use Rattle.event_graph.specs.Network.{cause_at}
 use Rattle.event_graph.specs.declared.cause.Cause.{Cause}
-use Rattle.drawn.specs.Drawn.{Drawn}
-use Rattle.numbers.specs.Numbers.{draws_cause}
-use Rattle.numbers.specs.declared.cause_name.CauseName.{CauseName}
-use Rattle.numbers.specs.declared.drawn_number.DrawnNumber.{DrawnNumber}
+use Rattle.drawn_networks.specs.Drawn.{Drawn}
+use Rattle.drawn_numbers.specs.Numbers.{draws_cause}
+use Rattle.drawn_numbers.specs.declared.cause_name.CauseName.{CauseName}
+use Rattle.drawn_numbers.specs.declared.drawn_number.DrawnNumber.{DrawnNumber}
 use Rattle.moves.specs.Covers.{Covers, IsCoreOf}
 use Rattle.moves.specs.Found.{IsEndMargin}
 use Rattle.moves.specs.Moving.{net_moved, shifted_at}

@@ -7,9 +7,9 @@ use Rattle.origin.specs.declared.origin.Origin.{Origin}
 use Rattle.origin.specs.declared.origin.Origin.TheVariants as origins
 use Rattle.event_graph.specs.declared.cause.Cause.{Cause}
 use Rattle.event_graph.specs.Network.{Constraint}
-use Rattle.drawn.specs.Drawn.{Drawn, name_of}
-use Rattle.drawn.specs.declared.row.Row.{Row}
-use Rattle.numbers.specs.declared.drawn_number.DrawnNumber.TheVariants as numbers
+use Rattle.drawn_networks.specs.Drawn.{Drawn, name_of}
+use Rattle.drawn_networks.specs.declared.row.Row.{Row}
+use Rattle.drawn_numbers.specs.declared.drawn_number.DrawnNumber.TheVariants as numbers
 use Rattle.moves.specs.declared.number_seen.NumberSeen.{NumberSeen}
 use Rattle.moves.specs.Moving.{any_draws}
 

@@ -1,7 +1,7 @@
 -- What is found of a network with its rows, and when that is right.
 use Rattle.std.specs.Prelude.{Bool, true, false}
 use Rattle.event_graph.specs.Bounds.{IsInconsistent}
-use Rattle.drawn.specs.Drawn.{Drawn}
+use Rattle.drawn_networks.specs.Drawn.{Drawn}
 use Rattle.moves.specs.Passing.{BreaksRow, Passes}
 use Rattle.moves.specs.Step.{IsConsistent}
 use Rattle.moves.specs.declared.net_found.NetFound.{NetFound}

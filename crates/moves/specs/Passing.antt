@@ -9,9 +9,9 @@ use Rattle.event_graph.specs.declared.cause.Cause.{Cause}
 use Rattle.event_graph.specs.Network.{Constraint}
 use Rattle.event_graph.specs.Satisfying.{Satisfies}
 use Rattle.event_graph.specs.Times.{separation}
-use Rattle.drawn.specs.Drawn.{Drawn, name_of}
-use Rattle.drawn.specs.declared.row.Row.{Row}
-use Rattle.numbers.specs.declared.drawn_number.DrawnNumber.{DrawnNumber}
+use Rattle.drawn_networks.specs.Drawn.{Drawn, name_of}
+use Rattle.drawn_networks.specs.declared.row.Row.{Row}
+use Rattle.drawn_numbers.specs.declared.drawn_number.DrawnNumber.{DrawnNumber}
 use Rattle.moves.specs.Moving.{any_draws}
 
 -- a separation is as it is wanted; a question wants nothing

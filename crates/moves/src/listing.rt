@@ -2,17 +2,17 @@
 
 ghost use Rattle.std.specs.Prelude.{◌≡◌, ◌<◌, ◌++◌, ◌∷◌, [], IfOk, OnOk, fold, length, zip};
 ghost use Rattle.std.specs.List.{list_any};
-ghost use Rattle.drawn.specs.Drawn.{IsRowOf, name_of};
-ghost use Rattle.numbers.specs.Numbers.{draws, origins_of, part_of_target};
+ghost use Rattle.drawn_networks.specs.Drawn.{IsRowOf, name_of};
+ghost use Rattle.drawn_numbers.specs.Numbers.{draws, origins_of, part_of_target};
 ghost use Rattle.moves.specs.Listed.{all_numbers_of, number_by, numbers_of, with_cause, with_kind};
 ghost use Rattle.moves.specs.Moving.{any_draws};
 ghost use Rattle.moves.specs.Step.{causes_at, numbers_seen};
 
 use crate::number_seen::NumberSeen;
 use crate::reading::{cause_of, origins_of, part_of_target, read_drawn};
-use drawn::{DrawnNetwork, Row};
+use drawn_networks::{DrawnNetwork, Row};
+use drawn_numbers::DrawnNumber;
 use itv_base::{NoMemory, Range, RowKind, Text};
-use numbers::DrawnNumber;
 use origin::Origin;
 use std::alloc::Global;
 

@@ -4,17 +4,17 @@ ghost use Rattle.std.specs.Prelude.{◌≡◌, ◌<◌, ◌↔◌, ◌+ℤ◌, �
 ghost use Rattle.std.specs.List.{list_any};
 ghost use Rattle.itv_base.specs.Range.{IsEnd, IsRange};
 ghost use Rattle.event_graph.specs.Edges.{cause_choices};
-ghost use Rattle.numbers.specs.Numbers.{draws, origins_of, part_of_target};
+ghost use Rattle.drawn_numbers.specs.Numbers.{draws, origins_of, part_of_target};
 ghost use Rattle.moves.specs.Moving.{any_draws, net_moved, opened, widened};
 ghost use Rattle.moves.specs.Passing.{HasDrawableCauses};
 ghost use Rattle.moves.specs.Step.{AreDrawable, HasEventsOf, IsMove, IsMoveBy, IsOpening, cause_by, causes_moved, lent, moved_by};
 
 use crate::pushing::push_with;
 use crate::reading::{cause_of, origins_of, part_of_target, read_drawn};
-use drawn::DrawnNetwork;
+use drawn_networks::DrawnNetwork;
+use drawn_numbers::DrawnNumber;
 use event_graph::{Cause, Network};
 use itv_base::{NoMemory, Range, Side};
-use numbers::DrawnNumber;
 use origin::Origin;
 use std::alloc::Global;
 

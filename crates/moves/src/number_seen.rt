@@ -1,7 +1,7 @@
 //! Numbers of a drawing with their ranges.
 
+use drawn_numbers::DrawnNumber;
 use itv_base::Range;
-use numbers::DrawnNumber;
 
 /// A number of a drawing, and the range of the first cause that it draws.
 #[derive(Drop)]

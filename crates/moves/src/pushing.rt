@@ -6,7 +6,7 @@ ghost use Rattle.event_graph.specs.Network.{with_constraint};
 ghost use Rattle.moves.specs.Step.{HasEventsOf};
 
 use crate::reading::{kind_of, read_drawn, target_of};
-use drawn::DrawnNetwork;
+use drawn_networks::DrawnNetwork;
 use event_graph::{Cause, Network};
 use itv_base::{NoMemory, RuleKind};
 use std::alloc::Global;

@@ -3,12 +3,12 @@
 ghost use Rattle.std.specs.Prelude.{◌≡◌, ◌<◌, ◌≤◌, All, Some, length, option_map, slice_get};
 ghost use Rattle.itv_base.specs.declared.limits.TheConstants.{MAX_CAUSES};
 ghost use Rattle.event_graph.specs.Network.{Constraint, IsNet};
-ghost use Rattle.drawn.specs.Drawn.{OriginsFit};
-ghost use Rattle.drawn.specs.declared.row.Row.{Row as DrawnRow};
-ghost use Rattle.numbers.specs.Numbers.{origins_of, part_of_target};
+ghost use Rattle.drawn_networks.specs.Drawn.{OriginsFit};
+ghost use Rattle.drawn_networks.specs.declared.row.Row.{Row as DrawnRow};
+ghost use Rattle.drawn_numbers.specs.Numbers.{origins_of, part_of_target};
 ghost use Rattle.moves.specs.Step.{AreKindEnds, causes_at};
 
-use drawn::DrawnNetwork;
+use drawn_networks::DrawnNetwork;
 use event_graph::Cause;
 use itv_base::{EventId, RowKind, RuleKind};
 use origin::Origin;

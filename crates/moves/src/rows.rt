@@ -2,15 +2,15 @@
 
 ghost use Rattle.std.specs.Prelude.{◌≡◌, ◌≤◌, ◌↔◌, All, IfOk, IfSome, IsSome, IsTrue, length, map};
 ghost use Rattle.itv_base.specs.declared.limits.TheConstants.{MAX_ROWS};
-ghost use Rattle.drawn.specs.Drawn.{IsRowOf, name_of};
+ghost use Rattle.drawn_networks.specs.Drawn.{IsRowOf, name_of};
 ghost use Rattle.moves.specs.Moving.{any_draws, kind_moved, row_moved};
 ghost use Rattle.moves.specs.Passing.{HasDrawableRows, IsKindRange};
 ghost use Rattle.moves.specs.Step.{IsMove, lent, moved_by};
 
 use crate::moving::{Move, any_draws, moved_range};
-use drawn::{DrawnNetwork, Row};
+use drawn_networks::{DrawnNetwork, Row};
+use drawn_numbers::DrawnNumber;
 use itv_base::{NoMemory, RowKind};
-use numbers::DrawnNumber;
 use std::alloc::Global;
 
 /// The rows of a drawn network, with each range of a requirement moved that one of the numbers draws. The answer is `None` where a range can't be drawn.

@@ -7,9 +7,9 @@ ghost use Rattle.moves.specs.Step.{IsMoveBy, lent};
 
 use crate::moving::{Move, moved_network};
 use crate::rows::moved_rows;
-use drawn::DrawnNetwork;
+use drawn_networks::DrawnNetwork;
+use drawn_numbers::DrawnNumber;
 use itv_base::NoMemory;
-use numbers::DrawnNumber;
 use std::alloc::Global;
 
 /// Whether each range that one of some numbers draws can be drawn with both ends moved up by a number of picoseconds.

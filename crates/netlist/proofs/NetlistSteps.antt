@@ -9,11 +9,11 @@ use Rattle.netlist.specs.declared.fault.NetlistFault.{NetlistFault}
 use Rattle.netlist.specs.declared.fault.NetlistFault.TheVariants.{PartsNotList, TooManyParts, TooManySheets, NetsNotList, EdgesNotList}
 use Rattle.netlist.specs.declared.part.Part.{Part}
 use Rattle.netlist.specs.declared.wire.Wire.{Wire}
-use Rattle.netlist.specs.NetlistContents.{JoinedPins}
+use Rattle.netlist.specs.NetlistContents.{PinNetView}
 use Rattle.netlist.specs.Fault.{is_memory}
 use Rattle.json_tree.specs.Words.{list_at}
-use Rattle.near_keys.specs.StrayKeys.{stray_in_netlist}
-use Rattle.near_keys.specs.declared.stray_key.StrayKey.{StrayKey}
+use Rattle.json_tree.specs.StrayKeys.{stray_in_netlist}
+use Rattle.json_tree.specs.declared.stray_key.StrayKey.{StrayKey}
 use Rattle.netlist.specs.Netlist.{cycles_of, edges_of, list_if, parts_of, nets_of, wires_of, netlist_of, sheet_names, with_part, with_net, with_wire, version_of}
 use Rattle.itv_base.specs.Reading.{walk, UnlessTrue, IsReadingFault}
 use Rattle.itv_base.proofs.Faults.{IsReadingFault-first}
@@ -97,7 +97,7 @@ module _ (tree : Data) where
         unfolding netlist_of
         all_nets-fault fault h = rw (shown, counted, are) (IsReadingFault-first is_memory (nets_of tree) _ fault h)
 
-        module _ (nets : List JoinedPins) (joined : nets_of tree ≡ Ok nets) where
+        module _ (nets : List PinNetView) (joined : nets_of tree ≡ Ok nets) where
           pub all_wires-fault : (fault : NetlistFault) → IsReadingFault is_memory (wires_of tree) fault → IsReadingFault is_memory (netlist_of tree) fault
           unfolding netlist_of
           all_wires-fault fault h = rw (shown, counted, are, joined) (IsReadingFault-first is_memory (wires_of tree) _ fault h)

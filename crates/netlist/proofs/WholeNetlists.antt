@@ -22,7 +22,7 @@ use Rattle.netlist.specs.declared.fault.NetlistFault.TheVariants as faults
 use Rattle.netlist.specs.declared.part.Part.{Part}
 use Rattle.netlist.specs.declared.pin.PinText.{PinText}
 use Rattle.netlist.specs.declared.wire.Wire.{Wire}
-use Rattle.netlist.specs.NetlistContents.{NetlistContents, JoinedPins}
+use Rattle.netlist.specs.NetlistContents.{NetlistView, PinNetView}
 use Rattle.json_tree.specs.Words.{list_at, whole_at}
 use Rattle.netlist.specs.Netlist.{cycles_from, cycles_of, delay_of, demand, edges_of, is_part, labelled, list_if, net_of, netlist_of, nets_of, part_of, parts_of, pins_of, range_of, seen_wire, sheet_names, unless_empty, version_of, wire_at, wires_of, with_net, with_part, with_wire}
 use Rattle.itv_base.specs.Reading.{walk}
@@ -118,7 +118,7 @@ net_whole n d =
     (λ pins some. IfOk-bind (λ _. Unit {0}) IsWholeNet (ok_or (delay_of (get (codes "delay") d)) (Net n)) _ (IfOk-any (ok_or (delay_of (get (codes "delay") d)) (Net n)))
     (λ ends _. IfOk-bind IsRange IsWholeNet (range_of n ends) _ (range_whole n ends) (λ delay range. record { some = some; range = range })))
 
-with_net_whole : (n : ℕ) (done : List JoinedPins) (d : Data) → All IsWholeNet done → IfOk (with_net n done d) (All IsWholeNet)
+with_net_whole : (n : ℕ) (done : List PinNetView) (d : Data) → All IsWholeNet done → IfOk (with_net n done d) (All IsWholeNet)
 with_net_whole n done d all = IfOk-bind IsWholeNet (All IsWholeNet) (net_of n d) _ (net_whole n d) (λ net h. All-push IsWholeNet done net all h)
 
 nets_whole : (tree : Data) → IfOk (nets_of tree) (All IsWholeNet)
@@ -169,5 +169,5 @@ read_whole tree =
     (λ edges _. record { some = count.0; few = count.1; few_parts = few.count; few_sheets = few.sheets; whole_nets = joined; whole_wires = are }))))))
 
 -- the netlist of a tree is whole
-pub netlist_whole : (tree : Data) (netlist : NetlistContents) → netlist_of tree ≡ Ok netlist → IsNetlist netlist
+pub netlist_whole : (tree : Data) (netlist : NetlistView) → netlist_of tree ≡ Ok netlist → IsNetlist netlist
 netlist_whole tree netlist is = IfOk-at_ok IsNetlist is (read_whole tree)

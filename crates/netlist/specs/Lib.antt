@@ -4,7 +4,7 @@ pub use Rattle.itv_base.specs.Reading
 pub use Rattle.label_grammar.specs.Label
 pub use Rattle.label_grammar.specs.Wire
 pub use Rattle.json_tree.specs.Words
-pub use Rattle.near_keys.specs.StrayKeys
+pub use Rattle.json_tree.specs.StrayKeys
 pub use Rattle.serde_json.specs.Data
 pub use Rattle.serde_json.specs.Find
 pub use Rattle.serde_json.specs.View

@@ -4,7 +4,7 @@ use Rattle.std.specs.List.{filter_map, list_any, before_first, after_first}
 use Rattle.std.specs.Str.{bytes_eq}
 use Rattle.serde_json.specs.Data.{Data}
 use Rattle.serde_json.specs.Find.{get, as_object, as_str}
-use Rattle.near_keys.specs.StrayKeys.{stray_in_netlist}
+use Rattle.json_tree.specs.StrayKeys.{stray_in_netlist}
 use Rattle.json_tree.specs.Words.{all_of, ends_by, list_at, list_of, name_of, text_at, whole_at}
 use Rattle.itv_base.specs.Range.{Ends, has_wide, is_reversed}
 use Rattle.itv_base.specs.declared.range.RangeFault.TheVariants.{TooWide, EmptyRange}
@@ -21,7 +21,7 @@ use Rattle.netlist.specs.declared.fault.NetlistFault.TheVariants.{NotObject, Ver
 use Rattle.netlist.specs.declared.part.Part as code
 use Rattle.netlist.specs.declared.pin.PinText.{PinText}
 use Rattle.netlist.specs.declared.wire.Wire.{Wire}
-use Rattle.netlist.specs.NetlistContents.{NetlistContents, JoinedPins}
+use Rattle.netlist.specs.NetlistContents.{NetlistView, PinNetView}
 use Rattle.itv_base.specs.Reading.{◌>>=◌, walk}
 
 -- ---- what stands under a key
@@ -134,17 +134,17 @@ abbrev pub range_of : ℕ → Ends → Result Ends NetlistFault
 range_of n ends = if has_wide ends then Err (Delay n TooWide) else (if is_reversed ends then Err (Delay n EmptyRange) else Ok ends)
 
 -- the name, the pins and the delay of net n; a name that is no text counts as missing
-unfoldable pub net_of : ℕ → Data → Result JoinedPins NetlistFault
+unfoldable pub net_of : ℕ → Data → Result PinNetView NetlistFault
 net_of n d = do
   pins ← ok_or (pins_of d) (Net n)
   ends ← ok_or (delay_of (get (codes "delay") d)) (Net n)
   delay ← range_of n ends
   Ok (record { name = text_at (codes "name") d; pins = pins; delay = delay })
 
-abbrev pub with_net : ℕ → List JoinedPins → Data → Result (List JoinedPins) NetlistFault
+abbrev pub with_net : ℕ → List PinNetView → Data → Result (List PinNetView) NetlistFault
 with_net n done d = net_of n d >>= λ net. Ok (done ++ net ∷ [])
 
-unfoldable pub nets_of : Data → Result (List JoinedPins) NetlistFault
+unfoldable pub nets_of : Data → Result (List PinNetView) NetlistFault
 nets_of tree = list_if (get (codes "nets") tree) NetsNotList >>= walk with_net 0 []
 
 -- ---- wires
@@ -184,7 +184,7 @@ edges_of tree = list_if (get (codes "edges") tree) EdgesNotList >>= λ listed. O
 -- ---- the whole
 
 -- The netlist of a tree, or its first fault. What stands under any other key of the tree, of a part or of a net is not read. Such keys are kept.
-unfoldable pub netlist_of : Data → Result NetlistContents NetlistFault
+unfoldable pub netlist_of : Data → Result NetlistView NetlistFault
 netlist_of tree = do
   version ← version_of tree
   cycles ← cycles_of tree
@@ -195,7 +195,7 @@ netlist_of tree = do
   Ok (record { version = version; cycles = cycles; parts = parts; nets = nets; wires = wires; edges = edges; stray = stray_in_netlist tree })
 
 -- the netlist that stands for the sheet of a name: one part in one cycle, of version 1; it has no keys
-abbrev pub lone_netlist : List ℕ → NetlistContents
+abbrev pub lone_netlist : List ℕ → NetlistView
 lone_netlist sheet = record {
   version = 1;
   cycles = 1;

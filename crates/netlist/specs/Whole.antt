@@ -3,11 +3,11 @@ use Rattle.std.specs.Prelude.{◌≤◌, length, All, IfSome}
 use Rattle.itv_base.specs.Range.{IsRange}
 use Rattle.itv_base.specs.declared.limits.TheConstants.{MAX_CYCLES, MAX_PARTS, MAX_SHEET_NAMES, MAX_SHIFT}
 use Rattle.netlist.specs.declared.wire.Wire.{Wire}
-use Rattle.netlist.specs.NetlistContents.{NetlistContents, JoinedPins}
+use Rattle.netlist.specs.NetlistContents.{NetlistView, PinNetView}
 use Rattle.netlist.specs.Netlist.{sheet_names}
 
 -- a net has a pin, and its delay is a range
-pub record IsWholeNet (net : JoinedPins) : Type 0 where
+pub record IsWholeNet (net : PinNetView) : Type 0 where
   pub some : 1 ≤ length net.pins
   pub range : IsRange net.delay
 
@@ -17,7 +17,7 @@ pub record IsWholeWire (wire : Wire) : Type 0 where
   pub ends : IfSome wire.range IsRange
 
 -- there is a cycle or more; the numbers of cycles, of parts and of sheet names are within their limits; and nets and wires are whole
-pub record IsNetlist (n : NetlistContents) : Type 0 where
+pub record IsNetlist (n : NetlistView) : Type 0 where
   pub some : 1 ≤ n.cycles
   pub few : n.cycles ≤ MAX_CYCLES
   pub few_parts : length n.parts ≤ MAX_PARTS

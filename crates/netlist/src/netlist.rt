@@ -8,7 +8,7 @@ use crate::part::{Part, Parts};
 use crate::pin_net::Nets;
 use crate::wire::Wires;
 use itv_base::{NoMemory, Text, Texts};
-use near_keys::StrayKeys;
+use json_tree::StrayKeys;
 use std::alloc::Global;
 use std::marker::Model;
 
@@ -27,11 +27,11 @@ pub struct Netlist {
 
 impl Model for Netlist {
     ghost use Rattle.std.specs.Prelude.{◌≡◌};
-    ghost use Rattle.netlist.specs.NetlistContents.{NetlistContents};
+    ghost use Rattle.netlist.specs.NetlistContents.{NetlistView};
     ghost use Rattle.netlist.specs.Netlist.{sheet_names as names_of};
     ghost use Rattle.netlist.specs.Whole.{IsNetlist};
 
-    ghost Value = { NetlistContents };
+    ghost Value = { NetlistView };
 
     ghost view = { λ n. record { version = n.version; cycles = n.cycles; parts = n.parts; nets = n.nets; wires = n.wires; edges = n.edges; stray = n.stray } };
 

@@ -16,9 +16,9 @@ pub struct PinNet {
 }
 
 impl Model for PinNet {
-    ghost use Rattle.netlist.specs.NetlistContents.{JoinedPins};
+    ghost use Rattle.netlist.specs.NetlistContents.{PinNetView};
 
-    ghost Value = { JoinedPins };
+    ghost Value = { PinNetView };
 
     ghost view = { λ n. record { name = n.name; pins = n.pins; delay = n.delay } };
 }

@@ -17,8 +17,7 @@ use crate::tree::list_if;
 use crate::wires::read_wires;
 use crate::{Nets, Wires};
 use itv_base::{MAX_PARTS, MAX_SHEET_NAMES, Texts};
-use json_tree::{list_at, strings_in};
-use near_keys::stray_in_netlist;
+use json_tree::{list_at, stray_in_netlist, strings_in};
 use serde_json::Value;
 use std::alloc::Global;
 

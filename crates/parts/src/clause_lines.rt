@@ -4,11 +4,11 @@ ghost use Rattle.std.specs.Prelude.{◌<◌};
 ghost use Rattle.edge_clauses.specs.Checking.{IsChecking};
 
 use crate::out::Out;
+use clause_texts::read_clause_line;
 use edge_clauses::{Claim, ClauseChecker};
 use event_graph::Network;
 use itv_base::EventId;
 use line_words::long_in;
-use settle_lines::read_clause_line;
 use std::alloc::Global;
 
 /// Gives lines to a checker of the claim of the first row, as in `claim 740`: how far event 3 comes after event 0 at most. Writes of each line whether

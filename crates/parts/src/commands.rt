@@ -2,11 +2,11 @@
 
 use crate::out::Out;
 use crate::writing::put_bytes;
+use command_words::{CheckJob, Invocation, PlanJob, SearchJob, Task, read_words};
 use design_gen::make;
 use itv_base::{FILE_LIMIT, Shelf, ShelfMem, Texts};
 use line_words::short_in;
 use std::alloc::Global;
-use words::{CheckJob, Invocation, PlanJob, SearchJob, Task, read_words};
 
 /// Writes what a list of words asks for. In the row each word stands after a comma.
 pub fn words(alloc: Global, row: &str, out: &mut Out) {

@@ -2,11 +2,11 @@
 
 use crate::out::Out;
 use crate::writing::{bytes_of, put_range};
-use drawn::DrawnNetwork;
-use edits::{EditsFault, RangeEdit, Subject, read_edits};
+use design_reading::open_design;
+use drawn_networks::DrawnNetwork;
+use drawn_numbers::DrawnNumber;
 use itv_base::ShelfMem;
-use numbers::DrawnNumber;
-use reading::open_design;
+use range_edits::{EditsFault, RangeEdit, Subject, read_edits};
 use std::alloc::Global;
 
 /// Writes the edits of a file, or its fault. The row has a number and a text: the file has this text so many times. Each line of the subject is a

@@ -7,12 +7,12 @@ ghost use Rattle.falling.specs.View.{IsViewOf};
 
 use crate::out::Out;
 use crate::writing::{PairQuestion, asked_of, put_flags, put_numbers, put_taken};
+use clause_texts::read_clause_line;
 use edge_clauses::{Basis, EventBound, StoredLine};
 use event_graph::Network;
 use falling::{FallChecker, Fallen, Falling, QuietFall, View};
 use itv_base::EventId;
 use line_words::short_in;
-use settle_lines::read_clause_line;
 use std::alloc::Global;
 
 /// Writes which network is solved.

@@ -6,7 +6,7 @@ use Rattle.std.proofs.lemmas.List.Elements.{All-nil, All-push}
 use Rattle.std.proofs.lemmas.Option.{slice_get-get_or}
 use Rattle.event_graph.specs.Edges.{cause_choices}
 use Rattle.event_graph.specs.Network.{Net}
-use Rattle.drawn.specs.declared.row.Row.{Row}
+use Rattle.drawn_networks.specs.declared.row.Row.{Row}
 use Rattle.extremes.specs.Ready.{IsReady}
 use Rattle.extremes.specs.declared.extremes.Extremes.{Extremes}
 use Rattle.moves.specs.Networks.{IsNetFound, is_net_open}

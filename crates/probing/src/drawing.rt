@@ -1,12 +1,12 @@
 //! What numbers draw.
 
 ghost use Rattle.std.specs.Prelude.{◌≡◌, ◌<◌, Some, length, slice_get};
-ghost use Rattle.drawn.specs.Drawn.{IsRowOf};
+ghost use Rattle.drawn_networks.specs.Drawn.{IsRowOf};
 
-use drawn::{DrawnNetwork, Row};
+use drawn_networks::{DrawnNetwork, Row};
+use drawn_numbers::DrawnNumber;
 use itv_base::EdgeName;
 use moves::{any_draws, part_of_target};
-use numbers::DrawnNumber;
 use origin::Origin;
 
 /// Whether one of some numbers gives its range to the row with a number.

@@ -2,9 +2,9 @@
 
 use crate::drawing::{draw_edge, draw_row};
 use crate::probed::SideChain;
-use drawn::DrawnNetwork;
+use drawn_networks::DrawnNetwork;
+use drawn_numbers::DrawnNumber;
 use itv_base::Side;
-use numbers::DrawnNumber;
 
 /// A direction in which numbers are moved.
 #[derive(Clone, Copy)]

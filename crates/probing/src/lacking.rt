@@ -4,10 +4,10 @@ ghost use Rattle.std.specs.Prelude.{◌<◌, All, length};
 ghost use Rattle.event_graph.specs.Times.{IsTime};
 
 use crate::drawing::draw_edge;
-use drawn::DrawnNetwork;
+use drawn_networks::DrawnNetwork;
+use drawn_numbers::DrawnNumber;
 use event_graph::{Network, separation};
 use itv_base::{EdgeName, RuleKind, Side};
-use numbers::DrawnNumber;
 
 /// The least move of an end outward with which given times satisfy a network, where they satisfy it with the end open. It is `None` where no constraint asks
 /// for a move. The times are in picoseconds, one per event, each below 2^61 in absolute value.

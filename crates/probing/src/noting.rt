@@ -11,7 +11,7 @@ ghost use Rattle.probing.specs.Step.{IsLimitFound, IsNotedFor};
 use crate::probed::{Probed, SideChain};
 use crate::side::SideFound;
 use chains::Chains;
-use drawn::Row;
+use drawn_networks::Row;
 use event_graph::Network;
 use extremes::{Extremes, Greatest};
 use itv_base::{EventId, NoMemory};

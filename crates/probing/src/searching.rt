@@ -4,7 +4,7 @@ ghost use Rattle.std.specs.Prelude.{◌≡◌, ◌≤◌, ℕ, All, IfOk, IsTrue
 ghost use Rattle.itv_base.specs.Range.{IsEnd};
 ghost use Rattle.itv_base.specs.declared.limits.TheConstants.{MAX_ROWS};
 ghost use Rattle.event_graph.specs.Edges.{cause_choices};
-ghost use Rattle.drawn.specs.Drawn.{IsRowOf};
+ghost use Rattle.drawn_networks.specs.Drawn.{IsRowOf};
 ghost use Rattle.extremes.specs.Ready.{IsFor, IsReady};
 ghost use Rattle.moves.specs.Networks.{IsNetFound, is_net_open};
 ghost use Rattle.moves.specs.Step.{bare_drawn};
@@ -13,7 +13,7 @@ ghost use Rattle.probing.specs.Step.{IsHighFound, IsLowFound, IsNotedFor, IsProb
 use crate::noting::{ProbeNotes, high_limit, look, low_limit};
 use crate::probed::Probed;
 use crate::side::{SideFound, both_of};
-use drawn::Row;
+use drawn_networks::Row;
 use event_graph::Network;
 use extremes::{Consistency, Extremes, RunTurns};
 use itv_base::{NoMemory, Range, RowKind};

@@ -4,7 +4,7 @@ use Rattle.itv_base.specs.Range.{Ends}
 use Rattle.itv_base.specs.declared.row_kind.RowKind.TheVariants.{Req}
 use Rattle.label_grammar.specs.declared.label.Kind.TheVariants as kinds
 use Rattle.origin.specs.declared.origin.Origin.TheVariants.{Edge}
-use Rattle.drawn.specs.Drawn.{Drawn}
+use Rattle.drawn_networks.specs.Drawn.{Drawn}
 use Rattle.redraw.specs.Drawing.{Lane, edge_text, exactly, range_label, sketched}
 use Rattle.redraw.specs.Narrowing.{narrowed}
 use Rattle.redraw.specs.Order.{drawn_events, event}

@@ -5,8 +5,8 @@ use Rattle.std.proofs.lemmas.Int.{ints}
 use Rattle.itv_base.specs.declared.names.EventId.{EventId}
 use Rattle.event_graph.specs.Times.{separation, time_of}
 use Rattle.falling.proofs.Near.{IsKept, below_or_not}
-use Rattle.drawn.specs.declared.row.Row.{Row}
-use Rattle.drawn.specs.Drawn.{Drawn, IsRowOf}
+use Rattle.drawn_networks.specs.declared.row.Row.{Row}
+use Rattle.drawn_networks.specs.Drawn.{Drawn, IsRowOf}
 use Rattle.redraw.specs.declared.drawn_event.DrawnEvent.{DrawnEvent}
 use Rattle.redraw.specs.declared.drawn_event.Timed.{Timed}
 use Rattle.redraw.specs.Narrowing.{lesser, narrowed, widest_gap}

@@ -2,7 +2,7 @@
 use Rattle.std.proofs.Common.{◌≡◌, ◌<◌, inl, inr, ℕ, zero, suc, List, [], ◌∷◌, length, get_or, Some, slice_get, unwrap_or, ◌∙◌, refl, sym, ap, arith}
 use Rattle.std.proofs.lemmas.Bool.{cases_order}
 use Rattle.itv_base.specs.Names.{Name}
-use Rattle.drawn.specs.Drawn.{nameless}
+use Rattle.drawn_networks.specs.Drawn.{nameless}
 use Rattle.slack_report.specs.Entry.{IsName}
 use Rattle.slack_report.specs.Reading.{name_in}
 use Rattle.slack_report.specs.Text.{name_word}

@@ -2,8 +2,8 @@
 use Rattle.std.proofs.Common.{◌≡◌, ◌<◌, ℕ, zero, suc, ℤ, List, [], ◌∷◌, All, IsSomeAnd, length, Some, slice_get, unwrap_or, ◌∙◌, sym, ap, subst, arith}
 use Rattle.itv_base.specs.Range.{Ends}
 use Rattle.event_graph.proofs.EdgesMet.{All-found}
-use Rattle.drawn.specs.declared.row.Row.{Row}
-use Rattle.drawn.specs.Drawn.{Drawn, IsRowOf, name_of}
+use Rattle.drawn_networks.specs.declared.row.Row.{Row}
+use Rattle.drawn_networks.specs.Drawn.{Drawn, IsRowOf, name_of}
 use Rattle.redraw.specs.declared.drawn_event.DrawnEvent.{DrawnEvent}
 use Rattle.redraw.specs.Narrowing.{narrowed, widest_gap}
 use Rattle.redraw.specs.Order.{ordered_events}

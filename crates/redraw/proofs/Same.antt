@@ -6,7 +6,7 @@ use Rattle.itv_base.proofs.Bools.{same_test}
 use Rattle.itv_base.proofs.Integers.{test_from_lt}
 use Rattle.event_graph.specs.Times.{separation, time_of}
 use Rattle.falling.proofs.Near.{IsKept, KeepsNear, below_or_not, keeps_in}
-use Rattle.drawn.specs.declared.row.Row.{Row}
+use Rattle.drawn_networks.specs.declared.row.Row.{Row}
 use Rattle.redraw.specs.declared.drawn_event.DrawnEvent.{DrawnEvent}
 use Rattle.redraw.specs.declared.drawn_event.Timed.{Timed}
 use Rattle.redraw.specs.Narrowing.{lesser, narrowed, widest_gap}

@@ -10,8 +10,8 @@ use Rattle.itv_base.specs.declared.row_kind.RowKind.{RowKind}
 use Rattle.itv_base.specs.declared.row_kind.RowKind.TheVariants as asked
 use Rattle.slack_report.specs.Text.{name_word}
 use Rattle.origin.specs.declared.origin.Origin.TheVariants.{Edge}
-use Rattle.drawn.specs.declared.row.Row.{Row}
-use Rattle.drawn.specs.Drawn.{Drawn, name_of}
+use Rattle.drawn_networks.specs.declared.row.Row.{Row}
+use Rattle.drawn_networks.specs.Drawn.{Drawn, name_of}
 use Rattle.redraw.specs.declared.drawn_event.DrawnEvent.{DrawnEvent}
 use Rattle.redraw.specs.declared.drawn_event.Timed.{Timed}
 use Rattle.redraw.specs.Narrowing.{lesser, narrowed, widest_gap}

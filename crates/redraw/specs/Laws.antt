@@ -5,8 +5,8 @@ use Rattle.itv_base.specs.declared.names.EventId.{EventId}
 use Rattle.event_graph.specs.Network.{IsNet, Net}
 use Rattle.event_graph.specs.Satisfying.{Satisfies}
 use Rattle.event_graph.specs.Times.{separation}
-use Rattle.drawn.specs.declared.row.Row.{Row}
-use Rattle.drawn.specs.Drawn.{Drawn, IsRowOf, name_of, nameless}
+use Rattle.drawn_networks.specs.declared.row.Row.{Row}
+use Rattle.drawn_networks.specs.Drawn.{Drawn, IsRowOf, name_of, nameless}
 use Rattle.slack_report.specs.Entry.{IsName}
 use Rattle.slack_report.specs.Text.{name_word}
 use Rattle.redraw.specs.declared.drawn_event.DrawnEvent.{DrawnEvent}

@@ -1,7 +1,7 @@
 -- The text of a drawing: WaveJSON on one line.
 use Rattle.std.specs.Prelude.{ℕ, ◌==◌, ◌||◌, ℤ, if◌then◌else◌, List, [], ◌∷◌, ◌++◌, map, codes}
 use Rattle.std.specs.List.{flat_map}
-use Rattle.drawn.specs.Drawn.{Drawn}
+use Rattle.drawn_networks.specs.Drawn.{Drawn}
 use Rattle.redraw.specs.Drawing.{Lane, Sketch, sketched}
 
 -- a quotation mark and a backslash have a backslash before them

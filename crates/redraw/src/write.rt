@@ -7,7 +7,7 @@ ghost use Rattle.itv_base.specs.Outside.{Puts};
 ghost use Rattle.label_grammar.specs.Label.{IsProper, spelling, version_1};
 ghost use Rattle.label_grammar.specs.declared.label.Kind.TheVariants.{Lin};
 ghost use Rattle.slack_report.specs.Text.{name_word};
-ghost use Rattle.drawn.specs.Drawn.{name_of};
+ghost use Rattle.drawn_networks.specs.Drawn.{name_of};
 ghost use Rattle.redraw.specs.Drawing.{demand_edge, edge_text, exactly, lane_of, mark_at, number_in, range_label, sketch_of, step_edge, step_edges, steps_of};
 ghost use Rattle.redraw.specs.Narrowing.{widest_gap};
 ghost use Rattle.redraw.specs.Step.{AreNear, IsStand, StandNear, edge_front, lane_end, lane_front, lane_wave, mark_and_cycle, steps_text};
@@ -16,7 +16,7 @@ ghost use Rattle.redraw.specs.declared.drawn_event.DrawnEvent.{DrawnEvent};
 ghost use Rattle.redraw.specs.declared.drawn_event.TheConstants.{MOST_DRAWN};
 
 use crate::drawn_event::{DrawnEvent, MOST_DRAWN};
-use drawn::DrawnNetwork;
+use drawn_networks::DrawnNetwork;
 use itoa::Buffer;
 use itv_base::{EventId, EventName, PutFailed, Range, Sink, number_text, put_all};
 use label_grammar::{Kind, Label, write_label};

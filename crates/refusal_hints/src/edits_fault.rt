@@ -3,8 +3,8 @@
 use crate::edge::put_misfit;
 use crate::hint::Hint;
 use crate::label_fault::{Misfit, high_low_end, range_misfit, wide_end};
-use edits::EditsFault;
 use itv_base::RangeFault;
+use range_edits::EditsFault;
 
 /// Why the bytes of a file of edits are refused.
 pub fn put_edits_fault(hint: &mut Hint, bytes: &[u8], fault: EditsFault) {

@@ -7,9 +7,9 @@ use crate::json_fault::put_json_fault;
 use crate::netlist_fault::put_netlist_fault;
 use crate::sheet_fault::{RefusedSheet, put_sheet_fault};
 use crate::tree::put_about_key;
+use design_reading::Refusal;
 use itv_base::{FILE_LIMIT, Shelf};
 use netlist::Netlist;
-use reading::Refusal;
 use serde_json::Value;
 use wavejson::DiagramFault;
 

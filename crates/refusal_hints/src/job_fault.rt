@@ -3,11 +3,11 @@
 use crate::edits_fault::put_edits_fault;
 use crate::hint::Hint;
 use crate::limit::put_too_many;
-use drawn::DrawnNetwork;
-use edits::{EditsFault, MAX_EDITS_BYTES, read_edits};
+use command_words::{SearchJob, Task};
+use drawn_networks::DrawnNetwork;
 use itv_base::Shelf;
+use range_edits::{EditsFault, MAX_EDITS_BYTES, read_edits};
 use unroll::{Limit, MAX_SESSION_ROWS};
-use words::{SearchJob, Task};
 
 /// Why the job of a task is refused, whose design draws this network.
 pub fn put_job_fault<H: Shelf>(

@@ -5,10 +5,10 @@ use crate::hint::Hint;
 use crate::part::put_no_part;
 use crate::sheet_fault::TOO_MANY_CAUSES;
 use compose::{JoinFault, SheetKey};
+use design_plan::Plan;
 use itv_base::NoMemory;
 use label_grammar::{WireText, read_wire};
 use netlist::{Part, PinText};
-use plan::Plan;
 use sheet::{Mark, Pin, Sheet};
 use wave_string::MarkKind;
 

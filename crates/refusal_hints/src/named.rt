@@ -1,6 +1,6 @@
 //! The files that a task names.
 
-use words::Task;
+use command_words::Task;
 
 /// The names of the files of a task. A generated design has none.
 #[derive(Clone, Copy)]

@@ -6,11 +6,11 @@ use crate::job_fault::put_job_fault;
 use crate::join_fault::put_join_fault;
 use crate::limit::put_limit_fault;
 use crate::part::netlist_of;
+use command_words::Task;
+use design_plan::Plan;
+use design_reading::{Refusal, RefusalPlace, Stop, draw_plan, open_plan};
 use itv_base::Shelf;
 use netlist::Netlist;
-use plan::Plan;
-use reading::{Refusal, RefusalPlace, Stop, draw_plan, open_plan};
-use words::Task;
 
 /// Puts why the run of a task ended with a refusal, or nothing where a second reading does not show it. The files are read again.
 pub fn put_refusal<H: Shelf>(hint: &mut Hint, task: Task<'_>, design: &str, shelf: &mut H) {

@@ -10,8 +10,8 @@ use Rattle.requirements.specs.declared.bound.Bound.TheVariants.{Closed, Unbounde
 use Rattle.slack_report.specs.declared.words.FindingWord.{FindingWord}
 use Rattle.slack_report.specs.declared.words.FindingWord.TheVariants.{Consistent, Inconsistent, Unsettled}
 use Rattle.slack_report.specs.Entry.{Entry}
-use Rattle.drawn.specs.Drawn.{Drawn, AreTimes}
-use Rattle.drawn.specs.declared.row.Row.{Row}
+use Rattle.drawn_networks.specs.Drawn.{Drawn, AreTimes}
+use Rattle.drawn_networks.specs.declared.row.Row.{Row}
 use Rattle.right_report.specs.Right.ReportState.{ReportState, NextBound, CurrentRow, at_heading, at_budget, at_events, at_event, at_finding, at_known, at_rows, at_row, at_bound, at_times, at_raise, at_verdict, at_past, at_slack, at_end, at_last, behind_bound, greatest, least_by}
 use Rattle.right_report.specs.Right.LineClaims.{IsBoundOf, IsClosed, IsFinding, right}
 use Rattle.right_report.specs.Right.Following.{MayBound, MayFind, MayFollow, LinesLead}

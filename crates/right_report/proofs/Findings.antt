@@ -6,7 +6,7 @@ use Rattle.event_graph.specs.Proof.{ProofLine}
 use Rattle.slack_report.specs.declared.words.FindingWord.{FindingWord}
 use Rattle.slack_report.specs.declared.words.FindingWord.TheVariants.{Consistent, Inconsistent}
 use Rattle.slack_report.specs.Entry.{Entry, finding}
-use Rattle.drawn.specs.Drawn.{Drawn}
+use Rattle.drawn_networks.specs.Drawn.{Drawn}
 use Rattle.right_report.specs.Right.ReportState.{ReportState, at_heading, at_budget, at_events, at_event, at_finding, at_known, at_rows, at_row, at_bound, at_times, at_raise, at_verdict, at_past, at_slack, at_end, at_last, behind_finding}
 use Rattle.right_report.specs.Right.LineClaims.{IsFinding, right}
 use Rattle.right_report.specs.Right.Following.{LineClaims, MayFind, MayFollow, LinesLead}

@@ -8,7 +8,7 @@ use Rattle.requirements.specs.declared.bound.Bound.TheVariants.{Closed}
 use Rattle.slack_report.specs.declared.words.FindingWord.TheVariants.{Consistent, Inconsistent, Unsettled}
 use Rattle.slack_report.specs.declared.words.Which.{Which}
 use Rattle.slack_report.specs.Entry.{Entry, bound, budget, finding, heading, proof, times}
-use Rattle.drawn.specs.Drawn.{Drawn}
+use Rattle.drawn_networks.specs.Drawn.{Drawn}
 use Rattle.right_report.specs.Right.ReportState.{ReportState, NextBound, CurrentRow, at_heading, at_budget, at_events, at_event, at_finding, at_known, at_rows, at_row, at_bound, at_times, at_raise, at_verdict, at_past, at_slack, at_end, at_last, behind_bound, behind_finding, behind_times, which_of}
 use Rattle.right_report.specs.Right.Following.{LineClaims, MayBound, MayFind, MayFollow, LinesLead}
 use Rattle.right_report.specs.Checked.{checked}

@@ -7,7 +7,7 @@ use Rattle.certificate.specs.Scribing.{SinkGrew, SinkWasCut}
 use Rattle.certificate.specs.Text.{proof_line_text, proof_text}
 use Rattle.slack_report.specs.Entry.{Entry, proof}
 use Rattle.slack_report.specs.Text.{entry_text, report_text, words_of}
-use Rattle.drawn.specs.Drawn.{Drawn}
+use Rattle.drawn_networks.specs.Drawn.{Drawn}
 use Rattle.right_report.specs.Right.ReportState.{ReportState, NextBound, CurrentRow, at_bound, at_event, at_finding}
 use Rattle.right_report.specs.Right.Following.{LineClaims, MayFollow, LinesLead}
 use Rattle.slack_report.proofs.Judging.{report_text-append}

@@ -5,7 +5,7 @@ use Rattle.slack_report.specs.Order.{IsReport}
 use Rattle.slack_report.specs.Reading.{Read, report_in}
 use Rattle.slack_report.specs.Report.{IsFirstWrongLine}
 use Rattle.slack_report.specs.Text.{report_text}
-use Rattle.drawn.specs.Drawn.{Drawn}
+use Rattle.drawn_networks.specs.Drawn.{Drawn}
 use Rattle.slack_report.proofs.Judging.{first_same, report_err, report_ok, texts_differ}
 use Rattle.right_report.specs.Checked.{checked}
 use Rattle.right_report.specs.Laws.{AcceptedTextIsNotRefused, AcceptedTextIsRight, OneRefusedLine, UnrefusedTextIsRight}

@@ -6,8 +6,8 @@ use Rattle.requirements.specs.declared.bound.Bound.{Bound}
 use Rattle.requirements.specs.declared.bound.Bound.TheVariants.{Closed, Unbounded, Within}
 use Rattle.slack_report.specs.declared.words.Which.TheVariants.{Max, Min}
 use Rattle.slack_report.specs.Entry.{Entry, bound, proof, raise, times}
-use Rattle.drawn.specs.Drawn.{Drawn}
-use Rattle.drawn.specs.declared.row.Row.{Row}
+use Rattle.drawn_networks.specs.Drawn.{Drawn}
+use Rattle.drawn_networks.specs.declared.row.Row.{Row}
 use Rattle.right_report.specs.Right.ReportState.{ReportState, NextBound, CurrentRow, at_heading, at_bound, at_times, at_raise, at_last, behind_bound, behind_times, bounded, greatest, least_by}
 use Rattle.right_report.specs.Right.LineClaims.{IsBoundOf, right}
 use Rattle.right_report.specs.Right.Following.{MayFollow, LinesLead}

@@ -3,7 +3,7 @@ use Rattle.std.proofs.Common.{◌≡◌, ◌<◌, ◌+◌, ℕ, List, ◌∷◌,
 use Rattle.std.proofs.lemmas.List.{drop_more}
 use Rattle.itv_base.proofs.Lists.{drop-read}
 use Rattle.requirements.specs.declared.bound.BothBounds.{BothBounds}
-use Rattle.drawn.specs.declared.row.Row.{Row}
+use Rattle.drawn_networks.specs.declared.row.Row.{Row}
 use Rattle.right_report.specs.RowTally.{kinds_of, with_row, with_rows}
 use Rattle.right_report.specs.declared.tally.ReportTally.{ReportTally}
 

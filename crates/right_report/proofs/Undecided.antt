@@ -18,8 +18,8 @@ use Rattle.slack_report.specs.declared.words.EndWord.TheVariants as endings
 use Rattle.slack_report.specs.declared.words.FindingWord.{FindingWord}
 use Rattle.slack_report.specs.declared.words.FindingWord.TheVariants.{Consistent, Inconsistent, Unsettled}
 use Rattle.slack_report.specs.Entry.{Entry, ending}
-use Rattle.drawn.specs.Drawn.{Drawn}
-use Rattle.drawn.specs.declared.row.Row.{Row}
+use Rattle.drawn_networks.specs.Drawn.{Drawn}
+use Rattle.drawn_networks.specs.declared.row.Row.{Row}
 use Rattle.right_report.specs.Right.ReportState.{ReportState, NextBound, CurrentRow, at_heading, at_budget, at_events, at_event, at_finding, at_known, at_rows, at_row, at_bound, at_times, at_raise, at_verdict, at_past, at_slack, at_end, at_last, behind_bound, behind_finding, behind_past, behind_times, behind_verdict, bounded, end_word, greatest, is_within, judged, least_by, undecided_or_pass}
 use Rattle.right_report.specs.declared.tally.ReportTally.{ReportTally}
 use Rattle.right_report.specs.Right.LineClaims.{HasAttained, IsBoundOf}

@@ -18,8 +18,8 @@ use Rattle.slack_report.specs.Entry.{Entry, IsReportEntry}
 use Rattle.slack_report.specs.Order.{IsReport}
 use Rattle.slack_report.specs.Report.{IsReportText}
 use Rattle.slack_report.specs.Text.{report_text}
-use Rattle.drawn.specs.Drawn.{Drawn}
-use Rattle.drawn.specs.declared.row.Row.{Row}
+use Rattle.drawn_networks.specs.Drawn.{Drawn}
+use Rattle.drawn_networks.specs.declared.row.Row.{Row}
 use Rattle.right_report.specs.Right.LineClaims.{BeginsRightReport, IsRightReport}
 use Rattle.right_report.specs.Checked.{IsChecked}
 use Rattle.right_report.specs.Shown.{IsBareReport, IsShownReport}

@@ -8,8 +8,8 @@ use Rattle.requirements.specs.declared.bound.Bound.TheVariants as bounds
 use Rattle.slack_report.specs.declared.words.FindingWord.{FindingWord}
 use Rattle.slack_report.specs.declared.words.FindingWord.TheVariants as findings
 use Rattle.slack_report.specs.Entry.{Entry, budget}
-use Rattle.drawn.specs.Drawn.{Drawn}
-use Rattle.drawn.specs.declared.row.Row.{Row}
+use Rattle.drawn_networks.specs.Drawn.{Drawn}
+use Rattle.drawn_networks.specs.declared.row.Row.{Row}
 use Rattle.right_report.specs.Right.ReportState.{NextBound, at_heading, at_last, greatest, least_by}
 use Rattle.right_report.specs.Right.LineClaims.{right}
 use Rattle.right_report.specs.Right.Following.{LineClaims, LinesLead}

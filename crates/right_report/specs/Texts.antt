@@ -4,7 +4,7 @@ use Rattle.slack_report.specs.Entry.{Entry}
 use Rattle.slack_report.specs.Order.{IsReport}
 use Rattle.slack_report.specs.Report.{IsFirstWrongLine}
 use Rattle.slack_report.specs.Text.{report_text}
-use Rattle.drawn.specs.Drawn.{Drawn}
+use Rattle.drawn_networks.specs.Drawn.{Drawn}
 use Rattle.right_report.specs.Right.LineClaims.{IsRightReport}
 use Rattle.right_report.specs.Checked.{IsChecked}
 use Rattle.right_report.specs.Wrong.{IsFirstWrongIn}

@@ -18,11 +18,11 @@ use Rattle.edge_clauses.specs.declared.line.StoredLine.{StoredLine}
 use Rattle.settle.specs.declared.race.RaceEnd.TheVariants.{Closed as ClosedBy, Unbounded as UnboundedBy, Inconsistent as InconsistentBy}
 use Rattle.settle.specs.declared.race.Race.{Race}
 use Rattle.settle.specs.ShownAnswer.{IsFound, IsSettledAt, IsSettledInconsistent, IsSettledUnbounded}
-use Rattle.edge_clauses.specs.Proofs.{IsProofAs, IsProving, Proving, lines_of}
+use Rattle.edge_clauses.specs.Proofs.{IsProofAs, IsProving, ProverView, lines_of}
 use Rattle.settle.specs.Step.Racing.{AreRaceTimes, IsEnding, IsOverAs, IsRacing, line_count, lines_as}
 
 -- the lines of an ended search are a proof of its goal
-pub proof_of : (net : Net) (goal : Goal) (proving : Proving) → IsProving net proving → proving.check.goal ≡ goal → IsOver proving.check.goal proving.check.state
+pub proof_of : (net : Net) (goal : Goal) (proving : ProverView) → IsProving net proving → proving.check.goal ≡ goal → IsOver proving.check.goal proving.check.state
     → IsClauseProof net goal (lines_of proving.lines)
 proof_of net goal proving is same over = subst (λ (g : Goal). IsClauseProof net g (lines_of proving.lines)) same (proving.check.state, is.lines, over)
 

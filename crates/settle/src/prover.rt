@@ -36,9 +36,9 @@ pub struct Prover {
 }
 
 impl Model for Prover {
-    ghost use Rattle.edge_clauses.specs.Proofs.{Proving};
+    ghost use Rattle.edge_clauses.specs.Proofs.{ProverView};
 
-    ghost Value = { Proving };
+    ghost Value = { ProverView };
 
     ghost view = { λ p. record { check = p.checker; lines = p.lines.items } };
 }

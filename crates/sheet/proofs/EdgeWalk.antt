@@ -13,13 +13,13 @@ use Rattle.sheet.specs.declared.groups.GroupFault.{GroupFault}
 use Rattle.sheet.specs.declared.groups.GroupFault.TheVariants.{TooManyCauses, NoMemory}
 use Rattle.sheet.specs.Groups.{openers, group_link, Places, ArePlaces, RepresentsRules, IsFullFault}
 use Rattle.sheet.specs.Links.{Labels, Link, is_full, joins, link_of, with_link, with_edge, links_of, link_rules, link_rows, row_by}
-use Rattle.sheet.specs.Rule.{SheetRule}
+use Rattle.sheet.specs.Rule.{RuleView}
 use Rattle.itv_base.proofs.Faults.{IsReadingFault-on}
 use Rattle.sheet.proofs.Openers.{rule_for, link_rules-map}
 use Rattle.itv_base.proofs.Lists.{drop-read}
 
 -- What was read of the edges before number n: their links, the rules of these after others, the table of their groups, and their rows.
-pub record EdgesRead (labels : Labels) (marks : List Mark) (edges : List (List ℕ)) (front : List SheetRule) (n : ℕ) (all : List SheetRule) (places : Places) (rows : List SheetRow) : Type 0 where
+pub record EdgesRead (labels : Labels) (marks : List Mark) (edges : List (List ℕ)) (front : List RuleView) (n : ℕ) (all : List RuleView) (places : Places) (rows : List SheetRow) : Type 0 where
   pub links : List Link
   pub stands : RepresentsRules front links all places
   pub asked : rows ≡ link_rows links
@@ -36,7 +36,7 @@ place_within : (p : Link → Bool) (n : ℕ) (xs : List Link) → IfSome (positi
 place_within p n [] = tt
 place_within p n (x ∷ xs) = within_by (p x) n (length xs) (position_from p (n + 1) xs) (place_within p (n + 1) xs)
 
-pub ArePlaces-from_StandsFor : (front : List SheetRule) (links : List Link) (all : List SheetRule) (places : Places) → RepresentsRules front links all places → ArePlaces places (length all)
+pub ArePlaces-from_StandsFor : (front : List RuleView) (links : List Link) (all : List RuleView) (places : Places) → RepresentsRules front links all places → ArePlaces places (length all)
 ArePlaces-from_StandsFor front links all places stands =
     let long : length all ≡ length front + length (openers links) = ap length stands.stand ∙ length-append front (link_rules links) ∙ ap (λ k. length front + k) (ap length (link_rules-map links) ∙ length-map (openers links) (rule_for links)) in
     λ g. rw (stands.found g, long) (place_within (joins (group_link g)) (length front) (openers links))

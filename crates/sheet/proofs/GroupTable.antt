@@ -11,7 +11,7 @@ use Rattle.itv_base.specs.declared.names.RuleKind.TheVariants as rules
 use Rattle.label_grammar.specs.declared.label.Kind.{Kind}
 use Rattle.label_grammar.specs.declared.label.Kind.TheVariants.{Lin, Req, Ask}
 use Rattle.sheet.specs.declared.groups.Group.{Group}
-use Rattle.sheet.specs.Rule.{SheetRule}
+use Rattle.sheet.specs.Rule.{RuleView}
 use Rattle.sheet.specs.Links.{Link, is_full, same_tag, joins, source_of, link_rules}
 use Rattle.sheet.specs.Step.{is_cause, AddsCause}
 use Rattle.sheet.specs.Groups.{opens, openers, kind_of, same_group, group_link, Places, place_of, RepresentsRules, AddsLink}
@@ -60,7 +60,7 @@ row_no_cause : (kind : Kind) → (kind ≡ Req) ⊎ (kind ≡ Ask) → is_cause 
 row_no_cause kind (inl is) = rw is refl
 row_no_cause kind (inr is) = rw is refl
 
-module _ (front : List SheetRule) (links : List Link) (all : List SheetRule) (places : Places) (n : ℕ) (link : Link) (stands : RepresentsRules front links all places) where
+module _ (front : List RuleView) (links : List Link) (all : List RuleView) (places : Places) (n : ℕ) (link : Link) (stands : RepresentsRules front links all places) where
   other_by : (p : Link → Bool) (opened : Bool) (xs : List Link) → p link ≡ false → position_from p (length front) (xs ++ cond opened (link ∷ []) []) ≡ position_from p (length front) xs
   other_by p true xs other = position_from-other p (length front) xs link other
   other_by p false xs other = rw append-nil
@@ -75,7 +75,7 @@ module _ (front : List SheetRule) (links : List Link) (all : List SheetRule) (pl
   joins_none : is_cause link.label.kind ≡ false → list_any (joins link) links ≡ false
   joins_none no_cause = list_any-none (joins link) links (λ m. joins-no_cause link m no_cause)
 
-  pub adds-linear : (more : List SheetRule) → link.label.kind ≡ Lin → more ≡ all ++ linear_rule link ∷ [] → AddsLink front links n link (Ok tt) more places
+  pub adds-linear : (more : List RuleView) → link.label.kind ≡ Lin → more ≡ all ++ linear_rule link ∷ [] → AddsLink front links n link (Ok tt) more places
   adds-linear more is pushed =
       let no_cause : is_cause link.label.kind ≡ false = rw is refl in (
         (not_full links link (joins_none no_cause)),
@@ -129,7 +129,7 @@ module _ (front : List SheetRule) (links : List Link) (all : List SheetRule) (pl
         ∙ sym (position_from-other (joins (group_link h)) (length front) (openers links) link apart)
         ∙ ap (position_from (joins (group_link h)) (length front)) (sym (openers_new none))
 
-    pub adds-first : (more : List SheetRule) (table : Places) → place_of places g ≡ None → more ≡ all ++ record { kind = g.kind; target = link.to; causes = source_of link ∷ [] } ∷ []
+    pub adds-first : (more : List RuleView) (table : Places) → place_of places g ≡ None → more ≡ all ++ record { kind = g.kind; target = link.to; causes = source_of link ∷ [] } ∷ []
         → ((h : Group) → place_of table h ≡ (if same_group g h then Some (length all) else place_of places h)) → AddsLink front links n link (Ok tt) more table
     adds-first more table new pushed put =
         let none = joins_new new in (
@@ -152,12 +152,12 @@ module _ (front : List SheetRule) (links : List Link) (all : List SheetRule) (pl
       stand_map : all ≡ front ++ map (rule_for links) (openers links)
       stand_map = stands.stand ∙ ap (λ more. front ++ more) (link_rules-map links)
 
-      full_is : (old d : SheetRule) → old ≡ get_or all place d → nat_le MAX_CAUSES (length old.causes) ≡ is_full links link
+      full_is : (old d : RuleView) → old ≡ get_or all place d → nat_le MAX_CAUSES (length old.causes) ≡ is_full links link
       full_is old d read =
           ap (λ rule. nat_le MAX_CAUSES (length rule.causes)) (read ∙ ap (λ xs. get_or xs place d) stand_map ∙ change.stands d)
           ∙ full-rule links link change.element change.passes
 
-      stand_after : (old new d : SheetRule) → old ≡ get_or all place d → new ≡ with_cause old link → set all place new ≡ front ++ link_rules (links ++ link ∷ [])
+      stand_after : (old new d : RuleView) → old ≡ get_or all place d → new ≡ with_cause old link → set all place new ≡ front ++ link_rules (links ++ link ∷ [])
       stand_after old new d read is =
           let opener : old ≡ rule_for links change.element = read ∙ ap (λ xs. get_or xs place d) stand_map ∙ change.stands d in
           let grown : new ≡ rule_for (links ++ link ∷ []) change.element =
@@ -170,7 +170,7 @@ module _ (front : List SheetRule) (links : List Link) (all : List SheetRule) (pl
       found_after : (h : Group) → place_of places h ≡ position_from (joins (group_link h)) (length front) (openers (links ++ link ∷ []))
       found_after h = stands.found h ∙ ap (position_from (joins (group_link h)) (length front)) (sym (openers-push links link ∙ rw unopened (append-nil _)))
 
-      pub adds-cause : (old new d : SheetRule) (result : Result ⊤ GroupFault) → old ≡ get_or all place d → AddsCause old n (source_of link) result new
+      pub adds-cause : (old new d : RuleView) (result : Result ⊤ GroupFault) → old ≡ get_or all place d → AddsCause old n (source_of link) result new
           → AddsLink front links n link result (set all place new) places
       adds-cause old new d (Ok x) read gave = (sym (full_is old d read) ∙ gave.0, record { stand = stand_after old new d read gave.1; found = found_after })
       adds-cause old new d (Err (TooManyCauses m)) read gave = (gave.0, sym (full_is old d read) ∙ gave.1)

@@ -9,7 +9,7 @@ use Rattle.label_grammar.specs.declared.label.Kind.{Kind}
 use Rattle.label_grammar.specs.declared.label.Kind.TheVariants.{Lin, Late, Early, Req, Ask}
 use Rattle.itv_base.specs.declared.names.RuleKind.{RuleKind}
 use Rattle.itv_base.specs.declared.names.RuleKind.TheVariants as rules
-use Rattle.sheet.specs.Rule.{SheetRule}
+use Rattle.sheet.specs.Rule.{RuleView}
 use Rattle.sheet.specs.Links.{Link, is_full, joins, source_of, group_rule, link_rules}
 use Rattle.sheet.specs.Step.{is_cause}
 use Rattle.sheet.specs.Groups.{opens_by, opens, openers, kind_of}
@@ -38,7 +38,7 @@ pub rule_for-apart : (links : List Link) (link o : Link) → joins o link ≡ fa
 rule_for-apart links link o apart = apart_by links link o o.label.kind apart
 
 -- a rule with one cause more
-abbrev pub with_cause : SheetRule → Link → SheetRule
+abbrev pub with_cause : RuleView → Link → RuleView
 with_cause rule link = record rule { causes = rule.causes ++ source_of link ∷ [] }
 
 joined_by : (links : List Link) (link o : Link) (kind : Kind) → is_cause kind ≡ true → joins o link ≡ true → rule_by (links ++ link ∷ []) o kind ≡ with_cause (rule_by links o kind) link
@@ -66,7 +66,7 @@ full-rule links link o joined =
 
 -- ---- the rules
 
-map_opening : (b : Bool) (f : Link → SheetRule) (link : Link) → map f (cond b (link ∷ []) []) ≡ cond b (f link ∷ []) []
+map_opening : (b : Bool) (f : Link → RuleView) (link : Link) → map f (cond b (link ∷ []) []) ≡ cond b (f link ∷ []) []
 map_opening true f link = refl
 map_opening false f link = refl
 
@@ -126,7 +126,7 @@ pub rules-unopened : (links : List Link) (link : Link) → opens links link ≡ 
 rules-unopened links link none = rules_pushed links link ∙ rw none (append-nil _)
 
 -- a link that joins one of the links before becomes one more cause at the place of its opener
-pub rules-joined : (links : List Link) (link : Link) (front : List SheetRule) (place : ℕ) → is_cause link.label.kind ≡ true → position_from (joins link) (length front) (openers links) ≡ Some place
+pub rules-joined : (links : List Link) (link : Link) (front : List RuleView) (place : ℕ) → is_cause link.label.kind ≡ true → position_from (joins link) (length front) (openers links) ≡ Some place
     → ChangesAt (rule_for links) (rule_for (links ++ link ∷ [])) (joins link) front (openers links) place
 rules-joined links link front place cause at =
     changes-at (rule_for links) (rule_for (links ++ link ∷ [])) (joins link) front (openers links) place at (at_most-openers link links) (same_if_apart links link)

@@ -8,38 +8,38 @@ use Rattle.std.proofs.lemmas.List.Folds.{list_any-append}
 use Rattle.label_grammar.specs.declared.label.Kind.{Kind}
 use Rattle.label_grammar.specs.declared.label.Kind.TheVariants.{Lin, Late, Early, Req, Ask}
 use Rattle.itv_base.specs.declared.names.RuleKind.TheVariants as rules
-use Rattle.sheet.specs.Rule.{SheetRule}
+use Rattle.sheet.specs.Rule.{RuleView}
 use Rattle.sheet.specs.Groups.{opens_by, opens, openers_from, openers}
 use Rattle.sheet.specs.Links.{Link, joins, source_of, group_rule, rule_opened, link_rules}
 use Rattle.sheet.specs.Step.{is_cause}
 use Rattle.sheet.proofs.Joins.{joins-same, joins-cause, joins-comm}
 use Rattle.sheet.proofs.Lists.{list_any-same, AtMostOne}
 
-abbrev pub linear_rule : Link → SheetRule
+abbrev pub linear_rule : Link → RuleView
 linear_rule link = record { kind = rules.Lin; target = link.to; causes = source_of link ∷ [] }
 
 -- the rule that a link opens among all links
-abbrev pub rule_by : List Link → Link → Kind → SheetRule
+abbrev pub rule_by : List Link → Link → Kind → RuleView
 rule_by links link Lin = linear_rule link
 rule_by links link Late = group_rule rules.Late links link
 rule_by links link Early = group_rule rules.Early links link
 rule_by links link Req = linear_rule link
 rule_by links link Ask = linear_rule link
 
-abbrev pub rule_for : List Link → Link → SheetRule
+abbrev pub rule_for : List Link → Link → RuleView
 rule_for links link = rule_by links link link.label.kind
 
 -- ---- the rules are a map over the openers
 
-opened_if : (b : Bool) (rule : SheetRule) (more : List SheetRule) → cons_option (if b then None else Some rule) more ≡ cond (not b) (rule ∷ []) [] ++ more
+opened_if : (b : Bool) (rule : RuleView) (more : List RuleView) → cons_option (if b then None else Some rule) more ≡ cond (not b) (rule ∷ []) [] ++ more
 opened_if true rule more = refl
 opened_if false rule more = refl
 
-pub map_if : (b : Bool) (f : Link → SheetRule) (link : Link) (more : List Link) → map f (cond b (link ∷ []) [] ++ more) ≡ cond b (f link ∷ []) [] ++ map f more
+pub map_if : (b : Bool) (f : Link → RuleView) (link : Link) (more : List Link) → map f (cond b (link ∷ []) [] ++ more) ≡ cond b (f link ∷ []) [] ++ map f more
 map_if true f link more = refl
 map_if false f link more = refl
 
-opened_by : (all before : List Link) (link : Link) (kind : Kind) (more : List SheetRule)
+opened_by : (all before : List Link) (link : Link) (kind : Kind) (more : List RuleView)
     → cons_option (rule_opened all before link kind) more ≡ cond (opens_by before link kind) (rule_by all link kind ∷ []) [] ++ more
 opened_by all before link Lin more = refl
 opened_by all before link Late more = opened_if (list_any (joins link) before) _ more

@@ -1,23 +1,23 @@
 -- The sheet of a drawing, step by step.
 use Rattle.std.proofs.Common.{◌≡◌, ℕ, List, ◌++◌, Option, Result, Ok, Err, ap, refl}
-use Rattle.wavejson.specs.Drawing.{Drawing}
+use Rattle.wavejson.specs.Drawing.{DiagramView}
 use Rattle.grades.specs.declared.grade.Grade.{Grade}
 use Rattle.sheet.specs.declared.edges.EdgeRules.{EdgeRules}
 use Rattle.sheet.specs.declared.fault.SheetFault.{SheetFault}
 use Rattle.sheet.specs.declared.mark.Mark.{Mark}
 use Rattle.sheet.specs.declared.pin.Pin.{Pin}
-use Rattle.sheet.specs.SheetContents.{SheetContents}
+use Rattle.sheet.specs.SheetContents.{SheetView}
 use Rattle.sheet.specs.Fault.{is_memory}
 use Rattle.itv_base.specs.Reading.{◌>>=◌, IsReadingFault}
 use Rattle.sheet.specs.Lanes.{order_rules}
 use Rattle.sheet.specs.Links.{Labels, graded, Link, links_of, link_rules, link_rows}
-use Rattle.sheet.specs.Rule.{SheetRule}
+use Rattle.sheet.specs.Rule.{RuleView}
 use Rattle.sheet.specs.Sheet.{grade_named, read_marks, read_pins, sheet_at, sheet_of}
 use Rattle.sheet.specs.Step.{rules_and_rows}
 use Rattle.itv_base.proofs.Faults.{IsReadingFault-on, IsReadingFault-first}
 
-module _ (marks : List Mark) (pins : List Pin) (front : List SheetRule) (texts near : List (List ℕ)) where
-  abbrev contents : List Link → SheetContents
+module _ (marks : List Mark) (pins : List Pin) (front : List RuleView) (texts near : List (List ℕ)) where
+  abbrev contents : List Link → SheetView
   contents links = record { marks = marks; pins = pins; rules = front ++ link_rules links; rows = link_rows links; edges = texts; near = near }
 
   same_fault : (read : Result (List Link) SheetFault) (fault : SheetFault) → rules_and_rows front read ≡ Err fault → (read >>= (λ links. Ok (contents links))) ≡ Err fault
@@ -31,7 +31,7 @@ module _ (marks : List Mark) (pins : List Pin) (front : List SheetRule) (texts n
       let same : record { rules = front ++ link_rules links; rows = link_rows links } ≡ edges = cc in
       ap (λ (r : EdgeRules). Ok (record { marks = marks; pins = pins; rules = r.rules; rows = r.rows; edges = texts; near = near })) same
 
-module _ (labels : Labels) (drawing : Drawing) where
+module _ (labels : Labels) (drawing : DiagramView) where
   pub marks-fault : (fault : SheetFault) → IsReadingFault is_memory (read_marks drawing.lanes) fault → IsReadingFault is_memory (sheet_of labels drawing) fault
   unfolding sheet_of
   marks-fault fault h = IsReadingFault-first is_memory (read_marks drawing.lanes) _ fault h
@@ -54,7 +54,7 @@ module _ (labels : Labels) (drawing : Drawing) where
 
 -- ---- at a grade
 
-module _ (grades : List Grade) (name : Option (List ℕ)) (drawing : Drawing) where
+module _ (grades : List Grade) (name : Option (List ℕ)) (drawing : DiagramView) where
   pub grade-fault : (fault : SheetFault) → IsReadingFault is_memory (grade_named grades name) fault → IsReadingFault is_memory (sheet_at grades name drawing) fault
   unfolding sheet_at
   grade-fault fault h = IsReadingFault-first is_memory (grade_named grades name) _ fault h

@@ -13,7 +13,7 @@ use Rattle.std.proofs.lemmas.List.FromFn.{get_or-range_with_len, length-range_wi
 use Rattle.std.proofs.lemmas.Map.Keys.{IsDistinct-push}
 use Rattle.std.proofs.lemmas.Result.{IfOk-at_ok}
 use Rattle.itv_base.specs.declared.names.RuleKind.TheVariants as rules
-use Rattle.wavejson.specs.Drawing.{Drawing}
+use Rattle.wavejson.specs.Drawing.{DiagramView}
 use Rattle.wavejson.specs.declared.lane_text.LaneText.{LaneText}
 use Rattle.label_grammar.specs.declared.label.Kind.{Kind}
 use Rattle.label_grammar.specs.declared.label.Kind.TheVariants.{Lin, Late, Early, Req, Ask}
@@ -32,7 +32,7 @@ use Rattle.sheet.specs.declared.fault.SheetFault.{SheetFault}
 use Rattle.sheet.specs.declared.fault.SheetFault.TheVariants.{BadNode, DoubleMark, DoublePin, NoGrade, NoParam, TooManyCauses}
 use Rattle.sheet.specs.declared.mark.Mark.{Mark}
 use Rattle.sheet.specs.declared.pin.Pin.{Pin}
-use Rattle.sheet.specs.SheetContents.{SheetContents}
+use Rattle.sheet.specs.SheetContents.{SheetView}
 use Rattle.sheet.specs.declared.mark.TheConstants.{MAX_MARKS}
 use Rattle.itv_base.specs.declared.limits.TheConstants.{MAX_SHIFT}
 use Rattle.itv_base.specs.declared.limits.TheConstants.{MAX_CAUSES}
@@ -422,7 +422,7 @@ contents_whole lanes edges near marks pins links read are whole = record {
 }
 
 -- the sheet of a drawing is whole
-sheet_of_whole : (labels : Labels) → AreWholeLabels labels → (drawing : Drawing) → IfOk (sheet_of labels drawing) IsWhole
+sheet_of_whole : (labels : Labels) → AreWholeLabels labels → (drawing : DiagramView) → IfOk (sheet_of labels drawing) IsWhole
 unfolding sheet_of
 sheet_of_whole labels are drawing =
     IfOk-bind (IsMarksOf drawing.lanes) IsWhole (read_marks drawing.lanes) _ (read_marks_whole drawing.lanes)
@@ -431,7 +431,7 @@ sheet_of_whole labels are drawing =
     (λ links whole. contents_whole drawing.lanes drawing.edges drawing.near marks pins links read named whole)))
 
 -- every sheet that is read is whole
-pub sheet_whole : (labels : Labels) → AreWholeLabels labels → (drawing : Drawing) (sheet : SheetContents) → sheet_of labels drawing ≡ Ok sheet → IsWhole sheet
+pub sheet_whole : (labels : Labels) → AreWholeLabels labels → (drawing : DiagramView) (sheet : SheetView) → sheet_of labels drawing ≡ Ok sheet → IsWhole sheet
 sheet_whole labels are drawing sheet is = IfOk-at_ok IsWhole is (sheet_of_whole labels are drawing)
 
 -- if each grade gives ranges, the grade with a name gives ranges
@@ -444,11 +444,11 @@ grade_named_whole grades (Some name) whole = found (grade_called grades name) (g
     found (Some grade) is = is
 
 -- every sheet that is read at a grade, or at none, is whole
-sheet_at_whole : (grades : List Grade) (name : Option (List ℕ)) (drawing : Drawing) → AreRanges grades → IfOk (sheet_at grades name drawing) IsWhole
+sheet_at_whole : (grades : List Grade) (name : Option (List ℕ)) (drawing : DiagramView) → AreRanges grades → IfOk (sheet_at grades name drawing) IsWhole
 unfolding sheet_at
 sheet_at_whole grades name drawing whole =
     IfOk-bind (λ grade. IfSome grade HasRanges) IsWhole (grade_named grades name) _ (grade_named_whole grades name whole) (λ grade is. sheet_of_whole (graded grade) is drawing)
 
-pub sheet_by_whole : (grades : Option (List Grade)) (name : Option (List ℕ)) (drawing : Drawing) → IfSome grades AreRanges → IfOk (sheet_by grades name drawing) IsWhole
+pub sheet_by_whole : (grades : Option (List Grade)) (name : Option (List ℕ)) (drawing : DiagramView) → IfSome grades AreRanges → IfOk (sheet_by grades name drawing) IsWhole
 sheet_by_whole None name drawing whole = sheet_of_whole plain tt drawing
 sheet_by_whole (Some grades) name drawing whole = sheet_at_whole grades name drawing whole

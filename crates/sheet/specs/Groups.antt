@@ -14,10 +14,10 @@ use Rattle.origin.specs.declared.origin.Origin.TheVariants.{Edge}
 use Rattle.sheet.specs.declared.groups.Group.{Group}
 use Rattle.sheet.specs.declared.groups.GroupFault.{GroupFault}
 use Rattle.sheet.specs.declared.groups.GroupFault.TheVariants.{TooManyCauses, NoMemory}
-use Rattle.sheet.specs.declared.rule.Source.{Source}
+use Rattle.sheet.specs.declared.rule.RuleCause.{RuleCause}
 use Rattle.sheet.specs.contracts.groups.GroupPartialEq.TheImpl as group_eq
 use Rattle.sheet.specs.Links.{Link, is_full, joins, link_rules}
-use Rattle.sheet.specs.Rule.{SheetRule}
+use Rattle.sheet.specs.Rule.{RuleView}
 
 -- ---- the links that open a rule
 
@@ -71,7 +71,7 @@ abbrev pub ArePlaces : Places → ℕ → Type 0
 ArePlaces places count = (group : Group) → IfSome (place_of places group) (λ place. place < count)
 
 -- The rules of the links stand after other rules. The table has, for each group, the place of the rule that the group opened.
-pub record RepresentsRules (front : List SheetRule) (links : List Link) (all : List SheetRule) (places : Places) : Type 0 where
+pub record RepresentsRules (front : List RuleView) (links : List Link) (all : List RuleView) (places : Places) : Type 0 where
   pub stand : all ≡ front ++ link_rules links
   pub found : (group : Group) → place_of places group ≡ position_from (joins (group_link group)) (length front) (openers links)
 
@@ -81,6 +81,6 @@ IsFullFault n full (TooManyCauses m) = (m ≡ n) × (full ≡ true)
 IsFullFault n full NoMemory = Unit {0}
 
 -- the answer to one more link, the link of edge n, and the rules and the table after it
-abbrev pub AddsLink : List SheetRule → List Link → ℕ → Link → Result ⊤ GroupFault → List SheetRule → Places → Type 0
+abbrev pub AddsLink : List RuleView → List Link → ℕ → Link → Result ⊤ GroupFault → List RuleView → Places → Type 0
 AddsLink front links n link (Ok x) all places = (is_full links link ≡ false) × RepresentsRules front (links ++ link ∷ []) all places
 AddsLink front links n link (Err fault) all places = IsFullFault n (is_full links link) fault

@@ -13,7 +13,7 @@ use Rattle.wavejson.specs.declared.lane_text.LaneText.{LaneText}
 use Rattle.itv_base.specs.Characters.{is_mark}
 use Rattle.sheet.specs.declared.mark.Mark.{Mark}
 use Rattle.sheet.specs.declared.pin.Pin.{Pin}
-use Rattle.sheet.specs.Rule.{SheetRule}
+use Rattle.sheet.specs.Rule.{RuleView}
 
 -- ---- marks
 
@@ -76,25 +76,25 @@ pins_of lanes = filter_map pin_of (numbered lanes)
 -- ---- the order on a lane
 
 -- the target comes no earlier than the mark, which stands this many cycles before it
-abbrev pub follows_rule : Origin → ℕ → ℕ → ℕ → SheetRule
+abbrev pub follows_rule : Origin → ℕ → ℕ → ℕ → RuleView
 follows_rule origin from to shift =
     record { kind = Lin; target = to; causes = record { mark = from; shift = shift; range = record { low = Some (pos 0); high = None }; origin = origin } ∷ [] }
 
 -- each mark and the next, and then the last mark and the first mark of the next cycle, even if the lane has only one mark
-abbrev pub order_of : Origin → ℕ → ℕ → List SheetRule
+abbrev pub order_of : Origin → ℕ → ℕ → List RuleView
 order_of origin first count =
     if count == 0 then []
     else map (λ k. follows_rule origin k (k + 1) 0) (range_with_len first (count - 1)) ++ follows_rule origin (first + count - 1) first 1 ∷ []
 
 -- a lane with a name and a wave is in order, and draws the rules of its order
-abbrev pub order_named : NumberedLane → Option (List ℕ) → Option (List ℕ) → List SheetRule
+abbrev pub order_named : NumberedLane → Option (List ℕ) → Option (List ℕ) → List RuleView
 order_named l (Some name) (Some wave) = order_of (Lane l.number) l.first l.count
 order_named l name wave = []
 
-abbrev pub lane_order : NumberedLane → List SheetRule
+abbrev pub lane_order : NumberedLane → List RuleView
 lane_order l = order_named l l.lane.name l.lane.wave
 
-abbrev pub order_rules : List LaneText → List SheetRule
+abbrev pub order_rules : List LaneText → List RuleView
 order_rules lanes = flat_map lane_order (numbered lanes)
 
 -- ---- what occurs twice

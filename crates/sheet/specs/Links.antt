@@ -18,13 +18,13 @@ use Rattle.origin.specs.declared.origin.Origin.{Origin}
 use Rattle.origin.specs.declared.origin.Origin.TheVariants.{Edge}
 use Rattle.grades.specs.Grades.{range_in}
 use Rattle.sheet.specs.declared.mark.Mark.{Mark}
-use Rattle.sheet.specs.declared.rule.Source.{Source}
+use Rattle.sheet.specs.declared.rule.RuleCause.{RuleCause}
 use Rattle.itv_base.specs.declared.row_kind.RowKind.TheVariants as asked
 use Rattle.sheet.specs.declared.row.SheetRow.{SheetRow}
 use Rattle.sheet.specs.declared.fault.SheetFault.{SheetFault}
 use Rattle.sheet.specs.declared.fault.SheetFault.TheVariants.{BadEdge, Label, NoMark, NoParam, TooManyCauses}
 use Rattle.itv_base.specs.Reading.{◌>>=◌, walk}
-use Rattle.sheet.specs.Rule.{SheetRule}
+use Rattle.sheet.specs.Rule.{RuleView}
 
 -- ---- labels
 
@@ -126,21 +126,21 @@ links_of labels marks edges = walk (with_edge labels marks) 0 [] edges
 abbrev pub open_ends : Ends
 open_ends = record { low = None; high = None }
 
-abbrev pub source_of : Link → Source
+abbrev pub source_of : Link → RuleCause
 source_of link = record { mark = link.from; shift = link.label.shift; range = unwrap_or link.label.ends open_ends; origin = link.origin }
 
-abbrev pub group_rule : RuleKind → List Link → Link → SheetRule
+abbrev pub group_rule : RuleKind → List Link → Link → RuleView
 group_rule kind links link = record { kind = kind; target = link.to; causes = map source_of (filter (joins link) links) }
 
 -- The rule that a link opens among all links, with the links before it. A linear link opens a rule of its own. A cause opens a rule if
 -- no earlier link joins it; the rule has all causes that join it, in order.
-abbrev pub rule_opened : List Link → List Link → Link → Kind → Option SheetRule
+abbrev pub rule_opened : List Link → List Link → Link → Kind → Option RuleView
 rule_opened links before link Lin = Some (record { kind = rules.Lin; target = link.to; causes = source_of link ∷ [] })
 rule_opened links before link Late = if list_any (joins link) before then None else Some (group_rule rules.Late links link)
 rule_opened links before link Early = if list_any (joins link) before then None else Some (group_rule rules.Early links link)
 rule_opened links before link kind = None
 
-abbrev pub link_rules : List Link → List SheetRule
+abbrev pub link_rules : List Link → List RuleView
 link_rules links = filter_map (λ at. rule_opened links (take at.0 links) at.1 at.1.label.kind) (enumerate_from 0 links)
 
 abbrev pub row_by : Link → Kind → Option SheetRow

@@ -1,7 +1,7 @@
 -- The sheet of a drawing, or its first fault.
 use Rattle.std.specs.Prelude.{ℕ, nat_eq, List, [], ◌++◌, position, Option, Some, None, ok_or, option_map, Result, Ok}
 use Rattle.std.specs.Str.{bytes_eq}
-use Rattle.wavejson.specs.Drawing.{Drawing}
+use Rattle.wavejson.specs.Drawing.{DiagramView}
 use Rattle.wavejson.specs.declared.lane_text.LaneText.{LaneText}
 use Rattle.grades.specs.declared.grade.Grade.{Grade}
 use Rattle.grades.specs.Grades.{grade_called}
@@ -10,7 +10,7 @@ use Rattle.sheet.specs.declared.pin.Pin.{Pin}
 use Rattle.sheet.specs.declared.fault.SheetFault.{SheetFault}
 use Rattle.sheet.specs.declared.fault.SheetFault.TheVariants.{BadNode, DoubleMark, DoublePin, NoGrade}
 use Rattle.itv_base.specs.Reading.{◌>>=◌, unless}
-use Rattle.sheet.specs.SheetContents.{SheetContents}
+use Rattle.sheet.specs.SheetContents.{SheetView}
 use Rattle.sheet.specs.Lanes.{has_bad_node, marks_of, pins_of, order_rules, first_repeated}
 use Rattle.sheet.specs.Links.{Labels, plain, graded, links_of, link_rules, link_rows}
 
@@ -25,7 +25,7 @@ unfoldable pub read_pins : List LaneText → Result (List Pin) SheetFault
 read_pins lanes = unless (first_repeated bytes_eq (λ pin. pin.name) [] (pins_of lanes)) (λ pin. DoublePin pin.lane) (pins_of lanes)
 
 -- the sheet of a drawing, with its labels read in this way
-unfoldable pub sheet_of : Labels → Drawing → Result SheetContents SheetFault
+unfoldable pub sheet_of : Labels → DiagramView → Result SheetView SheetFault
 sheet_of labels drawing = do
   marks ← read_marks drawing.lanes
   pins ← read_pins drawing.lanes
@@ -45,10 +45,10 @@ grade_named grades None = Ok None
 grade_named grades (Some name) = ok_or (option_map (λ grade. Some grade) (grade_called grades name)) NoGrade
 
 -- The sheet of a drawing of version 2 at a grade or at none. A named grade that is not there is the first fault.
-unfoldable pub sheet_at : List Grade → Option (List ℕ) → Drawing → Result SheetContents SheetFault
+unfoldable pub sheet_at : List Grade → Option (List ℕ) → DiagramView → Result SheetView SheetFault
 sheet_at grades name drawing = grade_named grades name >>= λ grade. sheet_of (graded grade) drawing
 
 -- the sheet of a drawing in version 1, where there are no grades, or in version 2 at one of these grades or at none
-abbrev pub sheet_by : Option (List Grade) → Option (List ℕ) → Drawing → Result SheetContents SheetFault
+abbrev pub sheet_by : Option (List Grade) → Option (List ℕ) → DiagramView → Result SheetView SheetFault
 sheet_by None name drawing = sheet_of plain drawing
 sheet_by (Some grades) name drawing = sheet_at grades name drawing

@@ -13,7 +13,7 @@ use Rattle.label_grammar.specs.Label.{label_view}
 use Rattle.sheet.specs.declared.edges.EdgeRules.{EdgeRules}
 use Rattle.sheet.specs.declared.fault.SheetFault.{SheetFault}
 use Rattle.sheet.specs.declared.groups.GroupFault.{GroupFault}
-use Rattle.sheet.specs.declared.rule.Source.{Source}
+use Rattle.sheet.specs.declared.rule.RuleCause.{RuleCause}
 use Rattle.sheet.specs.declared.fault.SheetFault.TheVariants.{DoubleMark, DoublePin}
 use Rattle.sheet.specs.declared.lanes.LaneSpan.{LaneSpan}
 use Rattle.sheet.specs.declared.labels.Labels as code_labels
@@ -25,7 +25,7 @@ use Rattle.itv_base.specs.Reading.{◌>>=◌, unless}
 use Rattle.sheet.specs.Lanes.{NumberedLane, numbered, first_repeated}
 use Rattle.sheet.specs.Groups.{IsFullFault}
 use Rattle.sheet.specs.Links.{Labels, plain, graded, Link, link_rules, link_rows}
-use Rattle.sheet.specs.Rule.{SheetRule}
+use Rattle.sheet.specs.Rule.{RuleView}
 
 -- elements with more after them, or the fault of the first element whose key an earlier element has
 abbrev pub with_distinct : {X K : Type 0} → (K → K → Bool) → (X → K) → (X → SheetFault) → List X → List X → Result (List X) SheetFault
@@ -59,7 +59,7 @@ abbrev pub link_view : code.Link → Link
 link_view l = record { from = l.from; to = l.to; origin = l.origin; label = label_view l.label }
 
 -- what the edges give, after other rules
-abbrev pub rules_and_rows : List SheetRule → Result (List Link) SheetFault → Result EdgeRules SheetFault
+abbrev pub rules_and_rows : List RuleView → Result (List Link) SheetFault → Result EdgeRules SheetFault
 rules_and_rows front read = do
   links ← read
   Ok (record { rules = front ++ link_rules links; rows = link_rows links })
@@ -78,7 +78,7 @@ is_cause Req = false
 is_cause Ask = false
 
 -- the answer to one more cause of a rule, the cause of edge n, and the rule after it
-abbrev pub AddsCause : SheetRule → ℕ → Source → Result ⊤ GroupFault → SheetRule → Type 0
+abbrev pub AddsCause : RuleView → ℕ → RuleCause → Result ⊤ GroupFault → RuleView → Type 0
 AddsCause old n cause (Ok x) new = (nat_le MAX_CAUSES (length old.causes) ≡ false) × (new ≡ record old { causes = old.causes ++ cause ∷ [] })
 AddsCause old n cause (Err fault) new = IsFullFault n (nat_le MAX_CAUSES (length old.causes)) fault
 

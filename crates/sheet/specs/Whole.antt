@@ -10,11 +10,11 @@ use Rattle.itv_base.specs.declared.row_kind.RowKind.{RowKind}
 use Rattle.itv_base.specs.declared.row_kind.RowKind.TheVariants.{Ask, Req}
 use Rattle.sheet.specs.declared.row.SheetRow.{SheetRow}
 use Rattle.itv_base.specs.declared.limits.TheConstants.{MAX_SHIFT}
-use Rattle.sheet.specs.declared.rule.Source.{Source}
+use Rattle.sheet.specs.declared.rule.RuleCause.{RuleCause}
 use Rattle.grades.specs.Grades.{HasRanges}
 use Rattle.sheet.specs.Links.{Labels, plain, graded}
-use Rattle.sheet.specs.Rule.{SheetRule}
-use Rattle.sheet.specs.SheetContents.{SheetContents}
+use Rattle.sheet.specs.Rule.{RuleView}
+use Rattle.sheet.specs.SheetContents.{SheetView}
 
 -- how many causes a rule of a kind may have: a linear rule has one, its from-mark; the others have 1 to `MAX_CAUSES`
 abbrev pub IsCauseCount : RuleKind → ℕ → Type 0
@@ -23,13 +23,13 @@ IsCauseCount rules.Late count = (1 ≤ count) × (count ≤ MAX_CAUSES)
 IsCauseCount rules.Early count = (1 ≤ count) × (count ≤ MAX_CAUSES)
 
 -- a cause at a mark below a number, not too many cycles back, with two ends that are a range
-pub record IsWholeSource (marks : ℕ) (source : Source) : Type 0 where
+pub record IsWholeSource (marks : ℕ) (source : RuleCause) : Type 0 where
   pub mark : source.mark < marks
   pub shift : source.shift ≤ MAX_SHIFT
   pub range : IsRange source.range
 
 -- a rule between marks below a number, with as many causes as its kind may have
-pub record IsWholeRule (marks : ℕ) (rule : SheetRule) : Type 0 where
+pub record IsWholeRule (marks : ℕ) (rule : RuleView) : Type 0 where
   pub target : rule.target < marks
   pub causes : All (IsWholeSource marks) rule.causes
   pub count : IsCauseCount rule.kind (length rule.causes)
@@ -47,7 +47,7 @@ pub record IsWholeRow (marks : ℕ) (row : SheetRow) : Type 0 where
   pub kind : IsWholeKind row.kind
 
 -- there are few marks; the marks of each pin are among them; rules and rows are between them
-pub record IsWhole (sheet : SheetContents) : Type 0 where
+pub record IsWhole (sheet : SheetView) : Type 0 where
   pub marks : length sheet.marks ≤ MAX_MARKS
   pub pins : All (λ (pin : Pin). (1 ≤ pin.count) × (pin.first + pin.count ≤ length sheet.marks)) sheet.pins
   pub rules : All (IsWholeRule (length sheet.marks)) sheet.rules

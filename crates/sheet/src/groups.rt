@@ -4,11 +4,11 @@ ghost use Rattle.std.specs.Prelude.{◌≡◌, ◌++◌, ◌∷◌, [], List, le
 ghost use Rattle.sheet.specs.Groups.{AddsLink, ArePlaces, RepresentsRules, kind_of, place_of, same_group};
 ghost use Rattle.sheet.specs.Step.{AddsCause, is_cause, link_view};
 ghost use Rattle.sheet.specs.Links.{Link as LinkSeen, source_of};
-ghost use Rattle.sheet.specs.Rule.{SheetRule};
+ghost use Rattle.sheet.specs.Rule.{RuleView};
 ghost use Rattle.sheet.specs.declared.groups.GroupFault.TheVariants.{NoMemory};
 
 use crate::link::Link;
-use crate::rule::{Rule, Source, Sources};
+use crate::rule::{Rule, RuleCause, RuleCauses};
 use itv_base::{MAX_CAUSES, NoMemory as OutOfMemory, RuleKind};
 use label_grammar::Kind;
 use std::alloc::{AllocFailed, Global};
@@ -60,7 +60,7 @@ pub fn push_link<'a>(
     link: &Link<'a>,
 ) -> Result<(), GroupFault>
     requires { ArePlaces places.old (length rules.old.items) }
-    ensures adds { (front : List SheetRule) (links : List LinkSeen) → RepresentsRules front links rules.old.items places.old
+    ensures adds { (front : List RuleView) (links : List LinkSeen) → RepresentsRules front links rules.old.items places.old
         → AddsLink front links n (link_view link.now) result rules.new.items places.new }
 {
     match link.label.kind {
@@ -86,7 +86,7 @@ fn join_group<'a>(
     requires places { ArePlaces places.old (length rules.old.items) }
     requires kind { kind_of kind ≡ link.now.label.kind }
     requires cause { is_cause link.now.label.kind ≡ true }
-    ensures { (front : List SheetRule) (links : List LinkSeen) → RepresentsRules front links rules.old.items places.old
+    ensures { (front : List RuleView) (links : List LinkSeen) → RepresentsRules front links rules.old.items places.old
         → AddsLink front links n (link_view link.now) result rules.new.items places.new }
 {
     let group = Group {
@@ -117,14 +117,14 @@ fn push_rule(
     ensures { OnOk result (rules.new.items ≡ rules.old.items
         ++ record { kind = kind; target = link.now.to; causes = source_of (link_view link.now) ∷ [] } ∷ []) }
 {
-    let mut causes = Sources::new(alloc);
+    let mut causes = RuleCauses::new(alloc);
     causes.push(link.source())?;
     rules.push(Rule::new(kind, link.to, causes))?;
     Ok(())
 }
 
 // Puts the cause of edge n at the end of the causes of a rule.
-fn push_cause(rule: &mut Rule, n: u64, cause: Source) -> Result<(), GroupFault>
+fn push_cause(rule: &mut Rule, n: u64, cause: RuleCause) -> Result<(), GroupFault>
     ensures { AddsCause rule.old n cause result rule.new }
 {
     if rule.causes().len() >= MAX_CAUSES as u64 {

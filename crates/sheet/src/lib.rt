@@ -29,5 +29,5 @@ pub use pin::{Pin, Pins};
 pub use read::{read_sheet, read_sheet_at};
 pub use row::{SheetRow, SheetRows};
 pub use rows::push_row;
-pub use rule::{Rule, Rules, Source, Sources};
+pub use rule::{Rule, RuleCause, RuleCauses, Rules};
 pub use sheet::Sheet;

@@ -9,7 +9,7 @@ ghost use Rattle.sheet.specs.Step.{labels_view, link_view};
 use crate::fault::SheetFault;
 use crate::labels::{Labels, read_label_in};
 use crate::mark::{MAX_MARKS, Mark};
-use crate::rule::Source;
+use crate::rule::RuleCause;
 use itv_base::Range;
 use label_grammar::{EdgeText, Label, read_edge};
 use origin::Origin;
@@ -71,10 +71,10 @@ fn position_of(marks: &[Mark], name: u8) -> Option<usize>
 
 impl Link<'_> {
     /// The link as a cause.
-    pub fn source(&self) -> Source
+    pub fn source(&self) -> RuleCause
         ensures source { result ≡ source_of (link_view self.now) }
     {
-        Source {
+        RuleCause {
             mark: self.from,
             shift: self.label.shift,
             range: self.range(),

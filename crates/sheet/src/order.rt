@@ -6,7 +6,7 @@ ghost use Rattle.sheet.specs.Step.{spans_of, numbered_by};
 
 use crate::lanes::LaneSpan;
 use crate::mark::MAX_MARKS;
-use crate::rule::{Rule, Source, Sources};
+use crate::rule::{Rule, RuleCause, RuleCauses};
 use itv_base::{NoMemory, Range, RuleKind};
 use origin::Origin;
 use std::alloc::Global;
@@ -72,8 +72,8 @@ fn push_order(
 fn follows(alloc: Global, origin: Origin, from: u32, to: u32, shift: u32) -> Result<Rule, NoMemory>
     ensures { IfOk result (λ rule. rule ≡ follows_rule origin from to shift) }
 {
-    let mut causes = Sources::new(alloc);
-    causes.push(Source {
+    let mut causes = RuleCauses::new(alloc);
+    causes.push(RuleCause {
         mark: from,
         shift,
         range: Range::new(Some(0), None).unwrap(),

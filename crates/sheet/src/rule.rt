@@ -8,7 +8,7 @@ use std::marker::Model;
 
 /// A cause of a rule: a mark by number, how many cycles it stands before the target, the range of its delay, and what draws it.
 #[derive(Clone, Copy)]
-pub struct Source {
+pub struct RuleCause {
     pub mark: u32,
     pub shift: u32,
     pub range: Range,
@@ -16,27 +16,27 @@ pub struct Source {
 }
 
 /// Causes in the order of their edges.
-pub type Sources = Listing<Source>;
+pub type RuleCauses = Listing<RuleCause>;
 
 /// A rule on a target mark by its causes. A linear rule has one cause, its from-mark.
 #[derive(Drop)]
 pub struct Rule {
     kind: RuleKind,
     target: u32,
-    causes: Sources,
+    causes: RuleCauses,
 }
 
 impl Model for Rule {
-    ghost use Rattle.sheet.specs.Rule.{SheetRule};
+    ghost use Rattle.sheet.specs.Rule.{RuleView};
 
-    ghost Value = { SheetRule };
+    ghost Value = { RuleView };
 
     ghost view = { λ r. record { kind = r.kind; target = r.target; causes = r.causes } };
 }
 
 impl Rule {
     /// A rule of these parts.
-    pub fn new(kind: RuleKind, target: u32, causes: Sources) -> Rule
+    pub fn new(kind: RuleKind, target: u32, causes: RuleCauses) -> Rule
         ensures rule { result ≡ record { kind = kind; target = target; causes = causes } }
     {
         Rule {
@@ -61,14 +61,14 @@ impl Rule {
     }
 
     /// The causes in order.
-    pub fn causes(&self) -> &Sources
+    pub fn causes(&self) -> &RuleCauses
         ensures causes { result.now ≡ self.now.causes }
     {
         &self.causes
     }
 
     /// Puts a cause at the end. Where memory is not found the rule is unchanged.
-    pub(crate) fn push_cause(&mut self, cause: Source) -> Result<(), NoMemory>
+    pub(crate) fn push_cause(&mut self, cause: RuleCause) -> Result<(), NoMemory>
         ensures ok { OnOk result (self.new ≡ record self.old { causes = self.old.causes ++ cause ∷ [] }) }
         ensures err { OnErr result (self.new ≡ self.old) }
     {

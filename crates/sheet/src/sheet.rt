@@ -22,10 +22,10 @@ pub struct Sheet {
 }
 
 impl Model for Sheet {
-    ghost use Rattle.sheet.specs.SheetContents.{SheetContents};
+    ghost use Rattle.sheet.specs.SheetContents.{SheetView};
     ghost use Rattle.sheet.specs.Whole.{IsWhole};
 
-    ghost Value = { SheetContents };
+    ghost Value = { SheetView };
 
     ghost view = { λ s. record { marks = s.marks; pins = s.pins; rules = s.rules; rows = s.rows; edges = s.edges; near = s.near } };
 

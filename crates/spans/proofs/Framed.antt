@@ -11,10 +11,10 @@ use Rattle.event_graph.specs.Network.{Constraint, Net, with_constraint}
 use Rattle.event_graph.specs.Times.{separation}
 use Rattle.event_graph.specs.Widening.{IsWiderCause, IsWiderConstraint}
 use Rattle.event_graph.specs.declared.cause.Cause.{Cause}
-use Rattle.drawn.specs.Drawn.{Drawn, OriginsFit, name_of}
-use Rattle.drawn.specs.declared.row.Row.{Row}
-use Rattle.numbers.specs.Numbers.{origins_of, part_of_target}
-use Rattle.numbers.specs.declared.drawn_number.DrawnNumber.{DrawnNumber}
+use Rattle.drawn_networks.specs.Drawn.{Drawn, OriginsFit, name_of}
+use Rattle.drawn_networks.specs.declared.row.Row.{Row}
+use Rattle.drawn_numbers.specs.Numbers.{origins_of, part_of_target}
+use Rattle.drawn_numbers.specs.declared.drawn_number.DrawnNumber.{DrawnNumber}
 use Rattle.moves.specs.Covers.{IsTighterRow, cause_counted, constraint_counted, net_counted, row_counted}
 use Rattle.moves.specs.Moving.{constraint_moved, any_draws, each_by, kind_moved, row_moved, moved_up, shifted_at}
 use Rattle.moves.specs.Step.{bare_drawn, cause_moved, causes_at}

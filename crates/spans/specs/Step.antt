@@ -10,9 +10,9 @@ use Rattle.event_graph.specs.Edges.{cause_choices}
 use Rattle.event_graph.specs.Network.{Constraint, Net}
 use Rattle.event_graph.specs.Widening.{IsHigherEnd, IsLowerEnd, IsWider, IsWiderCause, IsWiderConstraint}
 use Rattle.event_graph.specs.declared.cause.Cause.{Cause}
-use Rattle.drawn.specs.Drawn.{Drawn}
-use Rattle.drawn.specs.declared.row.Row.{Row}
-use Rattle.numbers.specs.declared.drawn_number.DrawnNumber.{DrawnNumber}
+use Rattle.drawn_networks.specs.Drawn.{Drawn}
+use Rattle.drawn_networks.specs.declared.row.Row.{Row}
+use Rattle.drawn_numbers.specs.declared.drawn_number.DrawnNumber.{DrawnNumber}
 use Rattle.moves.specs.Covers.{Covers, IsCoreOf, IsTighterRow, cause_counted, net_counted, row_counted}
 use Rattle.moves.specs.Found.{IsSpanFound}
 use Rattle.moves.specs.Moving.{kind_moved, moved_up, shifted_at}

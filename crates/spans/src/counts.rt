@@ -3,10 +3,10 @@
 ghost use Rattle.std.specs.Prelude.{◌≡◌, ◌<◌, IfOk, length, vec_len};
 ghost use Rattle.spans.specs.Step.{AreEventCounts, IsCount};
 
-use drawn::DrawnNetwork;
+use drawn_networks::DrawnNetwork;
+use drawn_numbers::DrawnNumber;
 use itv_base::{EventId, NoMemory, Range};
 use moves::{any_draws, cause_of, origins_of, part_of_target, target_of};
-use numbers::DrawnNumber;
 use std::alloc::Global;
 
 // Counts are no greater, in absolute value.

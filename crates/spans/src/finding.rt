@@ -15,11 +15,11 @@ use crate::direction::{Direction, Value, drawn_value, step_of, value_on};
 use crate::nearby::{Nearby, near_in};
 use crate::reach::{limit_of, reach_of, start_limit};
 use crate::sought::SpanSought;
-use drawn::DrawnNetwork;
+use drawn_networks::DrawnNetwork;
+use drawn_numbers::DrawnNumber;
 use extremes::RunTurns;
 use itv_base::NoMemory;
 use moves::{Margin, NetFound, SpanFound};
-use numbers::DrawnNumber;
 use probing::{Probed, SideChain};
 use std::alloc::Global;
 

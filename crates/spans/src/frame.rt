@@ -3,18 +3,18 @@
 ghost use Rattle.std.specs.Prelude.{◌≡◌, ◌<◌, ◌≤◌, ℤ, All, IfOk, IfSome, Some, length, option_map, slice_get};
 ghost use Rattle.itv_base.specs.declared.limits.TheConstants.{MAX_ROWS};
 ghost use Rattle.itv_base.specs.declared.names.EventId.{EventId as Event};
-ghost use Rattle.drawn.specs.Drawn.{IsRowOf};
+ghost use Rattle.drawn_networks.specs.Drawn.{IsRowOf};
 ghost use Rattle.event_graph.specs.Network.{Constraint};
 ghost use Rattle.moves.specs.Step.{HasEventsOf, bare_drawn, lent};
 ghost use Rattle.spans.specs.Step.{AreEventCounts, FramesCauses, FramesNet, FramesRows, IsFrameOf, IsInside, IsInterval};
 
 use crate::framed_range::{FrameKind, apart, framed_kind, framed_range};
 use crate::interval::Interval;
-use drawn::{DrawnNetwork, Row};
+use drawn_networks::{DrawnNetwork, Row};
+use drawn_numbers::DrawnNumber;
 use event_graph::{Cause, Network};
 use itv_base::{NoMemory, RowKind};
 use moves::{any_draws, cause_of, origins_of, part_of_target, push_with, read_drawn, target_of};
-use numbers::DrawnNumber;
 use std::alloc::Global;
 
 /// A network with its rows that is a cover or a core of all values of an interval.

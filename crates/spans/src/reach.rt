@@ -7,10 +7,10 @@ ghost use Rattle.spans.specs.Step.{CanShift, IsDrawnGap, IsLastDrawn, IsNarrower
 use crate::direction::{
     Direction, Value, distance, drawn_value, farthest, is_same, last_before, next_of, value_on,
 };
-use drawn::DrawnNetwork;
+use drawn_networks::DrawnNetwork;
+use drawn_numbers::DrawnNumber;
 use itv_base::{END_LIMIT, NoMemory, Range, RowKind};
 use moves::{any_draws, can_shift, cause_of, origins_of, part_of_target, read_drawn, read_rows};
-use numbers::DrawnNumber;
 use std::alloc::Global;
 
 // Values with which a span is begun are no further from the drawn one, in picoseconds.

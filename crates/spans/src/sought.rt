@@ -1,7 +1,7 @@
 //! Numbers whose span is sought.
 
 ghost use Rattle.std.specs.Prelude.{◌≡◌, ◌≤◌, ℤ, IfOk, IfSome, IsTrue};
-ghost use Rattle.drawn.specs.Drawn.{Drawn};
+ghost use Rattle.drawn_networks.specs.Drawn.{Drawn};
 ghost use Rattle.moves.specs.Networks.{IsNetFound};
 ghost use Rattle.moves.specs.Passing.{NoneBreaks, Passes};
 ghost use Rattle.spans.specs.Step.{AreEventCounts, IsFrameFound, IsInside, IsInterval, IsProbeOf, IsWithinReach, IsSought, IsValueFound, IsValueFoundAt, MeetsAim, TellsConsistency, at_value, breaks_for, consistency_of, passes_for};
@@ -11,11 +11,11 @@ use crate::frame::frame_of;
 use crate::framed_range::FrameKind;
 use crate::interval::Interval;
 use crate::reach::ShiftReach;
-use drawn::DrawnNetwork;
+use drawn_networks::DrawnNetwork;
+use drawn_numbers::DrawnNumber;
 use extremes::RunTurns;
 use itv_base::NoMemory;
 use moves::{Move, NetFound, moved_network, moved_rows};
-use numbers::DrawnNumber;
 use probing::{Probed, SideChain, Step, excess, probe, room};
 use std::alloc::Global;
 

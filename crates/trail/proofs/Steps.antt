@@ -7,7 +7,7 @@ use Rattle.trail.specs.declared.undo.Slot.{Slot}
 use Rattle.trail.specs.declared.undo.Saved.{Saved}
 use Rattle.trail.specs.declared.undo.LevelStart.{LevelStart}
 use Rattle.trail.specs.declared.trail.Trail.TheInside.{Inside}
-use Rattle.trail.specs.Stack.{Stack, new_stack, empty_stamp, after_push, with_edge, with_stamp}
+use Rattle.trail.specs.Stack.{TrailView, new_stack, empty_stamp, after_push, with_edge, with_stamp}
 use Rattle.trail.specs.Step.Undo.{TrailState, state_at, graphs_at}
 use Rattle.trail.specs.Step.Inside.{state_in, stack_in, IsSoundTrail}
 use Rattle.trail.proofs.StateAt.{IsUndoable-edge, graphs_at-edge, IsUndoable-slot, graphs_at-slot, IsUndoable-saved, graphs_at-saved, IsUndoable-start, graphs_at-start, room-saved}
@@ -36,22 +36,22 @@ pub stack_in-new_stack : (t : Inside) (slots : ℕ) → t.edges.items ≡ [] →
 stack_in-new_stack t slots edges items starts = rw (edges, items, starts, map-replicate slots)
 
 -- What a caller says of the stack, said of the fields.
-module _ (t : Inside) (g : Stack) (view : stack_in t ≡ g) where
+module _ (t : Inside) (g : TrailView) (view : stack_in t ≡ g) where
   pub slot_in : (slot : ℕ) → slot < length g.current.stamps → slot < length t.slots.items
   slot_in slot below =
-      let stored = subst (λ (g : Stack). slot < length g.current.stamps) (sym view) below in
+      let stored = subst (λ (g : TrailView). slot < length g.current.stamps) (sym view) below in
       omega (arith, stored, length-map t.slots.items (λ s. s.stamp))
 
   pub depth_in : (depth : ℕ) → depth ≡ length g.below → depth ≡ length t.starts.items
-  depth_in depth count = count ∙ ap (λ (g : Stack). length g.below) (sym view) ∙ length-below t
+  depth_in depth count = count ∙ ap (λ (g : TrailView). length g.below) (sym view) ∙ length-below t
 
   pub depth_below : length g.below < g.levels → length t.starts.items < t.levels
   depth_below below =
-      let stored = subst (λ (g : Stack). length g.below < g.levels) (sym view) below in
+      let stored = subst (λ (g : TrailView). length g.below < g.levels) (sym view) below in
       omega (arith, stored, length-below t)
 
   pub edges_below : length g.current.edges < g.levels → length t.edges.items < t.levels
-  edges_below below = subst (λ (g : Stack). length g.current.edges < g.levels) (sym view) below
+  edges_below below = subst (λ (g : TrailView). length g.current.edges < g.levels) (sym view) below
 
 module _ (t : Inside) (h : IsSoundTrail t) where
   -- An edge is added.

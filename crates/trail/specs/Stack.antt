@@ -9,7 +9,7 @@ pub record Graph : Type 0 where
   pub stamps : List Stamp
 
 -- how many graphs may be pushed, the current graph, and the graphs below it, the nearest first
-pub record Stack : Type 0 where
+pub record TrailView : Type 0 where
   pub levels : ℕ
   pub current : Graph
   pub below : List Graph
@@ -23,7 +23,7 @@ abbrev pub empty_graph : ℕ → Graph
 empty_graph slots = record { edges = []; stamps = replicate slots empty_stamp }
 
 -- the stack of an empty graph alone
-abbrev pub new_stack : ℕ → ℕ → Stack
+abbrev pub new_stack : ℕ → ℕ → TrailView
 new_stack slots levels = record { levels = levels; current = empty_graph slots; below = [] }
 
 -- the graph with one more edge, at the end
@@ -35,14 +35,14 @@ abbrev pub with_stamp : Graph → ℕ → Stamp → Graph
 with_stamp g slot stamp = record g { stamps = slice_set g.stamps slot stamp }
 
 -- the stack with a copy of the current graph on top
-abbrev pub after_push : Stack → Stack
+abbrev pub after_push : TrailView → TrailView
 after_push s = record s { below = s.current ∷ s.below }
 
 -- the stack of these graphs, the top first; without any graph it stays as it is
-abbrev pub with_graphs : Stack → List Graph → Stack
+abbrev pub with_graphs : TrailView → List Graph → TrailView
 with_graphs s [] = s
 with_graphs s (g ∷ graphs) = record s { current = g; below = graphs }
 
 -- the stack without its top, where there is a graph below it
-abbrev pub after_pop : Stack → Stack
+abbrev pub after_pop : TrailView → TrailView
 after_pop s = with_graphs s s.below

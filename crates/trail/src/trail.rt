@@ -26,9 +26,9 @@ pub struct Trail {
 }
 
 impl Model for Trail {
-    ghost use Rattle.trail.specs.Stack.{Stack};
+    ghost use Rattle.trail.specs.Stack.{TrailView};
 
-    ghost Value = { Stack };
+    ghost Value = { TrailView };
 
     ghost use Rattle.trail.specs.Step.Inside.{stack_in, IsSoundTrail};
 

@@ -9,8 +9,8 @@ use Rattle.std.proofs.lemmas.List.Sums.{sum_by-append, sum_by-cons}
 use Rattle.itv_base.specs.declared.names.RuleKind.{RuleKind}
 use Rattle.event_graph.specs.Network.{named_causes}
 use Rattle.sheet.specs.declared.row.SheetRow.{SheetRow}
-use Rattle.sheet.specs.Rule.{SheetRule}
-use Rattle.sheet.specs.SheetContents.{SheetContents}
+use Rattle.sheet.specs.Rule.{RuleView}
+use Rattle.sheet.specs.SheetContents.{SheetView}
 use Rattle.compose.specs.declared.joins.Join.{Join}
 use Rattle.compose.specs.Numbers.{join_rule, mark_count}
 use Rattle.unroll.specs.declared.counts.Counts.{Counts}
@@ -33,7 +33,7 @@ how_often_from shift (suc n) =
 -- ---- rules
 
 -- a rule with causes to choose from counts in each cycle in which it exists
-pub splittable_rule : (n : ℕ) (rule : SheetRule) (kind : RuleKind) (count : ℕ) (test : Bool) → kind ≡ rule.kind → count ≡ length rule.causes → test ≡ nat_lt 1 (named_causes kind count) → test ≡ true
+pub splittable_rule : (n : ℕ) (rule : RuleView) (kind : RuleKind) (count : ℕ) (test : Bool) → kind ≡ rule.kind → count ≡ length rule.causes → test ≡ nat_lt 1 (named_causes kind count) → test ≡ true
     → splittable_cycles n rule ≡ rule_cycles n rule
 splittable_rule n rule kind count test same_kind same_count answer holds =
     let is : is_splittable rule ≡ true = sym (rw (same_kind, same_count) at answer) ∙ holds in
@@ -42,21 +42,21 @@ splittable_rule n rule kind count test same_kind same_count answer holds =
 zero_le : (n : ℕ) → nat_le 0 n ≡ true
 zero_le n = le-leb 0 n (omega arith)
 
-join_counted : (n : ℕ) (sheets : List SheetContents) (join : Join) → rule_cycles n (join_rule sheets join) ≡ n
+join_counted : (n : ℕ) (sheets : List SheetView) (join : Join) → rule_cycles n (join_rule sheets join) ≡ n
 join_counted n sheets join =
     let from_first = how_often_from 0 n in
     let always = how_often_same (λ cycle. list_all (λ source. nat_le source.shift cycle) (join_rule sheets join).causes) (λ cycle. nat_le 0 cycle) n (λ cycle. rw (zero_le cycle) refl) in
     omega (arith, always, from_first)
 
 -- a join exists in each cycle
-pub joins_counted : (n : ℕ) (sheets : List SheetContents) (joins : List Join) → sum_by (rule_cycles n) (map (join_rule sheets) joins) ≡ n * length joins
+pub joins_counted : (n : ℕ) (sheets : List SheetView) (joins : List Join) → sum_by (rule_cycles n) (map (join_rule sheets) joins) ≡ n * length joins
 joins_counted n sheets [] = omega arith
 joins_counted n sheets (join ∷ joins) =
     let here = sum_by-cons (rule_cycles n) (join_rule sheets join) (map (join_rule sheets) joins) in
     here ∙ rw (join_counted n sheets join, joins_counted n sheets joins, mul-suc n (length joins)) (omega arith)
 
 -- a join has one cause
-pub joins_unsplittable : (n : ℕ) (sheets : List SheetContents) (joins : List Join) → sum_by (splittable_cycles n) (map (join_rule sheets) joins) ≡ 0
+pub joins_unsplittable : (n : ℕ) (sheets : List SheetView) (joins : List Join) → sum_by (splittable_cycles n) (map (join_rule sheets) joins) ≡ 0
 joins_unsplittable n sheets [] = refl
 joins_unsplittable n sheets (join ∷ joins) = sum_by-cons (splittable_cycles n) (join_rule sheets join) (map (join_rule sheets) joins) ∙ rw (joins_unsplittable n sheets joins) refl
 
@@ -67,14 +67,14 @@ sum_map_same g f [] same = refl
 sum_map_same g f (x ∷ xs) same = omega (arith, sum_by-cons g (f x) (map f xs), sum_by-cons g x xs, same x, sum_map_same g f xs same)
 
 -- a rule exists equally often wherever its marks stand
-rule_cycles_behind : (n first : ℕ) (rule : SheetRule) → rule_cycles n (rule_behind first rule) ≡ rule_cycles n rule
+rule_cycles_behind : (n first : ℕ) (rule : RuleView) → rule_cycles n (rule_behind first rule) ≡ rule_cycles n rule
 rule_cycles_behind n first rule = how_often_same _ _ n (λ cycle. exists_behind cycle first rule)
 
-splittable_cycles_behind : (n first : ℕ) (rule : SheetRule) → splittable_cycles n (rule_behind first rule) ≡ splittable_cycles n rule
+splittable_cycles_behind : (n first : ℕ) (rule : RuleView) → splittable_cycles n (rule_behind first rule) ≡ splittable_cycles n rule
 splittable_cycles_behind n first rule = rw (length-map rule.causes (source_behind first), rule_cycles_behind n first rule) refl
 
 -- rules and rows have the same counts wherever their marks stand
-counts_behind : (most n first : ℕ) (rules : List SheetRule) (rows : List SheetRow) (counts : Counts) → AreCounts most n rules rows counts → AreCounts most n (map (rule_behind first) rules) (map (row_behind first) rows) counts
+counts_behind : (most n first : ℕ) (rules : List RuleView) (rows : List SheetRow) (counts : Counts) → AreCounts most n rules rows counts → AreCounts most n (map (rule_behind first) rules) (map (row_behind first) rows) counts
 counts_behind most n first rules rows counts h = record {
   marks = h.marks;
   constraints = h.constraints ∙ sym (sum_map_same (rule_cycles n) (rule_behind first) rules (rule_cycles_behind n first));
@@ -83,7 +83,7 @@ counts_behind most n first rules rows counts h = record {
 }
 
 -- the sums of two counts
-pub counts_together : (most other n : ℕ) (rules rules' : List SheetRule) (rows rows' : List SheetRow) (a b : Counts) → AreCounts most n rules rows a → AreCounts other n rules' rows' b
+pub counts_together : (most other n : ℕ) (rules rules' : List RuleView) (rows rows' : List SheetRow) (a b : Counts) → AreCounts most n rules rows a → AreCounts other n rules' rows' b
     → AreCounts (most + other) n (rules ++ rules') (rows ++ rows') (sums a b)
 counts_together most other n rules rules' rows rows' a b h k = record {
   marks = rw (h.marks, k.marks) refl;
@@ -93,7 +93,7 @@ counts_together most other n rules rules' rows rows' a b h k = record {
 }
 
 -- one more part
-pub part_counted : (n : ℕ) (sheets : List SheetContents) (sheet : SheetContents) (a b : Counts)
+pub part_counted : (n : ℕ) (sheets : List SheetView) (sheet : SheetView) (a b : Counts)
     → AreCounts (mark_count sheets) n (part_rules 0 sheets) (part_rows 0 sheets) a
     → AreCounts (length sheet.marks) n sheet.rules sheet.rows b
     → AreCounts (mark_count (sheets ++ sheet ∷ [])) n (part_rules 0 (sheets ++ sheet ∷ [])) (part_rows 0 (sheets ++ sheet ∷ [])) (sums a b)

@@ -8,24 +8,24 @@ use Rattle.itv_base.specs.declared.limits.TheConstants.{MAX_CONSTRAINTS, MAX_EVE
 use Rattle.origin.specs.declared.origin.Origin.{Origin}
 use Rattle.event_graph.specs.Network.{Net}
 use Rattle.sheet.specs.declared.row.SheetRow.{SheetRow}
-use Rattle.sheet.specs.Rule.{SheetRule}
+use Rattle.sheet.specs.Rule.{RuleView}
 use Rattle.sheet.proofs.WholeSheets.{cond_none, more_hold}
-use Rattle.compose.specs.Design.{Composed, IsDesign}
+use Rattle.compose.specs.Design.{DesignView, IsDesign}
 use Rattle.compose.specs.Numbers.{mark_count}
 use Rattle.unroll.specs.declared.counted.Counted.{Counted}
 use Rattle.unroll.specs.declared.counts.Counts.{Counts}
 use Rattle.unroll.specs.declared.fault.UnrollFault.TheVariants.{TooMany}
-use Rattle.drawn.specs.declared.event_label.EventLabel.{EventLabel}
-use Rattle.drawn.specs.declared.row.Row.{Row}
+use Rattle.drawn_networks.specs.declared.event_label.EventLabel.{EventLabel}
+use Rattle.drawn_networks.specs.declared.row.Row.{Row}
 use Rattle.unroll.specs.Cycle.{rows_of, rules_of}
 use Rattle.unroll.specs.Cycles.{constraints_of, event_in, in_cycles, origins_of, row_exists, row_in, rows_in}
-use Rattle.drawn.specs.Drawn.{IsRowOf}
+use Rattle.drawn_networks.specs.Drawn.{IsRowOf}
 use Rattle.unroll.specs.Drawn.{drawn_of}
 use Rattle.unroll.specs.Limits.{counts_by, counts_of, first_passed, unrolled, within}
 use Rattle.unroll.specs.Step.Between.{IsRowBetween}
 use Rattle.unroll.specs.Step.Counting.{AreCounts}
 use Rattle.unroll.specs.Step.Kept.{kept_rows, kept_rules}
-use Rattle.drawn.specs.Kept.{IsDrawn, drawn_by}
+use Rattle.drawn_networks.specs.Kept.{IsDrawn, drawn_by}
 use Rattle.unroll.specs.Step.Labels.{labels_from}
 use Rattle.unroll.proofs.BetweenLists.{kept_rows_between}
 use Rattle.unroll.proofs.KeptLists.{constraints_counted, kept_constraints, kept_origins, kept_rows_in, rows_counted, splittable_counted}
@@ -35,7 +35,7 @@ use Rattle.unroll.proofs.NameLists.{All-in_cycles, labels_inside, labels_length,
 -- ---- counts
 
 -- the counts are the counts of what is drawn
-pub limits_counted : (d : Composed) (counts : Counts) → AreCounts (mark_count d.sheets) d.cycles (rules_of d) (rows_of d) counts
+pub limits_counted : (d : DesignView) (counts : Counts) → AreCounts (mark_count d.sheets) d.cycles (rules_of d) (rows_of d) counts
     → counts_by (d.cycles * counts.marks) counts.constraints counts.rows counts.splittable ≡ counts_of (drawn_of d)
 limits_counted d counts h =
     let marks : ℕ = mark_count d.sheets in
@@ -52,11 +52,11 @@ none_passed events constraints rows splittable none =
     let third = cond_none _ _ _ second.1 in
     (ltb-false MAX_EVENTS events first.0, ltb-false MAX_CONSTRAINTS constraints second.0, ltb-false MAX_ROWS rows third.0)
 
-pub drawn_within : (d : Composed) → first_passed (counts_of (drawn_of d)) ≡ None → unrolled d ≡ Ok (drawn_of d)
+pub drawn_within : (d : DesignView) → first_passed (counts_of (drawn_of d)) ≡ None → unrolled d ≡ Ok (drawn_of d)
 unfolding unrolled
 drawn_within d none = ap (within (drawn_of d)) none
 
-pub drawn_past : (d : Composed) (passed : Counted) → first_passed (counts_of (drawn_of d)) ≡ Some passed → unrolled d ≡ Err (TooMany passed.limit passed.count)
+pub drawn_past : (d : DesignView) (passed : Counted) → first_passed (counts_of (drawn_of d)) ≡ Some passed → unrolled d ≡ Err (TooMany passed.limit passed.count)
 unfolding unrolled
 drawn_past d passed is = ap (within (drawn_of d)) is
 
@@ -82,14 +82,14 @@ rows_inside net marks n rows is all = All-in_cycles (IsRowOf net) (λ cycle. fil
 -- ---- the whole
 
 -- what the steps made
-pub record IsMade (d : Composed) (net : Net) (drew : List (List Origin)) (texts : List (List ℕ)) (labels : List EventLabel) (asked : List Row) : Type 0 where
+pub record IsMade (d : DesignView) (net : Net) (drew : List (List Origin)) (texts : List (List ℕ)) (labels : List EventLabel) (asked : List Row) : Type 0 where
   pub network : net ≡ record { events = d.cycles * mark_count d.sheets; constraints = constraints_of (mark_count d.sheets) (kept_rules d.cycles (rules_of d)) d.cycles }
   pub origins : drew ≡ origins_of (kept_rules d.cycles (rules_of d)) d.cycles
   pub parts : texts ≡ d.parts
   pub names : labels ≡ in_cycles (λ cycle. labels_from cycle 0 d.sheets) d.cycles
   pub rows : asked ≡ rows_in (mark_count d.sheets) (kept_rows d.cycles (rows_of d)) d.cycles
 
-pub made_kept : (d : Composed) (net : Net) (drew : List (List Origin)) (texts : List (List ℕ)) (labels : List EventLabel) (asked : List Row) → IsDesign d → length (drawn_of d).rows ≤ MAX_ROWS → IsMade d net drew texts labels asked → IsDrawn net drew texts labels asked
+pub made_kept : (d : DesignView) (net : Net) (drew : List (List Origin)) (texts : List (List ℕ)) (labels : List EventLabel) (asked : List Row) → IsDesign d → length (drawn_of d).rows ≤ MAX_ROWS → IsMade d net drew texts labels asked → IsDrawn net drew texts labels asked
 made_kept d net drew texts labels asked h few made =
     let events : net.events ≡ d.cycles * mark_count d.sheets = ap (λ (n : Net). n.events) made.network in
     record {
@@ -100,13 +100,13 @@ made_kept d net drew texts labels asked h few made =
       few = rw (made.rows, kept_rows_in (mark_count d.sheets) d.cycles (rows_of d)) few;
     }
 
-pub made_is : (d : Composed) (net : Net) (drew : List (List Origin)) (texts : List (List ℕ)) (labels : List EventLabel) (asked : List Row) → IsDesign d → IsMade d net drew texts labels asked → drawn_by net drew texts labels asked ≡ drawn_of d
+pub made_is : (d : DesignView) (net : Net) (drew : List (List Origin)) (texts : List (List ℕ)) (labels : List EventLabel) (asked : List Row) → IsDesign d → IsMade d net drew texts labels asked → drawn_by net drew texts labels asked ≡ drawn_of d
 made_is d net drew texts labels asked h made =
     let marks : ℕ = mark_count d.sheets in
     rw (made.network, made.origins, made.parts, made.names, made.rows, kept_constraints marks d.cycles (rules_of d), kept_origins d.cycles (rules_of d), kept_rows_in marks d.cycles (rows_of d), labels_tell d.parts d.sheets d.cycles h.parts) refl
 
 -- what the steps answer, put together
-pub made_by : (d : Composed) (marks cycles : ℕ) (rules : List SheetRule) (asked : List SheetRow) (net : Net) (drew : List (List Origin)) (texts : List (List ℕ)) (labels : List EventLabel) (rows : List Row)
+pub made_by : (d : DesignView) (marks cycles : ℕ) (rules : List RuleView) (asked : List SheetRow) (net : Net) (drew : List (List Origin)) (texts : List (List ℕ)) (labels : List EventLabel) (rows : List Row)
     → marks ≡ mark_count d.sheets → cycles ≡ d.cycles → rules ≡ kept_rules d.cycles (rules_of d) → asked ≡ kept_rows d.cycles (rows_of d)
     → net ≡ record { events = cycles * marks; constraints = constraints_of marks rules cycles } → drew ≡ origins_of rules cycles → texts ≡ d.parts → labels ≡ in_cycles (λ cycle. labels_from cycle 0 d.sheets) d.cycles → rows ≡ rows_in marks asked cycles
     → IsMade d net drew texts labels rows
@@ -119,19 +119,19 @@ made_by d marks cycles rules asked net drew texts labels rows same_marks same_cy
 }
 
 -- the kept rules give as many constraints as all rules
-pub kept_room : (d : Composed) (marks cycles : ℕ) (rules : List SheetRule) → marks ≡ mark_count d.sheets → cycles ≡ d.cycles → rules ≡ kept_rules d.cycles (rules_of d)
+pub kept_room : (d : DesignView) (marks cycles : ℕ) (rules : List RuleView) → marks ≡ mark_count d.sheets → cycles ≡ d.cycles → rules ≡ kept_rules d.cycles (rules_of d)
     → length (constraints_of marks rules cycles) ≡ length (constraints_of (mark_count d.sheets) (rules_of d) d.cycles)
 kept_room d marks cycles rules same_marks same_cycles same_rules = rw (same_marks, same_cycles, same_rules) (ap length (kept_constraints (mark_count d.sheets) d.cycles (rules_of d)))
 
 -- the first limit passed by the counts is the first limit passed by what is drawn
-pub passed_of : (d : Composed) (cycles : ℕ) (counts : Counts) (found : Option Counted) → cycles ≡ d.cycles → AreCounts (mark_count d.sheets) d.cycles (rules_of d) (rows_of d) counts
+pub passed_of : (d : DesignView) (cycles : ℕ) (counts : Counts) (found : Option Counted) → cycles ≡ d.cycles → AreCounts (mark_count d.sheets) d.cycles (rules_of d) (rows_of d) counts
     → found ≡ first_passed (counts_by (cycles * counts.marks) counts.constraints counts.rows counts.splittable) → found ≡ first_passed (counts_of (drawn_of d))
 passed_of d cycles counts found same h is = (rw same at is) ∙ ap first_passed (limits_counted d counts h)
 
 -- a design that passes no limit draws few constraints
-pub few_constraints : (d : Composed) → None ≡ first_passed (counts_of (drawn_of d)) → length (constraints_of (mark_count d.sheets) (rules_of d) d.cycles) ≤ MAX_CONSTRAINTS
+pub few_constraints : (d : DesignView) → None ≡ first_passed (counts_of (drawn_of d)) → length (constraints_of (mark_count d.sheets) (rules_of d) d.cycles) ≤ MAX_CONSTRAINTS
 few_constraints d none = (none_passed (drawn_of d).net.events (length (drawn_of d).net.constraints) (length (drawn_of d).rows) _ (sym none)).1
 
 -- a design that passes no limit draws few rows
-pub few_rows : (d : Composed) → None ≡ first_passed (counts_of (drawn_of d)) → length (drawn_of d).rows ≤ MAX_ROWS
+pub few_rows : (d : DesignView) → None ≡ first_passed (counts_of (drawn_of d)) → length (drawn_of d).rows ≤ MAX_ROWS
 few_rows d none = (none_passed (drawn_of d).net.events (length (drawn_of d).net.constraints) (length (drawn_of d).rows) _ (sym none)).2

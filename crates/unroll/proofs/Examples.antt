@@ -7,9 +7,9 @@ use Rattle.itv_base.specs.declared.names.RuleKind.TheVariants as rules
 use Rattle.wave_string.specs.declared.mark_kind.MarkKind.TheVariants.{Bare}
 use Rattle.itv_base.specs.declared.row_kind.RowKind.TheVariants.{Ask}
 use Rattle.origin.specs.declared.origin.Origin.TheVariants.{Edge, Pin, Wire}
-use Rattle.sheet.specs.Rule.{SheetRule}
-use Rattle.sheet.specs.SheetContents.{SheetContents}
-use Rattle.compose.specs.Design.{Composed}
+use Rattle.sheet.specs.Rule.{RuleView}
+use Rattle.sheet.specs.SheetContents.{SheetView}
+use Rattle.compose.specs.Design.{DesignView}
 use Rattle.unroll.specs.Cycles.{constraints_of, origins_of}
 use Rattle.unroll.specs.declared.limit.Limit.TheVariants.{Events, Constraints, Rows, Cells, SearchCells}
 use Rattle.unroll.specs.Drawn.{drawn_of}
@@ -20,7 +20,7 @@ ends = record { low = Some (pos 10); high = Some (pos 20) }
 
 -- A sheet with the marks a and j. Mark j comes at the latest of its causes; its cause a is one cycle before. The separation from a to j is asked
 -- for in one cycle and over two.
-abbrev late_sheet : SheetContents
+abbrev late_sheet : SheetView
 late_sheet = record {
   marks = record { lane = 0; place = 0; name = 97; kind = Bare } ∷ record { lane = 1; place = 0; name = 106; kind = Bare } ∷ [];
   pins = [];
@@ -30,7 +30,7 @@ late_sheet = record {
   near = [];
 }
 
-abbrev one_part : Composed
+abbrev one_part : DesignView
 one_part = record { cycles = 2; parts = codes "U1" ∷ []; sheets = late_sheet ∷ []; joins = []; rules = []; rows = [] }
 
 -- In two cycles this draws one constraint, on j in cycle 1, and three rows.
@@ -54,7 +54,7 @@ pub late_by_one_cycle : drawn_of one_part ≡ record {
 }
 late_by_one_cycle = refl
 
-abbrev mixed : SheetRule
+abbrev mixed : RuleView
 mixed = record { kind = rules.Late; target = 1; causes = record { mark = 0; shift = 0; range = ends; origin = Edge 0 } ∷ record { mark = 0; shift = 2; range = ends; origin = Edge 3 } ∷ [] }
 
 -- A group with a cause of the same cycle and one of two cycles before draws nothing before cycle 2.
@@ -71,7 +71,7 @@ mixed_origins = refl
 abbrev now : Ends
 now = record { low = Some (pos 0); high = Some (pos 0) }
 
-abbrev two_parts : Composed
+abbrev two_parts : DesignView
 two_parts = record {
   cycles = 2;
   parts = codes "U1" ∷ codes "U2" ∷ [];

@@ -8,8 +8,8 @@ use Rattle.std.proofs.lemmas.List.Elements.{filter-append}
 use Rattle.std.proofs.lemmas.List.Sums.{length-filter, sum_by-cons}
 use Rattle.event_graph.specs.Network.{Constraint, cause_count_of, named_causes, splittable_count}
 use Rattle.sheet.specs.declared.row.SheetRow.{SheetRow}
-use Rattle.sheet.specs.declared.rule.Source.{Source}
-use Rattle.sheet.specs.Rule.{SheetRule}
+use Rattle.sheet.specs.declared.rule.RuleCause.{RuleCause}
+use Rattle.sheet.specs.Rule.{RuleView}
 use Rattle.unroll.specs.Cycles.{cause_in, constraint_in, constraints_of, event_in, in_cycles, origins_in, origins_of, row_exists, row_in, rows_in, rule_exists}
 use Rattle.unroll.specs.Step.Counting.{how_often, is_splittable, row_cycles, rule_cycles, splittable_cycles}
 use Rattle.unroll.specs.Step.Kept.{kept_rows, kept_rules}
@@ -26,10 +26,10 @@ filter_map_filter h test gone (x ∷ xs) =
     let rest = filter_map_filter h test gone xs in
     cond_both (test x) (x ∷ filter test xs) (filter test xs) (λ ys. filter_map h ys ≡ cons_option (h x) (filter_map h xs)) (λ _. ap (cons_option (h x)) rest) (λ no. rw (gone x no) rest)
 
-sources_later : (causes : List Source) (cycle later : ℕ) → cycle ≤ later → list_all (λ source. nat_le source.shift cycle) causes ≡ true → list_all (λ source. nat_le source.shift later) causes ≡ true
+sources_later : (causes : List RuleCause) (cycle later : ℕ) → cycle ≤ later → list_all (λ source. nat_le source.shift cycle) causes ≡ true → list_all (λ source. nat_le source.shift later) causes ≡ true
 sources_later [] cycle later less all = refl
 sources_later (source ∷ causes) cycle later less all =
-    let parts = and_parts (nat_le source.shift cycle) (list_all (λ (s : Source). nat_le s.shift cycle) causes) all in
+    let parts = and_parts (nat_le source.shift cycle) (list_all (λ (s : RuleCause). nat_le s.shift cycle) causes) all in
     let here : nat_le source.shift later ≡ true = le-leb source.shift later (omega (arith, leb-true source.shift cycle parts.0)) in
     rw (here, sources_later causes cycle later less parts.1) refl
 
@@ -38,7 +38,7 @@ gone_before : {X : Type 0} (now : Bool) (x : X) → (now ≡ true → ⊥) → c
 gone_before true x never = absurd (never refl)
 gone_before false x never = refl
 
-rule_gone : (marks cycle later : ℕ) (rule : SheetRule) → cycle ≤ later → rule_exists later rule ≡ false → constraint_in marks cycle rule ≡ None
+rule_gone : (marks cycle later : ℕ) (rule : RuleView) → cycle ≤ later → rule_exists later rule ≡ false → constraint_in marks cycle rule ≡ None
 rule_gone marks cycle later rule less gone =
     gone_before (rule_exists cycle rule) (record { kind = rule.kind; target = event_in marks cycle rule.target; causes = map (cause_in marks cycle) rule.causes })
     (λ now. both_ways (rule_exists later rule) gone (sources_later rule.causes cycle later less now))
@@ -48,16 +48,16 @@ row_gone marks cycle later row less gone =
     gone_before (row_exists cycle row) (record { kind = row.kind; from = event_in marks (cycle - row.shift) row.from; to = event_in marks cycle row.to; origin = row.origin })
     (λ now. both_ways (row_exists later row) gone (le-leb row.shift later (omega (arith, leb-true row.shift cycle now))))
 
-origins_gone : (cycle later : ℕ) (rule : SheetRule) → cycle ≤ later → rule_exists later rule ≡ false → origins_in cycle rule ≡ None
+origins_gone : (cycle later : ℕ) (rule : RuleView) → cycle ≤ later → rule_exists later rule ≡ false → origins_in cycle rule ≡ None
 origins_gone cycle later rule less gone =
-    gone_before (rule_exists cycle rule) (map (λ (source : Source). source.origin) rule.causes)
+    gone_before (rule_exists cycle rule) (map (λ (source : RuleCause). source.origin) rule.causes)
     (λ now. both_ways (rule_exists later rule) gone (sources_later rule.causes cycle later less now))
 
-pub kept_constraints : (marks n : ℕ) (rules : List SheetRule) → constraints_of marks (kept_rules n rules) n ≡ constraints_of marks rules n
+pub kept_constraints : (marks n : ℕ) (rules : List RuleView) → constraints_of marks (kept_rules n rules) n ≡ constraints_of marks rules n
 kept_constraints marks n rules =
     in_cycles_agree _ _ n (λ cycle less. filter_map_filter (constraint_in marks cycle) (λ rule. rule_exists (n - 1) rule) (λ rule gone. rule_gone marks cycle (n - 1) rule (omega (arith, less)) gone) rules)
 
-pub kept_origins : (n : ℕ) (rules : List SheetRule) → origins_of (kept_rules n rules) n ≡ origins_of rules n
+pub kept_origins : (n : ℕ) (rules : List RuleView) → origins_of (kept_rules n rules) n ≡ origins_of rules n
 kept_origins n rules =
     in_cycles_agree _ _ n (λ cycle less. filter_map_filter (origins_in cycle) (λ rule. rule_exists (n - 1) rule) (λ rule gone. origins_gone cycle (n - 1) rule (omega (arith, less)) gone) rules)
 
@@ -105,10 +105,10 @@ often_is_total : (test : ℕ → Bool) (n : ℕ) → total (λ cycle. cond (test
 often_is_total test zero = refl
 often_is_total test (suc n) = ap (λ k. k + cond (test n) 1 0) (often_is_total test n)
 
-pub constraints_counted : (marks n : ℕ) (rules : List SheetRule) → length (constraints_of marks rules n) ≡ sum_by (rule_cycles n) rules
+pub constraints_counted : (marks n : ℕ) (rules : List RuleView) → length (constraints_of marks rules n) ≡ sum_by (rule_cycles n) rules
 constraints_counted marks n rules =
     cycles_counted (λ cycle. filter_map (constraint_in marks cycle) rules) (λ cycle rule. cond (rule_exists cycle rule) 1 0) rules n
-    (λ cycle. length_given (rule_exists cycle) (λ (rule : SheetRule). record { kind = rule.kind; target = event_in marks cycle rule.target; causes = map (cause_in marks cycle) rule.causes }) rules)
+    (λ cycle. length_given (rule_exists cycle) (λ (rule : RuleView). record { kind = rule.kind; target = event_in marks cycle rule.target; causes = map (cause_in marks cycle) rule.causes }) rules)
     ∙ sum_by_same _ _ rules (λ rule. often_is_total (λ cycle. rule_exists cycle rule) n)
 
 pub rows_counted : (marks n : ℕ) (rows : List SheetRow) → length (rows_in marks rows n) ≡ sum_by (row_cycles n) rows
@@ -133,10 +133,10 @@ one_chosen p true false y rest is = rw is (omega arith)
 one_chosen p false true y rest is = omega arith
 one_chosen p false false y rest is = omega arith
 
-abbrev splittable_in : ℕ → SheetRule → ℕ
+abbrev splittable_in : ℕ → RuleView → ℕ
 splittable_in cycle rule = cond (is_splittable rule) (cond (rule_exists cycle rule) 1 0) 0
 
-splittable_of : (marks cycle : ℕ) (rules : List SheetRule) → length (filter has_choice (filter_map (constraint_in marks cycle) rules)) ≡ sum_by (splittable_in cycle) rules
+splittable_of : (marks cycle : ℕ) (rules : List RuleView) → length (filter has_choice (filter_map (constraint_in marks cycle) rules)) ≡ sum_by (splittable_in cycle) rules
 splittable_of marks cycle [] = refl
 splittable_of marks cycle (rule ∷ rules) =
     one_chosen has_choice (rule_exists cycle rule) (is_splittable rule) (record { kind = rule.kind; target = event_in marks cycle rule.target; causes = map (cause_in marks cycle) rule.causes })
@@ -148,7 +148,7 @@ total_chosen true test n = often_is_total test n
 total_chosen false test zero = refl
 total_chosen false test (suc n) = omega (arith, total_chosen false test n)
 
-pub splittable_counted : (events marks n : ℕ) (rules : List SheetRule) → splittable_count (record { events = events; constraints = constraints_of marks rules n }) ≡ sum_by (splittable_cycles n) rules
+pub splittable_counted : (events marks n : ℕ) (rules : List RuleView) → splittable_count (record { events = events; constraints = constraints_of marks rules n }) ≡ sum_by (splittable_cycles n) rules
 splittable_counted events marks n rules =
     sym (length-filter has_choice (constraints_of marks rules n)) ∙ ap length (filter_in_cycles has_choice (λ cycle. filter_map (constraint_in marks cycle) rules) n)
     ∙ cycles_counted (λ cycle. filter has_choice (filter_map (constraint_in marks cycle) rules)) splittable_in rules n (λ cycle. splittable_of marks cycle rules)

@@ -7,17 +7,17 @@ use Rattle.std.proofs.lemmas.List.{length-map, length_push, map-append}
 use Rattle.std.proofs.lemmas.List.Elements.{All-append, All-map, All-nil}
 use Rattle.std.proofs.lemmas.Option.{unwrap_or-slice_get}
 use Rattle.sheet.specs.declared.mark.Mark.{Mark}
-use Rattle.sheet.specs.SheetContents.{SheetContents}
+use Rattle.sheet.specs.SheetContents.{SheetView}
 use Rattle.compose.specs.Numbers.{mark_count}
 use Rattle.compose.proofs.WholeDesigns.{mark_count_cons}
-use Rattle.drawn.specs.declared.event_label.EventLabel.{EventLabel}
+use Rattle.drawn_networks.specs.declared.event_label.EventLabel.{EventLabel}
 use Rattle.unroll.specs.Cycles.{in_cycles}
 use Rattle.unroll.specs.Drawn.{names_in}
 use Rattle.unroll.specs.Step.Labels.{label_of, labels_from}
-use Rattle.drawn.specs.Kept.{name_by}
+use Rattle.drawn_networks.specs.Kept.{name_by}
 
 -- one more part
-pub labels_push : (cycle part : ℕ) (sheets : List SheetContents) (sheet : SheetContents)
+pub labels_push : (cycle part : ℕ) (sheets : List SheetView) (sheet : SheetView)
     → labels_from cycle part (sheets ++ sheet ∷ []) ≡ labels_from cycle part sheets ++ map (label_of (part + length sheets) cycle) sheet.marks
 labels_push cycle part [] sheet = append-nil (map (label_of part cycle) sheet.marks) ∙ ap (λ n. map (label_of n cycle) sheet.marks) (sym (add-zero part))
 labels_push cycle part (s ∷ sheets) sheet =
@@ -27,7 +27,7 @@ labels_push cycle part (s ∷ sheets) sheet =
     ∙ sym (append_assoc (map (label_of part cycle) s.marks) (labels_from cycle (part + 1) sheets) (map (label_of (part + length (s ∷ sheets)) cycle) sheet.marks))
 
 -- the labels that are kept, with the labels of one more part
-pub labels_kept : (cycle part : ℕ) (sheets : List SheetContents) (sheet : SheetContents) (old items new : List EventLabel) (list : List Mark) → length sheets ≡ part → items ≡ old ++ labels_from cycle 0 sheets
+pub labels_kept : (cycle part : ℕ) (sheets : List SheetView) (sheet : SheetView) (old items new : List EventLabel) (list : List Mark) → length sheets ≡ part → items ≡ old ++ labels_from cycle 0 sheets
     → list ≡ sheet.marks → new ≡ items ++ map (label_of part cycle) list → new ≡ old ++ labels_from cycle 0 (sheets ++ sheet ∷ [])
 labels_kept cycle part sheets sheet old items new list is stood same more =
     let number : part ≡ 0 + length sheets = omega (arith, is) in
@@ -45,7 +45,7 @@ front_get : (front : List (List ℕ)) (text : List ℕ) (rest : List (List ℕ))
 front_get front text rest = unwrap_or-slice_get (front ++ text ∷ rest) (length front) [] ∙ get_or-append_seam front text rest []
 
 -- the labels of parts after others give the names of their events
-labels_named : (front parts : List (List ℕ)) (cycle : ℕ) (sheets : List SheetContents) → length parts ≡ length sheets
+labels_named : (front parts : List (List ℕ)) (cycle : ℕ) (sheets : List SheetView) → length parts ≡ length sheets
     → map (name_by (front ++ parts)) (labels_from cycle (length front) sheets) ≡ names_in parts sheets cycle
 labels_named front [] cycle [] same = refl
 labels_named front [] cycle (sheet ∷ sheets) same = absurd (omega (arith, same))
@@ -63,13 +63,13 @@ map_in_cycles f each other zero same = refl
 map_in_cycles f each other (suc n) same = map-append f (in_cycles each n) (each n) ∙ rw (map_in_cycles f each other n same, same n) refl
 
 -- the labels of all cycles give the names of all events
-pub labels_tell : (parts : List (List ℕ)) (sheets : List SheetContents) (n : ℕ) → length parts ≡ length sheets
+pub labels_tell : (parts : List (List ℕ)) (sheets : List SheetView) (n : ℕ) → length parts ≡ length sheets
     → map (name_by parts) (in_cycles (λ cycle. labels_from cycle 0 sheets) n) ≡ in_cycles (names_in parts sheets) n
 labels_tell parts sheets n same = map_in_cycles (name_by parts) (λ cycle. labels_from cycle 0 sheets) (names_in parts sheets) n (λ cycle. labels_named [] parts cycle sheets same)
 
 -- ---- how many labels there are
 
-labels_count : (cycle part : ℕ) (sheets : List SheetContents) → length (labels_from cycle part sheets) ≡ mark_count sheets
+labels_count : (cycle part : ℕ) (sheets : List SheetView) → length (labels_from cycle part sheets) ≡ mark_count sheets
 labels_count cycle part [] = refl
 labels_count cycle part (sheet ∷ sheets) =
     omega (arith, length-append (map (label_of part cycle) sheet.marks) (labels_from cycle (part + 1) sheets), length-map sheet.marks (label_of part cycle), labels_count cycle (part + 1) sheets, mark_count_cons sheet sheets)
@@ -79,10 +79,10 @@ length-in_cycles each count zero same = omega arith
 length-in_cycles each count (suc n) same = omega (arith, length-append (in_cycles each n) (each n), length-in_cycles each count n same, same n, suc-mul n count)
 
 -- there is one label for each event
-pub labels_length : (sheets : List SheetContents) (n : ℕ) → length (in_cycles (λ cycle. labels_from cycle 0 sheets) n) ≡ n * mark_count sheets
+pub labels_length : (sheets : List SheetView) (n : ℕ) → length (in_cycles (λ cycle. labels_from cycle 0 sheets) n) ≡ n * mark_count sheets
 labels_length sheets n = length-in_cycles (λ cycle. labels_from cycle 0 sheets) (mark_count sheets) n (λ cycle. labels_count cycle 0 sheets)
 
-labels_within : (cycle part parts : ℕ) (sheets : List SheetContents) → part + length sheets ≤ parts → All (λ (label : EventLabel). label.part < parts) (labels_from cycle part sheets)
+labels_within : (cycle part parts : ℕ) (sheets : List SheetView) → part + length sheets ≤ parts → All (λ (label : EventLabel). label.part < parts) (labels_from cycle part sheets)
 labels_within cycle part parts [] within = All-nil (λ (label : EventLabel). label.part < parts)
 labels_within cycle part parts (sheet ∷ sheets) within =
     All-append (λ (label : EventLabel). label.part < parts) (map (label_of part cycle) sheet.marks) (labels_from cycle (part + 1) sheets)
@@ -93,7 +93,7 @@ All-in_cycles P each zero all = All-nil P
 All-in_cycles P each (suc n) all = All-append P (in_cycles each n) (each n) (All-in_cycles P each n (λ cycle less. all cycle (omega (arith, less)))) (all n (omega arith))
 
 -- the part of each label is there
-pub labels_inside : (parts : List (List ℕ)) (sheets : List SheetContents) (n : ℕ) → length parts ≡ length sheets
+pub labels_inside : (parts : List (List ℕ)) (sheets : List SheetView) (n : ℕ) → length parts ≡ length sheets
     → All (λ (label : EventLabel). label.part < length parts) (in_cycles (λ cycle. labels_from cycle 0 sheets) n)
 labels_inside parts sheets n same =
     All-in_cycles (λ (label : EventLabel). label.part < length parts) (λ cycle. labels_from cycle 0 sheets) n (λ cycle _. labels_within cycle 0 (length parts) sheets (omega (arith, same)))

@@ -2,14 +2,14 @@
 use Rattle.std.specs.Prelude.{ℕ, ◌+◌, ◌*◌, nat_lt, List, [], ◌∷◌, length, find, Option, Some, None, Result, Ok, Err}
 use Rattle.itv_base.specs.declared.limits.TheConstants.{MAX_CELLS, MAX_CONSTRAINTS, MAX_EVENTS, MAX_MATRIX_EVENTS, MAX_ROWS, MAX_SEARCH_CELLS}
 use Rattle.event_graph.specs.Network.{splittable_count}
-use Rattle.compose.specs.Design.{Composed}
+use Rattle.compose.specs.Design.{DesignView}
 use Rattle.unroll.specs.declared.limit.Limit.{Limit}
 use Rattle.unroll.specs.declared.limit.Limit.TheVariants.{Events, Constraints, Rows, Cells, SearchCells, MatrixEvents, SessionRows, Numbers}
 use Rattle.unroll.specs.declared.limit.TheConstants.{MAX_NUMBERS, MAX_SESSION_ROWS}
 use Rattle.unroll.specs.declared.counted.Counted.{Counted}
 use Rattle.unroll.specs.declared.fault.UnrollFault.{UnrollFault}
 use Rattle.unroll.specs.declared.fault.UnrollFault.TheVariants.{TooMany}
-use Rattle.drawn.specs.Drawn.{Drawn}
+use Rattle.drawn_networks.specs.Drawn.{Drawn}
 use Rattle.unroll.specs.Drawn.{drawn_of}
 
 -- how much a limit allows
@@ -51,5 +51,5 @@ within drawn None = Ok drawn
 within drawn (Some passed) = Err (TooMany passed.limit passed.count)
 
 -- what a design draws, within the limits
-unfoldable pub unrolled : Composed → Result Drawn UnrollFault
+unfoldable pub unrolled : DesignView → Result Drawn UnrollFault
 unrolled d = within (drawn_of d) (first_passed (counts_of (drawn_of d)))

@@ -4,14 +4,14 @@ ghost use Rattle.std.specs.Prelude.{◌≡◌, ◌≤◌, ◌+◌, ◌^◌, ◌+
 ghost use Rattle.std.specs.List.{list_all};
 ghost use Rattle.itv_base.specs.declared.limits.TheConstants.{MAX_CYCLES};
 ghost use Rattle.event_graph.specs.Network.{named_causes};
-ghost use Rattle.sheet.specs.SheetContents.{SheetContents};
+ghost use Rattle.sheet.specs.SheetContents.{SheetView};
 ghost use Rattle.compose.specs.Numbers.{join_rule, mark_count};
 ghost use Rattle.unroll.specs.Cycle.{part_rows, part_rules, rows_of, rules_of};
 ghost use Rattle.unroll.specs.Step.Counting.{AreCounts, AreWithin, how_often, row_cycles, rule_cycles, splittable_cycles, sums};
 
 use compose::{Design, Joins};
 use itv_base::RuleKind;
-use sheet::{Rule, Sheet, SheetRow, Source};
+use sheet::{Rule, RuleCause, Sheet, SheetRow};
 
 /// How much a design draws: the marks of one cycle, and then for all cycles the constraints, the constraints with two or more
 /// causes, and the rows.
@@ -125,9 +125,9 @@ fn count_rules(cycles: u32, rules: &[Rule]) -> RuleCounts
 // How many constraints joins give in all cycles. A join exists in each cycle, and has one cause.
 fn count_joins(cycles: u32, joins: &Joins) -> u128
     requires { cycles ≤ MAX_CYCLES }
-    ensures all { (sheets : List SheetContents) → result
+    ensures all { (sheets : List SheetView) → result
         ≡ sum_by (rule_cycles cycles) (map (join_rule sheets) joins.now) }
-    ensures splittable { (sheets : List SheetContents) →
+    ensures splittable { (sheets : List SheetView) →
         sum_by (splittable_cycles cycles) (map (join_rule sheets) joins.now) ≡ 0 }
     ensures within { result ≤ 2 ^ 104 }
 {
@@ -177,7 +177,7 @@ fn is_splittable(kind: RuleKind, causes: u64) -> bool
 }
 
 // The greatest number of cycles by which a source is before the target.
-fn last_shift(sources: &[Source]) -> u32
+fn last_shift(sources: &[RuleCause]) -> u32
     ensures { (cycle : ℕ) → list_all (λ source. nat_le source.shift cycle) sources.now ≡ nat_le result cycle }
 {
     let mut last = 0;

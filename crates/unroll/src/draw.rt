@@ -19,7 +19,7 @@ use crate::origins::origins_of;
 use crate::row::rows_in;
 use crate::rules::rules_of;
 use compose::Design;
-use drawn::DrawnNetwork;
+use drawn_networks::DrawnNetwork;
 use itv_base::{NoMemory, copied_texts};
 use std::alloc::Global;
 

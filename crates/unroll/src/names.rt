@@ -5,7 +5,7 @@ ghost use Rattle.unroll.specs.Cycles.{in_cycles};
 ghost use Rattle.unroll.specs.Step.Labels.{label_of, labels_from};
 
 use compose::Design;
-use drawn::EventLabel;
+use drawn_networks::EventLabel;
 use itv_base::NoMemory;
 use sheet::Mark;
 use std::alloc::Global;

@@ -9,7 +9,7 @@ ghost use Rattle.unroll.specs.Step.Between.{IsRuleBetween};
 
 use event_graph::{Cause, Network, PushFault};
 use itv_base::{EventId, MAX_CONSTRAINTS, MAX_EVENTS, NoMemory, RuleKind};
-use sheet::{Rule, Source};
+use sheet::{Rule, RuleCause};
 use std::alloc::Global;
 
 /// The network of rules in so many cycles, with so many marks in each.
@@ -109,7 +109,7 @@ pub fn rule_exists(cycle: u32, rule: &Rule) -> bool
     all_exist(cycle, rule.causes().as_slice())
 }
 
-fn all_exist(cycle: u32, sources: &[Source]) -> bool
+fn all_exist(cycle: u32, sources: &[RuleCause]) -> bool
     ensures { result ≡ list_all (λ source. nat_le source.shift cycle) sources.now }
 {
     sources.iter().all(|source| source.shift <= cycle)
@@ -119,9 +119,9 @@ fn causes_in(
     alloc: Global,
     marks: u32,
     cycle: u32,
-    sources: &[Source],
+    sources: &[RuleCause],
 ) -> Result<Vec<Cause>, NoMemory>
-    requires marks { All (λ (source : Source). source.mark < marks) sources.now }
+    requires marks { All (λ (source : RuleCause). source.mark < marks) sources.now }
     requires exist { list_all (λ source. nat_le source.shift cycle) sources.now ≡ true }
     requires events { (cycle + 1) * marks ≤ MAX_EVENTS }
     ensures causes { IfOk result (λ causes. causes.items ≡ map (cause_in marks cycle) sources.now) }
@@ -136,7 +136,7 @@ fn causes_in(
 }
 
 // A source as a cause, if the target is in this cycle.
-fn cause_in(marks: u32, cycle: u32, source: &Source) -> Cause
+fn cause_in(marks: u32, cycle: u32, source: &RuleCause) -> Cause
     requires mark { source.now.mark < marks }
     requires exists { source.now.shift ≤ cycle }
     requires events { (cycle + 1) * marks ≤ MAX_EVENTS }

@@ -18,10 +18,10 @@ pub struct NumberedDesign<'a> {
 }
 
 impl<'a> Model for NumberedDesign<'a> {
-    ghost use Rattle.compose.specs.Design.{Composed};
+    ghost use Rattle.compose.specs.Design.{DesignView};
     ghost use Rattle.unroll.specs.Step.Firsts.{IsNumbered};
 
-    ghost Value = { Composed };
+    ghost Value = { DesignView };
 
     ghost view = { λ n. n.design.now };
 

@@ -6,10 +6,10 @@ ghost use Rattle.std.specs.Option.{option_to_list};
 ghost use Rattle.unroll.specs.Cycles.{origins_in, origins_of};
 
 use crate::network::rule_exists;
-use drawn::Origins;
+use drawn_networks::Origins;
 use itv_base::{Listing, NoMemory};
 use origin::Origin;
-use sheet::{Rule, Source};
+use sheet::{Rule, RuleCause};
 use std::alloc::Global;
 
 /// What draws the causes of rules in so many cycles: a list for each constraint, in the order of the constraints.
@@ -49,7 +49,7 @@ fn push_rule(alloc: Global, origins: &mut Origins, cycle: u32, rule: &Rule) -> R
 }
 
 // What draws each of some sources.
-fn source_origins(alloc: Global, sources: &[Source]) -> Result<Listing<Origin>, NoMemory>
+fn source_origins(alloc: Global, sources: &[RuleCause]) -> Result<Listing<Origin>, NoMemory>
     ensures { IfOk result (λ origins. origins ≡ map (λ source. source.origin) sources.now) }
 {
     let mut origins: Listing<Origin> = Listing::new(alloc);

@@ -8,7 +8,7 @@ ghost use Rattle.unroll.specs.Cycles.{row_in, rows_in};
 ghost use Rattle.unroll.specs.Step.Between.{IsRowBetween};
 
 use crate::network::event_in;
-use drawn::{Row, Rows};
+use drawn_networks::{Row, Rows};
 use itv_base::{NoMemory, RowKind};
 use origin::Origin;
 use sheet::SheetRow;

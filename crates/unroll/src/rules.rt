@@ -14,7 +14,7 @@ use crate::numbered_design::NumberedDesign;
 use compose::{Join, PinJoins};
 use itv_base::{NoMemory, RuleKind};
 use origin::Origin;
-use sheet::{Rule, Source, Sources};
+use sheet::{Rule, RuleCause, RuleCauses};
 use std::alloc::Global;
 
 /// The rules of a design that exist in some cycle: the rules of the parts, then of the nets, then of the wires.
@@ -110,15 +110,15 @@ fn rule_behind(alloc: Global, first: u32, rule: &Rule) -> Result<Rule, NoMemory>
     Ok(Rule::new(rule.kind(), first + rule.target(), causes))
 }
 
-fn sources_behind(alloc: Global, first: u32, sources: &[Source]) -> Result<Sources, NoMemory>
-    requires marks { All (λ (source : Source). source.mark < MAX_EVENTS) sources.now }
+fn sources_behind(alloc: Global, first: u32, sources: &[RuleCause]) -> Result<RuleCauses, NoMemory>
+    requires marks { All (λ (source : RuleCause). source.mark < MAX_EVENTS) sources.now }
     requires first { first ≤ MAX_EVENTS }
     ensures { IfOk result (λ causes. causes ≡ map (source_behind first) sources.now) }
 {
-    let mut causes = Sources::new(alloc);
+    let mut causes = RuleCauses::new(alloc);
     for source in sources {
         let origin: Origin = source.origin;
-        causes.push(Source {
+        causes.push(RuleCause {
             mark: first + source.mark,
             origin,
             ..*source
@@ -168,8 +168,8 @@ fn join_rule(alloc: Global, design: &NumberedDesign<'_>, join: &Join) -> Result<
     requires { IsJoinOf design.now.sheets join.now }
     ensures { IfOk result (λ rule. rule ≡ join_rule design.now.sheets join.now) }
 {
-    let mut causes = Sources::new(alloc);
-    causes.push(Source {
+    let mut causes = RuleCauses::new(alloc);
+    causes.push(RuleCause {
         mark: design.number_of(join.from),
         shift: 0,
         range: join.delay,

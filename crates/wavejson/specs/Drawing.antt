@@ -5,7 +5,7 @@ use Rattle.serde_json.specs.Data.{Data, null, boolean, number, string, array, ob
 use Rattle.serde_json.specs.Find.{get, as_str, as_array, as_object}
 use Rattle.itv_base.specs.Reading.{◌>>=◌}
 use Rattle.json_tree.specs.Words.{elements, text_at}
-use Rattle.near_keys.specs.NearKeys.{near_in_sheet}
+use Rattle.json_tree.specs.NearKeys.{near_in_sheet}
 use Rattle.wavejson.specs.declared.lane_text.LaneText.{LaneText}
 use Rattle.wavejson.specs.declared.fault.DiagramFault.{DiagramFault}
 use Rattle.wavejson.specs.declared.fault.DiagramFault.TheVariants.{NotObject, NoSignal, EdgesNotList, EdgeNotText}
@@ -47,7 +47,7 @@ edge_texts (Some edge) = do
   texts_of (elements list)
 
 -- what a diagram holds: its lanes, its edge texts and its near keys, which are passed over and nearly are keys that are read
-pub record Drawing : Type 0 where
+pub record DiagramView : Type 0 where
   pub lanes : List LaneText
   pub edges : List (List ℕ)
   pub near : List (List ℕ)
@@ -57,7 +57,7 @@ abbrev pub signal_of : Data → Option Items
 signal_of tree = option_and_then as_array (get (codes "signal") tree)
 
 -- The drawing of a tree, or its first fault. No other key of the tree is read, and only the near keys are kept.
-abbrev pub diagram_of : Data → Result Drawing DiagramFault
+abbrev pub diagram_of : Data → Result DiagramView DiagramFault
 diagram_of tree = do
   _ ← ok_or (as_object tree) NotObject
   signal ← ok_or (signal_of tree) NoSignal

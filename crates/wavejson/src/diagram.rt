@@ -12,8 +12,7 @@ use crate::edges::edge_list;
 use crate::fault::DiagramFault;
 use crate::lanes::{Lanes, read_lanes};
 use itv_base::Texts;
-use json_tree::strings_in;
-use near_keys::near_in_sheet;
+use json_tree::{near_in_sheet, strings_in};
 use serde_json::Value;
 use std::alloc::Global;
 use std::marker::Model;
@@ -27,9 +26,9 @@ pub struct Diagram {
 }
 
 impl Model for Diagram {
-    ghost use Rattle.wavejson.specs.Drawing.{Drawing};
+    ghost use Rattle.wavejson.specs.Drawing.{DiagramView};
 
-    ghost Value = { Drawing };
+    ghost Value = { DiagramView };
 
     ghost view = { λ d. record { lanes = d.lanes; edges = d.edges; near = d.near } };
 }

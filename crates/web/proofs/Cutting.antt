@@ -5,7 +5,7 @@ use Rattle.std.proofs.lemmas.List.Sums.{sum_by-cons, sum_by-drop_more}
 use Rattle.std.proofs.lemmas.List.Elements.{All-nil, All-cons, All-head, All-tail}
 use Rattle.std.specs.FinMap as map
 use Rattle.itv_base.specs.Outside.{Files}
-use Rattle.itv_base.specs.Memory.{MemShelf}
+use Rattle.itv_base.specs.Memory.{ShelfMemView}
 use Rattle.web.specs.Given.{AreAll, cut, filed}
 
 -- ---- what is left of the bytes
@@ -123,37 +123,37 @@ copied_end sizes bytes texts left i all h =
 -- ---- files
 
 -- a shelf with some files that no call has touched
-abbrev pub shelf_of : Files → MemShelf
+abbrev pub shelf_of : Files → ShelfMemView
 shelf_of files = record { files = files; failing = []; calls = 0; faults = 0; last = [] }
 
 -- The files of the shelf, and then the contents that are left under the names that are left, are all files. The names that are left are texts.
-pub record Filing (files : Files) (shelf : MemShelf) (name_sizes names file_sizes contents : List ℕ) : Type 0 where
+pub record Filing (files : Files) (shelf : ShelfMemView) (name_sizes names file_sizes contents : List ℕ) : Type 0 where
   pub names_whole : AreAll name_sizes names
   pub each : All IsUtf8 (cut name_sizes names)
   pub contents_whole : AreAll file_sizes contents
   pub untouched : shelf ≡ shelf_of shelf.files
   pub all : filed shelf.files (cut name_sizes names) (cut file_sizes contents) ≡ files
 
-pub filing_begin : (shelf : MemShelf) (name_sizes names file_sizes contents : List ℕ) → shelf ≡ shelf_of map.empty
+pub filing_begin : (shelf : ShelfMemView) (name_sizes names file_sizes contents : List ℕ) → shelf ≡ shelf_of map.empty
     → AreAll name_sizes names → All IsUtf8 (cut name_sizes names) → AreAll file_sizes contents
     → Filing (filed map.empty (cut name_sizes names) (cut file_sizes contents)) shelf name_sizes names file_sizes contents
 filing_begin shelf name_sizes names file_sizes contents fresh names_whole each contents_whole =
-    let P : MemShelf → Type 0 = λ s. Filing (filed map.empty (cut name_sizes names) (cut file_sizes contents)) s name_sizes names file_sizes contents in
+    let P : ShelfMemView → Type 0 = λ s. Filing (filed map.empty (cut name_sizes names) (cut file_sizes contents)) s name_sizes names file_sizes contents in
     subst P (sym fresh) (record { names_whole = names_whole; each = each; contents_whole = contents_whole; untouched = refl; all = refl })
 
-filing_after : (files : Files) (shelf : MemShelf) (name_size : ℕ) (name_sizes names : List ℕ) (file_size : ℕ) (file_sizes contents : List ℕ)
+filing_after : (files : Files) (shelf : ShelfMemView) (name_size : ℕ) (name_sizes names : List ℕ) (file_size : ℕ) (file_sizes contents : List ℕ)
     → Filing files shelf (name_size ∷ name_sizes) names (file_size ∷ file_sizes) contents
     → Filing files (record shelf { files = map.insert shelf.files (take name_size names) (take file_size contents) }) name_sizes (drop name_size names) file_sizes (drop file_size contents)
 filing_after files shelf name_size name_sizes names file_size file_sizes contents h = record {
   names_whole = whole_after name_size name_sizes names h.names_whole;
   each = All-tail IsUtf8 (take name_size names) (cut name_sizes (drop name_size names)) h.each;
   contents_whole = whole_after file_size file_sizes contents h.contents_whole;
-  untouched = ap (λ (s : MemShelf). record s { files = map.insert shelf.files (take name_size names) (take file_size contents) }) h.untouched;
+  untouched = ap (λ (s : ShelfMemView). record s { files = map.insert shelf.files (take name_size names) (take file_size contents) }) h.untouched;
   all = h.all;
 }
 
 -- one step on at a place
-at_place : (files : Files) (shelf : MemShelf) (name_sizes names file_sizes contents : List ℕ) (k : ℕ) → k < length name_sizes → k < length file_sizes
+at_place : (files : Files) (shelf : ShelfMemView) (name_sizes names file_sizes contents : List ℕ) (k : ℕ) → k < length name_sizes → k < length file_sizes
     → Filing files shelf (drop k name_sizes) names (drop k file_sizes) contents
     → Filing files shelf (get_or name_sizes k 0 ∷ drop (k + 1) name_sizes) names (get_or file_sizes k 0 ∷ drop (k + 1) file_sizes) contents
 at_place files shelf name_sizes names file_sizes contents k lt lt' h =
@@ -162,13 +162,13 @@ at_place files shelf name_sizes names file_sizes contents k lt lt' h =
     subst Contents (drop_more file_sizes k 0 lt') (subst Names (drop_more name_sizes k 0 lt) h)
 
 -- the name at a place is a text
-pub filing_text : (files : Files) (shelf : MemShelf) (name_sizes names file_sizes contents name : List ℕ) (k : ℕ) → k < length name_sizes → k < length file_sizes
+pub filing_text : (files : Files) (shelf : ShelfMemView) (name_sizes names file_sizes contents name : List ℕ) (k : ℕ) → k < length name_sizes → k < length file_sizes
     → name ≡ take (get_or name_sizes k 0) names → Filing files shelf (drop k name_sizes) names (drop k file_sizes) contents → IsUtf8 name
 filing_text files shelf name_sizes names file_sizes contents name k lt lt' is_name h =
     let Text : List ℕ → Type 0 = λ b. IsUtf8 b in
     subst Text (sym is_name) (All-head IsUtf8 (take (get_or name_sizes k 0) names) (cut (drop (k + 1) name_sizes) (drop (get_or name_sizes k 0) names)) (at_place files shelf name_sizes names file_sizes contents k lt lt' h).each)
 
-pub filing_next : (files : Files) (shelf shelf' : MemShelf) (name_sizes names file_sizes contents name content names' contents' : List ℕ) (k : ℕ)
+pub filing_next : (files : Files) (shelf shelf' : ShelfMemView) (name_sizes names file_sizes contents name content names' contents' : List ℕ) (k : ℕ)
     → k < length name_sizes → k < length file_sizes
     → name ≡ take (get_or name_sizes k 0) names → names' ≡ drop (get_or name_sizes k 0) names
     → content ≡ take (get_or file_sizes k 0) contents → contents' ≡ drop (get_or file_sizes k 0) contents
@@ -180,12 +180,12 @@ filing_next files shelf shelf' name_sizes names file_sizes contents name content
     (at_place files shelf name_sizes names file_sizes contents k lt lt' h) in
     let same : shelf' ≡ record shelf { files = map.insert shelf.files (take (get_or name_sizes k 0) names) (take (get_or file_sizes k 0) contents) } =
     grew ∙ ap (λ n. record shelf { files = map.insert shelf.files n content }) is_name ∙ ap (λ c. record shelf { files = map.insert shelf.files (take (get_or name_sizes k 0) names) c }) is_content in
-    let Shelf : MemShelf → Type 0 = λ s. Filing files s (drop (k + 1) name_sizes) (drop (get_or name_sizes k 0) names) (drop (k + 1) file_sizes) (drop (get_or file_sizes k 0) contents) in
+    let Shelf : ShelfMemView → Type 0 = λ s. Filing files s (drop (k + 1) name_sizes) (drop (get_or name_sizes k 0) names) (drop (k + 1) file_sizes) (drop (get_or file_sizes k 0) contents) in
     let Names : List ℕ → Type 0 = λ n. Filing files shelf' (drop (k + 1) name_sizes) n (drop (k + 1) file_sizes) (drop (get_or file_sizes k 0) contents) in
     let Contents : List ℕ → Type 0 = λ c. Filing files shelf' (drop (k + 1) name_sizes) names' (drop (k + 1) file_sizes) c in
     subst Contents (sym is_contents) (subst Names (sym is_names) (subst Shelf (sym same) after))
 
-pub filing_end : (files : Files) (shelf : MemShelf) (name_sizes names file_sizes contents : List ℕ) (k : ℕ) → length name_sizes ≤ k → length file_sizes ≤ k
+pub filing_end : (files : Files) (shelf : ShelfMemView) (name_sizes names file_sizes contents : List ℕ) (k : ℕ) → length name_sizes ≤ k → length file_sizes ≤ k
     → Filing files shelf (drop k name_sizes) names (drop k file_sizes) contents → shelf ≡ shelf_of files
 filing_end files shelf name_sizes names file_sizes contents k no_name no_content h =
     let Names : List ℕ → Type 0 = λ s. Filing files shelf s names (drop k file_sizes) contents in

@@ -1,7 +1,7 @@
 -- What a call answers, from what a run did.
 use Rattle.std.proofs.Common.{◌≡◌, ◌≢◌, ◌≤◌, ◌<◌, ◌-◌, ◌^◌, ℕ, min, List, [], length, take, None, arith, refl, sym, ap, subst, inl, ⊎_elim, lt_irrefl}
 use Rattle.std.proofs.lemmas.Bool.{cases_lt}
-use Rattle.itv_base.specs.Memory.{MemShelf, MemSink, shelf_state, sink_state}
+use Rattle.itv_base.specs.Memory.{ShelfMemView, SinkMemView, shelf_state, sink_state}
 use Rattle.itv_cli.specs.declared.outcome.Outcome.{Outcome}
 use Rattle.itv_cli.specs.declared.outcome.Outcome.TheVariants.{AllPass, Help, SomeFail, Inconsistent, Undecided, Refused, ReadFault, WriteFault, NoMemory, BadWords, CheckRefused}
 use Rattle.itv_cli.specs.Run.{call_of}
@@ -34,17 +34,17 @@ without_memory given status wrote out fit is_status is_wrote =
     subst P (sym is_status) (subst Q (sym is_wrote) (without given out fit))
 
 -- what a run says, at the words and the states that a page gives it
-run_of : (given : Given) (words : List (List ℕ)) (shelf shelf' : MemShelf) (room : ℕ) (sink sink' : MemSink) (outcome : Outcome)
+run_of : (given : Given) (words : List (List ℕ)) (shelf shelf' : ShelfMemView) (room : ℕ) (sink sink' : SinkMemView) (outcome : Outcome)
     → words ≡ words_in given → shelf ≡ shelf_of (files_in given) → sink ≡ record { bytes = []; room = room; failing = None; calls = 0; faults = 0 }
     → ClausesHold (call_of words (shelf_state shelf) (shelf_state shelf') (sink_state sink) (sink_state sink')) outcome → RunWrote given outcome sink'.bytes
 run_of given words shelf shelf' room sink sink' outcome is_words is_shelf is_sink run =
     let Words : List (List ℕ) → Type 0 = λ w. ClausesHold (call_of w (shelf_state shelf) (shelf_state shelf') (sink_state sink) (sink_state sink')) outcome in
-    let Shelf : MemShelf → Type 0 = λ s. ClausesHold (call_of (words_in given) (shelf_state s) (shelf_state shelf') (sink_state sink) (sink_state sink')) outcome in
-    let Sink : MemSink → Type 0 = λ s. ClausesHold (call_of (words_in given) (shelf_with (files_in given)) (shelf_state shelf') (sink_state s) (sink_state sink')) outcome in
+    let Shelf : ShelfMemView → Type 0 = λ s. ClausesHold (call_of (words_in given) (shelf_state s) (shelf_state shelf') (sink_state sink) (sink_state sink')) outcome in
+    let Sink : SinkMemView → Type 0 = λ s. ClausesHold (call_of (words_in given) (shelf_with (files_in given)) (shelf_state shelf') (sink_state s) (sink_state sink')) outcome in
     record { shelf = shelf_state shelf'; sink = sink_state sink'; wrote = refl; clauses = subst Sink is_sink (subst Shelf is_shelf (subst Words is_words run)) }
 
 -- after a run, what it wrote is handed over if there is room for it
-pub after_run : (given : Given) (words : List (List ℕ)) (shelf shelf' : MemShelf) (room : ℕ) (sink sink' : MemSink) (outcome : Outcome) (text out out' : List ℕ) (status wrote : ℕ)
+pub after_run : (given : Given) (words : List (List ℕ)) (shelf shelf' : ShelfMemView) (room : ℕ) (sink sink' : SinkMemView) (outcome : Outcome) (text out out' : List ℕ) (status wrote : ℕ)
     → IsFit given → words ≡ words_in given → shelf ≡ shelf_of (files_in given) → sink ≡ record { bytes = []; room = room; failing = None; calls = 0; faults = 0 }
     → ClausesHold (call_of words (shelf_state shelf) (shelf_state shelf') (sink_state sink) (sink_state sink')) outcome
     → text ≡ sink'.bytes → length out' ≡ length out

@@ -19,7 +19,7 @@ use Rattle.branch.specs.declared.answer.GreatestAnswer.TheVariants.{Closed, Unbo
 use Rattle.branch.proofs.Close.{time_close}
 use Rattle.whatif.specs.declared.bound.TheConstants.{MAX_KEPT_EDGES, MAX_KEPT_LINES}
 use Rattle.event_graph.specs.declared.pair.Pair.{Pair}
-use Rattle.whatif.specs.Step.Keeping.{KeeperGrew, Keeping, KeptOn}
+use Rattle.whatif.specs.Step.Keeping.{KeeperGrew, KeeperView, KeptOn}
 use Rattle.whatif.specs.Laws.{IsSettledAnswer, SettledBoundsAgree}
 use Rattle.whatif.specs.Session.{left_by, pair_search, HasProof, IsRightBound, IsSearchedAnew, KeepsProof, KeptBound, MayKeep, MayKeepAs}
 use Rattle.whatif.specs.Step.Bounds.{IsPairSearched, kept_of}
@@ -122,7 +122,7 @@ known_satisfies net None h = absurd h
 known_satisfies net (Some times) h = h
 
 -- what a bound is after a search whose lines a keeper took
-pub searched_is : (net : Net) (budget leaves : ℕ) (old : KeptBound) (known times : List ℤ) (ray kept_ray : List Bool) (answer : GreatestAnswer) (begun grown last : Keeping)
+pub searched_is : (net : Net) (budget leaves : ℕ) (old : KeptBound) (known times : List ℤ) (ray kept_ray : List Bool) (answer : GreatestAnswer) (begun grown last : KeeperView)
     (lines : List ProofLine) → begun.lines ≡ Some [] → begun.line_room ≡ MAX_KEPT_LINES → begun.edge_room ≡ MAX_KEPT_EDGES → KeeperGrew begun lines grown
     → IsPairSearched net old.pair budget known (left_by lines leaves times ray) answer → (answer ≡ Unbounded → kept_ray ≡ ray)
     → last ≡ record grown { lines = kept_of answer grown.lines }
@@ -132,7 +132,7 @@ searched_is net budget leaves old known times ray kept_ray answer begun grown la
     subst (λ o. KeptOn MAX_KEPT_LINES MAX_KEPT_EDGES o lines grown.lines) empty
     (subst (λ n. KeptOn MAX_KEPT_LINES n begun.lines lines grown.lines) edge_room
     (subst (λ n. KeptOn n begun.edge_room begun.lines lines grown.lines) line_room grew.lines_now)) in
-    let lines_are : last.lines ≡ kept_of answer grown.lines = ap (λ (k : Keeping). k.lines) is_last in
+    let lines_are : last.lines ≡ kept_of answer grown.lines = ap (λ (k : KeeperView). k.lines) is_last in
     record {
       pair = refl;
       right = record {

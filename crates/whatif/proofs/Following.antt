@@ -5,11 +5,11 @@ use Rattle.itv_base.specs.Range.{Ends}
 use Rattle.itv_base.proofs.Lists.{there_in}
 use Rattle.event_graph.specs.declared.cause.Cause.{Cause}
 use Rattle.event_graph.specs.Network.{Constraint, Net, causes_with, constraints_with, with_range}
-use Rattle.drawn.specs.Drawn.{Drawn}
-use Rattle.numbers.specs.Numbers.{IsCauseOf, with_ranges}
-use Rattle.numbers.specs.declared.cause_name.CauseName.{CauseName}
-use Rattle.edits.specs.declared.edit.RangeEdit.{RangeEdit}
-use Rattle.edits.specs.Subject.{causes_at}
+use Rattle.drawn_networks.specs.Drawn.{Drawn}
+use Rattle.drawn_numbers.specs.Numbers.{IsCauseOf, with_ranges}
+use Rattle.drawn_numbers.specs.declared.cause_name.CauseName.{CauseName}
+use Rattle.range_edits.specs.declared.edit.RangeEdit.{RangeEdit}
+use Rattle.range_edits.specs.Subject.{causes_at}
 use Rattle.whatif.specs.declared.change.Change.{Change}
 use Rattle.whatif.specs.Runs.{IsRun, Note, Runs, EditedSession, edited, last_of, note_of}
 use Rattle.whatif.specs.Session.{IsEdited, IsRight, SessionView}

@@ -4,8 +4,8 @@ use Rattle.std.proofs.lemmas.List.{length-map, length-set, map-append, take_more
 use Rattle.std.proofs.lemmas.List.Elements.{All-append, All-cons, All-head, All-tail}
 use Rattle.itv_base.specs.Range.{Ends}
 use Rattle.event_graph.specs.Network.{Constraint, IsNet, Net, causes_with, constraints_with, with_range}
-use Rattle.numbers.specs.Numbers.{with_ranges}
-use Rattle.numbers.specs.declared.cause_name.CauseName.{CauseName}
+use Rattle.drawn_numbers.specs.Numbers.{with_ranges}
+use Rattle.drawn_numbers.specs.declared.cause_name.CauseName.{CauseName}
 use Rattle.event_graph.specs.Satisfying.{Satisfies}
 use Rattle.event_graph.specs.Times.{separation}
 use Rattle.branch.specs.declared.answer.GreatestAnswer.{GreatestAnswer}

@@ -6,7 +6,7 @@ use Rattle.std.proofs.Math.Nat.{le-add_right, le_trans}
 use Rattle.std.proofs.lemmas.List.Sums.{sum_by-append}
 use Rattle.event_graph.specs.Proof.{ProofLine}
 use Rattle.certificate.specs.Scribing.{FitsTree, edge_count}
-use Rattle.whatif.specs.Step.Keeping.{KeeperGrew, KeeperWasCut, Keeping, KeptOn}
+use Rattle.whatif.specs.Step.Keeping.{KeeperGrew, KeeperWasCut, KeeperView, KeptOn}
 
 -- if lines fit with more lines after them, they fit by themselves
 front_fits : (line_room edge_room : ℕ) (xs ys : List ProofLine) → FitsTree line_room edge_room (xs ++ ys) → FitsTree line_room edge_room xs
@@ -38,10 +38,10 @@ more_kept : (line_room edge_room : ℕ) (s t u : Option (List ProofLine)) (xs ys
 more_kept line_room edge_room None t u xs ys p q = subst (λ o. KeptOn line_room edge_room o ys u) p q
 more_kept line_room edge_room (Some before) t u xs ys p q = some_kept line_room edge_room before t u xs ys p q
 
-pub keeper_none : (s : Keeping) → KeeperGrew s [] s
+pub keeper_none : (s : KeeperView) → KeeperGrew s [] s
 keeper_none s = record { line_room = refl; edge_room = refl; lines_now = none_kept s.line_room s.edge_room s.lines }
 
-pub keeper_more : (s t u : Keeping) (xs ys : List ProofLine) → KeeperGrew s xs t → KeeperGrew t ys u → KeeperGrew s (xs ++ ys) u
+pub keeper_more : (s t u : KeeperView) (xs ys : List ProofLine) → KeeperGrew s xs t → KeeperGrew t ys u → KeeperGrew s (xs ++ ys) u
 keeper_more s t u xs ys p q = record {
   line_room = q.line_room ∙ p.line_room;
   edge_room = q.edge_room ∙ p.edge_room;
@@ -50,5 +50,5 @@ keeper_more s t u xs ys p q = record {
 }
 
 -- the scribe is never cut
-pub keeper_cut : (s t u : Keeping) (xs ys : List ProofLine) → KeeperGrew s xs t → KeeperWasCut t ys u → KeeperWasCut s (xs ++ ys) u
+pub keeper_cut : (s t u : KeeperView) (xs ys : List ProofLine) → KeeperGrew s xs t → KeeperWasCut t ys u → KeeperWasCut s (xs ++ ys) u
 keeper_cut s t u xs ys p q = q

@@ -4,10 +4,10 @@ use Rattle.event_graph.specs.Network.{Net}
 use Rattle.branch.specs.declared.answer.GreatestAnswer.{GreatestAnswer}
 use Rattle.branch.specs.declared.answer.SearchFinding.{SearchFinding}
 use Rattle.whatif.specs.declared.change.Change.{Change}
-use Rattle.drawn.specs.Drawn.{Drawn}
-use Rattle.numbers.specs.Numbers.{with_ranges}
-use Rattle.edits.specs.Subject.{causes_at}
-use Rattle.edits.specs.declared.edit.RangeEdit.{RangeEdit}
+use Rattle.drawn_networks.specs.Drawn.{Drawn}
+use Rattle.drawn_numbers.specs.Numbers.{with_ranges}
+use Rattle.range_edits.specs.Subject.{causes_at}
+use Rattle.range_edits.specs.declared.edit.RangeEdit.{RangeEdit}
 use Rattle.whatif.specs.Session.{IsEdited, IsRight, SessionView, answers_of}
 
 -- a session after an edit, and what the edit did to its bounds

@@ -15,9 +15,9 @@ use Rattle.branch.specs.declared.answer.GreatestAnswer.{GreatestAnswer}
 use Rattle.branch.specs.declared.answer.GreatestAnswer.TheVariants.{Closed, Unbounded, Enclosed}
 use Rattle.branch.specs.declared.answer.SearchFinding.{SearchFinding}
 use Rattle.branch.specs.declared.answer.SearchFinding.TheVariants.{Consistent, Inconsistent, Unsettled}
-use Rattle.certificate.specs.Scribing.{FitsTree, Tree}
-use Rattle.numbers.specs.Numbers.{IsCauseOf, with_ranges}
-use Rattle.numbers.specs.declared.cause_name.CauseName.{CauseName}
+use Rattle.certificate.specs.Scribing.{FitsTree, TreeView}
+use Rattle.drawn_numbers.specs.Numbers.{IsCauseOf, with_ranges}
+use Rattle.drawn_numbers.specs.declared.cause_name.CauseName.{CauseName}
 use Rattle.event_graph.specs.declared.pair.Pair.{Pair}
 use Rattle.whatif.specs.declared.bound.Kept.{Kept}
 use Rattle.whatif.specs.declared.change.Change.{Change}
@@ -141,7 +141,7 @@ answers_of Unsettled bounds = []
 pub record IsLent (lent : Kept) (b : KeptBound) : Type 0 where
   pub times : lent.times.now ≡ b.times
   pub ray : lent.ray.now ≡ b.ray
-  pub proof : option_map (λ (tree : Tree). tree.lines) (option_copied lent.proof) ≡ b.proof
+  pub proof : option_map (λ (tree : TreeView). tree.lines) (option_copied lent.proof) ≡ b.proof
 
 -- what is lent of a bound, if it is there
 abbrev pub IsKeptOf : Option Kept → Option KeptBound → Type 0

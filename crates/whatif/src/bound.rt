@@ -10,7 +10,7 @@ ghost use Rattle.branch.specs.Answers.{evidence};
 ghost use Rattle.branch.specs.Work.{IsClose, IsMadeFor, IsStart};
 ghost use Rattle.branch.specs.declared.answer.GreatestAnswer.TheVariants as answers;
 ghost use Rattle.branch.specs.declared.answer.SearchFinding.TheVariants as findings;
-ghost use Rattle.certificate.specs.Scribing.{Tree};
+ghost use Rattle.certificate.specs.Scribing.{TreeView};
 ghost use Rattle.whatif.specs.Session.{HasPlaces, IsLent, IsPairOf, IsSearchedAnew, MayKeep};
 ghost use Rattle.whatif.specs.Step.Bounds.{IsBetterStart, IsCloseBound, IsPairSearched, kept_of};
 ghost use Rattle.whatif.specs.Step.Keeping.{KeeperGrew};
@@ -227,7 +227,7 @@ fn has_proof(
     proof: Option<&TreeScribe>,
 ) -> bool
     requires room { checker.old.room ≡ length net.now.constraints }
-    ensures proof { IsTrue result ↔ IsSomeAnd (option_map (λ (tree : Tree). tree.lines) (option_copied proof.entry)) (IsProof net.now (Bound pair.from pair.to value)) }
+    ensures proof { IsTrue result ↔ IsSomeAnd (option_map (λ (tree : TreeView). tree.lines) (option_copied proof.entry)) (IsProof net.now (Bound pair.from pair.to value)) }
     ensures room { checker.new.room ≡ checker.old.room }
 {
     let Some(proof) = proof else {

@@ -2,7 +2,7 @@
 
 ghost use Rattle.std.specs.Prelude.{◌≡◌, [], IfOk, None, Some, option_map};
 ghost use Rattle.std.specs.Option.{option_copied};
-ghost use Rattle.certificate.specs.Scribing.{Tree};
+ghost use Rattle.certificate.specs.Scribing.{TreeView};
 ghost use Rattle.whatif.specs.KeeperLaws.{keeper_cut, keeper_more, keeper_none};
 ghost use Rattle.whatif.specs.Step.Keeping.{KeeperGrew, KeeperWasCut};
 
@@ -20,9 +20,9 @@ pub struct Keeper {
 }
 
 impl Model for Keeper {
-    ghost use Rattle.whatif.specs.Step.Keeping.{Keeping, unless_full};
+    ghost use Rattle.whatif.specs.Step.Keeping.{KeeperView, unless_full};
 
-    ghost Value = { Keeping };
+    ghost Value = { KeeperView };
 
     ghost view = { λ k. record { lines = unless_full k.is_full k.tree.lines; line_room = k.tree.line_room; edge_room = k.tree.edge_room } };
 }
@@ -55,7 +55,7 @@ impl Keeper {
 
     /// The lines, unless they were let go.
     pub fn proof(&self) -> Option<&TreeScribe>
-        ensures lines { option_map (λ (tree : Tree). tree.lines) (option_copied result) ≡ self.now.lines }
+        ensures lines { option_map (λ (tree : TreeView). tree.lines) (option_copied result) ≡ self.now.lines }
     {
         if self.is_full {
             return None;

@@ -1,9 +1,9 @@
 //! A session along a list of edits.
 
 ghost use Rattle.std.specs.Prelude.{◌≡◌, All, IfOk, OnOk};
-ghost use Rattle.numbers.specs.Numbers.{IsCauseOf};
-ghost use Rattle.numbers.specs.declared.cause_name.CauseName.{CauseName};
-ghost use Rattle.edits.specs.Subject.{IsThere, causes_at};
+ghost use Rattle.drawn_numbers.specs.Numbers.{IsCauseOf};
+ghost use Rattle.drawn_numbers.specs.declared.cause_name.CauseName.{CauseName};
+ghost use Rattle.range_edits.specs.Subject.{IsThere, causes_at};
 ghost use Rattle.whatif.specs.Runs.{IsRun, note_of};
 ghost use Rattle.whatif.specs.Session.{IsEdited, IsRight};
 
@@ -11,9 +11,9 @@ use crate::change::Change;
 use crate::fault::EditFault;
 use crate::session::Session;
 use branch::{GreatestAnswer, SearchFinding};
-use drawn::DrawnNetwork;
-use edits::RangeEdit;
+use drawn_networks::DrawnNetwork;
 use itv_base::NoMemory;
+use range_edits::RangeEdit;
 use std::alloc::Global;
 use std::marker::Model;
 

@@ -3,7 +3,7 @@
 ghost use Rattle.std.specs.Prelude.{◌≡◌, ◌+◌, ◌<◌, ◌≤◌, ◌↔◌, All, IfErr, IfOk, IsTrue, OnErr, OnOk, length, map, option_map};
 ghost use Rattle.std.specs.Option.{option_copied};
 ghost use Rattle.event_graph.specs.Network.{IsNet};
-ghost use Rattle.numbers.specs.Numbers.{IsCauseOf, with_ranges};
+ghost use Rattle.drawn_numbers.specs.Numbers.{IsCauseOf, with_ranges};
 ghost use Rattle.branch.specs.Work.{IsMadeFor};
 ghost use Rattle.branch.specs.declared.answer.SearchFinding.TheVariants as findings;
 ghost use Rattle.whatif.specs.Session.{AttainsKnown, HasPlaces, IsEditFault, IsEdited, IsKeptOf, IsPairOf, IsRight, IsRightFinding, IsSessionFault, AreBoundsUpdated, KeptBound, answers_of, both_ways, bound_at};
@@ -18,9 +18,9 @@ use crate::fault::{EditFault, SessionFault};
 use crate::settling::settle_by;
 use branch::{GreatestAnswer, SearchFinding, Work};
 use cert_checker::Checker;
+use drawn_numbers::{CauseName, set_ranges};
 use event_graph::{Network, Pair};
 use itv_base::{NoMemory, Range};
-use numbers::{CauseName, set_ranges};
 use std::alloc::Global;
 use std::marker::Model;
 

@@ -10,7 +10,7 @@ use Rattle.event_graph.specs.Usable.{MeetsUsable}
 use Rattle.trail.specs.Stack.{Graph}
 use Rattle.diff_bounds.specs.Current.{with_choice}
 use Rattle.diff_bounds.specs.Limits.{IsTimely}
-use Rattle.diff_bounds.specs.Standing.{IsMadeFor, Standing, Stands, chosen_of, upper_of}
+use Rattle.diff_bounds.specs.Standing.{IsMadeFor, BoundsView, Stands, chosen_of, upper_of}
 use Rattle.branch.specs.Step.Edges.{choice_name}
 
 -- the edges that bounds on a case have chosen
@@ -24,27 +24,27 @@ edges_below net [] = []
 edges_below net (choice ∷ below) = edges_of net below ∷ edges_below net below
 
 -- the bounds stand on a case, with a level for each of its choices
-pub record StandsOn (net : Net) (chosen : Case) (bounds : Standing) : Type 0 where
+pub record StandsOn (net : Net) (chosen : Case) (bounds : BoundsView) : Type 0 where
   pub stands : Stands net bounds
   pub edges : chosen_of bounds ≡ edges_of net chosen
   pub below : map (λ (graph : Graph). graph.edges) bounds.trail.below ≡ edges_below net chosen
 
 -- the bounds stand on all choices of a case but the latest
-abbrev pub StandsBelow : Net → Case → Standing → Type 0
+abbrev pub StandsBelow : Net → Case → BoundsView → Type 0
 StandsBelow net [] bounds = Unit {0}
 StandsBelow net (choice ∷ below) bounds = StandsOn net below bounds
 
 -- the bounds are of the same network, from the same source
-pub record AreOfSame (net : Net) (before now : Standing) : Type 0 where
+pub record AreOfSame (net : Net) (before now : BoundsView) : Type 0 where
   pub source : now.source ≡ before.source
   pub made : IsMadeFor net before → IsMadeFor net now
 
 -- the greatest separation of an event from the source is a number
-abbrev pub HasUpper : Standing → EventId → ℤ → Type 0
+abbrev pub HasUpper : BoundsView → EventId → ℤ → Type 0
 HasUpper bounds event value = upper_of bounds event.0 ≡ Some value
 
 -- the greatest separation of an event from the source is unbounded
-abbrev pub HasNoUpper : Standing → EventId → Type 0
+abbrev pub HasNoUpper : BoundsView → EventId → Type 0
 HasNoUpper bounds event = upper_of bounds event.0 ≡ None
 
 -- among the times that meet the usable edges of a case, this is the greatest separation of a pair, or there is none
@@ -53,7 +53,7 @@ IsUpperIn net chosen from to (Some value) = IsGreatestAmong (λ times. MeetsUsab
 IsUpperIn net chosen from to None = IsUnboundedAmong (λ times. MeetsUsable net chosen times) from to
 
 -- times that meet the usable edges of a case, and that attain each greatest separation from the source that is a number
-pub record AreTimesIn (net : Net) (chosen : Case) (bounds : Standing) (times : List ℤ) : Type 0 where
+pub record AreTimesIn (net : Net) (chosen : Case) (bounds : BoundsView) (times : List ℤ) : Type 0 where
   pub meets : MeetsUsable net chosen times
   pub near : All IsTimely times
   pub attained : (from to : EventId) (value : ℤ) → bounds.source ≡ Some from → to.0 < net.events → HasUpper bounds to value → separation times from to ≡ value

@@ -5,12 +5,12 @@ use Rattle.diff_bounds.specs.declared.arc.Arc.{Arc}
 use Rattle.diff_bounds.specs.declared.chosen_edges.ChosenEdges.TheInside.{Inside}
 
 -- the chosen edges, the oldest one first; the number of events; and the number of edges for which there is room
-pub record Chosen : Type 0 where
+pub record ChosenEdgesView : Type 0 where
   pub arcs : List Arc
   pub events : ℕ
   pub room : ℕ
 
-abbrev pub chosen_in : Inside → Chosen
+abbrev pub chosen_in : Inside → ChosenEdgesView
 chosen_in c = record { arcs = c.arcs.items; events = length c.latest.items; room = c.room }
 
 -- an edge starts at an event

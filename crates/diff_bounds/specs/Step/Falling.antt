@@ -6,7 +6,7 @@ use Rattle.itv_base.specs.declared.names.EventId.{EventId}
 use Rattle.event_graph.specs.declared.edge.Edge.{Edge}
 use Rattle.event_graph.specs.Network.{IsNet, Net}
 use Rattle.trail.specs.declared.stamp.Stamp.{Stamp}
-use Rattle.trail.specs.Stack.{Stack, with_stamp}
+use Rattle.trail.specs.Stack.{TrailView, with_stamp}
 use Rattle.diff_bounds.specs.declared.arc.Arc.{Arc}
 use Rattle.diff_bounds.specs.declared.falling.Run.{Run}
 use Rattle.diff_bounds.specs.declared.falling.Relaxation.{Relaxation}
@@ -16,9 +16,9 @@ use Rattle.diff_bounds.specs.Labels.{Follows, HasFallen, IsAmong, IsForest, Grap
 use Rattle.event_graph.specs.Limits.{weight_limit}
 use Rattle.diff_bounds.specs.Step.Limits.{fall_limit}
 use Rattle.diff_bounds.specs.Settled.{AreLabelsNear}
-use Rattle.diff_bounds.specs.Step.Waiting.{Waiting, is_waiting}
+use Rattle.diff_bounds.specs.Step.Waiting.{PendingView, is_waiting}
 
-abbrev pub scope_of : Net → Stack → Run → Scope
+abbrev pub scope_of : Net → TrailView → Run → Scope
 scope_of net stack run = record { net = net; chosen = stack.current.edges; first = run.first }
 
 -- the label at the start of an edge plus its weight is less than the label at its end, or the end has no label
@@ -28,14 +28,14 @@ pub record Undercuts (label : GraphLabels) (e : Edge) : Type 0 where
   pub lower : is_lower (Some (near +ℤ e.weight)) (label e.to.0) ≡ true
 
 -- the stack with other stamps in its current graph
-abbrev pub with_stamps : Stack → List Stamp → Stack
+abbrev pub with_stamps : TrailView → List Stamp → TrailView
 with_stamps stack stamps = record stack { current = record { edges = stack.current.edges; stamps = stamps } }
 
 abbrev pub fallen_stamp : EdgeName → ℤ → Stamp
 fallen_stamp name label = record { label = Some label; parent = Some name }
 
 -- what relaxing an edge does
-abbrev pub Relaxes : Run → Arc → Stack → Stack → Relaxation → Type 0
+abbrev pub Relaxes : Run → Arc → TrailView → TrailView → Relaxation → Type 0
 Relaxes run a old new Kept = (new ≡ old) × Follows (labels_from old.current.stamps run.base) a.edge
 Relaxes run a old new (Fell by) =
     (u : Undercuts (labels_from old.current.stamps run.base) a.edge) × (run.stop ≡ Some a.edge.to → ⊥)
@@ -99,14 +99,14 @@ abbrev pub work_left : List Stamp → ℕ → ℕ
 work_left stamps count = 2 * total_height stamps + count
 
 -- what a fall does to the stack and the queue
-pub record RunsOn (s : Scope) (run : Run) (old new : Stack) (waited waits : Waiting) : Type 0 where
+pub record RunsOn (s : Scope) (run : Run) (old new : TrailView) (waited waits : PendingView) : Type 0 where
   pub stack : new ≡ with_stamps old new.current.stamps
   pub count : length new.current.stamps ≡ length old.current.stamps
   pub keeps : KeepsRuns s run old.current.stamps new.current.stamps
   pub marks : length waits.marks ≡ length waited.marks
 
 -- what a part of a fall does
-pub record Falls (s : Scope) (run : Run) (old new : Stack) (waited waits : Waiting) : Type 0 where
+pub record Falls (s : Scope) (run : Run) (old new : TrailView) (waited waits : PendingView) : Type 0 where
   pub stack : new ≡ with_stamps old new.current.stamps
   pub count : length new.current.stamps ≡ length old.current.stamps
   pub keeps : KeepsRuns s run old.current.stamps new.current.stamps
@@ -115,7 +115,7 @@ pub record Falls (s : Scope) (run : Run) (old new : Stack) (waited waits : Waiti
   pub work : work_left new.current.stamps waits.count ≤ work_left old.current.stamps waited.count
 
 -- the slots of the run are in the stack, and there is a mark for each event
-pub record IsPlaced (net : Net) (run : Run) (stack : Stack) (waiting : Waiting) : Type 0 where
+pub record IsPlaced (net : Net) (run : Run) (stack : TrailView) (waiting : PendingView) : Type 0 where
   pub is_net : IsNet net
   pub slots : run.base + net.events ≤ length stack.current.stamps
   pub halves : net.events + net.events ≤ length stack.current.stamps

@@ -5,19 +5,19 @@ use Rattle.itv_base.specs.declared.names.EventId.{EventId}
 use Rattle.event_graph.specs.declared.edge.Edge.{Edge}
 use Rattle.event_graph.specs.Network.{IsNet, Net}
 use Rattle.trail.specs.declared.stamp.Stamp.{Stamp}
-use Rattle.trail.specs.Stack.{Stack, empty_stamp}
+use Rattle.trail.specs.Stack.{TrailView, empty_stamp}
 use Rattle.diff_bounds.specs.declared.arc.Arc.{Arc}
 use Rattle.diff_bounds.specs.declared.falling.Run.{Run}
 use Rattle.diff_bounds.specs.Arcs.{AreAlwaysArcs, AreChosenArcs, IsArc}
 use Rattle.diff_bounds.specs.Labels.{Follows, IsAmong, IsForest, GraphLabels, Scope, labels_from, parents_from, stamp_at}
 use Rattle.diff_bounds.specs.Settled.{AreLabelsNear, IsRootGraph}
 use Rattle.diff_bounds.specs.Step.Falling.{scope_of}
-use Rattle.diff_bounds.specs.Step.Waiting.{Waiting}
+use Rattle.diff_bounds.specs.Step.Waiting.{PendingView}
 
 abbrev pub scope_by : Net → List EdgeName → ℕ → Scope
 scope_by net chosen first = record { net = net; chosen = chosen; first = first }
 
-abbrev pub scope_from : Net → Stack → ℕ → Scope
+abbrev pub scope_from : Net → TrailView → ℕ → Scope
 scope_from net stack first = scope_by net stack.current.edges first
 
 -- the run over feasible times; the stop is the event where the new edges start
@@ -42,7 +42,7 @@ pub record IsPoised (s : Scope) (from : EventId) (start : GraphLabels) (stamps :
   pub others : AreOthersFollowed s from (labels_from stamps base)
 
 -- the graph, its edges and the queue are there, and the labels of a run are poised
-pub record IsRunReady (net : Net) (out : List (List Arc)) (arcs : List Arc) (run : Run) (from : EventId) (start : GraphLabels) (stack : Stack) (waiting : Waiting) : Type 0 where
+pub record IsRunReady (net : Net) (out : List (List Arc)) (arcs : List Arc) (run : Run) (from : EventId) (start : GraphLabels) (stack : TrailView) (waiting : PendingView) : Type 0 where
   pub is_net : IsNet net
   pub out_edges : AreAlwaysArcs net out
   pub chosen : AreChosenArcs net stack.current.edges arcs
@@ -57,7 +57,7 @@ abbrev pub AreRestFollowed : Scope → Edge → GraphLabels → Type 0
 AreRestFollowed s added label = (name : EdgeName) (e : Edge) → IsAmong s name e → (e ≡ added) ⊎ Follows label e
 
 -- labels are ready for a run over one added edge: all other edges are followed
-pub record IsAdded (net : Net) (out : List (List Arc)) (arcs : List Arc) (run : Run) (a : Arc) (start : GraphLabels) (stack : Stack) (waiting : Waiting) : Type 0 where
+pub record IsAdded (net : Net) (out : List (List Arc)) (arcs : List Arc) (run : Run) (a : Arc) (start : GraphLabels) (stack : TrailView) (waiting : PendingView) : Type 0 where
   pub ready : IsRunReady net out arcs run a.edge.from start stack waiting
   pub arc : IsArc net a
   pub among : IsAmong (scope_of net stack run) a.name a.edge
@@ -80,6 +80,6 @@ pub record HasCleared (events : ℕ) (old new : List Stamp) : Type 0 where
   pub others : (slot : ℕ) → events ≤ slot → stamp_at new slot ≡ stamp_at old slot
 
 -- the stack has one graph, which is a first graph
-pub record IsFirstGraph (net : Net) (stack : Stack) : Type 0 where
+pub record IsFirstGraph (net : Net) (stack : TrailView) : Type 0 where
   pub below : stack.below ≡ []
   pub root : IsRootGraph net stack.current

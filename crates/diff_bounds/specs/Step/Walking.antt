@@ -5,7 +5,7 @@ use Rattle.event_graph.specs.declared.edge.Edge.{Edge}
 use Rattle.event_graph.specs.Edges.{edge}
 use Rattle.event_graph.specs.Network.{Net}
 use Rattle.event_graph.specs.Proof.{IsWalk, path_sum}
-use Rattle.trail.specs.Stack.{Stack}
+use Rattle.trail.specs.Stack.{TrailView}
 use Rattle.diff_bounds.specs.declared.arc.Arc.{Arc}
 use Rattle.diff_bounds.specs.Current.{IsCurrent}
 use Rattle.diff_bounds.specs.Labels.{IsClimb, Parents, parents_from}
@@ -18,7 +18,7 @@ pub record IsOneClimb (net : Net) (actual parent : Parents) (from : ℕ) (names 
   pub climb : IsClimb net parent from names to
 
 -- an edge closes a walk of negative sum: the walk is the climb from the start of the edge to its end, read from the top, and the edge
-pub record HasLoop (net : Net) (stack : Stack) (a : Arc) : Type 0 where
+pub record HasLoop (net : Net) (stack : TrailView) (a : Arc) : Type 0 where
   pub from : a.edge.from.0 < net.events
   pub to : a.edge.to.0 < net.events
   pub parent : Parents

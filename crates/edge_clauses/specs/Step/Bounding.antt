@@ -12,7 +12,7 @@ pub record Sides : Type 0 where
   pub low : List ℤ
 
 -- bounds, and what they were outside of the block
-pub record BoundPair : Type 0 where
+pub record EventBoundsView : Type 0 where
   pub outside : Sides
   pub now : Sides
 
@@ -27,7 +27,7 @@ undone [] s = s
 undone (c ∷ cs) s = with_bound c.side c.event c.old (undone cs s)
 
 -- bounds and their changes, as a pair
-abbrev pub pair_of : List BoundChange → List ℤ → List ℤ → BoundPair
+abbrev pub pair_of : List BoundChange → List ℤ → List ℤ → EventBoundsView
 pair_of changes up low = record { outside = undone changes (record { up = up; low = low }); now = record { up = up; low = low } }
 
 -- the upper bound of some event is below its lower bound
@@ -35,6 +35,6 @@ abbrev pub HasCrossed : Sides → Type 0
 HasCrossed s = (event : EventId) × (time_of s.up event <ℤ time_of s.low event)
 
 -- flags say whether bounds have crossed
-pub record AreCrossedAs (is_now is_outside : Bool) (pair : BoundPair) : Type 0 where
+pub record AreCrossedAs (is_now is_outside : Bool) (pair : EventBoundsView) : Type 0 where
   pub now : IsTrue is_now ↔ HasCrossed pair.now
   pub outside : IsTrue is_outside ↔ HasCrossed pair.outside

@@ -4,12 +4,12 @@ use Rattle.event_graph.specs.declared.edge.Edge.{Edge}
 use Rattle.edge_clauses.specs.declared.known.EdgeChains.{EdgeChains}
 
 -- known edges, and those of them that were known outside of the block
-pub record KnownPair : Type 0 where
+pub record KnownEdgesView : Type 0 where
   pub outside : List Edge
   pub now : List Edge
 
 -- what is left of known edges when an open block closes
-abbrev pub known_base : Bool → KnownPair → List Edge
+abbrev pub known_base : Bool → KnownEdgesView → List Edge
 known_base true pair = pair.outside
 known_base false pair = pair.now
 

@@ -4,7 +4,7 @@ use Rattle.event_graph.specs.declared.edge.Edge.{Edge}
 use Rattle.edge_clauses.specs.Lines.{Frame, Goal, State}
 use Rattle.edge_clauses.specs.declared.frames.Frames.{Frames}
 use Rattle.edge_clauses.specs.declared.terms.Terms.{Terms}
-use Rattle.edge_clauses.specs.Checking.{Checking}
+use Rattle.edge_clauses.specs.Checking.{ClauseCheckerView}
 use Rattle.edge_clauses.specs.Clauses.{Clause}
 
 -- the goal that lines are judged by
@@ -38,5 +38,5 @@ abbrev pub state_of : Frames → List Clause → State
 state_of f kept = state_with f.assumed (frame_outside f) (frame_now f) kept
 
 -- a checker, from its parts
-abbrev pub check_of : Terms → Frames → List Clause → Checking
+abbrev pub check_of : Terms → Frames → List Clause → ClauseCheckerView
 check_of terms frames kept = record { limits = terms.limits; goal = goal_of terms; state = state_of frames kept }

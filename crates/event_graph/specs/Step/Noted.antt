@@ -1,6 +1,6 @@
 -- The choices of a case, with a table that has them by constraint.
 use Rattle.std.specs.Prelude.{◌≡◌, ◌<◌, ◌≤◌, ℕ, List, [], ◌∷◌, length, reverse, Option, None, slice_index_or, vec_capacity}
-use Rattle.event_graph.specs.Cases.{Chosen, cause_chosen}
+use Rattle.event_graph.specs.Cases.{DecisionsView, cause_chosen}
 use Rattle.event_graph.specs.Proof.{Case}
 use Rattle.event_graph.specs.declared.decisions.Decisions.TheInside.{Inside}
 
@@ -9,7 +9,7 @@ abbrev pub AreChoices : ℕ → Case → Type 0
 AreChoices room [] = Unit {0}
 AreChoices room (choice ∷ above) = (choice.constraint < room) × (cause_chosen above choice.constraint ≡ None) × AreChoices room above
 
-abbrev pub chosen_in : Inside → Chosen
+abbrev pub chosen_in : Inside → DecisionsView
 chosen_in d = record { room = length d.causes.items; chosen = reverse d.choices.items }
 
 -- each choice is of a constraint that has a place in the table, and the table has the choice of each constraint

@@ -1,7 +1,7 @@
 -- What a step of a writer of a report promises.
 use Rattle.std.specs.Prelude.{Result, Ok, Err}
 use Rattle.itv_base.specs.Outside.{SinkState}
-use Rattle.drawn.specs.Drawn.{Drawn}
+use Rattle.drawn_networks.specs.Drawn.{Drawn}
 use Rattle.right_report.specs.Right.ReportState.{ReportState}
 use Rattle.right_report.specs.Right.Following.{LineClaims}
 use Rattle.right_report.specs.Writing.{WroteLines, WroteFront}

@@ -1,14 +1,14 @@
 -- What the fields of a trail mean, and what holds of them.
 use Rattle.std.specs.Prelude.{◌*◌, ◌^◌, ◌<◌, ◌≤◌, length, reverse, vec_capacity}
 use Rattle.trail.specs.declared.trail.Trail.TheInside.{Inside}
-use Rattle.trail.specs.Stack.{Stack}
+use Rattle.trail.specs.Stack.{TrailView}
 use Rattle.trail.specs.Step.Undo.{TrailState, graph_of, graphs_at, IsUndoable}
 
 abbrev pub state_in : Inside → TrailState
 state_in t = record { edges = t.edges.items; slots = t.slots.items; saved = t.saved.items }
 
 -- the stack that the fields stand for
-abbrev pub stack_in : Inside → Stack
+abbrev pub stack_in : Inside → TrailView
 stack_in t = record {
   levels = t.levels;
   current = graph_of (state_in t);

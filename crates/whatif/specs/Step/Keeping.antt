@@ -4,7 +4,7 @@ use Rattle.event_graph.specs.Proof.{ProofLine}
 use Rattle.certificate.specs.Scribing.{FitsTree}
 
 -- the lines kept, or none once a line did not fit, and the room: how many lines there may be, and how many edges in all of them
-pub record Keeping : Type 0 where
+pub record KeeperView : Type 0 where
   pub lines : Option (List ProofLine)
   pub line_room : ℕ
   pub edge_room : ℕ
@@ -16,13 +16,13 @@ KeptOn line_room edge_room (Some before) lines now =
     (now ≡ Some (before ++ lines)) ⊎ ((now ≡ None) × (FitsTree line_room edge_room (before ++ lines) → ⊥))
 
 -- the scribe took these lines
-pub record KeeperGrew (old : Keeping) (lines : List ProofLine) (new : Keeping) : Type 0 where
+pub record KeeperGrew (old : KeeperView) (lines : List ProofLine) (new : KeeperView) : Type 0 where
   pub line_room : new.line_room ≡ old.line_room
   pub edge_room : new.edge_room ≡ old.edge_room
   pub lines_now : KeptOn old.line_room old.edge_room old.lines lines new.lines
 
 -- the scribe never fails
-abbrev pub KeeperWasCut : Keeping → List ProofLine → Keeping → Type 0
+abbrev pub KeeperWasCut : KeeperView → List ProofLine → KeeperView → Type 0
 KeeperWasCut old lines new = ⊥
 
 -- the lines that are kept, or none once lines were let go

@@ -1,6 +1,6 @@
 use Rattle.std.proofs.Common.{◌≡◌, ◌<◌, [], ap, length, refl, subst, arith}
 use Rattle.event_graph.specs.Proof.{Case}
-use Rattle.event_graph.specs.Cases.{Chosen, first_of, open_cases}
+use Rattle.event_graph.specs.Cases.{DecisionsView, first_of, open_cases}
 use Rattle.branch.specs.Step.Cases.{work_left}
 use Rattle.branch.specs.Step.Searched.{SearchSteps, StepsShort}
 use Rattle.event_graph.proofs.Choices.{others_free}
@@ -20,7 +20,7 @@ push-requires-clause-free g c = others_free c.args.search.now.cases.chosen c.arg
 pub returns-clause-lines : goal.returns-clause-lines
 returns-clause-lines g c =
     let net = c.args.net.now in
-    let same : c.push.new.self.chosen ≡ first_of c.args.number c.args.search.now.cases.chosen = ap (λ (d : Chosen). d.chosen) c.push.ensures in
+    let same : c.push.new.self.chosen ≡ first_of c.args.number c.args.search.now.cases.chosen = ap (λ (d : DecisionsView). d.chosen) c.push.ensures in
     if_ok_then c.enter_case.result _ _ c.enter_case.ensures.lines
     (λ entry more. (
       more.0,
@@ -31,7 +31,7 @@ returns-clause-lines g c =
 pub returns-clause-cut : goal.returns-clause-cut
 returns-clause-cut g c =
     let net = c.args.net.now in
-    let same : c.push.new.self.chosen ≡ first_of c.args.number c.args.search.now.cases.chosen = ap (λ (d : Chosen). d.chosen) c.push.ensures in
+    let same : c.push.new.self.chosen ≡ first_of c.args.number c.args.search.now.cases.chosen = ap (λ (d : DecisionsView). d.chosen) c.push.ensures in
     on_err_then c.enter_case.result _ _ c.enter_case.ensures.cut
     (λ more. (
       more.0,
@@ -49,7 +49,7 @@ pub returns-clause-work : goal.returns-clause-work
 returns-clause-work g c =
     let net = c.args.net.now in
     let search = c.args.search.now in
-    let same : c.push.new.self.chosen ≡ first_of c.args.number search.cases.chosen = ap (λ (d : Chosen). d.chosen) c.push.ensures in
+    let same : c.push.new.self.chosen ≡ first_of c.args.number search.cases.chosen = ap (λ (d : DecisionsView). d.chosen) c.push.ensures in
     let falls = split_falls net search.budget search.leaves search.cases.chosen c.args.number c.requires.free in
     let work : work_left net search.budget search.leaves c.push.new.self.chosen ≡ work_left net search.budget search.leaves (first_of c.args.number search.cases.chosen) =
     ap (work_left net search.budget search.leaves) same in

@@ -1,7 +1,7 @@
 use Rattle.std.proofs.Common.{◌⊎◌, ◌∙◌, refl, sym, ap}
-use Rattle.itv_base.specs.Memory.{MemSink, shelf_state, sink_state}
-use Rattle.jobs.specs.declared.answer.Answer.TheVariants.{DesignRefused}
-use Rattle.words.specs.Task.{Task}
+use Rattle.itv_base.specs.Memory.{SinkMemView, shelf_state, sink_state}
+use Rattle.job_base.specs.declared.answer.Answer.TheVariants.{DesignRefused}
+use Rattle.command_words.specs.Task.{Task}
 use Rattle.itv_cli.specs.Run.{Call, HasRefused, call_of}
 use Rattle.conformance.specs.Clients.{Asks, IsAnswerOf, IsRefusalOf}
 use Rattle.conformance.proofs.KnownFiles.{refused_line, refused_others, refused_over_files, refused_wrote, sink_holds}
@@ -14,7 +14,7 @@ returns-in-Refused c =
     let either : (asked : Task) → Asks c.args.words.now asked
     → IsRefusalOf c.args.shelf.now.files asked c.in_ok-from_slice-in-Refused.field-0.items ⊎ IsAnswerOf c.args.shelf.now.files asked DesignRefused c.in_ok-from_slice-in-Refused.field-0.items =
     refused_over_files call c.args.shelf.now.files c.in_ok-from_slice-in-Refused.field-0.items refl m
-    (sink_holds c.in_ok-sink.sink c.run.new.sink (refused_line call m) (refused_wrote call m) (ap (λ (s : MemSink). s.bytes) c.in_ok-sink.ensures.fresh) ∙ (sym c.bytes.ensures.written ∙ sym c.in_ok-from_slice-in-Refused.ensures.items)) in
+    (sink_holds c.in_ok-sink.sink c.run.new.sink (refused_line call m) (refused_wrote call m) (ap (λ (s : SinkMemView). s.bytes) c.in_ok-sink.ensures.fresh) ∙ (sym c.bytes.ensures.written ∙ sym c.in_ok-from_slice-in-Refused.ensures.items)) in
     record {
       right = either;
       others = λ asked asks other. refused_others c.args.shelf.now.files asked c.in_ok-from_slice-in-Refused.field-0.items asks.own other (either asked asks);

@@ -1,7 +1,7 @@
 use Rattle.std.proofs.Common.{refl}
 use Rattle.itv_base.specs.Memory.{shelf_state, sink_state}
 use Rattle.itv_cli.specs.Run.{Call, call_of}
-use Rattle.report_check.specs.Check.{refused_text}
+use Rattle.job_check.specs.Check.{refused_text}
 use Rattle.conformance.proofs.JobEnds.{check_right, check_whole, check_wrong}
 use Rattle.conformance.proofs.KnownFiles.{sink_bytes}
 use Rattle.conformance.proofs.job_clients.checked_of.Goals as goal

@@ -1,6 +1,6 @@
 use Rattle.itv_base.specs.Memory.{shelf_state, sink_state}
 use Rattle.itv_cli.specs.Run.{Call, call_of}
-use Rattle.reading.specs.Refusal.{refusal_text}
+use Rattle.design_reading.specs.Refusal.{refusal_text}
 use Rattle.conformance.proofs.Fitting.{self_fits}
 use Rattle.conformance.proofs.JobEnds.{self_sums}
 use Rattle.conformance.proofs.KnownFiles.{sink_bytes}

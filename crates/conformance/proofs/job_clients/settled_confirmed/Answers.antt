@@ -2,8 +2,8 @@ use Rattle.std.proofs.Common.{refl, subst, true}
 use Rattle.itv_base.specs.Memory.{shelf_state, sink_state}
 use Rattle.itv_cli.specs.Job.{turns_for}
 use Rattle.itv_cli.specs.Run.{Call, call_of}
-use Rattle.jobs.specs.Ending.{answer_of}
-use Rattle.settle_report.specs.Settle.{AnswersSettle}
+use Rattle.job_base.specs.Ending.{answer_of}
+use Rattle.job_settle.specs.Settle.{AnswersSettle}
 use Rattle.conformance.proofs.JobEnds.{confirm_accepts, settle_wrote}
 use Rattle.conformance.proofs.KnownFiles.{sink_holds}
 use Rattle.conformance.proofs.job_clients.settled_confirmed.Goals as goal

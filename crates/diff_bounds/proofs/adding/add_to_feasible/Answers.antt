@@ -1,6 +1,6 @@
 use Rattle.std.proofs.Common.{subst, sym}
 use Rattle.std.proofs.lemmas.Option.{IfSome_then}
-use Rattle.trail.specs.Stack.{Stack}
+use Rattle.trail.specs.Stack.{TrailView}
 use Rattle.diff_bounds.specs.Step.Falling.{RunHasFallen}
 use Rattle.diff_bounds.specs.Step.Poised.{feasible_run, scope_from}
 use Rattle.diff_bounds.specs.Step.Walking.{HasLoop}
@@ -35,6 +35,6 @@ returns-clause-loops c =
     let at = (goal.at.returns-clause-loops c).After-fall_over in
     let closes = rw c.events.ensures.count at c.fall_over.ensures.closes in
     IfSome_then c.fall_over.result closes
-    (λ a here. let P : Stack → Type 0 = λ t. HasLoop c.args.net.now t a in
+    (λ a here. let P : TrailView → Type 0 = λ t. HasLoop c.args.net.now t a in
     subst P (sym c.fall_over.ensures.runs.stack)
     (loop_of c.args.net.now c.args.out.now c.args.chosen.now.arcs c.args.arc.edge.from 0 c.args.trail.now c.args.pending.now c.fall_over.new.trail.current.stamps a c.requires.added.ready (ran at) here))

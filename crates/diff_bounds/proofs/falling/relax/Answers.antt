@@ -1,7 +1,7 @@
 use Rattle.std.proofs.Common.{◌≡◌, ◌∙◌, ◌+◌, ℤ, ◌+ℤ◌, Option, Some, ap, arith, of_z, refl, sym, to_z, w64}
 use Rattle.std.proofs.lemmas.Bool.{MatchBool-at_false}
 use Rattle.std.proofs.lemmas.Int.{ints}
-use Rattle.trail.specs.Stack.{Stack, with_stamp}
+use Rattle.trail.specs.Stack.{TrailView, with_stamp}
 use Rattle.diff_bounds.specs.Labels.{is_lower, labels_from}
 use Rattle.diff_bounds.specs.Step.Falling.{fallen_stamp}
 use Rattle.diff_bounds.proofs.Forests.{followed_from_test}
@@ -29,7 +29,7 @@ returns-then-is_stop c =
 pub returns : goal.returns
 returns c =
     let at = (goal.at.returns c).After-lowers in
-    let stack = λ (z : ℤ). let st : Stack = record c.args.trail.now { current = with_stamp c.args.trail.now.current (c.args.run.base + c.args.arc.now.edge.to.0) (fallen_stamp c.args.arc.now.name z) } in st in (
+    let stack = λ (z : ℤ). let st : TrailView = record c.args.trail.now { current = with_stamp c.args.trail.now.current (c.args.run.base + c.args.arc.now.edge.to.0) (fallen_stamp c.args.arc.now.name z) } in st in (
       record { near = c.args.near; start = c.requires.near; lower = sym (test_is at) ∙ c.if-not-lowers.false },
       MatchBool-at_false {b = c.is_stop.result} _ _ c.if-is_stop.false c.is_stop.ensures,
       c.set_label.ensures ∙ ap stack (sum_is at),

@@ -1,5 +1,5 @@
 use Rattle.std.proofs.Common.{◌∙◌, ap, arith}
-use Rattle.trail.specs.Stack.{Stack}
+use Rattle.trail.specs.Stack.{TrailView}
 use Rattle.diff_bounds.proofs.Starting.{ready_next}
 use Rattle.diff_bounds.proofs.settling.settle_by_event.Goals as goal
 
@@ -7,4 +7,4 @@ pub settle_feasible-requires-clause-ready : goal.settle_feasible-requires-clause
 settle_feasible-requires-clause-ready c =
     let here = c.loop-first.invariant in
     ready_next c.args.net.now c.args.out.now c.args.chosen.now.arcs c.loop-first.first _ c.loop-first.trail c.loop-first.pending c.requires.net c.requires.out c.requires.chosen
-    (ap (λ (t : Stack). t.current.edges) here.stack ∙ c.requires.edges) (omega arith) here.within here.near here.feasible here.marks
+    (ap (λ (t : TrailView). t.current.edges) here.stack ∙ c.requires.edges) (omega arith) here.within here.near here.feasible here.marks

@@ -1,6 +1,6 @@
 use Rattle.std.proofs.Common.{subst}
 use Rattle.event_graph.specs.Network.{IsNet}
-use Rattle.bounds_report.specs.Reports.{MayHaveBegun, Reports}
+use Rattle.job_bounds.specs.Reports.{MayHaveBegun, Reports}
 use Rattle.itv_cli.specs.Bounds.{AnswersBounds}
 use Rattle.itv_cli.proofs.Deciding.{answers_bounds}
 use Rattle.itv_cli.proofs.Working.{works_as, works_up}

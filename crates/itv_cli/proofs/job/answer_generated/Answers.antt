@@ -1,12 +1,12 @@
 use Rattle.std.proofs.Common.{subst}
 use Rattle.event_graph.specs.Network.{IsNet}
-use Rattle.summary_report.specs.Summary.{AnswersSummary}
+use Rattle.job_self.specs.Summary.{AnswersSummary}
 use Rattle.itv_cli.specs.Job.{Answers}
 use Rattle.itv_cli.specs.declared.ready.Ready.TheVariants.{Generated}
 use Rattle.itv_cli.proofs.Deciding.{answers_generated}
 use Rattle.itv_cli.proofs.Working.{works_as, works_up}
 use Rattle.itv_cli.proofs.job.answer_generated.Goals as goal
-use Rattle.jobs.specs.JobWrote.{Answered}
+use Rattle.job_base.specs.JobWrote.{Answered}
 
 pub returns-in_err-answer : goal.returns-in_err-answer
 returns-in_err-answer g c = record {

@@ -1,13 +1,13 @@
 use Rattle.std.proofs.Common.{subst}
 use Rattle.event_graph.specs.Network.{IsNet}
-use Rattle.redraw_report.specs.Redraw.{AnswersRedraw}
+use Rattle.job_redraw.specs.Redraw.{AnswersRedraw}
 use Rattle.itv_cli.specs.Job.{Answers}
-use Rattle.words.specs.declared.job.SearchJob.TheVariants.{Redraw}
+use Rattle.command_words.specs.declared.job.SearchJob.TheVariants.{Redraw}
 use Rattle.itv_cli.specs.declared.ready.Ready.TheVariants.{Searched}
 use Rattle.itv_cli.proofs.Deciding.{answers_redraw}
 use Rattle.itv_cli.proofs.Working.{works_as, works_up}
 use Rattle.itv_cli.proofs.job.answer_redraw.Goals as goal
-use Rattle.jobs.specs.JobWrote.{Answered}
+use Rattle.job_base.specs.JobWrote.{Answered}
 
 pub returns-in_err-answer : goal.returns-in_err-answer
 returns-in_err-answer g c = record {

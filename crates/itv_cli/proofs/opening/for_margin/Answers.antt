@@ -1,7 +1,7 @@
 use Rattle.std.proofs.Common.{List, Ok, Option, option_map, refl}
 use Rattle.moves.specs.declared.number_seen.NumberSeen.{NumberSeen}
-use Rattle.reading.specs.FileReading.{gives}
-use Rattle.reading.proofs.Opens.{opens_stop, opens_then}
+use Rattle.design_reading.specs.FileReading.{gives}
+use Rattle.design_reading.proofs.Opens.{opens_stop, opens_then}
 use Rattle.itv_cli.specs.Job.{list_at}
 use Rattle.itv_cli.specs.declared.ready.Ready.{Ready}
 use Rattle.itv_cli.specs.declared.ready.Ready.TheVariants.{Margin}

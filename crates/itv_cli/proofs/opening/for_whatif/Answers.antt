@@ -1,9 +1,9 @@
 use Rattle.std.proofs.Common.{◌≡◌, ◌≤◌, ◌∙◌, ℕ, nat_lt, List, length, Result, false, sym, ap, rules}
 use Rattle.itv_base.specs.Outside.{ShelfState}
-use Rattle.drawn.specs.Drawn.{Drawn}
+use Rattle.drawn_networks.specs.Drawn.{Drawn}
 use Rattle.unroll.specs.declared.limit.TheConstants.{MAX_SESSION_ROWS}
-use Rattle.reading.specs.Step.{Opens}
-use Rattle.reading.specs.declared.stop.Stop.{Stop}
+use Rattle.design_reading.specs.Step.{Opens}
+use Rattle.design_reading.specs.declared.stop.Stop.{Stop}
 use Rattle.itv_cli.specs.Job.{edits_at, whatif_at}
 use Rattle.itv_cli.specs.declared.ready.Ready.{Ready}
 use Rattle.itv_cli.proofs.opening.for_whatif.Goals as goal

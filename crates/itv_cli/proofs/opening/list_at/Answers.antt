@@ -1,11 +1,11 @@
 use Rattle.std.proofs.Common.{◌≡◌, ◌≤◌, ℕ, nat_lt, List, length, Option, Result, false, option_map, sym, rules}
 use Rattle.itv_base.specs.Outside.{ShelfState}
-use Rattle.drawn.specs.Drawn.{Drawn}
+use Rattle.drawn_networks.specs.Drawn.{Drawn}
 use Rattle.moves.specs.Listed.{numbers_of}
 use Rattle.moves.specs.declared.number_seen.NumberSeen.{NumberSeen}
 use Rattle.unroll.specs.declared.limit.TheConstants.{MAX_NUMBERS}
-use Rattle.reading.specs.Step.{Opens}
-use Rattle.reading.specs.declared.stop.Stop.{Stop}
+use Rattle.design_reading.specs.Step.{Opens}
+use Rattle.design_reading.specs.declared.stop.Stop.{Stop}
 use Rattle.itv_cli.specs.Job.{list_at}
 use Rattle.itv_cli.specs.Step.{list_in}
 use Rattle.itv_cli.proofs.opening.list_at.Goals as goal

@@ -1,6 +1,6 @@
 use Rattle.std.proofs.Common.{option_map, refl}
 use Rattle.design_gen.specs.Files.{design_files}
-use Rattle.words.specs.Task.{searched, planned, checked, fall, matrix, generated, whatif, margin}
+use Rattle.command_words.specs.Task.{searched, planned, checked, fall, matrix, generated, whatif, margin}
 use Rattle.itv_cli.proofs.Fetching.{opens_made, opens_shelf}
 use Rattle.itv_cli.proofs.opening.open.Goals as goal
 

@@ -1,10 +1,10 @@
 use Rattle.std.proofs.Common.{List, ℕ, Ok, refl}
 use Rattle.itv_base.specs.declared.limits.TheConstants.{REPORT_LIMIT}
-use Rattle.drawn.specs.Drawn.{Drawn}
-use Rattle.reading.specs.declared.refusal_place.RefusalPlace.TheVariants.{Report}
-use Rattle.reading.specs.FileReading.{FileReading, gives, ◌>>=◌, file_at}
-use Rattle.reading.proofs.Opens.{opens_then, opens_up}
-use Rattle.words.specs.declared.job.CheckJob.{CheckJob}
+use Rattle.drawn_networks.specs.Drawn.{Drawn}
+use Rattle.design_reading.specs.declared.refusal_place.RefusalPlace.TheVariants.{Report}
+use Rattle.design_reading.specs.FileReading.{FileReading, gives, ◌>>=◌, file_at}
+use Rattle.design_reading.proofs.Opens.{opens_then, opens_up}
+use Rattle.command_words.specs.declared.job.CheckJob.{CheckJob}
 use Rattle.itv_cli.specs.declared.ready.Ready.{Ready}
 use Rattle.itv_cli.specs.declared.ready.Ready.TheVariants.{Checked}
 use Rattle.itv_cli.proofs.Steps.{design_up, design_then}

@@ -1,5 +1,5 @@
 use Rattle.std.proofs.Common.{codes}
-use Rattle.reading.specs.FileReading.{gives}
+use Rattle.design_reading.specs.FileReading.{gives}
 use Rattle.itv_cli.specs.declared.ready.Ready.TheVariants.{Generated}
 use Rattle.itv_cli.proofs.Steps.{design_up, design_ready}
 use Rattle.itv_cli.proofs.opening.open_made.Goals as goal

@@ -1,7 +1,7 @@
 use Rattle.std.proofs.Common.{option_map}
-use Rattle.drawn.specs.Drawn.{Drawn}
-use Rattle.plan.specs.Plan.{Planned}
-use Rattle.reading.specs.FileReading.{gives, ◌>>=◌}
+use Rattle.drawn_networks.specs.Drawn.{Drawn}
+use Rattle.design_plan.specs.Plan.{PlanView}
+use Rattle.design_reading.specs.FileReading.{gives, ◌>>=◌}
 use Rattle.itv_cli.specs.Job.{list_at}
 use Rattle.itv_cli.specs.declared.ready.Ready.TheVariants.{Margin}
 use Rattle.itv_cli.proofs.Steps.{planned_then, planned_up}
@@ -9,11 +9,11 @@ use Rattle.itv_cli.proofs.opening.open_margin.Goals as goal
 
 pub returns-in_err-plan-clause-opens : goal.returns-in_err-plan-clause-opens
 returns-in_err-plan-clause-opens g c =
-    planned_up c.args.design.now (λ (both : Planned × Drawn). list_at both.1 (option_map (λ text. text.now) c.args.list) >>= (λ numbers. gives (Margin both.0 both.1 numbers c.args.budget)))
+    planned_up c.args.design.now (λ (both : PlanView × Drawn). list_at both.1 (option_map (λ text. text.now) c.args.list) >>= (λ numbers. gives (Margin both.0 both.1 numbers c.args.budget)))
     (g.H.Shelf.state c.args.shelf.now) (g.H.Shelf.state c.open_planned.new.shelf) c.in_err-plan.field-0.0 c.from_residual.result c.from_residual.ensures.1 c.in_err-plan.ensures.opens
 
 pub returns-clause-opens : goal.returns-clause-opens
 returns-clause-opens g c =
-    planned_then c.args.design.now (λ (both : Planned × Drawn). list_at both.1 (option_map (λ text. text.now) c.args.list) >>= (λ numbers. gives (Margin both.0 both.1 numbers c.args.budget)))
+    planned_then c.args.design.now (λ (both : PlanView × Drawn). list_at both.1 (option_map (λ text. text.now) c.args.list) >>= (λ numbers. gives (Margin both.0 both.1 numbers c.args.budget)))
     (g.H.Shelf.state c.args.shelf.now) (g.H.Shelf.state c.open_planned.new.shelf) (g.H.Shelf.state c.open_planned.new.shelf) c.in_ok-plan.field-0 c.for_margin.result c.in_ok-plan.ensures.opens
     (c.for_margin.ensures.reads (g.H.Shelf.state c.open_planned.new.shelf))

@@ -1,4 +1,4 @@
-use Rattle.reading.specs.FileReading.{gives}
+use Rattle.design_reading.specs.FileReading.{gives}
 use Rattle.itv_cli.specs.declared.ready.Ready.TheVariants.{Planned}
 use Rattle.itv_cli.proofs.Steps.{planned_ready, planned_up}
 use Rattle.itv_cli.proofs.opening.open_planned_job.Goals as goal

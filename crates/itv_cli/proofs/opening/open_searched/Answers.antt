@@ -1,4 +1,4 @@
-use Rattle.reading.specs.FileReading.{gives}
+use Rattle.design_reading.specs.FileReading.{gives}
 use Rattle.itv_cli.specs.declared.ready.Ready.TheVariants.{Searched}
 use Rattle.itv_cli.proofs.Forms.{drawn_has_form}
 use Rattle.itv_cli.proofs.Steps.{design_up, design_ready}

@@ -1,8 +1,8 @@
 use Rattle.std.proofs.Common.{List, ℕ}
-use Rattle.edits.specs.declared.file.TheConstants.{MAX_EDITS_BYTES}
-use Rattle.reading.specs.declared.refusal_place.RefusalPlace.TheVariants.{Edits}
-use Rattle.reading.specs.FileReading.{file_at}
-use Rattle.reading.proofs.Opens.{opens_then, opens_up}
+use Rattle.range_edits.specs.declared.file.TheConstants.{MAX_EDITS_BYTES}
+use Rattle.design_reading.specs.declared.refusal_place.RefusalPlace.TheVariants.{Edits}
+use Rattle.design_reading.specs.FileReading.{file_at}
+use Rattle.design_reading.proofs.Opens.{opens_then, opens_up}
 use Rattle.itv_cli.specs.declared.ready.Ready.{Ready}
 use Rattle.itv_cli.specs.Job.{edits_in}
 use Rattle.itv_cli.proofs.opening.with_edits.Goals as goal

@@ -1,6 +1,6 @@
 use Rattle.itv_cli.specs.Run.{Call, call_of}
 use Rattle.itv_cli.proofs.Ending.{worked, unworked}
-use Rattle.words.specs.View.{task_view}
+use Rattle.command_words.specs.View.{task_view}
 use Rattle.itv_cli.proofs.top.run_task.Goals as goal
 
 pub returns-in-Ok : goal.returns-in-Ok

@@ -1,5 +1,5 @@
 use Rattle.std.proofs.Common.{List, Bor, subst}
-use Rattle.numbers.specs.declared.drawn_number.DrawnNumber.{DrawnNumber}
+use Rattle.drawn_numbers.specs.declared.drawn_number.DrawnNumber.{DrawnNumber}
 use Rattle.moves.specs.Networks.{IsNetFound}
 use Rattle.moves.specs.Moving.{net_moved, opened}
 use Rattle.moves.specs.Passing.{Passes}

@@ -1,5 +1,5 @@
 use Rattle.std.proofs.Common.{◌≡◌, ◌≤◌, length, ap, arith}
-use Rattle.numbers.specs.Numbers.{origins_of}
+use Rattle.drawn_numbers.specs.Numbers.{origins_of}
 use Rattle.moves.specs.Step.{causes_at}
 use Rattle.margins.proofs.Along.{over_all, over_more}
 use Rattle.margins.proofs.reach.reach_over.Goals as goal

@@ -1,5 +1,5 @@
 use Rattle.std.proofs.Common.{◌≡◌, ◌∷◌, [], drop}
-use Rattle.numbers.specs.Numbers.{origins_of, part_of_target}
+use Rattle.drawn_numbers.specs.Numbers.{origins_of, part_of_target}
 use Rattle.moves.specs.Moving.{any_draws}
 use Rattle.moves.specs.Step.{causes_at}
 use Rattle.margins.specs.Reaching.{reach_over}

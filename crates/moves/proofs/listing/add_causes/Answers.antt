@@ -1,6 +1,6 @@
 use Rattle.std.proofs.Common.{◌≤◌, length, ap, arith}
 use Rattle.std.proofs.lemmas.Option.{slice_get-get_or}
-use Rattle.numbers.specs.Numbers.{origins_of}
+use Rattle.drawn_numbers.specs.Numbers.{origins_of}
 use Rattle.moves.proofs.Seen.{seen_more, seen_whole}
 use Rattle.moves.proofs.listing.add_causes.Goals as goal
 

@@ -1,5 +1,5 @@
 use Rattle.std.proofs.Common.{◌≡◌, fold, take, zip}
-use Rattle.numbers.specs.Numbers.{origins_of, part_of_target}
+use Rattle.drawn_numbers.specs.Numbers.{origins_of, part_of_target}
 use Rattle.moves.specs.Listed.{with_cause}
 use Rattle.moves.specs.Step.{causes_at}
 use Rattle.moves.proofs.listing.add_causes.Given as goal

@@ -1,5 +1,5 @@
 use Rattle.std.proofs.Common.{◌≤◌, List, length, ap, arith}
-use Rattle.drawn.specs.declared.row.Row.{Row}
+use Rattle.drawn_networks.specs.declared.row.Row.{Row}
 use Rattle.moves.proofs.Seen.{rows_more, rows_whole}
 use Rattle.moves.proofs.listing.all_numbers_of.Goals as goal
 

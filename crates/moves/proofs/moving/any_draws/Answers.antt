@@ -1,7 +1,7 @@
 use Rattle.std.proofs.Common.{sym, ◌∙◌}
 use Rattle.std.specs.Borrow.{Bor}
-use Rattle.numbers.specs.Numbers.{draws}
-use Rattle.numbers.specs.declared.drawn_number.DrawnNumber.{DrawnNumber}
+use Rattle.drawn_numbers.specs.Numbers.{draws}
+use Rattle.drawn_numbers.specs.declared.drawn_number.DrawnNumber.{DrawnNumber}
 use Rattle.itv_base.proofs.Lists.{list_any-map}
 use Rattle.moves.proofs.moving.any_draws.Goals as goal
 

@@ -1,6 +1,6 @@
 use Rattle.std.proofs.Common.{◌≤◌, length, refl, ap, arith}
 use Rattle.std.proofs.lemmas.Option.{slice_get-get_or}
-use Rattle.numbers.specs.Numbers.{origins_of}
+use Rattle.drawn_numbers.specs.Numbers.{origins_of}
 use Rattle.moves.specs.Step.{lent, moved_by}
 use Rattle.moves.proofs.Moved.{can_more, causes_more, causes_whole, drawable_at, drawable_whole, events_moved}
 use Rattle.moves.proofs.moving.moved_causes.Goals as goal

@@ -1,5 +1,5 @@
 use Rattle.std.proofs.Common.{◌≡◌}
-use Rattle.numbers.specs.Numbers.{origins_of}
+use Rattle.drawn_numbers.specs.Numbers.{origins_of}
 use Rattle.moves.proofs.Drew.{few_read, read_at}
 use Rattle.moves.proofs.reading.origins_of.Goals as goal
 

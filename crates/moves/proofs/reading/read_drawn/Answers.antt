@@ -1,6 +1,6 @@
 use Rattle.std.proofs.Common.{subst}
 use Rattle.event_graph.specs.Network.{IsNet}
-use Rattle.drawn.specs.Drawn.{OriginsFit}
+use Rattle.drawn_networks.specs.Drawn.{OriginsFit}
 use Rattle.moves.proofs.reading.read_drawn.Goals as goal
 
 pub returns : goal.returns

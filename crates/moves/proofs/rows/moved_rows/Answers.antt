@@ -1,6 +1,6 @@
 use Rattle.std.proofs.Common.{◌≤◌, List, length, refl, ap, sym, subst, arith, All}
-use Rattle.drawn.specs.Drawn.{IsRowOf}
-use Rattle.drawn.specs.declared.row.Row.{Row}
+use Rattle.drawn_networks.specs.Drawn.{IsRowOf}
+use Rattle.drawn_networks.specs.declared.row.Row.{Row}
 use Rattle.moves.specs.Moving.{row_moved}
 use Rattle.moves.specs.Step.{lent, moved_by}
 use Rattle.moves.proofs.MovedRows.{row_can_more, row_range_at, row_ranges_whole, rows_kept, rows_more, rows_whole}

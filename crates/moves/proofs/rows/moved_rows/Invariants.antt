@@ -1,5 +1,5 @@
 use Rattle.std.proofs.Common.{◌≡◌, ◌<◌, ℕ, Some, map, take, slice_get}
-use Rattle.drawn.specs.declared.row.Row.{Row}
+use Rattle.drawn_networks.specs.declared.row.Row.{Row}
 use Rattle.moves.specs.Moving.{row_moved}
 use Rattle.moves.specs.Step.{lent, moved_by}
 use Rattle.moves.proofs.MovedRows.{CanMoveRow}

@@ -1,6 +1,6 @@
 use Rattle.std.proofs.Common.{drop, map}
 use Rattle.itv_base.proofs.Written.{Left}
-use Rattle.drawn.specs.Drawn.{name_of}
+use Rattle.drawn_networks.specs.Drawn.{name_of}
 use Rattle.redraw.specs.declared.drawn_event.DrawnEvent.{DrawnEvent}
 use Rattle.redraw.specs.Drawing.{lane_of}
 use Rattle.redraw.specs.Text.{after_commas, lane_text}

@@ -1,5 +1,5 @@
 use Rattle.std.proofs.lemmas.Result.{err_from_is_err_and}
-use Rattle.drawn.specs.Drawn.{name_of}
+use Rattle.drawn_networks.specs.Drawn.{name_of}
 use Rattle.redraw.proofs.Pieces.{both_put, first_cut, text_is}
 use Rattle.redraw.proofs.write.put_sketch.Goals as goal
 

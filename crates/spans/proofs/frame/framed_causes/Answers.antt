@@ -3,7 +3,7 @@ use Rattle.std.proofs.lemmas.List.{take_all}
 use Rattle.std.proofs.lemmas.Option.{same_Some, slice_get-get_or}
 use Rattle.itv_base.specs.declared.names.EventId.{EventId}
 use Rattle.event_graph.specs.declared.cause.Cause.{Cause}
-use Rattle.numbers.specs.Numbers.{origins_of}
+use Rattle.drawn_numbers.specs.Numbers.{origins_of}
 use Rattle.moves.specs.Step.{causes_at, lent}
 use Rattle.moves.proofs.Drew.{same_count}
 use Rattle.spans.specs.Step.{FramesCauses, IsFramedRange, range_at}

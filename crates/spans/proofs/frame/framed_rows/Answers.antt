@@ -3,8 +3,8 @@ use Rattle.std.proofs.lemmas.List.{length_push}
 use Rattle.std.proofs.lemmas.List.Elements.{All-push}
 use Rattle.itv_base.specs.Names.{Name}
 use Rattle.event_graph.proofs.EdgesMet.{All-found}
-use Rattle.drawn.specs.Drawn.{IsRowOf}
-use Rattle.drawn.specs.declared.row.Row.{Row}
+use Rattle.drawn_networks.specs.Drawn.{IsRowOf}
+use Rattle.drawn_networks.specs.declared.row.Row.{Row}
 use Rattle.moves.specs.Step.{lent}
 use Rattle.spans.specs.Step.{IsFramedKind, kind_at}
 use Rattle.spans.proofs.Framed.{rows_more, rows_whole}

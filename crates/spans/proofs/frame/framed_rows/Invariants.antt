@@ -1,5 +1,5 @@
 use Rattle.std.proofs.Common.{◌≡◌, ℤ, All, length}
-use Rattle.drawn.specs.Drawn.{IsRowOf}
+use Rattle.drawn_networks.specs.Drawn.{IsRowOf}
 use Rattle.moves.specs.Step.{lent}
 use Rattle.spans.specs.Step.{IsInside}
 use Rattle.spans.proofs.Framed.{FrontRows}

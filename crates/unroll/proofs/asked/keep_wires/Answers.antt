@@ -1,5 +1,5 @@
 use Rattle.std.proofs.Common.{◌≡◌, ◌∙◌, ap}
-use Rattle.compose.specs.Design.{Composed}
+use Rattle.compose.specs.Design.{DesignView}
 use Rattle.unroll.proofs.BetweenLists.{wire_rows}
 use Rattle.unroll.proofs.PartLists.{rows_unmoved}
 use Rattle.unroll.proofs.asked.keep_wires.Goals as goal
@@ -10,6 +10,6 @@ keep_rows-requires-clause-between c = rw (c.as_slice-wires.ensures.items, c.wire
 pub returns : goal.returns
 returns c =
     let d = c.args.design.now in
-    let cycles : c.cycles-cycles.result ≡ d.cycles = c.cycles-cycles.ensures.cycles ∙ ap (λ (x : Composed). x.cycles) c.design.ensures.design in
-    let wires : c.as_slice-wires.result.now ≡ d.rows = c.as_slice-wires.ensures.items ∙ c.wire_rows.ensures.rows ∙ ap (λ (x : Composed). x.rows) c.design-2.ensures.design in
+    let cycles : c.cycles-cycles.result ≡ d.cycles = c.cycles-cycles.ensures.cycles ∙ ap (λ (x : DesignView). x.cycles) c.design.ensures.design in
+    let wires : c.as_slice-wires.result.now ≡ d.rows = c.as_slice-wires.ensures.items ∙ c.wire_rows.ensures.rows ∙ ap (λ (x : DesignView). x.rows) c.design-2.ensures.design in
     rw (cycles, wires, rows_unmoved d.rows) at c.keep_rows.ensures

@@ -1,6 +1,6 @@
 use Rattle.std.proofs.Common.{◌≡◌, map, take}
-use Rattle.sheet.specs.declared.rule.Source.{Source}
+use Rattle.sheet.specs.declared.rule.RuleCause.{RuleCause}
 use Rattle.unroll.proofs.origins.source_origins.Given as goal
 
 abbrev pub invariant-loop-source : goal.invariant-loop-source
-invariant-loop-source l = l.origins ≡ map (λ (source : Source). source.origin) (take l.source-index l.sources)
+invariant-loop-source l = l.origins ≡ map (λ (source : RuleCause). source.origin) (take l.source-index l.sources)

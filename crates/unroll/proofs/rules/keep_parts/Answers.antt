@@ -1,6 +1,6 @@
 use Rattle.std.proofs.Common.{◌≡◌, Some, take, ◌∙◌, ap}
 use Rattle.std.specs.Prelude.{slice_get}
-use Rattle.compose.specs.Design.{Composed}
+use Rattle.compose.specs.Design.{DesignView}
 use Rattle.compose.proofs.WholeDesigns.{All-slice_get}
 use Rattle.sheet.specs.Whole.{IsWhole}
 use Rattle.unroll.proofs.BetweenLists.{sheet_rules}
@@ -19,7 +19,7 @@ loop-part-preserved c =
     let sheets = c.args.design.now.sheets in
     let sheet = c.sheet_of-sheet.result.now in
     let read : slice_get sheets c.loop-part.part ≡ Some sheet = rw c.design-in-loop-part.ensures.design at c.sheet_of-sheet.ensures.sheet in
-    let cycles : c.cycles-cycles.result ≡ c.args.design.now.cycles = c.cycles-cycles.ensures.cycles ∙ ap (λ (d : Composed). d.cycles) c.design-2.ensures.design in
+    let cycles : c.cycles-cycles.result ≡ c.args.design.now.cycles = c.cycles-cycles.ensures.cycles ∙ ap (λ (d : DesignView). d.cycles) c.design-2.ensures.design in
     rw (take_get sheets c.loop-part.part sheet read)
     (parts_kept c.args.design.now.cycles c.first_of-first.result (take c.loop-part.part sheets) sheet c.args.rules.now.items c.loop-part.rules.items c.keep_rules.new.rules.items c.as_slice.result.now
     c.first_of-first.ensures.first c.loop-part.invariant (c.as_slice.ensures.items ∙ c.rules.ensures.rules) (rw cycles at c.in_ok-keep_rules.ensures))

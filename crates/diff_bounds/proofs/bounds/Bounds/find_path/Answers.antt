@@ -7,17 +7,17 @@ use Rattle.itv_base.specs.declared.names.EventId.{EventId}
 use Rattle.itv_base.proofs.Options.{some_at}
 use Rattle.diff_bounds.specs.Current.{IsPath}
 use Rattle.diff_bounds.specs.Labels.{parents_from}
-use Rattle.diff_bounds.specs.Standing.{Standing, Stands, chosen_of, standing_in, upper_of}
+use Rattle.diff_bounds.specs.Standing.{BoundsView, Stands, chosen_of, standing_in, upper_of}
 use Rattle.diff_bounds.specs.Step.Walking.{IsOneClimb}
 use Rattle.diff_bounds.proofs.Standings.{one_path}
 use Rattle.diff_bounds.proofs.bounds.Bounds.find_path.Goals as goal
 use Rattle.diff_bounds.proofs.bounds.Bounds.find_path.Goals.{In-Some}
 
 inside_stands : (c : In-Some) → Stands c.args.net.now (standing_in c.self.inside)
-inside_stands c = let P : Standing → Type 0 = λ b. Stands c.args.net.now b in subst P (sym c.self.view_is) c.requires.stands
+inside_stands c = let P : BoundsView → Type 0 = λ b. Stands c.args.net.now b in subst P (sym c.self.view_is) c.requires.stands
 
 reached : (c : In-Some) → (z : ℤ) × (upper_of (standing_in c.self.inside) c.args.event.0 ≡ Some z)
-reached c = let P : Standing → Type 0 = λ b. IsSome (upper_of b c.args.event.0) in some_at (upper_of (standing_in c.self.inside) c.args.event.0) (subst P (sym c.self.view_is) c.requires.reached)
+reached c = let P : BoundsView → Type 0 = λ b. IsSome (upper_of b c.args.event.0) in some_at (upper_of (standing_in c.self.inside) c.args.event.0) (subst P (sym c.self.view_is) c.requires.reached)
 
 pub path_into-self-inside-requires-clause-climb : goal.path_into-self-inside-requires-clause-climb
 path_into-self-inside-requires-clause-climb c =
@@ -32,10 +32,10 @@ path_into-self-inside-requires-clause-climb c =
 pub returns-in-Some-clause-path : goal.returns-in-Some-clause-path
 returns-in-Some-clause-path c =
     let at = (goal.at.returns-in-Some-clause-path c).In-Some in
-    let b : Standing = standing_in c.self.inside in
+    let b : BoundsView = standing_in c.self.inside in
     let stands = inside_stands at in
     let long = c.path_into-self-inside.auto.walk ∙ ap length c.deref_mut.ensures.value ∙ sym c.self.inside.walk.ok.0 in
-    let P : Standing → Type 0 = λ x. (source : EventId) (value : ℤ) → x.source ≡ Some source → upper_of x c.args.event.0 ≡ Some value
+    let P : BoundsView → Type 0 = λ x. (source : EventId) (value : ℤ) → x.source ≡ Some source → upper_of x c.args.event.0 ≡ Some value
     → IsPath c.args.net.now (chosen_of x) source c.args.event value (take c.path_into-self-inside.result (with_items c.self.inside.walk c.path_into-self-inside.new.walk).items) in
     subst P c.self.view_is
     (λ source value from is.

@@ -1,16 +1,16 @@
 use Rattle.std.proofs.Common.{rules, subst, sym}
-use Rattle.diff_bounds.specs.Standing.{AreTimesOf, Standing, Stands, standing_in}
+use Rattle.diff_bounds.specs.Standing.{AreTimesOf, BoundsView, Stands, standing_in}
 use Rattle.diff_bounds.proofs.Standings.{stands_reach, times_attain, times_met, times_origin}
 use Rattle.diff_bounds.proofs.bounds.Bounds.times_into.Goals as goal
 
 pub least_lift-lift-requires-clause-labels : goal.least_lift-lift-requires-clause-labels
 least_lift-lift-requires-clause-labels c =
-    let P : Standing → Type 0 = λ b. Stands c.requires.stands.0 b in
+    let P : BoundsView → Type 0 = λ b. Stands c.requires.stands.0 b in
     stands_reach c.requires.stands.0 (standing_in c.self.inside) (subst P (sym c.self.view_is) c.requires.stands.1)
 
 pub write_times-requires-clause-labels : goal.write_times-requires-clause-labels
 write_times-requires-clause-labels c =
-    let P : Standing → Type 0 = λ b. Stands c.requires.stands.0 b in
+    let P : BoundsView → Type 0 = λ b. Stands c.requires.stands.0 b in
     stands_reach c.requires.stands.0 (standing_in c.self.inside) (subst P (sym c.self.view_is) c.requires.stands.1)
 
 pub returns-clause-meets : goal.returns-clause-meets

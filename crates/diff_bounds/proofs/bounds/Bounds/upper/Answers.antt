@@ -1,7 +1,7 @@
 use Rattle.std.proofs.Common.{◌≡◌, ◌∙◌, ℕ, ℤ, Option, IfSome, ap, subst, sym, zero-add}
 use Rattle.diff_bounds.specs.Labels.{stamp_at}
 use Rattle.event_graph.specs.Limits.{IsReach}
-use Rattle.diff_bounds.specs.Standing.{Standing, upper_of}
+use Rattle.diff_bounds.specs.Standing.{BoundsView, upper_of}
 use Rattle.diff_bounds.proofs.Standings.{stands_reach, upper_greatest}
 use Rattle.diff_bounds.proofs.bounds.Bounds.upper.Goals as goal
 use Rattle.diff_bounds.proofs.bounds.Bounds.upper.Goals.{After-label_in}
@@ -9,7 +9,7 @@ use Rattle.diff_bounds.proofs.bounds.Bounds.upper.Goals.{After-label_in}
 -- the label in the slot of an event is its `upper`
 upper_is : (c : After-label_in) → upper_of c.args.self.now c.args.event.0 ≡ c.label_in.result
 upper_is c =
-    let P : Standing → Type 0 = λ b. upper_of b c.args.event.0 ≡ c.label_in.result in
+    let P : BoundsView → Type 0 = λ b. upper_of b c.args.event.0 ≡ c.label_in.result in
     subst P c.self.view_is (ap (λ (slot : ℕ). (stamp_at c.self.inside.trail.current.stamps slot).label) (zero-add c.args.event.0) ∙ sym c.label_in.ensures)
 
 pub returns-clause-greatest : goal.returns-clause-greatest

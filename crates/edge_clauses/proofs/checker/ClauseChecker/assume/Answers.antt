@@ -1,6 +1,6 @@
 use Rattle.std.proofs.Common.{◌≡◌, false, true, refl, subst}
 use Rattle.std.proofs.lemmas.List.Elements.{All-map}
-use Rattle.edge_clauses.specs.Checking.{Checking, TakesLine}
+use Rattle.edge_clauses.specs.Checking.{ClauseCheckerView, TakesLine}
 use Rattle.edge_clauses.specs.Clauses.{IsAddable, unmet}
 use Rattle.edge_clauses.specs.Lines.{Assume}
 use Rattle.edge_clauses.specs.Step.Standing.{check_of}
@@ -15,7 +15,7 @@ returns-then-not-are_opposites_addable-clause-refused c f next is_line =
 
 pub returns-clause-taken : goal.returns-clause-taken
 returns-clause-taken c t =
-    subst (λ (k : Checking). TakesLine c.args.net.now k (Assume c.args.edges.now) (check_of c.self.inside.terms c.open.new.self c.self.inside.kept.items)) c.self.view_is
+    subst (λ (k : ClauseCheckerView). TakesLine c.args.net.now k (Assume c.args.edges.now) (check_of c.self.inside.terms c.open.new.self c.self.inside.kept.items)) c.self.view_is
     (assume_taken c.args.net.now c.self.inside.terms c.self.inside.frames c.open.new.self c.self.inside.kept.items c.args.edges.now (c.if-not-are_addable.ensures.0 refl)
     (All-map (λ (e : Edge). IsAddable e.weight) unmet c.args.edges.now (c.if-not-are_opposites_addable.ensures.0 refl)) c.in_ok-open.ensures.assumed c.in_ok-open.ensures.outside
     c.in_ok-open.ensures.now)

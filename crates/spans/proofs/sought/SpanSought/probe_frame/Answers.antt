@@ -1,5 +1,5 @@
 use Rattle.std.proofs.Common.{List, subst}
-use Rattle.drawn.specs.declared.row.Row.{Row}
+use Rattle.drawn_networks.specs.declared.row.Row.{Row}
 use Rattle.moves.specs.Networks.{IsNetFound}
 use Rattle.moves.specs.Step.{bare_drawn}
 use Rattle.spans.proofs.Found.{frame_found}

@@ -1,5 +1,5 @@
 use Rattle.std.proofs.Common.{ap, ◌∙◌}
-use Rattle.trail.specs.Stack.{Stack, with_edge}
+use Rattle.trail.specs.Stack.{TrailView, with_edge}
 use Rattle.trail.proofs.Steps.{edges_below, IsSoundTrail-edge, stack_in-edge}
 use Rattle.trail.proofs.trail.Trail.add_edge.Goals as goal
 
@@ -10,4 +10,4 @@ invariant_of-self c =
 
 pub returns : goal.returns
 returns c =
-    stack_in-edge c.self.inside c.self.invariant c.push_reserved.new.self c.args.edge c.push_reserved.ensures.items ∙ ap (λ (g : Stack). record g { current = with_edge g.current c.args.edge }) c.self.view_is
+    stack_in-edge c.self.inside c.self.invariant c.push_reserved.new.self c.args.edge c.push_reserved.ensures.items ∙ ap (λ (g : TrailView). record g { current = with_edge g.current c.args.edge }) c.self.view_is

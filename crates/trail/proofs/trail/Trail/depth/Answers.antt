@@ -1,5 +1,5 @@
 use Rattle.std.proofs.Common.{length, sym, ap, ◌∙◌, arith}
-use Rattle.trail.specs.Stack.{Stack}
+use Rattle.trail.specs.Stack.{TrailView}
 use Rattle.trail.proofs.Steps.{length-below}
 use Rattle.trail.proofs.trail.Trail.depth.Goals as goal
 
@@ -8,4 +8,4 @@ overflow_cast-result c = omega (arith, c.self.inside.starts.ok.0, c.self.invaria
 
 pub returns-clause-count : goal.returns-clause-count
 returns-clause-count c =
-    c.len.ensures ∙ c.self.inside.starts.ok.0 ∙ sym (length-below c.self.inside) ∙ ap (λ (g : Stack). length g.below) c.self.view_is
+    c.len.ensures ∙ c.self.inside.starts.ok.0 ∙ sym (length-below c.self.inside) ∙ ap (λ (g : TrailView). length g.below) c.self.view_is

@@ -2,7 +2,7 @@ use Rattle.std.proofs.Common.{◌≡◌, refl, sym, ap, ◌∙◌, subst, arith}
 use Rattle.std.specs.Vec.{with_item}
 use Rattle.trail.specs.declared.trail.Trail.TheInside.{Inside}
 use Rattle.trail.specs.declared.undo.Slot.{Slot}
-use Rattle.trail.specs.Stack.{Stack, with_stamp}
+use Rattle.trail.specs.Stack.{TrailView, with_stamp}
 use Rattle.trail.specs.Step.Inside.{stack_in, IsSoundTrail}
 use Rattle.trail.proofs.Steps.{slot_in, depth_in, IsSoundTrail-slot, stack_in-slot, IsSoundTrail-saved, stack_in-saved, room-saved_slot}
 use Rattle.trail.proofs.trail.Trail.set_label.Goals as goal
@@ -35,7 +35,7 @@ returns c =
     let there = slot_in t c.args.self.now c.self.view_is c.args.slot c.requires in
     let depth = depth_in t c.args.self.now c.self.view_is c.depth-level.result c.depth-level.ensures.count in
     let slots = with_item t.slots c.args.slot x in
-    let after = λ (g : Stack). record g { current = with_stamp g.current c.args.slot c.args.stamp } in
+    let after = λ (g : TrailView). record g { current = with_stamp g.current c.args.slot c.args.stamp } in
     let P = λ (s : Inside). stack_in (record s { slots = with_item s.slots c.args.slot x }) ≡ after (stack_in t) in
     elim c.if-was-level.branch [
       | then-was-level w ↦ subst P (sym w.self-inside-is) (stack_in-saved t c.self.invariant slots c.args.slot c.index-was.result.now x refl there c.index-was.ensures depth w.push_reserved.new.self w.push_reserved.ensures.items (omega (arith, depth))) ∙ ap after c.self.view_is

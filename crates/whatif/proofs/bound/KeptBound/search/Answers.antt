@@ -4,7 +4,7 @@ use Rattle.std.specs.Vec.{with_items}
 use Rattle.std.proofs.lemmas.List.{with_items_is}
 use Rattle.branch.specs.declared.answer.GreatestAnswer.TheVariants.{Unbounded}
 use Rattle.whatif.specs.Session.{IsSearchedAnew, KeptBound}
-use Rattle.whatif.specs.Step.Keeping.{Keeping}
+use Rattle.whatif.specs.Step.Keeping.{KeeperView}
 use Rattle.whatif.proofs.Bounds.{searched_is}
 use Rattle.whatif.proofs.bound.KeptBound.search.Goals as goal
 
@@ -24,9 +24,9 @@ returns-clause-searched c =
     let shown : ray ≡ c.take_ray.new.ray =
     with_items_is c.self.inside.ray c.take_ray.new.ray (c.take_ray.auto.ray ∙ ap length c.deref_mut.ensures.value ∙ sym c.self.inside.ray.ok.0) in
     let same : answer ≡ Unbounded → ray ≡ work.ray = λ unbounded. shown ∙ (c.take_ray.ensures.ray unbounded ∙ c.ray.ensures) in
-    let empty : c.begin.new.self.lines ≡ Some [] = ap (λ (k : Keeping). k.lines) c.begin.ensures.empty in
-    let lines_fit = ap (λ (k : Keeping). k.line_room) c.begin.ensures.empty ∙ c.self.invariant.0 in
-    let edges_fit = ap (λ (k : Keeping). k.edge_room) c.begin.ensures.empty ∙ c.self.invariant.1 in
+    let empty : c.begin.new.self.lines ≡ Some [] = ap (λ (k : KeeperView). k.lines) c.begin.ensures.empty in
+    let lines_fit = ap (λ (k : KeeperView). k.line_room) c.begin.ensures.empty ∙ c.self.invariant.0 in
+    let edges_fit = ap (λ (k : KeeperView). k.edge_room) c.begin.ensures.empty ∙ c.self.invariant.1 in
     let times : c.copy_from_slice.new.self.items ≡ work.times = c.copy_from_slice.ensures.items ∙ c.times.ensures in
     let left = c.search_pair-answer.ensures.searched in
     let searched = searched_is c.args.net.now c.args.budget work.leaves old known work.times work.ray ray answer c.begin.new.self c.search_pair-answer.new.keeper

@@ -1,5 +1,0 @@
-use Rattle.bounds_report.proofs.WrittenLaws.{begun_is_right}
-use Rattle.bounds_report.proofs.laws.begun_is_right.Goals as goal
-
-pub returns : goal.returns
-returns c = record { law = begun_is_right }

@@ -1,5 +1,0 @@
-use Rattle.bounds_report.proofs.WrittenLaws.{written_is_accepted}
-use Rattle.bounds_report.proofs.laws.written_is_accepted.Goals as goal
-
-pub returns : goal.returns
-returns c = record { law = written_is_accepted }

@@ -1,6 +1,0 @@
-use Rattle.std.proofs.Common.{sym}
-use Rattle.brief_report.proofs.Folding.{at_run}
-use Rattle.brief_report.proofs.runs.run_at.Goals as goal
-
-pub returns : goal.returns
-returns c = record { run = sym (at_run c.args.row c.args.runs.now c.args.at _ c.requires.at) }

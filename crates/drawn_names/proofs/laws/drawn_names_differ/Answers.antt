@@ -1,5 +1,0 @@
-use Rattle.drawn_names.proofs.Designs.{drawn_names_differ}
-use Rattle.drawn_names.proofs.laws.drawn_names_differ.Goals as goal
-
-pub returns : goal.returns
-returns c = record { law = drawn_names_differ }

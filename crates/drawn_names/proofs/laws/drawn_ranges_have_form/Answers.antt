@@ -1,5 +1,0 @@
-use Rattle.drawn_names.proofs.Designs.{drawn_ranges_have_form}
-use Rattle.drawn_names.proofs.laws.drawn_ranges_have_form.Goals as goal
-
-pub returns : goal.returns
-returns c = record { law = drawn_ranges_have_form }

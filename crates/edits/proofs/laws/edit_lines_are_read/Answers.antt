@@ -1,5 +1,0 @@
-use Rattle.edits.proofs.EditTexts.{edit_lines_are_read}
-use Rattle.edits.proofs.laws.edit_lines_are_read.Goals as goal
-
-pub returns : goal.returns
-returns c = record { law = edit_lines_are_read }

@@ -1,7 +1,0 @@
-use Rattle.std.proofs.Common.{◌≡◌}
-use Rattle.explained.proofs.Wider.{front_apart}
-use Rattle.explained.proofs.apart.network_apart.Given as goal
-
--- the constraints so far
-abbrev pub invariant-loop-number : goal.invariant-loop-number
-invariant-loop-number l = l.apart ≡ front_apart l.net l.origins l.number

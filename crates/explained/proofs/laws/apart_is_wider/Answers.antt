@@ -1,5 +1,0 @@
-use Rattle.explained.proofs.Wider.{apart_is_wider}
-use Rattle.explained.proofs.laws.apart_is_wider.Goals as goal
-
-pub returns : goal.returns
-returns c = record { law = apart_is_wider }

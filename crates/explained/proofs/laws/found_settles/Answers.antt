@@ -1,5 +1,0 @@
-use Rattle.explained.proofs.Settling.{found_settles}
-use Rattle.explained.proofs.laws.found_settles.Goals as goal
-
-pub returns : goal.returns
-returns c = record { law = found_settles }

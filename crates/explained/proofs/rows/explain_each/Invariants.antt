@@ -1,6 +1,0 @@
-use Rattle.explained.proofs.Lanes.{AreSoFar}
-use Rattle.explained.proofs.rows.explain_each.Given as goal
-
--- the rows so far
-abbrev pub invariant-loop-row : goal.invariant-loop-row
-invariant-loop-row l = AreSoFar l.drawn l.initial.desk l.row-index l.row-items l.found.items l.desk

@@ -1,0 +1,14 @@
+-- What is found of a row without the order of lanes.
+use Rattle.std.specs.Prelude.{◌≡◌, ℕ, Option, None}
+use Rattle.itv_base.specs.declared.row_kind.RowKind.{RowKind}
+use Rattle.itv_base.specs.declared.row_kind.RowKind.TheVariants as kinds
+use Rattle.event_graph.specs.Network.{Net}
+use Rattle.requirements.specs.declared.bound.BothBounds.{BothBounds}
+use Rattle.slack_report.specs.declared.words.FindingWord.{FindingWord}
+use Rattle.drawn_networks.specs.declared.row.Row.{Row}
+use Rattle.explanations.specs.Answers.{IsApart, verdict_by}
+
+-- the bounds of a row in the network apart, if its verdict rests on the order of a lane; by its bounds in the drawn network
+abbrev pub AreBoundsApart : Net → ℕ → FindingWord → Row → RowKind → BothBounds → Option BothBounds → Type 0
+AreBoundsApart apart budget word row kinds.Ask both bounds = bounds ≡ None
+AreBoundsApart apart budget word row (kinds.Req range) both bounds = IsApart apart budget word row range (verdict_by range both) bounds

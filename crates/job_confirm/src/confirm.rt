@@ -1,0 +1,85 @@
+//! Checking a text from its front to its end.
+
+ghost use Rattle.std.specs.Prelude.{◌≡◌, ◌≤◌, ◌++◌, ℕ, true, IfOk, List, OnOk, drop, length};
+ghost use Rattle.job_settle.specs.declared.finding.Finding.{Finding};
+ghost use Rattle.job_settle.specs.Answers.{IsFinding};
+ghost use Rattle.job_settle.specs.Settle.{IsSettleText};
+ghost use Rattle.job_settle.specs.Text.{finding_text};
+ghost use Rattle.job_confirm.specs.Step.{AreViewsOf, Gives, GivesSome, IsPieceAt, IsSameFinding};
+
+use crate::check_stop::CheckStop;
+use crate::compare::{behind_ending, behind_finding, behind_front};
+use crate::finding::finding_next;
+use crate::reader::Reader;
+use crate::rows::rows_behind;
+use crate::views::Views;
+use drawn_networks::DrawnNetwork;
+use event_graph::Network;
+use job_settle::Finding;
+use line_words::LineBuffer;
+use slack_report::LINE_ROOM;
+use std::alloc::Global;
+
+/// Checks a text against a drawn network, part by part. Each part is read, checked, written again and compared.
+pub fn confirm_text(alloc: Global, drawn: &DrawnNetwork, text: &[u8]) -> Result<(), CheckStop>
+    ensures confirmed { OnOk result (IsSettleText drawn.now true text.now) }
+    ensures whole { IsSettleText drawn.now true text.now → GivesSome result }
+{
+    let net = drawn.network();
+    let views = Views::new(alloc, net)?;
+    let mut buffer = LineBuffer::new(alloc, LINE_ROOM)?;
+    let place = behind_front(alloc, drawn, text, &mut buffer)?;
+    let read = finding_read(alloc, net, &views, text, place, &mut buffer)?;
+    let rows = rows_behind(
+        alloc,
+        drawn,
+        &read.finding,
+        &views,
+        text,
+        read.place,
+        &mut buffer,
+    )?;
+    let place = behind_ending(
+        alloc,
+        drawn,
+        &read.finding,
+        &rows.found,
+        text,
+        rows.place,
+        &mut buffer,
+    )?;
+    if place < text.len() {
+        return Err(CheckStop::Refused {
+            left: text.len() - place,
+        });
+    }
+    Ok(())
+}
+
+// The finding that was read, and the place behind it.
+#[derive(Drop)]
+struct FindingRead {
+    finding: Finding,
+    place: usize,
+}
+
+// Reads and checks the finding at a place.
+fn finding_read(
+    alloc: Global,
+    net: &Network,
+    views: &Views,
+    text: &[u8],
+    place: usize,
+    buffer: &mut LineBuffer,
+) -> Result<FindingRead, CheckStop>
+    requires views { AreViewsOf net.now views.now }
+    requires place { place ≤ length text.now }
+    ensures finding { IfOk result (λ read. IsFinding true net.now read.finding) }
+    ensures behind { IfOk result (λ read. IsPieceAt text.now place (finding_text true read.finding) read.place) }
+    ensures read { (shown : Finding) → (more : List ℕ) → IsFinding true net.now shown → drop place text.now ≡ finding_text true shown ++ more
+        → Gives (λ read. IsSameFinding shown read.finding × (drop read.place text.now ≡ more)) result }
+{
+    let finding = finding_next(alloc, net, views, &mut Reader::new(text, place))?;
+    let place = behind_finding(alloc, &finding, text, place, buffer)?;
+    Ok(FindingRead { finding, place })
+}

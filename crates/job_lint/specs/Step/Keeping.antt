@@ -1,0 +1,87 @@
+-- Whether all satisfying times keep a range, according to what is found of two greatest separations.
+use Rattle.std.specs.Prelude.{◌≡◌, ℤ, neg_ℤ, ◌≤ℤ◌, ◌<ℤ◌, int_le, Bool, if◌then◌else◌, List, Option, Some, None, IfSome, IsSomeAnd, option_map}
+use Rattle.itv_base.specs.Range.{Ends}
+use Rattle.itv_base.specs.declared.names.EventId.{EventId}
+use Rattle.event_graph.specs.Bounds.{IsGreatest, IsUnbounded}
+use Rattle.event_graph.specs.Network.{Net}
+use Rattle.event_graph.specs.Satisfying.{Satisfies}
+use Rattle.event_graph.specs.Times.{separation}
+use Rattle.extremes.specs.declared.found.Consistency.{Consistency}
+use Rattle.extremes.specs.declared.found.Consistency.TheVariants as consistency
+use Rattle.extremes.specs.declared.found.Greatest.{Greatest}
+use Rattle.extremes.specs.declared.found.Greatest.TheVariants as greatest
+use Rattle.requirements.specs.Laws.{IsMet}
+use Rattle.job_lint.specs.declared.by_order.ByOrder.{ByOrder}
+use Rattle.job_lint.specs.declared.by_order.ByOrder.TheVariants as by_order
+use Rattle.job_lint.specs.declared.kept.Extent.{Extent}
+use Rattle.job_lint.specs.declared.kept.Extent.TheVariants as extent
+use Rattle.job_lint.specs.declared.kept.RangeKept.{RangeKept}
+use Rattle.job_lint.specs.declared.kept.RangeKept.TheVariants as kept
+use Rattle.job_lint.specs.declared.pair_seen.PairSeen.{PairSeen}
+use Rattle.job_lint.specs.declared.pair_seen.PairSeen.TheVariants as seen
+use Rattle.job_lint.specs.Found.{IsNotMet}
+
+-- ---- extents
+
+-- the greatest separation of a pair is this number, is unbounded, or is not known
+abbrev pub IsExtent : Net → EventId → EventId → Extent → Type 0
+IsExtent net from to (extent.Closed value) = IsGreatest net from to value
+IsExtent net from to extent.Unbounded = IsUnbounded net from to
+IsExtent net from to extent.Open = Unit {0}
+
+abbrev pub extent_of : PairSeen → Extent
+extent_of (seen.Closed value chain) = extent.Closed value
+extent_of seen.Unbounded = extent.Unbounded
+extent_of seen.Open = extent.Open
+
+abbrev pub extent_by : Greatest → Extent
+extent_by (greatest.Closed value times) = extent.Closed value
+extent_by (greatest.Unbounded set) = extent.Unbounded
+extent_by (greatest.Open limit attained) = extent.Open
+
+-- ---- sides
+
+-- whether all separations of a pair keep below an end
+abbrev pub kept_below : Option ℤ → Extent → RangeKept
+kept_below None found = kept.All
+kept_below (Some end) (extent.Closed value) = if int_le value end then kept.All else kept.NotAll
+kept_below (Some end) extent.Unbounded = kept.NotAll
+kept_below (Some end) extent.Open = kept.Open
+
+-- whether two sides are kept
+abbrev pub kept_both : RangeKept → RangeKept → RangeKept
+kept_both kept.NotAll other = kept.NotAll
+kept_both kept.All other = other
+kept_both kept.Open kept.NotAll = kept.NotAll
+kept_both kept.Open kept.All = kept.Open
+kept_both kept.Open kept.Open = kept.Open
+
+-- whether all separations lie in a range: below its high end, and those of the reversed pair below minus its low end
+abbrev pub kept_in : Ends → Extent → Extent → RangeKept
+kept_in range found reversed = kept_both (kept_below range.high found) (kept_below (option_map neg_ℤ range.low) reversed)
+
+-- all satisfying times keep below an end, or some do not, or nothing is known
+abbrev pub KeepsBelow : Net → EventId → EventId → Option ℤ → RangeKept → Type 0
+KeepsBelow net from to end kept.All = (times : List ℤ) → Satisfies times net → IfSome end (λ most. separation times from to ≤ℤ most)
+KeepsBelow net from to end kept.NotAll = (times : List ℤ) × Satisfies times net × IsSomeAnd end (λ most. most <ℤ separation times from to)
+KeepsBelow net from to end kept.Open = Unit {0}
+
+-- all satisfying times are in a range, or some are not, or nothing is known
+abbrev pub KeepsRange : Net → EventId → EventId → Ends → RangeKept → Type 0
+KeepsRange net from to range kept.All = IsMet net from to range
+KeepsRange net from to range kept.NotAll = IsNotMet net from to range
+KeepsRange net from to range kept.Open = Unit {0}
+
+-- ---- by the order of lanes
+
+-- a requirement that is kept in the drawn network passes because of the order of lanes alone, if it is not kept without that order
+abbrev pub order_by_kept : RangeKept → ByOrder
+order_by_kept kept.All = by_order.No
+order_by_kept kept.NotAll = by_order.Yes
+order_by_kept kept.Open = by_order.Open
+
+-- rules that contradict each other do so because of the order of lanes alone, if some times satisfy without that order
+abbrev pub order_by_finding : Consistency → ByOrder
+order_by_finding consistency.Consistent = by_order.Yes
+order_by_finding consistency.Inconsistent = by_order.No
+order_by_finding consistency.Open = by_order.Open

@@ -1,0 +1,248 @@
+//! Searches of the network apart from the order of lanes.
+
+ghost use Rattle.std.specs.Prelude.{◌≡◌, ◌<◌, ◌≤◌, false, IfOk};
+ghost use Rattle.drawn_networks.specs.Drawn.{IsRowOf};
+ghost use Rattle.event_graph.specs.Edges.{cause_choices};
+ghost use Rattle.event_graph.specs.Network.{IsNet};
+ghost use Rattle.explanations.specs.Apart.{net_apart};
+ghost use Rattle.extremes.specs.Found.{IsConsistency};
+ghost use Rattle.extremes.specs.Ready.{IsReady};
+ghost use Rattle.itv_base.specs.declared.limits.TheConstants.{MAX_BUDGET};
+ghost use Rattle.requirements.specs.Laws.{IsMet};
+ghost use Rattle.job_lint.specs.Found.{ContradictsByOrder, PassesByOrder, is_order_open};
+ghost use Rattle.job_lint.specs.Step.Keeping.{IsExtent, KeepsRange};
+ghost use Rattle.job_lint.specs.Step.Searching.{IsApartEnough, IsApartFor, IsApartSearch, IsEnoughIn};
+
+use crate::by_order::ByOrder;
+use crate::kept::{Extent, RangeKept, extent_by, kept_in, order_by_finding, order_by_kept};
+use crate::turns::run_turns;
+use drawn_networks::{DrawnNetwork, Row};
+use event_graph::Network;
+use explanations::network_apart;
+use extremes::{Consistency, Extremes};
+use itv_base::{EventId, NoMemory, Range};
+use std::alloc::Global;
+
+/// The network apart from the order of lanes, which some times satisfy, and the memory for its searches.
+#[derive(Drop)]
+pub struct ApartSearch {
+    pub net: Network,
+    pub extremes: Extremes,
+}
+
+/// What is known of the network apart from the order of lanes, where some times satisfy the drawn network.
+#[derive(Drop)]
+pub enum WithoutOrder {
+    /// It is the drawn network.
+    Same,
+    /// Some times satisfy it, and its pairs can be searched.
+    Ready(ApartSearch),
+    /// The search for times was left open.
+    Open,
+}
+
+/// Whether a design that no times satisfy contradicts itself because of the order of lanes alone.
+pub fn contradicts_by_order(
+    alloc: Global,
+    drawn: &DrawnNetwork,
+    budget: u64,
+) -> Result<ByOrder, NoMemory>
+    requires none { IsConsistency drawn.now.net Consistency.Inconsistent }
+    requires least { 1 ≤ budget }
+    requires most { budget ≤ MAX_BUDGET }
+    ensures order { IfOk result (ContradictsByOrder drawn.now) }
+    ensures settles { IfOk result (λ by. cause_choices drawn.now.net.constraints ≤ budget → is_order_open by ≡ false) }
+{
+    drawn.network().is_whole();
+    match network_apart(alloc, drawn)? {
+        None => Ok(ByOrder::No),
+        Some(net) => find_order(alloc, drawn, &net, budget),
+    }
+}
+
+// Whether some times satisfy the network apart, where none satisfy the drawn network.
+fn find_order(
+    alloc: Global,
+    drawn: &DrawnNetwork,
+    net: &Network,
+    budget: u64,
+) -> Result<ByOrder, NoMemory>
+    requires net { net.now ≡ net_apart drawn.now }
+    requires limits { IsNet drawn.now.net }
+    requires least { 1 ≤ budget }
+    requires most { budget ≤ MAX_BUDGET }
+    ensures order { IfOk result (ContradictsByOrder drawn.now) }
+    ensures settles { IfOk result (λ by. cause_choices drawn.now.net.constraints ≤ budget → is_order_open by ≡ false) }
+{
+    let found = find_times(alloc, net, budget)?;
+    Ok(order_by_finding(found))
+}
+
+// Whether some times satisfy a network.
+fn find_times(alloc: Global, net: &Network, budget: u64) -> Result<Consistency, NoMemory>
+    requires least { 1 ≤ budget }
+    requires most { budget ≤ MAX_BUDGET }
+    ensures finding { IfOk result (IsConsistency net.now) }
+    ensures settles { IfOk result (λ found. cause_choices net.now.constraints ≤ budget → found ≡ Consistency.Open → ⊥) }
+{
+    let mut extremes = Extremes::new(alloc, net, budget, run_turns(budget))?;
+    let found = extremes.find(alloc, net);
+    drop(extremes);
+    found
+}
+
+/// Looks for times that satisfy the network apart, where some times satisfy the drawn network.
+pub fn find_apart(
+    alloc: Global,
+    drawn: &DrawnNetwork,
+    budget: u64,
+) -> Result<WithoutOrder, NoMemory>
+    requires some { IsConsistency drawn.now.net Consistency.Consistent }
+    requires least { 1 ≤ budget }
+    requires most { budget ≤ MAX_BUDGET }
+    ensures apart { IfOk result (IsApartFor drawn.now) }
+    ensures enough { IfOk result (λ apart. cause_choices drawn.now.net.constraints ≤ budget → IsApartEnough drawn.now apart) }
+{
+    match network_apart(alloc, drawn)? {
+        None => Ok(WithoutOrder::Same),
+        Some(net) => find_in(alloc, drawn, net, budget),
+    }
+}
+
+// Looks for times that satisfy the network apart.
+fn find_in(
+    alloc: Global,
+    drawn: &DrawnNetwork,
+    net: Network,
+    budget: u64,
+) -> Result<WithoutOrder, NoMemory>
+    requires net { net ≡ net_apart drawn.now }
+    requires some { IsConsistency drawn.now.net Consistency.Consistent }
+    requires least { 1 ≤ budget }
+    requires most { budget ≤ MAX_BUDGET }
+    ensures apart { IfOk result (IsApartFor drawn.now) }
+    ensures enough { IfOk result (λ apart. cause_choices drawn.now.net.constraints ≤ budget → IsApartEnough drawn.now apart) }
+{
+    drawn.network().is_whole();
+    let mut extremes = Extremes::new(alloc, &net, budget, run_turns(budget))?;
+    match extremes.find(alloc, &net) {
+        Ok(found) => Ok(found_apart(drawn, net, extremes, found)),
+        Err(NoMemory) => {
+            drop(extremes);
+            Err(NoMemory)
+        }
+    }
+}
+
+// What is known of the network apart after the search for times.
+fn found_apart(
+    drawn: &DrawnNetwork,
+    net: Network,
+    extremes: Extremes,
+    found: Consistency,
+) -> WithoutOrder
+    requires net { net ≡ net_apart drawn.now }
+    requires limits { IsNet drawn.now.net }
+    requires some { IsConsistency drawn.now.net Consistency.Consistent }
+    requires finding { IsConsistency net found }
+    requires ready { found ≡ Consistency.Consistent → IsReady net extremes }
+    requires settles { cause_choices net.constraints ≤ extremes.budget → found ≡ Consistency.Open → ⊥ }
+    ensures apart { IsApartFor drawn.now result }
+    ensures enough { cause_choices drawn.now.net.constraints ≤ extremes.budget → IsApartEnough drawn.now result }
+{
+    match found {
+        Consistency::Consistent => WithoutOrder::Ready(ApartSearch { net, extremes }),
+        // Times that satisfy the drawn network satisfy the network apart.
+        Consistency::Inconsistent => unreachable!(),
+        Consistency::Open => {
+            drop(net);
+            drop(extremes);
+            WithoutOrder::Open
+        }
+    }
+}
+
+/// Whether a requirement that all satisfying times keep is kept because of the order of lanes alone.
+pub fn passes_by_order(
+    alloc: Global,
+    drawn: &DrawnNetwork,
+    row: &Row,
+    range: Range,
+    apart: &mut WithoutOrder,
+) -> Result<ByOrder, NoMemory>
+    requires row { IsRowOf drawn.now.net row.now }
+    requires met { IsMet drawn.now.net row.now.from row.now.to range }
+    requires apart { IsApartFor drawn.now apart.old }
+    ensures apart { IfOk result (λ _. IsApartFor drawn.now apart.new) }
+    ensures order { IfOk result (PassesByOrder drawn.now row.now range) }
+    ensures enough { IfOk result (λ _. IsApartEnough drawn.now apart.old → IsApartEnough drawn.now apart.new) }
+    ensures settles { IfOk result (λ by. IsApartEnough drawn.now apart.old → is_order_open by ≡ false) }
+{
+    drawn.network().is_whole();
+    match apart {
+        WithoutOrder::Same => Ok(ByOrder::No),
+        WithoutOrder::Ready(search) => passes_apart(alloc, drawn, row, range, search),
+        WithoutOrder::Open => Ok(ByOrder::Open),
+    }
+}
+
+// Whether a requirement that all satisfying times keep is kept in the network apart.
+fn passes_apart(
+    alloc: Global,
+    drawn: &DrawnNetwork,
+    row: &Row,
+    range: Range,
+    search: &mut ApartSearch,
+) -> Result<ByOrder, NoMemory>
+    requires row { IsRowOf drawn.now.net row.now }
+    requires limits { IsNet drawn.now.net }
+    requires met { IsMet drawn.now.net row.now.from row.now.to range }
+    requires search { IsApartSearch drawn.now search.old }
+    ensures search { IfOk result (λ _. IsApartSearch drawn.now search.new) }
+    ensures order { IfOk result (PassesByOrder drawn.now row.now range) }
+    ensures enough { IfOk result (λ _. IsEnoughIn drawn.now search.old.extremes → IsEnoughIn drawn.now search.new.extremes) }
+    ensures settles { IfOk result (λ by. IsEnoughIn drawn.now search.old.extremes → is_order_open by ≡ false) }
+{
+    let kept = kept_apart(alloc, row, range, search)?;
+    Ok(order_by_kept(kept))
+}
+
+// Whether all times that satisfy the network apart keep a range.
+fn kept_apart(
+    alloc: Global,
+    row: &Row,
+    range: Range,
+    search: &mut ApartSearch,
+) -> Result<RangeKept, NoMemory>
+    requires row { IsRowOf search.old.net row.now }
+    requires ready { IsReady search.old.net search.old.extremes }
+    ensures net { search.new.net ≡ search.old.net }
+    ensures ready { IsReady search.old.net search.new.extremes }
+    ensures budget { search.new.extremes.budget ≡ search.old.extremes.budget }
+    ensures kept { IfOk result (KeepsRange search.old.net row.now.from row.now.to range) }
+    ensures settles { IfOk result (λ kept. cause_choices search.old.net.constraints ≤ search.old.extremes.budget → kept ≡ RangeKept.Open → ⊥) }
+{
+    let found = extent(alloc, &search.net, row.from, row.to, &mut search.extremes)?;
+    let reversed = extent(alloc, &search.net, row.to, row.from, &mut search.extremes)?;
+    Ok(kept_in(range, found, reversed))
+}
+
+// The greatest separation of a pair.
+fn extent(
+    alloc: Global,
+    net: &Network,
+    from: EventId,
+    to: EventId,
+    extremes: &mut Extremes,
+) -> Result<Extent, NoMemory>
+    requires ready { IsReady net.now extremes.old }
+    requires from { from.0 < net.now.events }
+    requires to { to.0 < net.now.events }
+    ensures ready { IsReady net.now extremes.new }
+    ensures budget { extremes.new.budget ≡ extremes.old.budget }
+    ensures extent { IfOk result (IsExtent net.now from to) }
+    ensures settles { IfOk result (λ extent. cause_choices net.now.constraints ≤ extremes.old.budget → extent ≡ Extent.Open → ⊥) }
+{
+    let found = extremes.greatest(alloc, net, from, to)?;
+    Ok(extent_by(&found))
+}

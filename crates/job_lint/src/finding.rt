@@ -1,0 +1,95 @@
+//! Searching a design.
+
+ghost use Rattle.std.specs.Prelude.{◌≡◌, ◌≤◌, IfOk};
+ghost use Rattle.event_graph.specs.Edges.{cause_choices};
+ghost use Rattle.extremes.specs.Found.{IsConsistency};
+ghost use Rattle.extremes.specs.Ready.{IsReady};
+ghost use Rattle.itv_base.specs.declared.limits.TheConstants.{MAX_BUDGET};
+ghost use Rattle.job_lint.specs.Found.{IsLintFound, LeavesNothingOpen};
+
+use crate::apart::contradicts_by_order;
+use crate::lint_found::LintFound;
+use crate::rows::see_rows;
+use crate::turns::run_turns;
+use drawn_networks::DrawnNetwork;
+use extremes::{Consistency, Extremes};
+use itv_base::NoMemory;
+use narrow_ends::find_narrow;
+use std::alloc::Global;
+
+/// Looks for times that satisfy a design, and for what its ends of ranges and its rows rest on. Each search closes at most `budget` cases, and takes at
+/// most a thousand turns for each.
+pub fn find_all(alloc: Global, drawn: &DrawnNetwork, budget: u64) -> Result<LintFound, NoMemory>
+    requires least { 1 ≤ budget }
+    requires most { budget ≤ MAX_BUDGET }
+    ensures found { IfOk result (IsLintFound drawn.now) }
+    ensures settles { IfOk result (LeavesNothingOpen drawn.now budget) }
+{
+    let net = drawn.network();
+    let mut extremes = Extremes::new(alloc, net, budget, run_turns(budget))?;
+    match extremes.find(alloc, net) {
+        Ok(found) => find_after(alloc, drawn, budget, extremes, found),
+        Err(NoMemory) => {
+            drop(extremes);
+            Err(NoMemory)
+        }
+    }
+}
+
+// Looks on after the search for times.
+fn find_after(
+    alloc: Global,
+    drawn: &DrawnNetwork,
+    budget: u64,
+    extremes: Extremes,
+    found: Consistency,
+) -> Result<LintFound, NoMemory>
+    requires finding { IsConsistency drawn.now.net found }
+    requires ready { found ≡ Consistency.Consistent → IsReady drawn.now.net extremes }
+    requires settles { cause_choices drawn.now.net.constraints ≤ budget → found ≡ Consistency.Open → ⊥ }
+    requires same { extremes.budget ≡ budget }
+    requires least { 1 ≤ budget }
+    requires most { budget ≤ MAX_BUDGET }
+    ensures found { IfOk result (IsLintFound drawn.now) }
+    ensures settles { IfOk result (LeavesNothingOpen drawn.now budget) }
+{
+    match found {
+        Consistency::Consistent => find_behind(alloc, drawn, budget, extremes),
+        Consistency::Inconsistent => {
+            drop(extremes);
+            let by = contradicts_by_order(alloc, drawn, budget)?;
+            Ok(LintFound::Inconsistent(by))
+        }
+        Consistency::Open => {
+            drop(extremes);
+            Ok(LintFound::Open)
+        }
+    }
+}
+
+// Looks for what the ends of ranges and the rows of a design rest on; some times satisfy it.
+fn find_behind(
+    alloc: Global,
+    drawn: &DrawnNetwork,
+    budget: u64,
+    extremes: Extremes,
+) -> Result<LintFound, NoMemory>
+    requires ready { IsReady drawn.now.net extremes }
+    requires same { extremes.budget ≡ budget }
+    requires least { 1 ≤ budget }
+    requires most { budget ≤ MAX_BUDGET }
+    ensures found { IfOk result (IsLintFound drawn.now) }
+    ensures settles { IfOk result (LeavesNothingOpen drawn.now budget) }
+{
+    let mut extremes = extremes;
+    match find_narrow(alloc, drawn, &mut extremes) {
+        Ok(ends) => {
+            let rows = see_rows(alloc, drawn, budget, extremes)?;
+            Ok(LintFound::Consistent { ends, rows })
+        }
+        Err(NoMemory) => {
+            drop(extremes);
+            Err(NoMemory)
+        }
+    }
+}

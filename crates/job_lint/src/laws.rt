@@ -1,0 +1,8 @@
+//! Laws on the definitions that the contracts of this crate cite. The functions do nothing.
+
+ghost use Rattle.job_lint.specs.Clean.{CleanHasSearchedAll};
+
+/// Where no line is to be printed, the searches ended: nothing was left open, but of rows whose answer is known to rest on the order of a lane.
+pub fn clean_has_searched_all()
+    ensures law { CleanHasSearchedAll }
+{}

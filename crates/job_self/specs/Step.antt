@@ -1,0 +1,9 @@
+-- Words of the contracts by which the steps of job self call one another.
+use Rattle.std.specs.Prelude.{ℕ, List, [], ◌∷◌}
+use Rattle.itv_base.specs.Numerals.{number_text}
+use Rattle.job_self.specs.Summary.{words_text}
+use Rattle.job_self.specs.declared.write.Count.{Count}
+
+-- the line of a number, with the word for what it counts
+abbrev pub count_text : Count → List ℕ
+count_text c = words_text (c.word.now ∷ number_text c.count ∷ [])

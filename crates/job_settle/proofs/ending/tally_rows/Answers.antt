@@ -1,0 +1,19 @@
+use Rattle.std.proofs.Common.{◌≡◌, ◌<◌, length, arith}
+use Rattle.right_report.proofs.RowTally.{tally_more}
+use Rattle.job_settle.specs.Answers.{both_of}
+use Rattle.job_settle.proofs.Gathering.{rows_count}
+use Rattle.job_settle.proofs.ending.tally_rows.Goals as goal
+
+pub bounds-found-number : goal.bounds-found-number
+bounds-found-number c =
+    let count : length c.args.found.now ≡ length c.args.drawn.now.rows = rows_count c.requires.found.0 c.args.drawn.now.net c.args.drawn.now.rows c.args.found.now c.requires.found.1 in
+    let within : c.loop-number.number < length c.args.drawn.now.rows = grind arith in
+    omega (arith, count, within)
+
+pub loop-number-preserved : goal.loop-number-preserved
+loop-number-preserved c =
+    let count : length c.args.found.now ≡ length c.args.drawn.now.rows = rows_count c.requires.found.0 c.args.drawn.now.net c.args.drawn.now.rows c.args.found.now c.requires.found.1 in
+    let within : c.loop-number.number < length c.args.drawn.now.rows = grind arith in
+    tally_more both_of _ _ _ c.args.drawn.now.rows c.args.found.now c.loop-number.number c.row_at-row.result.now c.index-found-number.result c.index-found-number.result
+    c.both_of-both.result c.row_at-row.ensures.row (omega (arith, count, within)) c.index-found-number.is c.both_of-both.ensures.both c.with_row-tally.ensures.tally
+    c.loop-number.invariant

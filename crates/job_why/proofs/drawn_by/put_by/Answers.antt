@@ -1,0 +1,17 @@
+use Rattle.std.proofs.lemmas.Result.{err_from_is_err_and}
+use Rattle.std.proofs.Common.{refl}
+use Rattle.line_words.proofs.Putting.{cut_one, cut_two, put_three}
+use Rattle.job_why.proofs.drawn_by.put_by.Goals as goal
+
+pub returns-in_err-put : goal.returns-in_err-put
+returns-in_err-put g c =
+    let p = err_from_is_err_and c.from_residual.result c.from_residual.ensures.1 in
+    record { puts = rw p.1 (cut_one _ _ _ _ _ refl c.in_err-put.ensures.puts) }
+
+pub returns-in_err-put_origin : goal.returns-in_err-put_origin
+returns-in_err-put_origin g c =
+    let p = err_from_is_err_and c.from_residual-in_err-put_origin.result c.from_residual-in_err-put_origin.ensures.1 in
+    record { puts = rw p.1 (cut_two _ _ _ _ _ _ _ refl c.in_ok-put.ensures.puts c.in_err-put_origin.ensures.puts) }
+
+pub returns : goal.returns
+returns g c = record { puts = put_three _ _ _ _ _ _ _ _ c.put_told.result refl c.in_ok-put.ensures.puts c.in_ok-put_origin.ensures.puts c.put_told.ensures }

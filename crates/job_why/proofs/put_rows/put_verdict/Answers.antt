@@ -1,0 +1,21 @@
+use Rattle.std.proofs.lemmas.Result.{err_from_is_err_and}
+use Rattle.std.proofs.Common.{refl}
+use Rattle.requirements.specs.Slacks.{slack_of}
+use Rattle.job_why.proofs.Whole.{verdict_is}
+use Rattle.line_words.proofs.Putting.{cut_two, put_three}
+use Rattle.job_why.proofs.put_rows.put_verdict.Goals as goal
+
+pub returns-in_err-put_apart : goal.returns-in_err-put_apart
+returns-in_err-put_apart g c =
+    let p = err_from_is_err_and c.from_residual-in_err-put_apart.result c.from_residual-in_err-put_apart.ensures.1 in
+    let both = c.both_of-both.result in
+    record {
+      puts = rw p.1 (cut_two _ _ _ _ _ _ _ (verdict_is c.args.range c.args.found.now both.least both.greatest _ (slack_of c.args.range both.least both.greatest) c.both_of-both.ensures.least c.both_of-both.ensures.greatest c.judge-word.ensures refl) c.in_ok-write_item.ensures.puts c.in_err-put_apart.ensures.puts);
+    }
+
+pub returns : goal.returns
+returns g c =
+    let both = c.both_of-both.result in
+    record {
+      puts = put_three _ _ _ _ _ _ _ _ c.write_item-2.result (verdict_is c.args.range c.args.found.now both.least both.greatest _ _ c.both_of-both.ensures.least c.both_of-both.ensures.greatest c.judge-word.ensures c.slack.ensures) c.in_ok-write_item.ensures.puts c.in_ok-put_apart.ensures.puts c.write_item-2.ensures.puts;
+    }

@@ -1,0 +1,19 @@
+//! The bounds of a row that are printed, and by which verdicts and slacks are judged.
+
+ghost use Rattle.std.specs.Prelude.{◌≡◌};
+ghost use Rattle.explanations.specs.Answers.{both_of, bound_of};
+
+use explanations::RowFound;
+use requirements::BothBounds;
+
+/// Both bounds of a row. Verdicts and slacks are judged by them.
+pub fn both_of(found: &RowFound) -> BothBounds
+    ensures least { result.least ≡ bound_of found.now.least }
+    ensures greatest { result.greatest ≡ bound_of found.now.greatest }
+    ensures both { result ≡ both_of found.now }
+{
+    BothBounds {
+        least: found.least.bound(),
+        greatest: found.greatest.bound(),
+    }
+}

@@ -1,0 +1,110 @@
+//! All warnings of a design.
+
+ghost use Rattle.std.specs.Prelude.{◌≡◌, ◌++◌, IfOk, Ok, OnOk};
+ghost use Rattle.compose.specs.Compose.{composed_on};
+ghost use Rattle.design_plan.specs.Plan.{sheets_on};
+ghost use Rattle.lint.specs.Driven.{join_warnings};
+ghost use Rattle.lint.specs.Leads.{leads_of};
+ghost use Rattle.lint.specs.Periods.{period_warnings};
+ghost use Rattle.lint.specs.Texts.{text_warnings};
+ghost use Rattle.lint.specs.Warnings.{rule_warnings, warnings_of};
+
+use crate::asked::push_asked;
+use crate::both::push_both;
+use crate::clock::clocks_of;
+use crate::comments::push_comments;
+use crate::crossings::crossings_of;
+use crate::drivers::push_drivers;
+use crate::followers::push_followers;
+use crate::held::push_held;
+use crate::keys::push_keys;
+use crate::lead::Lead;
+use crate::leads::leads_of;
+use crate::misplaced::push_notes;
+use crate::never::push_never;
+use crate::own::push_own;
+use crate::periods::push_rivals;
+use crate::single::push_single;
+use crate::units::push_units;
+use crate::warning::Warning;
+use crate::words::push_words;
+use compose::Design;
+use design_plan::Plan;
+use itv_base::NoMemory;
+use std::alloc::Global;
+
+/// The warnings of a design and of the plan that it was composed of, in their order.
+pub fn warnings_of(
+    alloc: Global,
+    plan: &Plan,
+    design: &Design<'_>,
+) -> Result<Vec<Warning>, NoMemory>
+    requires design { composed_on plan.now.netlist (sheets_on plan.now.sheets plan.now.netlist.parts) ≡ Ok design.now }
+    ensures warnings { IfOk result (λ warnings. warnings.items ≡ warnings_of plan.now design.now) }
+{
+    let mut warnings = Vec::new(alloc);
+    push_asked(&mut warnings, design)?;
+    push_texts(&mut warnings, plan, design)?;
+    let leads = leads_of(alloc, design)?;
+    push_rules(alloc, &mut warnings, &leads, plan, design)?;
+    push_joins(&mut warnings, &leads, design)?;
+    Ok(warnings)
+}
+
+// Puts the warnings of the texts of edges, and of keys, at the end.
+fn push_texts(warnings: &mut Vec<Warning>, plan: &Plan, design: &Design<'_>) -> Result<(), NoMemory>
+    ensures pushed { OnOk result (warnings.new.items ≡ warnings.old.items ++ text_warnings plan.now design.now) }
+{
+    push_comments(warnings, plan, design)?;
+    push_words(warnings, plan, design)?;
+    push_notes(warnings, plan, design)?;
+    push_keys(warnings, plan, design)
+}
+
+// Puts the warnings of ranges, rules and rows at the end. The leads are those of the design.
+fn push_rules(
+    alloc: Global,
+    warnings: &mut Vec<Warning>,
+    leads: &[Lead],
+    plan: &Plan,
+    design: &Design<'_>,
+) -> Result<(), NoMemory>
+    requires leads { leads.now ≡ leads_of design.now }
+    ensures pushed { OnOk result (warnings.new.items ≡ warnings.old.items ++ rule_warnings plan.now design.now) }
+{
+    push_units(alloc, warnings, plan, design)?;
+    push_both(warnings, leads, plan, design)?;
+    push_single(warnings, design)?;
+    push_never(warnings, design)?;
+    push_periods(alloc, warnings, leads, design)
+}
+
+// Puts the warnings of periods at the end. The leads are those of the design.
+fn push_periods(
+    alloc: Global,
+    warnings: &mut Vec<Warning>,
+    leads: &[Lead],
+    design: &Design<'_>,
+) -> Result<(), NoMemory>
+    requires leads { leads.now ≡ leads_of design.now }
+    ensures pushed { OnOk result (warnings.new.items ≡ warnings.old.items ++ period_warnings design.now) }
+{
+    let clocks = clocks_of(alloc, leads)?;
+    push_rivals(warnings, &clocks)?;
+    let crossings = crossings_of(alloc, design)?;
+    push_followers(warnings, leads, &crossings, design)
+}
+
+// Puts the warnings of marks that follow drivers at the end. The leads are those of the design.
+fn push_joins(
+    warnings: &mut Vec<Warning>,
+    leads: &[Lead],
+    design: &Design<'_>,
+) -> Result<(), NoMemory>
+    requires leads { leads.now ≡ leads_of design.now }
+    ensures pushed { OnOk result (warnings.new.items ≡ warnings.old.items ++ join_warnings design.now) }
+{
+    push_drivers(warnings, design)?;
+    push_own(warnings, design)?;
+    push_held(warnings, leads, design)
+}

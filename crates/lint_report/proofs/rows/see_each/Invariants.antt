@@ -1,6 +1,0 @@
-use Rattle.lint_report.proofs.Searching.{AreSeenSoFar}
-use Rattle.lint_report.proofs.rows.see_each.Given as goal
-
--- the rows so far
-abbrev pub invariant-loop-row : goal.invariant-loop-row
-invariant-loop-row l = AreSeenSoFar l.drawn l.initial.search l.search l.row-index l.row-items l.found.items

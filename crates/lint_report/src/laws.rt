@@ -1,8 +1,0 @@
-//! Laws on the definitions that the contracts of this crate cite. The functions do nothing.
-
-ghost use Rattle.lint_report.specs.Clean.{CleanHasSearchedAll};
-
-/// Where no line is to be printed, the searches ended: nothing was left open, but of rows whose answer is known to rest on the order of a lane.
-pub fn clean_has_searched_all()
-    ensures law { CleanHasSearchedAll }
-{}

@@ -1,0 +1,63 @@
+-- The loop over all ends.
+use Rattle.std.proofs.Common.{◌≡◌, ◌<◌, ◌≤◌, ◌+◌, ℕ, List, [], ◌∷◌, ◌++◌, length, take, get_or, All, None, refl, sym, subst, ap, ◌∙◌, arith}
+use Rattle.std.proofs.lemmas.List.{take_all, take_more}
+use Rattle.std.proofs.lemmas.List.Elements.{All-weaker}
+use Rattle.itv_base.specs.declared.names.EdgeName.{EdgeName}
+use Rattle.event_graph.specs.Edges.{cause_choices}
+use Rattle.drawn_networks.specs.Drawn.{Drawn}
+use Rattle.extremes.specs.declared.extremes.Extremes.{Extremes}
+use Rattle.extremes.specs.Ready.{IsReady}
+use Rattle.narrow_ends.specs.declared.end.RangeEnd.{RangeEnd}
+use Rattle.narrow_ends.specs.declared.narrow.TheConstants.{MOST_SEARCHES}
+use Rattle.narrow_ends.specs.declared.source.EndKey.{EndKey}
+use Rattle.narrow_ends.specs.Ends.{all_ends, ends_of, with_ends}
+use Rattle.narrow_ends.specs.Narrow.{IsEndFound}
+use Rattle.narrow_ends.specs.Step.{AreEndsSettled, EndPlaces, IsEndAmong, Stand, names_of, place_of}
+use Rattle.narrow_ends.proofs.Standing.{stand_none}
+
+-- the ends stand for the first names, and no more searches were made than there are such names
+pub record IsAlong (drawn : Drawn) (budget : ℕ) (names : List EdgeName) (count : ℕ) (extremes : Extremes) (places : EndPlaces) (ends : List RangeEnd) (left : ℕ) : Type 0 where
+  pub ready : IsReady drawn.net extremes
+  pub budget_stays : extremes.budget ≡ budget
+  pub stand : Stand drawn (take count names) places ends
+  pub settled : cause_choices drawn.net.constraints ≤ budget → length names ≤ MOST_SEARCHES → AreEndsSettled ends
+  pub left_over : MOST_SEARCHES ≤ left + count
+
+pub along_start : (drawn : Drawn) (names : List EdgeName) (extremes : Extremes) (places : EndPlaces) (ends : List RangeEnd) (left : ℕ) → IsReady drawn.net extremes
+    → ((key : EndKey) → place_of places key ≡ None) → ends ≡ [] → left ≡ MOST_SEARCHES → IsAlong drawn extremes.budget names 0 extremes places ends left
+along_start drawn names extremes places ends left ready none empty full = record {
+  ready = ready;
+  budget_stays = refl;
+  stand = subst (Stand drawn (take 0 names) places) (sym empty) (stand_none drawn places none);
+  settled = λ enough few. subst AreEndsSettled (sym empty) (λ k d within. absurd (omega arith));
+  left_over = omega (arith, full);
+}
+
+pub along_next : (drawn : Drawn) (budget : ℕ) (names : List EdgeName) (i : ℕ) (d : EdgeName) (before after : Extremes) (places more : EndPlaces) (ends others : List RangeEnd) (left less : ℕ)
+    → i < length names → IsAlong drawn budget names i before places ends left → IsReady drawn.net after → after.budget ≡ before.budget
+    → ((front : List EdgeName) → Stand drawn front places ends → Stand drawn (front ++ get_or names i d ∷ []) more others)
+    → (cause_choices drawn.net.constraints ≤ before.budget → 1 ≤ left → AreEndsSettled ends → AreEndsSettled others) → left ≤ less + 1
+    → IsAlong drawn budget names (i + 1) after more others less
+along_next drawn budget names i d before after places more ends others left less within along ready same stands settles fewer = record {
+  ready = ready;
+  budget_stays = same ∙ along.budget_stays;
+  stand =
+      subst (λ (n : List EdgeName). Stand drawn n more others) (sym (take_more names i d within)) (stands (take i names) along.stand);
+  settled = λ enough few. settles (omega (arith, enough, along.budget_stays)) (omega (arith, few, within, along.left_over)) (along.settled enough few);
+  left_over = omega (arith, fewer, along.left_over);
+}
+
+-- after the last name the ends stand for all of them
+pub along_all : (drawn : Drawn) (budget : ℕ) (names : List EdgeName) (i : ℕ) (extremes : Extremes) (places : EndPlaces) (ends : List RangeEnd) (left : ℕ) → length names ≤ i
+    → IsAlong drawn budget names i extremes places ends left → Stand drawn names places ends
+along_all drawn budget names i extremes places ends left past along = subst (λ (n : List EdgeName). Stand drawn n places ends) (take_all i names past) along.stand
+
+-- where all names were looked at, the ends are in order
+pub ordered_all : (drawn : Drawn) (names : List EdgeName) (places : EndPlaces) (ends : List RangeEnd) → names ≡ all_ends drawn → Stand drawn names places ends → names_of ends ≡ ends_of drawn
+ordered_all drawn names places ends is stand = stand.order ∙ ap (with_ends drawn []) is
+
+-- where all names were looked at, the ends are found
+pub found_all : (drawn : Drawn) (names : List EdgeName) (places : EndPlaces) (ends : List RangeEnd) → names ≡ all_ends drawn → Stand drawn names places ends → All (IsEndFound drawn) ends
+found_all drawn names places ends is stand =
+    All-weaker (IsEndAmong drawn names) (IsEndFound drawn) (λ end among. subst (λ (n : List EdgeName). IsEndAmong drawn n end → IsEndFound drawn end) (sym is) (λ a. record { there = a.there; found = a.found }) among) ends
+    stand.found

@@ -1,0 +1,88 @@
+//! What a search of one edge finds of an end.
+
+ghost use Rattle.std.specs.Prelude.{◌≡◌, false, ◌<◌, ◌≤◌, ◌≤ℤ◌, ◌+◌, ◌⊎◌, IfOk, IfSome, Some};
+ghost use Rattle.event_graph.specs.Edges.{cause_choices};
+ghost use Rattle.extremes.specs.Found.{IsGreatestFound, is_open};
+ghost use Rattle.extremes.specs.Ready.{IsReady};
+ghost use Rattle.narrow_ends.specs.Narrow.{IsEndSettled};
+ghost use Rattle.narrow_ends.specs.Step.{IsSearched};
+ghost use Rattle.event_graph.specs.Bounds.{IsGreatest};
+ghost use Rattle.event_graph.specs.Network.{Net};
+ghost use Rattle.event_graph.specs.declared.edge.Edge.{Edge as EdgeSeen};
+
+use crate::end::EndFound;
+use event_graph::{Edge, Network};
+use extremes::{Extremes, Greatest};
+use itv_base::NoMemory;
+use std::alloc::Global;
+
+/// Searches for the greatest separation along an edge of an end with a weight, where some separation, or none, is the greatest so far. The end is open
+/// where no searches are left or the search leaves it so.
+pub fn search(
+    alloc: Global,
+    net: &Network,
+    extremes: &mut Extremes,
+    edge: Edge,
+    weight: i64,
+    so_far: Option<i64>,
+    left: &mut u64,
+) -> Result<EndFound, NoMemory>
+    requires ready { IsReady net.now extremes.old }
+    requires from { edge.from.0 < net.now.events }
+    requires to { edge.to.0 < net.now.events }
+    ensures ready { IsReady net.now extremes.new }
+    ensures budget { extremes.new.budget ≡ extremes.old.budget }
+    ensures found { IfOk result (IsSearched net.now edge weight so_far) }
+    ensures settles { IfOk result (λ found. cause_choices net.now.constraints ≤ extremes.old.budget → 1 ≤ left.old → IsEndSettled found) }
+    ensures left { left.old ≤ left.new + 1 }
+{
+    if *left == 0 {
+        return Ok(EndFound::Open);
+    }
+    *left -= 1;
+    let greatest = extremes.greatest(alloc, net, edge.from, edge.to)?;
+    Ok(found_of(greatest, weight, so_far))
+}
+
+// What is found of an end with a weight, according to what is found of a greatest separation and the greatest one so far.
+fn found_of(greatest: Greatest, weight: i64, so_far: Option<i64>) -> EndFound
+    ensures found { (net : Net) (e : EdgeSeen) → IsGreatestFound net e.from e.to greatest → IsSearched net e weight so_far result }
+    ensures settled { is_open greatest ≡ false → IsEndSettled result }
+{
+    match greatest {
+        Greatest::Closed { value, .. } => found_by(value, weight, so_far),
+        Greatest::Unbounded { .. } => EndFound::Wide,
+        Greatest::Open { .. } => EndFound::Open,
+    }
+}
+
+// What is found of an end with a weight, by a greatest separation and the greatest one so far.
+fn found_by(value: i64, weight: i64, so_far: Option<i64>) -> EndFound
+    ensures found { (net : Net) (e : EdgeSeen) → IsGreatest net e.from e.to value → IsSearched net e weight so_far result }
+    ensures settled { IsEndSettled result }
+{
+    if weight <= value {
+        EndFound::Wide
+    } else {
+        narrow_at(most_of(value, so_far))
+    }
+}
+
+// A narrow end, to which satisfying times come this near.
+fn narrow_at(only: i64) -> EndFound
+    ensures { result ≡ EndFound.Narrow only }
+{
+    EndFound::Narrow(only)
+}
+
+// The greater one of a separation and the greatest one so far.
+fn most_of(value: i64, so_far: Option<i64>) -> i64
+    ensures least { value ≤ℤ result }
+    ensures before { IfSome so_far (λ z. z ≤ℤ result) }
+    ensures one { (so_far ≡ Some result) ⊎ (result ≡ value) }
+{
+    match so_far {
+        Some(other) if value < other => other,
+        _ => value,
+    }
+}

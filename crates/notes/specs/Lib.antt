@@ -1,3 +1,0 @@
--- The definitions of this crate: what a keeper of notes gives.
-pub use Rattle.origin.specs.Text
-pub mod NotesKept

@@ -1,6 +1,0 @@
-use Rattle.numbers.proofs.DrawnCauses.{causes_are_all_drawn}
-use Rattle.numbers.proofs.RangesSet.{numbers_are_set}
-use Rattle.numbers.proofs.laws.numbers_are_set.Goals as goal
-
-pub returns : goal.returns
-returns c = record { causes = causes_are_all_drawn; set = numbers_are_set }

@@ -1,6 +1,0 @@
-use Rattle.std.proofs.Common.{take}
-use Rattle.plan.specs.Step.{ArePartPlaces}
-use Rattle.plan.proofs.places.places_of.Given as goal
-
-abbrev pub invariant-loop-part : goal.invariant-loop-part
-invariant-loop-part l = ArePartPlaces l.sheets.entries (take l.part-index l.parts) l.places.items

@@ -1,4 +1,0 @@
-pub mod Lone
-pub mod Files
-pub mod Again
-pub mod Breaks

@@ -1,2 +1,0 @@
--- The definitions of this crate, module by module: what the text of a drawing is read as.
-pub mod Again

@@ -1,5 +1,0 @@
-use Rattle.redraw_report.proofs.Answering.{shows_fail}
-use Rattle.redraw_report.proofs.write.write_redraw.Goals as goal
-
-pub put_answer-requires : goal.put_answer-requires
-put_answer-requires g c = record { fail = shows_fail c.args.drawn.now c.args.budget c.in_ok-search.search c.in_ok-search.ensures.searched }

@@ -1,4 +1,0 @@
-use Rattle.report_check.proofs.answer.answer_check.Goals as goal
-
-pub returns-in-Ok : goal.returns-in-Ok
-returns-in-Ok g c = record { works = c.put_answer.ensures.works c.args.drawn.now c.args.bytes.now c.in-Ok.ensures.check }

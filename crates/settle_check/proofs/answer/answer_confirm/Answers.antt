@@ -1,9 +1,0 @@
-use Rattle.std.proofs.Common.{subst}
-use Rattle.settle_check.specs.Step.{IsWant}
-use Rattle.settle_check.proofs.answer.answer_confirm.Goals as goal
-
-pub returns-in-Err-Refused : goal.returns-in-Err-Refused
-returns-in-Err-Refused g c = record { works = c.refuse.ensures.works c.args.drawn.now c.args.text.now (λ settled. subst IsWant c.in-Err-Refused.field-0-is (c.in-Err-Refused.ensures.whole settled)) }
-
-pub returns-in-Ok : goal.returns-in-Ok
-returns-in-Ok g c = record { works = c.accept.ensures.works c.args.drawn.now c.args.text.now c.in-Ok.ensures.confirmed }

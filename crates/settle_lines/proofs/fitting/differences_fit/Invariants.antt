@@ -1,6 +1,0 @@
-use Rattle.std.specs.List.{AllWithin}
-use Rattle.settle_lines.specs.Text.{IsDifference}
-use Rattle.settle_lines.proofs.fitting.differences_fit.Given as goal
-
-abbrev pub invariant-loop-edge : goal.invariant-loop-edge
-invariant-loop-edge l = AllWithin IsDifference l.edges 0 l.edge-index

@@ -1,7 +1,0 @@
-use Rattle.std.specs.List.{AllWithin}
-use Rattle.edge_clauses.specs.Proofs.{line_of}
-use Rattle.settle_lines.specs.Text.{IsClauseLine}
-use Rattle.settle_lines.proofs.fitting.have_texts.Given as goal
-
-abbrev pub invariant-loop-line : goal.invariant-loop-line
-invariant-loop-line l = AllWithin (λ line. IsClauseLine (line_of line)) l.lines 0 l.line-index

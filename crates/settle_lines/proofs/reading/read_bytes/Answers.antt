@@ -1,5 +1,0 @@
-use Rattle.settle_lines.proofs.LineLaws.{no_clause_line}
-use Rattle.settle_lines.proofs.reading.read_bytes.Goals as goal
-
-pub returns-in-Err : goal.returns-in-Err
-returns-in-Err c = no_clause_line c.args.text.now c.in-Err.ensures.cases.0

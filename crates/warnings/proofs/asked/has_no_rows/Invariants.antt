@@ -1,6 +1,0 @@
-use Rattle.std.proofs.Common.{◌≡◌, take}
-use Rattle.warnings.proofs.RowLists.{row_count}
-use Rattle.warnings.proofs.asked.has_no_rows.Given as goal
-
-abbrev pub invariant-loop-part : goal.invariant-loop-part
-invariant-loop-part l = row_count (take l.part l.design.sheets) ≡ 0

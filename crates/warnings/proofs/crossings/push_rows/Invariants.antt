@@ -1,7 +1,0 @@
-use Rattle.std.proofs.Common.{◌≡◌, ◌++◌, take}
-use Rattle.std.specs.List.{flat_map}
-use Rattle.warnings.specs.Leads.{row_crossings}
-use Rattle.warnings.proofs.crossings.push_rows.Given as goal
-
-abbrev pub invariant-loop-row : goal.invariant-loop-row
-invariant-loop-row l = l.crossings.items ≡ l.initial.crossings.items ++ flat_map (row_crossings l.design.sheets l.home) (take l.row-index l.rows)

@@ -1,7 +1,0 @@
-use Rattle.std.proofs.Common.{◌≡◌, ◌++◌, take}
-use Rattle.warnings.specs.Lists.{each_from}
-use Rattle.warnings.specs.Texts.{netlist_key}
-use Rattle.warnings.proofs.keys.push_netlist.Given as goal
-
-abbrev pub invariant-loop-key : goal.invariant-loop-key
-invariant-loop-key l = l.warnings.items ≡ l.initial.warnings.items ++ each_from netlist_key 0 (take l.key l.stray)

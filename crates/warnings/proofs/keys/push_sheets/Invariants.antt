@@ -1,7 +1,0 @@
-use Rattle.std.proofs.Common.{◌≡◌, ◌++◌, take}
-use Rattle.warnings.specs.Lists.{each_from}
-use Rattle.warnings.specs.Texts.{sheet_key_warnings}
-use Rattle.warnings.proofs.keys.push_sheets.Given as goal
-
-abbrev pub invariant-loop-part : goal.invariant-loop-part
-invariant-loop-part l = l.warnings.items ≡ l.initial.warnings.items ++ each_from sheet_key_warnings 0 (take l.part l.design.sheets)

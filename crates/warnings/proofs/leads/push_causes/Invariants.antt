@@ -1,7 +1,0 @@
-use Rattle.std.proofs.Common.{◌≡◌, ◌++◌, take}
-use Rattle.std.specs.List.{flat_map}
-use Rattle.warnings.specs.Leads.{cause_leads}
-use Rattle.warnings.proofs.leads.push_causes.Given as goal
-
-abbrev pub invariant-loop-cause : goal.invariant-loop-cause
-invariant-loop-cause l = l.leads.items ≡ l.initial.leads.items ++ flat_map (cause_leads l.design.sheets l.home l.kind l.to) (take l.cause-index l.causes)

@@ -1,8 +1,0 @@
-use Rattle.warnings.specs.Leads.{sheet_leads}
-use Rattle.warnings.proofs.EachLists.{each_more}
-use Rattle.warnings.proofs.leads.push_sheets.Goals as goal
-
-pub loop-part-preserved : goal.loop-part-preserved
-loop-part-preserved c =
-    each_more (sheet_leads c.args.design.now.sheets) c.args.design.now.sheets c.loop-part.part c.sheet_of.result.now c.args.leads.now.items c.loop-part.leads.items c.push_rules.new.leads.items c.sheet_of.ensures.sheet
-    c.loop-part.invariant (rw (c.as_slice.ensures.items, c.rules.ensures.rules) at c.in_ok-push_rules.ensures.pushed)

@@ -1,7 +1,0 @@
-use Rattle.std.proofs.Common.{◌≡◌, ◌++◌, take}
-use Rattle.std.specs.List.{flat_map}
-use Rattle.warnings.specs.Rules.{row_never}
-use Rattle.warnings.proofs.never.push_rows.Given as goal
-
-abbrev pub invariant-loop-row : goal.invariant-loop-row
-invariant-loop-row l = l.warnings.items ≡ l.initial.warnings.items ++ flat_map (row_never l.last l.part) (take l.row-index l.rows)

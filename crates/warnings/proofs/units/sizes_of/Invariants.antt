@@ -1,7 +1,0 @@
-use Rattle.std.proofs.Common.{◌≡◌, take}
-use Rattle.std.specs.List.{flat_map}
-use Rattle.warnings.specs.Units.{sizes_of}
-use Rattle.warnings.proofs.units.sizes_of.Given as goal
-
-abbrev pub invariant-loop-ranged : goal.invariant-loop-ranged
-invariant-loop-ranged l = l.sizes.items ≡ flat_map sizes_of (take l.ranged-index l.ranges)

@@ -1,7 +1,0 @@
-use Rattle.std.proofs.Common.{◌≡◌, take}
-use Rattle.whatif_report.specs.Whatif.{pairs_of}
-use Rattle.whatif_report.proofs.asked.pairs_of.Given as goal
-
--- the pairs so far
-abbrev pub invariant-loop-k : goal.invariant-loop-k
-invariant-loop-k l = l.pairs.items ≡ pairs_of (take l.k l.rows)

@@ -1,5 +1,0 @@
-use Rattle.whatif_report.proofs.Texts.{last_is}
-use Rattle.whatif_report.proofs.ending.last_of.Goals as goal
-
-pub returns-in-Some : goal.returns-in-Some
-returns-in-Some c = record { last = last_is c.args.first.now c.in-Some.note.now c.args.notes.now c.in-Some.ensures.value }

@@ -1,9 +1,0 @@
-use Rattle.std.proofs.Common.{inl, inr}
-use Rattle.why_report.proofs.Looking.{known_count}
-use Rattle.why_report.proofs.ending.ending_of.Goals as goal
-
-pub tally_rows-requires : goal.tally_rows-requires
-tally_rows-requires c = record { count = known_count c.args.drawn.now c.args.finding.now c.args.found.now (inl c.in-Consistent.is) c.requires.found }
-
-pub tally_rows-requires-in-Unsettled : goal.tally_rows-requires-in-Unsettled
-tally_rows-requires-in-Unsettled c = record { count = known_count c.args.drawn.now c.args.finding.now c.args.found.now (inr c.in-Unsettled.is) c.requires.found }
