@@ -1,5 +1,5 @@
 -- What the elements of lists give, with one more element.
-use Rattle.std.proofs.Common.{◌≡◌, ℕ, suc, ◌+◌, ◌<◌, List, [], ◌∷◌, ◌++◌, length, take, get_or, Some, ap, sym, ◌∙◌, append-nil, append_assoc, inl, inr, arith}
+use Rattle.std.proofs.Common.{◌≡◌, ℕ, suc, ◌+◌, ◌<◌, List, [], ◌∷◌, ◌++◌, length, take, get_or, Some, refl, ap, sym, ◌∙◌, append-nil, append_assoc, inl, inr, arith}
 use Rattle.std.specs.Prelude.{slice_get}
 use Rattle.std.specs.List.{flat_map}
 use Rattle.std.proofs.lemmas.List.{length-take-le, take_more}
@@ -35,6 +35,11 @@ each_there gives xs n old now new within before grown = elim (slice_get_cases xs
   | inl (x, inside, at, same) ↦ each_more gives xs n x old now new at before (grown x)
   | inr (past, none) ↦ absurd (omega (arith, within, past))
 ]
+
+-- the same of each element
+pub each_same : {X Y : Type 0} (gives others : ℕ → X → List Y) → ((n : ℕ) (x : X) → gives n x ≡ others n x) → (n : ℕ) (xs : List X) → each_from gives n xs ≡ each_from others n xs
+each_same gives others same n [] = refl
+each_same gives others same n (x ∷ xs) = ap (λ ys. ys ++ each_from gives (n + 1) xs) (same n x) ∙ ap (λ ys. others n x ++ ys) (each_same gives others same (n + 1) xs)
 
 -- ---- without numbers
 

@@ -3,3 +3,5 @@ pub mod RowLists
 pub mod PinLists
 pub mod LeadLists
 pub mod Middle
+pub mod FirstLists
+pub mod ClockLists

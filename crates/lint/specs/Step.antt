@@ -1,14 +1,28 @@
 -- Words of the contracts by which the functions of this crate find warnings.
-use Rattle.std.specs.Prelude.{◌≡◌, ℕ, Bool, ◌+◌, ◌-◌, ◌*◌, ◌==◌, ◌&&◌, not, nat_le, nat_lt, List, [], ◌∷◌, length, Option, Some, None, find, option_map, count_by, All}
+use Rattle.std.specs.Prelude.{◌≡◌, ℕ, Bool, ◌+◌, ◌-◌, ◌*◌, ◌==◌, ◌&&◌, ◌||◌, not, nat_le, nat_lt, if◌then◌else◌, List, [], ◌∷◌, length, Option, Some, None, find, is_some, option_map, count_by, All}
+use Rattle.std.specs.HashMap.{get, HashMap}
+use Rattle.std.specs.List.{list_any}
+use Rattle.std.specs.Option.{option_map_or}
+use Rattle.std.specs.declared.hash.BuildHasherDefault.{BuildHasherDefault}
+use Rattle.std.specs.declared.hash.FoldHasher.{FoldHasher}
 use Rattle.origin.specs.declared.origin.Origin.{Origin}
+use Rattle.sheet.specs.declared.mark.Mark.{Mark}
+use Rattle.sheet.specs.SheetContents.{SheetView}
 use Rattle.compose.specs.declared.joins.Join.{Join}
 use Rattle.compose.specs.declared.joins.PinJoins.{PinJoins}
 use Rattle.compose.specs.declared.mark.DesignMark.{DesignMark}
 use Rattle.compose.specs.Design.{DesignView, IsDesign, IsJoinOf}
 use Rattle.compose.specs.Joins.{pin_joins}
+use Rattle.lint.specs.declared.clock.Clock.{Clock}
+use Rattle.lint.specs.declared.crossings.Crossing.{Crossing}
+use Rattle.lint.specs.declared.lead.Lead.{Lead}
 use Rattle.lint.specs.declared.warning.Warning.{Warning}
-use Rattle.lint.specs.declared.warning.Warning.TheVariants.{Drivers}
+use Rattle.lint.specs.declared.warning.Warning.TheVariants.{Drivers, Period}
 use Rattle.lint.specs.Driven.{drives_too}
+use Rattle.lint.specs.Leads.{is_at, leads_into, mark_on}
+use Rattle.lint.specs.Lists.{each_from, spot}
+use Rattle.lint.specs.Periods.{is_one_value, is_period}
+use Rattle.lint.specs.Rules.{is_linear}
 
 -- ---- joins
 
@@ -51,3 +65,64 @@ IsMiddle sizes middle = (number : ℕ) → has_most_above sizes number ≡ nat_l
 -- 200 times a size is below the middle
 abbrev pub is_below : ℕ → ℕ → Bool
 is_below middle size = nat_lt (200 * size) middle
+
+-- ---- tables of the first leads into marks
+
+-- two marks are one, as keys of a table
+abbrev pub same_key : ℕ × ℕ → ℕ × ℕ → Bool
+same_key a b = a.0 == b.0 && a.1 == b.1
+
+-- a lead for each of some marks
+abbrev pub FirstLeads : Type 0
+FirstLeads = HashMap (ℕ × ℕ) Lead (BuildHasherDefault FoldHasher)
+
+-- the lead of a mark
+abbrev pub first_at : FirstLeads → DesignMark → Option Lead
+first_at firsts mark = get same_key firsts (mark.part, mark.mark)
+
+-- a lead that is given, at the mark that it goes into
+abbrev pub given_at : DesignMark → Bool → Lead → Option Lead
+given_at mark given lead = if leads_into mark lead && given then Some lead else None
+
+-- each mark has the first of some leads of which this holds
+abbrev pub AreFirst : (DesignMark → Lead → Bool) → FirstLeads → List Lead → Type 0
+AreFirst holds firsts leads = (mark : DesignMark) → first_at firsts mark ≡ find (holds mark) leads
+
+-- ---- periods, according to tables of the first periods of marks, of the first joins into marks, and of the first leads by which marks follow clocks
+
+-- a lead gives a mark a period of its own
+abbrev pub is_period_into : DesignMark → Lead → Bool
+is_period_into mark lead = leads_into mark lead && is_period lead
+
+-- the mark that drives a mark, or the mark itself
+abbrev pub driver_by : FirstLeads → DesignMark → DesignMark
+driver_by joins mark = option_map_or (λ (lead : Lead). lead.from) (first_at joins mark) mark
+
+abbrev pub clock_by : FirstLeads → Lead → List Clock
+clock_by joins lead =
+    if is_period lead && is_linear lead.kind
+    then record { driver = driver_by joins lead.to; shift = lead.shift; range = lead.range; place = spot lead.to.part lead.origin } ∷ [] else []
+
+-- a mark has a period of its own, or its driver has one
+abbrev pub timed_by : FirstLeads → FirstLeads → DesignMark → Bool
+timed_by joins periods mark = is_some (first_at periods mark) || is_some (first_at periods (driver_by joins mark))
+
+-- marks follow clocks by a lead
+abbrev pub follows_clock : FirstLeads → FirstLeads → Lead → Bool
+follows_clock joins periods lead = is_linear lead.kind && (not (is_one_value lead.range) && timed_by joins periods lead.from)
+
+-- a row crosses from a mark without a period of its own into a mark of a later cycle
+abbrev pub crossed_by : FirstLeads → List Crossing → DesignMark → Bool
+crossed_by periods crossings mark = list_any (λ (crossing : Crossing). is_at crossing.to mark && not (is_some (first_at periods crossing.from))) crossings
+
+-- the warning of a mark that follows a clock by a lead
+abbrev pub clocked_by : FirstLeads → List Crossing → DesignMark → Option Lead → List Warning
+clocked_by periods crossings mark None = []
+clocked_by periods crossings mark (Some lead) =
+    if not (is_some (first_at periods mark)) && crossed_by periods crossings mark then Period mark (spot mark.part lead.origin) ∷ [] else []
+
+abbrev pub place_clocked : FirstLeads → FirstLeads → List Crossing → ℕ → ℕ → Mark → List Warning
+place_clocked periods clocks crossings part k mark = clocked_by periods crossings (mark_on part k) (first_at clocks (mark_on part k))
+
+abbrev pub sheet_clocked : FirstLeads → FirstLeads → List Crossing → ℕ → SheetView → List Warning
+sheet_clocked periods clocks crossings part sheet = each_from (place_clocked periods clocks crossings part) 0 sheet.marks

@@ -5,16 +5,17 @@ ghost use Rattle.compose.specs.Compose.{composed_on};
 ghost use Rattle.design_plan.specs.Plan.{sheets_on};
 ghost use Rattle.lint.specs.Driven.{join_warnings};
 ghost use Rattle.lint.specs.Leads.{leads_of};
-ghost use Rattle.lint.specs.Periods.{period_warnings};
+ghost use Rattle.lint.specs.Periods.{is_join_into, period_warnings};
+ghost use Rattle.lint.specs.Step.{AreFirst};
 ghost use Rattle.lint.specs.Texts.{text_warnings};
 ghost use Rattle.lint.specs.Warnings.{rule_warnings, warnings_of};
 
 use crate::asked::push_asked;
 use crate::both::push_both;
-use crate::clock::clocks_of;
+use crate::clock::first_joins;
 use crate::comments::push_comments;
-use crate::crossings::crossings_of;
 use crate::drivers::push_drivers;
+use crate::firsts::FirstLeads;
 use crate::followers::push_followers;
 use crate::held::push_held;
 use crate::keys::push_keys;
@@ -89,10 +90,26 @@ fn push_periods(
     requires leads { leads.now ≡ leads_of design.now }
     ensures pushed { OnOk result (warnings.new.items ≡ warnings.old.items ++ period_warnings design.now) }
 {
-    let clocks = clocks_of(alloc, leads)?;
-    push_rivals(warnings, &clocks)?;
-    let crossings = crossings_of(alloc, design)?;
-    push_followers(warnings, leads, &crossings, design)
+    let joins = first_joins(alloc, leads)?;
+    let pushed = push_timed(alloc, warnings, &joins, leads, design);
+    drop(joins);
+    pushed
+}
+
+// Puts the warnings of periods at the end. The table has the first joins into marks.
+fn push_timed(
+    alloc: Global,
+    warnings: &mut Vec<Warning>,
+    joins: &FirstLeads,
+    leads: &[Lead],
+    design: &Design<'_>,
+) -> Result<(), NoMemory>
+    requires leads { leads.now ≡ leads_of design.now }
+    requires joins { AreFirst is_join_into joins.now leads.now }
+    ensures pushed { OnOk result (warnings.new.items ≡ warnings.old.items ++ period_warnings design.now) }
+{
+    push_rivals(alloc, warnings, joins, leads)?;
+    push_followers(alloc, warnings, joins, leads, design)
 }
 
 // Puts the warnings of marks that follow drivers at the end. The leads are those of the design.

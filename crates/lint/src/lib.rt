@@ -10,6 +10,7 @@ mod clock;
 mod comments;
 mod crossings;
 mod drivers;
+mod firsts;
 mod followers;
 mod held;
 mod home;

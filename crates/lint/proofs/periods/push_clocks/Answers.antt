@@ -1,6 +1,6 @@
 use Rattle.lint.specs.Periods.{clock_periods}
 use Rattle.lint.proofs.EachLists.{behind_more}
-use Rattle.lint.proofs.periods.push_rivals.Goals as goal
+use Rattle.lint.proofs.periods.push_clocks.Goals as goal
 
 pub loop-n-preserved : goal.loop-n-preserved
 loop-n-preserved c =
