@@ -52,9 +52,14 @@ flat_more gives xs n x old now new within is before grown =
     ∙ ap (λ ys. flat_map gives (take n xs) ++ ys) (append-nil (gives x)) in
     grown ∙ ap (λ ys. ys ++ gives x) before ∙ append_assoc old (flat_map gives (take n xs)) (gives x) ∙ ap (λ ys. old ++ ys) (sym more)
 
+-- the same of each element
+pub flat_same : {X Y : Type 0} (gives others : X → List Y) → ((x : X) → gives x ≡ others x) → (xs : List X) → flat_map gives xs ≡ flat_map others xs
+flat_same gives others same [] = refl
+flat_same gives others same (x ∷ xs) = ap (λ ys. ys ++ flat_map gives xs) (same x) ∙ ap (λ ys. others x ++ ys) (flat_same gives others same xs)
+
 -- ---- with the elements before
 
-each_behind_append : {X Y : Type 0} (gives : List X → X → List Y) (before xs ys : List X) → each_behind gives before (xs ++ ys) ≡ each_behind gives before xs ++ each_behind gives (before ++ xs) ys
+pub each_behind_append : {X Y : Type 0} (gives : List X → X → List Y) (before xs ys : List X) → each_behind gives before (xs ++ ys) ≡ each_behind gives before xs ++ each_behind gives (before ++ xs) ys
 each_behind_append gives before [] ys = ap (λ front. each_behind gives front ys) (sym (append-nil before))
 each_behind_append gives before (x ∷ xs) ys =
     ap (λ rest. gives before x ++ rest) (each_behind_append gives (before ++ x ∷ []) xs ys ∙ ap (λ front. each_behind gives (before ++ x ∷ []) xs ++ each_behind gives front ys) (append_assoc before (x ∷ []) xs))

@@ -5,3 +5,4 @@ pub mod LeadLists
 pub mod Middle
 pub mod FirstLists
 pub mod ClockLists
+pub mod CapLists

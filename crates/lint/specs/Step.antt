@@ -1,28 +1,32 @@
 -- Words of the contracts by which the functions of this crate find warnings.
-use Rattle.std.specs.Prelude.{◌≡◌, ℕ, Bool, ◌+◌, ◌-◌, ◌*◌, ◌==◌, ◌&&◌, ◌||◌, not, nat_le, nat_lt, if◌then◌else◌, List, [], ◌∷◌, length, Option, Some, None, find, is_some, option_map, count_by, All}
+use Rattle.std.specs.Prelude.{◌≡◌, ℕ, Bool, ◌+◌, ◌-◌, ◌*◌, ◌==◌, ◌&&◌, ◌||◌, false, not, nat_le, nat_lt, if◌then◌else◌, List, [], ◌∷◌, length, Option, Some, None, find, is_some, option_map, slice_get, count_by, All}
 use Rattle.std.specs.HashMap.{get, HashMap}
-use Rattle.std.specs.List.{list_any}
-use Rattle.std.specs.Option.{option_map_or}
+use Rattle.std.specs.List.{flat_map, list_any}
+use Rattle.std.specs.Option.{option_map_or, option_to_list}
 use Rattle.std.specs.declared.hash.BuildHasherDefault.{BuildHasherDefault}
 use Rattle.std.specs.declared.hash.FoldHasher.{FoldHasher}
 use Rattle.origin.specs.declared.origin.Origin.{Origin}
 use Rattle.sheet.specs.declared.mark.Mark.{Mark}
+use Rattle.sheet.specs.declared.rule.RuleCause.{RuleCause}
+use Rattle.sheet.specs.Rule.{RuleView}
 use Rattle.sheet.specs.SheetContents.{SheetView}
 use Rattle.compose.specs.declared.joins.Join.{Join}
 use Rattle.compose.specs.declared.joins.PinJoins.{PinJoins}
 use Rattle.compose.specs.declared.mark.DesignMark.{DesignMark}
 use Rattle.compose.specs.Design.{DesignView, IsDesign, IsJoinOf}
 use Rattle.compose.specs.Joins.{pin_joins}
+use Rattle.lint.specs.declared.caps.Caps.{Caps}
 use Rattle.lint.specs.declared.clock.Clock.{Clock}
 use Rattle.lint.specs.declared.crossings.Crossing.{Crossing}
 use Rattle.lint.specs.declared.lead.Lead.{Lead}
+use Rattle.lint.specs.declared.warning.DrawnPlace.{DrawnPlace}
 use Rattle.lint.specs.declared.warning.Warning.{Warning}
-use Rattle.lint.specs.declared.warning.Warning.TheVariants.{Drivers, Period}
+use Rattle.lint.specs.declared.warning.Warning.TheVariants.{Both, Drivers, Period}
 use Rattle.lint.specs.Driven.{drives_too}
 use Rattle.lint.specs.Leads.{is_at, leads_into, mark_on}
-use Rattle.lint.specs.Lists.{each_from, spot}
+use Rattle.lint.specs.Lists.{each_from, netlist_part, spot}
 use Rattle.lint.specs.Periods.{is_one_value, is_period}
-use Rattle.lint.specs.Rules.{is_linear}
+use Rattle.lint.specs.Rules.{is_cap, is_linear, is_wire_cap}
 
 -- ---- joins
 
@@ -126,3 +130,65 @@ place_clocked periods clocks crossings part k mark = clocked_by periods crossing
 
 abbrev pub sheet_clocked : FirstLeads → FirstLeads → List Crossing → ℕ → SheetView → List Warning
 sheet_clocked periods clocks crossings part sheet = each_from (place_clocked periods clocks crossings part) 0 sheet.marks
+
+-- ---- rules that cap marks, as leads
+
+-- the lead of the first cause of a rule on the sheet of a part
+abbrev pub cap_lead : ℕ → RuleView → RuleCause → Lead
+cap_lead part rule source =
+    record { from = mark_on part source.mark; to = mark_on part rule.target; kind = rule.kind; shift = source.shift; range = source.range; origin = source.origin }
+
+-- the lead of a rule that caps a mark
+abbrev pub rule_caps : ℕ → List (List ℕ) → RuleView → List Lead
+rule_caps part texts rule = if is_cap texts rule then option_to_list (option_map (cap_lead part rule) (slice_get rule.causes 0)) else []
+
+abbrev pub caps_in : ℕ → List (List ℕ) → List RuleView → List Lead
+caps_in part texts rules = flat_map (rule_caps part texts) rules
+
+abbrev pub sheet_caps : ℕ → SheetView → List Lead
+sheet_caps part sheet = caps_in part sheet.edges sheet.rules
+
+-- a cap goes into the mark of a lead, from another mark
+abbrev pub meets : Lead → Lead → Bool
+meets lead cap = leads_into lead.to cap && not (is_at cap.from lead.from)
+
+-- the warning of a place with a cap that it meets, if there is one
+abbrev pub both_at : DrawnPlace → Option Lead → List Warning
+both_at place None = []
+both_at place (Some cap) = Both (spot cap.to.part cap.origin) place ∷ []
+
+-- the warning of a cap after others, with the first one that it meets
+abbrev pub cap_both : List Lead → Lead → List Warning
+cap_both before cap = both_at (spot cap.to.part cap.origin) (find (meets cap) before)
+
+-- ---- tables of caps
+
+-- a cap goes into a mark, from another mark than the first cap
+abbrev pub is_second : DesignMark → Lead → Lead → Bool
+is_second mark first cap = leads_into mark cap && not (is_at cap.from first.from)
+
+abbrev pub second_after : List Lead → DesignMark → Option Lead → Option Lead
+second_after caps mark None = None
+second_after caps mark (Some first) = find (is_second mark first) caps
+
+-- the tables have the first of some caps into each mark, and the first one that comes from another mark than this one
+pub record AreCaps (tables : Caps) (caps : List Lead) : Type 0 where
+  pub firsts : (mark : DesignMark) → first_at tables.firsts mark ≡ find (leads_into mark) caps
+  pub seconds : (mark : DesignMark) → first_at tables.seconds mark ≡ second_after caps mark (find (leads_into mark) caps)
+
+-- a cap comes from another mark than the first one, if there is a first one
+abbrev pub differs : Option Lead → Lead → Bool
+differs None cap = false
+differs (Some first) cap = not (is_at cap.from first.from)
+
+-- the first cap that a lead meets, according to the two caps of the lead's mark
+abbrev pub met_by : Option Lead → Option Lead → Lead → Option Lead
+met_by None second lead = None
+met_by (Some first) second lead = if is_at first.from lead.from then second else Some first
+
+abbrev pub met_in : Caps → Lead → Option Lead
+met_in tables lead = met_by (first_at tables.firsts lead.to) (first_at tables.seconds lead.to) lead
+
+-- the warning of a wire and a cap that it meets
+abbrev pub lead_met : Caps → List (List ℕ) → Lead → List Warning
+lead_met tables texts lead = if is_wire_cap texts lead then both_at (spot netlist_part lead.origin) (met_in tables lead) else []

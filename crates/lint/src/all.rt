@@ -74,7 +74,7 @@ fn push_rules(
     ensures pushed { OnOk result (warnings.new.items ≡ warnings.old.items ++ rule_warnings plan.now design.now) }
 {
     push_units(alloc, warnings, plan, design)?;
-    push_both(warnings, leads, plan, design)?;
+    push_both(alloc, warnings, leads, plan, design)?;
     push_single(warnings, design)?;
     push_never(warnings, design)?;
     push_periods(alloc, warnings, leads, design)

@@ -2,10 +2,10 @@
 //! The contract: `warnings_of` gives just the warnings that the definitions give, in their order.
 #![tactic(auto)]
 
-mod across;
 mod all;
 mod asked;
 mod both;
+mod caps;
 mod clock;
 mod comments;
 mod crossings;
