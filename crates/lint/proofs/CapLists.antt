@@ -1,17 +1,16 @@
--- Rules that cap marks, as leads, and tables of them.
+-- Rules that cap marks, as leads.
 use Rattle.std.proofs.Common.{◌≡◌, ℕ, zero, suc, ◌+◌, ◌<◌, ◌≤◌, Bool, true, false, not, ◌&&◌, cond, List, [], ◌∷◌, ◌++◌, length, take, get_or, Option, Some, None, find, option_map, refl, ap, sym, ◌∙◌, append-nil, append_assoc, eq-eqb, ne_eqb, arith}
 use Rattle.std.specs.Prelude.{◌==◌, slice_get, unwrap_or}
 use Rattle.std.specs.List.{flat_map}
 use Rattle.std.specs.Option.{option_map_or, option_or, option_to_list}
-use Rattle.std.proofs.lemmas.Bool.{and_from, and_left, and_parts, and_right, both_ways, not_from_false}
+use Rattle.std.proofs.lemmas.Bool.{and_left, and_right, both_ways}
 use Rattle.std.proofs.lemmas.List.Concat.{flat_map-append}
 use Rattle.std.proofs.lemmas.List.Folds.{find-append}
 use Rattle.origin.specs.declared.origin.Origin.{Origin}
 use Rattle.sheet.specs.declared.rule.RuleCause.{RuleCause}
 use Rattle.sheet.specs.Rule.{RuleView}
 use Rattle.sheet.specs.SheetContents.{SheetView}
-use Rattle.compose.specs.declared.mark.DesignMark.{DesignMark}
-use Rattle.lint.specs.declared.caps.Caps.{Caps}
+use Rattle.lint.specs.declared.first_two.FirstTwo.{FirstTwo}
 use Rattle.lint.specs.declared.lead.Lead.{Lead}
 use Rattle.lint.specs.declared.warning.DrawnPlace.{DrawnPlace}
 use Rattle.lint.specs.declared.warning.Warning.{Warning}
@@ -19,64 +18,10 @@ use Rattle.lint.specs.declared.warning.Warning.TheVariants.{Both}
 use Rattle.lint.specs.Leads.{is_at, leads_into}
 use Rattle.lint.specs.Lists.{each_behind, each_from, netlist_part, spot}
 use Rattle.lint.specs.Rules.{across_by, across_on, both_in, caps_too, comes_along, draws_skew, drawn_by, from_mark, is_cap, is_upper, is_wire_cap, lead_across, meet, of_two, rule_both, same_mark, sheet_both}
-use Rattle.lint.specs.Step.{AreCaps, both_at, cap_both, cap_lead, caps_in, differs, first_at, given_at, is_second, lead_met, meets, met_by, met_in, rule_caps, second_after, sheet_caps}
+use Rattle.lint.specs.Step.{AreFirstTwo, both_at, cap_both, cap_lead, caps_in, lead_met, meets, rule_caps, sheet_caps}
 use Rattle.lint.proofs.EachLists.{each_behind_append, flat_same}
-use Rattle.lint.proofs.FirstLists.{and_true, at_same, eqb_sym, eqb_same, find_holds, find_none, find_still, find_weaker, mark_same, or_none}
-
--- ---- what a lead meets
-
-met_at : (caps : List Lead) (lead first : Lead) (second : Option Lead) (b : Bool) → is_at first.from lead.from ≡ b → find (leads_into lead.to) caps ≡ Some first
-    → second ≡ find (is_second lead.to first) caps → cond b second (Some first) ≡ find (meets lead) caps
-met_at caps lead first second true same is held = held ∙ ap (λ (from : DesignMark). find (λ (cap : Lead). leads_into lead.to cap && not (is_at cap.from from)) caps) (mark_same first.from lead.from same)
-met_at caps lead first second false other is held =
-    sym (find_still (leads_into lead.to) (meets lead) (λ cap met. (and_parts (leads_into lead.to cap) (not (is_at cap.from lead.from)) met).0) caps first
-    (and_from (leads_into lead.to first) (not (is_at first.from lead.from)) (find_holds (leads_into lead.to) caps first is) (not_from_false (is_at first.from lead.from) other)) is)
-
-met_of : (caps : List Lead) (lead : Lead) (first second : Option Lead) → first ≡ find (leads_into lead.to) caps → second ≡ second_after caps lead.to first → met_by first second lead ≡ find (meets lead) caps
-met_of caps lead None second is held =
-    sym (find_weaker (leads_into lead.to) (meets lead) (λ cap met. (and_parts (leads_into lead.to cap) (not (is_at cap.from lead.from)) met).0) caps (sym is))
-met_of caps lead (Some first) second is held = met_at caps lead first second (is_at first.from lead.from) refl (sym is) held
-
--- the tables give the first cap that a lead meets
-pub met_is : (tables : Caps) (caps : List Lead) → AreCaps tables caps → (lead : Lead) → met_in tables lead ≡ find (meets lead) caps
-met_is tables caps are lead =
-    met_of caps lead (first_at tables.firsts lead.to) (first_at tables.seconds lead.to) (are.firsts lead.to) (are.seconds lead.to ∙ ap (second_after caps lead.to) (sym (are.firsts lead.to)))
-
--- ---- one more cap
-
-second_more : (caps : List Lead) (cap : Lead) (mark : DesignMark) (first found : Option Lead) (into : Bool) → leads_into mark cap ≡ into → (into ≡ true → first ≡ found) → found ≡ find (leads_into mark) caps
-    → option_or (second_after caps mark found) (cond (into && differs first cap) (Some cap) None) ≡ second_after (caps ++ cap ∷ []) mark (option_or found (cond into (Some cap) None))
-second_more caps cap mark first (Some f) true into same is =
-    ap (λ (o : Option Lead). option_or (find (is_second mark f) caps) (cond (differs o cap) (Some cap) None)) (same refl)
-    ∙ ap (λ b. option_or (find (is_second mark f) caps) (cond (b && not (is_at cap.from f.from)) (Some cap) None)) (sym into)
-    ∙ sym (find-append (is_second mark f) caps (cap ∷ []))
-second_more caps cap mark first (Some f) false into same is =
-    ap (λ b. option_or (find (is_second mark f) caps) (cond (b && not (is_at cap.from f.from)) (Some cap) None)) (sym into)
-    ∙ sym (find-append (is_second mark f) caps (cap ∷ []))
-second_more caps cap mark first None true into same is =
-    let none : find (is_second mark cap) caps ≡ None = find_weaker (leads_into mark) (is_second mark cap) (λ c met. (and_parts (leads_into mark c) (not (is_at c.from cap.from)) met).0) caps (sym is) in
-    let itself : is_second mark cap cap ≡ false = and_right (leads_into mark cap) (not (is_at cap.from cap.from)) (ap not (at_same cap.from)) in
-    ap (λ (o : Option Lead). cond (differs o cap) (Some cap) None) (same refl)
-    ∙ sym (find-append (is_second mark cap) caps (cap ∷ []) ∙ ap (λ (o : Option Lead). option_or o (cond (is_second mark cap cap) (Some cap) None)) none ∙ ap (λ b. cond b (Some cap) None) itself)
-second_more caps cap mark first None false into same is = refl
-
-module _ (old new : Caps) (caps : List Lead) (cap : Lead) (are : AreCaps old caps) where
-  first_noted : (mark : DesignMark) → first_at new.firsts mark ≡ option_or (first_at old.firsts mark) (given_at mark true cap) → first_at new.firsts mark ≡ find (leads_into mark) (caps ++ cap ∷ [])
-  first_noted mark noted =
-      noted ∙ ap (λ b. option_or (first_at old.firsts mark) (cond b (Some cap) None)) (and_true (leads_into mark cap))
-      ∙ ap (λ (o : Option Lead). option_or o (cond (leads_into mark cap) (Some cap) None)) (are.firsts mark) ∙ sym (find-append (leads_into mark) caps (cap ∷ []))
-
-  second_noted : (mark : DesignMark) → first_at new.seconds mark ≡ option_or (first_at old.seconds mark) (given_at mark (differs (first_at old.firsts cap.to) cap) cap)
-      → first_at new.seconds mark ≡ second_after (caps ++ cap ∷ []) mark (find (leads_into mark) (caps ++ cap ∷ []))
-  second_noted mark noted =
-      noted ∙ ap (λ (o : Option Lead). option_or o (given_at mark (differs (first_at old.firsts cap.to) cap) cap)) (are.seconds mark)
-      ∙ second_more caps cap mark (first_at old.firsts cap.to) (find (leads_into mark) caps) (leads_into mark cap) refl (λ into. ap (first_at old.firsts) (mark_same cap.to mark into) ∙ are.firsts mark) refl
-      ∙ ap (second_after (caps ++ cap ∷ []) mark) (sym (find-append (leads_into mark) caps (cap ∷ [])))
-
-  -- the tables with one cap more
-  pub caps_noted : ((mark : DesignMark) → first_at new.firsts mark ≡ option_or (first_at old.firsts mark) (given_at mark true cap))
-      → ((mark : DesignMark) → first_at new.seconds mark ≡ option_or (first_at old.seconds mark) (given_at mark (differs (first_at old.firsts cap.to) cap) cap)) → AreCaps new (caps ++ cap ∷ [])
-  caps_noted firsts seconds = record { firsts = λ mark. first_noted mark (firsts mark); seconds = λ mark. second_noted mark (seconds mark) }
+use Rattle.lint.proofs.FirstLists.{and_true, eqb_sym, eqb_same, find_none, or_none}
+use Rattle.lint.proofs.FirstTwoLists.{met_is}
 
 -- ---- rules as caps
 
@@ -119,9 +64,6 @@ abbrev meet_by : ℕ → ℕ → Option RuleCause → Option RuleCause → Bool 
 meet_by target other mine theirs a b = target == other && (not (same_mark (mark_in mine) (mark_in theirs)) && (a && b))
 
 module _ (part : ℕ) (texts : List (List ℕ)) (rule : RuleView) (source : RuleCause) (is : is_cap texts rule ≡ true) (at : slice_get rule.causes 0 ≡ Some source) where
-  cap : Lead
-  cap = cap_lead part rule source
-
   cap_meets : (r : RuleView) (s : RuleCause) → is_cap texts r ≡ true → slice_get r.causes 0 ≡ Some s → meet texts rule r ≡ meets (cap_lead part rule source) (cap_lead part r s)
   cap_meets r s other there =
       ap (λ (o : Option RuleCause). meet_by rule.target r.target o (slice_get r.causes 0) (is_cap texts rule) (is_cap texts r)) at
@@ -269,12 +211,12 @@ module _ (lead : Lead) where
       ∙ ap (λ (o : Option Lead). option_or o (find (meets lead) (each_from sheet_caps (part + 1) sheets))) (other_part lead part sheet.edges (λ same. omega (arith, is, same)) sheet.rules))
       ∙ across_at (part + 1) n sheets (omega (arith, is))
 
-met_across : (sheets : List SheetView) (tables : Caps) → AreCaps tables (each_from sheet_caps 0 sheets) → (texts : List (List ℕ)) (lead : Lead) → lead_met tables texts lead ≡ lead_across sheets texts lead
+met_across : (sheets : List SheetView) (tables : FirstTwo) → AreFirstTwo tables (each_from sheet_caps 0 sheets) → (texts : List (List ℕ)) (lead : Lead) → lead_met tables texts lead ≡ lead_across sheets texts lead
 met_across sheets tables are texts lead =
     ap (λ (ys : List Warning). cond (is_wire_cap texts lead) ys [])
     (ap (both_at (spot netlist_part lead.origin)) (met_is tables (each_from sheet_caps 0 sheets) are lead) ∙ across_at lead 0 lead.to.part sheets (omega arith))
 
 -- tables of the caps of the sheets give the warnings of wires
-pub leads_met : (sheets : List SheetView) (tables : Caps) → AreCaps tables (each_from sheet_caps 0 sheets) → (texts : List (List ℕ)) (leads : List Lead)
+pub leads_met : (sheets : List SheetView) (tables : FirstTwo) → AreFirstTwo tables (each_from sheet_caps 0 sheets) → (texts : List (List ℕ)) (leads : List Lead)
     → flat_map (lead_met tables texts) leads ≡ flat_map (lead_across sheets texts) leads
 leads_met sheets tables are texts leads = flat_same (lead_met tables texts) (lead_across sheets texts) (met_across sheets tables are texts) leads

@@ -5,4 +5,5 @@ pub mod LeadLists
 pub mod Middle
 pub mod FirstLists
 pub mod ClockLists
+pub mod FirstTwoLists
 pub mod CapLists

@@ -15,9 +15,9 @@ use Rattle.compose.specs.declared.joins.PinJoins.{PinJoins}
 use Rattle.compose.specs.declared.mark.DesignMark.{DesignMark}
 use Rattle.compose.specs.Design.{DesignView, IsDesign, IsJoinOf}
 use Rattle.compose.specs.Joins.{pin_joins}
-use Rattle.lint.specs.declared.caps.Caps.{Caps}
 use Rattle.lint.specs.declared.clock.Clock.{Clock}
 use Rattle.lint.specs.declared.crossings.Crossing.{Crossing}
+use Rattle.lint.specs.declared.first_two.FirstTwo.{FirstTwo}
 use Rattle.lint.specs.declared.lead.Lead.{Lead}
 use Rattle.lint.specs.declared.warning.DrawnPlace.{DrawnPlace}
 use Rattle.lint.specs.declared.warning.Warning.{Warning}
@@ -131,6 +131,38 @@ place_clocked periods clocks crossings part k mark = clocked_by periods crossing
 abbrev pub sheet_clocked : FirstLeads → FirstLeads → List Crossing → ℕ → SheetView → List Warning
 sheet_clocked periods clocks crossings part sheet = each_from (place_clocked periods clocks crossings part) 0 sheet.marks
 
+-- ---- tables of the first two leads into marks
+
+-- a lead goes into the mark of another one, from another mark
+abbrev pub meets : Lead → Lead → Bool
+meets lead other = leads_into lead.to other && not (is_at other.from lead.from)
+
+-- a lead goes into a mark, from another mark than the first lead
+abbrev pub is_second : DesignMark → Lead → Lead → Bool
+is_second mark first lead = leads_into mark lead && not (is_at lead.from first.from)
+
+abbrev pub second_after : List Lead → DesignMark → Option Lead → Option Lead
+second_after leads mark None = None
+second_after leads mark (Some first) = find (is_second mark first) leads
+
+-- the tables have the first of some leads into each mark, and the first one that comes from another mark than this one
+pub record AreFirstTwo (tables : FirstTwo) (leads : List Lead) : Type 0 where
+  pub firsts : (mark : DesignMark) → first_at tables.firsts mark ≡ find (leads_into mark) leads
+  pub seconds : (mark : DesignMark) → first_at tables.seconds mark ≡ second_after leads mark (find (leads_into mark) leads)
+
+-- a lead comes from another mark than the first one, if there is a first one
+abbrev pub differs : Option Lead → Lead → Bool
+differs None lead = false
+differs (Some first) lead = not (is_at lead.from first.from)
+
+-- the first lead that a lead meets, according to the two leads into its mark
+abbrev pub met_by : Option Lead → Option Lead → Lead → Option Lead
+met_by None second lead = None
+met_by (Some first) second lead = if is_at first.from lead.from then second else Some first
+
+abbrev pub met_in : FirstTwo → Lead → Option Lead
+met_in tables lead = met_by (first_at tables.firsts lead.to) (first_at tables.seconds lead.to) lead
+
 -- ---- rules that cap marks, as leads
 
 -- the lead of the first cause of a rule on the sheet of a part
@@ -148,10 +180,6 @@ caps_in part texts rules = flat_map (rule_caps part texts) rules
 abbrev pub sheet_caps : ℕ → SheetView → List Lead
 sheet_caps part sheet = caps_in part sheet.edges sheet.rules
 
--- a cap goes into the mark of a lead, from another mark
-abbrev pub meets : Lead → Lead → Bool
-meets lead cap = leads_into lead.to cap && not (is_at cap.from lead.from)
-
 -- the warning of a place with a cap that it meets, if there is one
 abbrev pub both_at : DrawnPlace → Option Lead → List Warning
 both_at place None = []
@@ -161,34 +189,6 @@ both_at place (Some cap) = Both (spot cap.to.part cap.origin) place ∷ []
 abbrev pub cap_both : List Lead → Lead → List Warning
 cap_both before cap = both_at (spot cap.to.part cap.origin) (find (meets cap) before)
 
--- ---- tables of caps
-
--- a cap goes into a mark, from another mark than the first cap
-abbrev pub is_second : DesignMark → Lead → Lead → Bool
-is_second mark first cap = leads_into mark cap && not (is_at cap.from first.from)
-
-abbrev pub second_after : List Lead → DesignMark → Option Lead → Option Lead
-second_after caps mark None = None
-second_after caps mark (Some first) = find (is_second mark first) caps
-
--- the tables have the first of some caps into each mark, and the first one that comes from another mark than this one
-pub record AreCaps (tables : Caps) (caps : List Lead) : Type 0 where
-  pub firsts : (mark : DesignMark) → first_at tables.firsts mark ≡ find (leads_into mark) caps
-  pub seconds : (mark : DesignMark) → first_at tables.seconds mark ≡ second_after caps mark (find (leads_into mark) caps)
-
--- a cap comes from another mark than the first one, if there is a first one
-abbrev pub differs : Option Lead → Lead → Bool
-differs None cap = false
-differs (Some first) cap = not (is_at cap.from first.from)
-
--- the first cap that a lead meets, according to the two caps of the lead's mark
-abbrev pub met_by : Option Lead → Option Lead → Lead → Option Lead
-met_by None second lead = None
-met_by (Some first) second lead = if is_at first.from lead.from then second else Some first
-
-abbrev pub met_in : Caps → Lead → Option Lead
-met_in tables lead = met_by (first_at tables.firsts lead.to) (first_at tables.seconds lead.to) lead
-
 -- the warning of a wire and a cap that it meets
-abbrev pub lead_met : Caps → List (List ℕ) → Lead → List Warning
+abbrev pub lead_met : FirstTwo → List (List ℕ) → Lead → List Warning
 lead_met tables texts lead = if is_wire_cap texts lead then both_at (spot netlist_part lead.origin) (met_in tables lead) else []

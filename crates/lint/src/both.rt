@@ -6,9 +6,10 @@ ghost use Rattle.std.specs.Option.{option_copied};
 ghost use Rattle.lint.specs.Leads.{leads_of};
 ghost use Rattle.lint.specs.Lists.{each_behind, each_from, netlist_part};
 ghost use Rattle.lint.specs.Rules.{both_in, both_warnings, is_wire_cap, same_mark, sheet_both};
-ghost use Rattle.lint.specs.Step.{AreCaps, both_at, cap_both, lead_met, sheet_caps};
+ghost use Rattle.lint.specs.Step.{AreFirstTwo, both_at, cap_both, lead_met, sheet_caps};
 
-use crate::caps::{Caps, first_met, note_cap, sheet_caps, wire_caps};
+use crate::caps::{sheet_caps, wire_caps};
+use crate::first_two::{FirstTwo, first_met, note_lead};
 use crate::lead::{Lead, is_at, is_wire};
 use crate::rule::is_linear;
 use crate::skew::draws_skew;
@@ -30,23 +31,23 @@ pub fn push_both(
     requires leads { leads.now ≡ leads_of design.now }
     ensures pushed { OnOk result (warnings.new.items ≡ warnings.old.items ++ both_warnings plan.now design.now) }
 {
-    let mut tables = Caps::new(alloc);
+    let mut tables = FirstTwo::new(alloc);
     let pushed = push_all(alloc, warnings, &mut tables, leads, plan, design);
     drop(tables);
     pushed
 }
 
-// Puts the warnings at the end, with tables of no caps.
+// Puts the warnings at the end, with tables of no leads.
 fn push_all(
     alloc: Global,
     warnings: &mut Vec<Warning>,
-    tables: &mut Caps,
+    tables: &mut FirstTwo,
     leads: &[Lead],
     plan: &Plan,
     design: &Design<'_>,
 ) -> Result<(), NoMemory>
     requires leads { leads.now ≡ leads_of design.now }
-    requires none { AreCaps tables.old [] }
+    requires none { AreFirstTwo tables.old [] }
     ensures pushed { OnOk result (warnings.new.items ≡ warnings.old.items ++ both_warnings plan.now design.now) }
 {
     push_sheets(alloc, warnings, tables, design)?;
@@ -54,16 +55,16 @@ fn push_all(
     push_across(warnings, tables, plan.netlist().edges(), leads)
 }
 
-// Puts the warnings within each sheet at the end, and notes the caps of the sheets in tables of no caps.
+// Puts the warnings within each sheet at the end, and notes the caps of the sheets in tables of no leads.
 fn push_sheets(
     alloc: Global,
     warnings: &mut Vec<Warning>,
-    tables: &mut Caps,
+    tables: &mut FirstTwo,
     design: &Design<'_>,
 ) -> Result<(), NoMemory>
-    requires none { AreCaps tables.old [] }
+    requires none { AreFirstTwo tables.old [] }
     ensures pushed { OnOk result (warnings.new.items ≡ warnings.old.items ++ each_from sheet_both 0 design.now.sheets) }
-    ensures noted { OnOk result (AreCaps tables.new (each_from sheet_caps 0 design.now.sheets)) }
+    ensures noted { OnOk result (AreFirstTwo tables.new (each_from sheet_caps 0 design.now.sheets)) }
 {
     let caps = sheet_caps(alloc, design)?;
     push_caps(warnings, tables, &caps)
@@ -79,21 +80,21 @@ fn push_netlist(
     ensures pushed { OnOk result (warnings.new.items ≡ warnings.old.items ++ both_in netlist_part plan.now.netlist.edges design.now.rules) }
 {
     let caps = wire_caps(alloc, plan, design)?;
-    let mut tables = Caps::new(alloc);
+    let mut tables = FirstTwo::new(alloc);
     let pushed = push_caps(warnings, &mut tables, &caps);
     drop(tables);
     pushed
 }
 
-// Puts the warnings of some caps at the end, and notes the caps in tables of no caps.
+// Puts the warnings of some caps at the end, and notes the caps in tables of no leads.
 fn push_caps(
     warnings: &mut Vec<Warning>,
-    tables: &mut Caps,
+    tables: &mut FirstTwo,
     caps: &[Lead],
 ) -> Result<(), NoMemory>
-    requires none { AreCaps tables.old [] }
+    requires none { AreFirstTwo tables.old [] }
     ensures pushed { OnOk result (warnings.new.items ≡ warnings.old.items ++ each_behind cap_both [] caps.now) }
-    ensures noted { OnOk result (AreCaps tables.new caps.now) }
+    ensures noted { OnOk result (AreFirstTwo tables.new caps.now) }
 {
     for cap in caps {
         let place = DrawnPlace {
@@ -101,7 +102,7 @@ fn push_caps(
             origin: cap.origin,
         };
         push_two(warnings, first_met(tables, cap), place)?;
-        note_cap(tables, cap)?;
+        note_lead(tables, cap)?;
     }
     Ok(())
 }
@@ -127,7 +128,7 @@ fn push_two(
 // Puts the warnings of wires into marks that rules of their sheets cap too at the end. The tables have the caps of the sheets, and the wires have these texts.
 fn push_across(
     warnings: &mut Vec<Warning>,
-    tables: &Caps,
+    tables: &FirstTwo,
     texts: &Texts,
     leads: &[Lead],
 ) -> Result<(), NoMemory>
@@ -142,7 +143,7 @@ fn push_across(
 // Puts the warning of a lead at the end, if the lead has one.
 fn push_lead(
     warnings: &mut Vec<Warning>,
-    tables: &Caps,
+    tables: &FirstTwo,
     texts: &Texts,
     lead: &Lead,
 ) -> Result<(), NoMemory>

@@ -1,14 +1,11 @@
-//! Rules that cap marks, as leads, and tables of them.
+//! Rules that cap marks, as leads.
 
-ghost use Rattle.std.specs.Prelude.{◌≡◌, ◌++◌, ◌∷◌, [], IfOk, List, OnOk};
-ghost use Rattle.std.specs.Option.{option_copied};
-ghost use Rattle.lint.specs.declared.lead.Lead.{Lead as LeadSeen};
+ghost use Rattle.std.specs.Prelude.{◌≡◌, ◌++◌, ◌∷◌, [], IfOk, OnOk};
 ghost use Rattle.lint.specs.Lists.{each_from, netlist_part};
-ghost use Rattle.lint.specs.Step.{AreCaps, cap_lead, caps_in, differs, met_in, rule_caps, sheet_caps};
+ghost use Rattle.lint.specs.Step.{cap_lead, caps_in, rule_caps, sheet_caps};
 
 use crate::asked::part_count;
-use crate::firsts::{FirstLeads, first_at, note_first};
-use crate::lead::{Lead, is_at};
+use crate::lead::Lead;
 use crate::rule::first_cause;
 use crate::skew::is_cap;
 use compose::{Design, DesignMark};
@@ -17,56 +14,6 @@ use itv_base::{NoMemory, Texts};
 use origin::Origin;
 use sheet::{Rule, RuleCause};
 use std::alloc::Global;
-
-/// For each mark the first of some caps, and the first cap that comes from another mark than this one.
-#[derive(Drop)]
-pub struct Caps {
-    firsts: FirstLeads,
-    seconds: FirstLeads,
-}
-
-impl Caps {
-    /// Tables of no caps.
-    pub fn new(alloc: Global) -> Caps
-        ensures none { AreCaps result [] }
-    {
-        Caps {
-            firsts: FirstLeads::new(alloc),
-            seconds: FirstLeads::new(alloc),
-        }
-    }
-}
-
-/// Notes a cap after others.
-pub fn note_cap(tables: &mut Caps, cap: &Lead) -> Result<(), NoMemory>
-    ensures noted { OnOk result ((caps : List LeadSeen) → AreCaps tables.old caps → AreCaps tables.new (caps ++ cap.now ∷ [])) }
-{
-    let second = differs(first_at(&tables.firsts, cap.to), cap);
-    note_first(&mut tables.seconds, second, cap)?;
-    note_first(&mut tables.firsts, true, cap)
-}
-
-// Whether a cap comes from another mark than the first one, if there is a first one.
-fn differs(first: Option<&Lead>, cap: &Lead) -> bool
-    ensures { result ≡ differs (option_copied first.entry) cap.now }
-{
-    match first {
-        Some(first) => !is_at(cap.from, first.from),
-        None => false,
-    }
-}
-
-/// The first cap into the mark of a lead that comes from another mark than the lead.
-pub fn first_met<'a>(tables: &'a Caps, lead: &Lead) -> Option<&'a Lead>
-    ensures { option_copied result ≡ met_in tables.now lead.now }
-{
-    let first = first_at(&tables.firsts, lead.to)?;
-    if is_at(first.from, lead.from) {
-        first_at(&tables.seconds, lead.to)
-    } else {
-        Some(first)
-    }
-}
 
 /// The caps of the sheets of a design.
 pub fn sheet_caps(alloc: Global, design: &Design<'_>) -> Result<Vec<Lead>, NoMemory>

@@ -10,6 +10,7 @@ mod clock;
 mod comments;
 mod crossings;
 mod drivers;
+mod first_two;
 mod firsts;
 mod followers;
 mod held;

@@ -1,8 +1,8 @@
 use Rattle.std.proofs.Common.{◌++◌, ap, sym, take, ◌∙◌, subst, ◌∷◌, []}
 use Rattle.std.proofs.lemmas.List.{take_more}
 use Rattle.lint.specs.Lists.{spot}
-use Rattle.lint.specs.Step.{AreCaps, both_at, cap_both}
-use Rattle.lint.proofs.CapLists.{met_is}
+use Rattle.lint.specs.Step.{AreFirstTwo, both_at, cap_both}
+use Rattle.lint.proofs.FirstTwoLists.{met_is}
 use Rattle.lint.proofs.EachLists.{behind_more}
 use Rattle.lint.proofs.both.push_caps.Goals as goal
 
@@ -15,5 +15,5 @@ loop-cap-preserved c =
     (
       behind_more cap_both caps n cap c.args.warnings.now.items c.loop-cap.warnings.items c.push_two.new.warnings.items c.loop-cap-test.true c.cap-item.is c.loop-cap.invariant.0
       (rw (c.first_met.ensures, met_is c.loop-cap.tables (take n caps) c.loop-cap.invariant.1 cap) at c.in_ok-push_two.ensures.pushed),
-      subst (AreCaps c.note_cap.new.tables) (sym more) (c.in_ok-note_cap.ensures.noted (take n caps) c.loop-cap.invariant.1),
+      subst (AreFirstTwo c.note_lead.new.tables) (sym more) (c.in_ok-note_lead.ensures.noted (take n caps) c.loop-cap.invariant.1),
     )
