@@ -7,3 +7,4 @@ pub mod FirstLists
 pub mod ClockLists
 pub mod FirstTwoLists
 pub mod CapLists
+pub mod JoinLists

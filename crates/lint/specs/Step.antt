@@ -1,16 +1,14 @@
 -- Words of the contracts by which the functions of this crate find warnings.
-use Rattle.std.specs.Prelude.{◌≡◌, ℕ, Bool, ◌+◌, ◌-◌, ◌*◌, ◌==◌, ◌&&◌, ◌||◌, false, not, nat_le, nat_lt, if◌then◌else◌, List, [], ◌∷◌, length, Option, Some, None, find, is_some, option_map, slice_get, count_by, All}
+use Rattle.std.specs.Prelude.{◌≡◌, ℕ, Bool, ◌*◌, ◌==◌, ◌&&◌, ◌||◌, false, not, nat_lt, if◌then◌else◌, List, [], ◌∷◌, length, Option, Some, None, find, is_some, option_map, slice_get, count_by, All}
 use Rattle.std.specs.HashMap.{get, HashMap}
 use Rattle.std.specs.List.{flat_map, list_any}
 use Rattle.std.specs.Option.{option_map_or, option_to_list}
 use Rattle.std.specs.declared.hash.BuildHasherDefault.{BuildHasherDefault}
 use Rattle.std.specs.declared.hash.FoldHasher.{FoldHasher}
-use Rattle.origin.specs.declared.origin.Origin.{Origin}
 use Rattle.sheet.specs.declared.mark.Mark.{Mark}
 use Rattle.sheet.specs.declared.rule.RuleCause.{RuleCause}
 use Rattle.sheet.specs.Rule.{RuleView}
 use Rattle.sheet.specs.SheetContents.{SheetView}
-use Rattle.compose.specs.declared.joins.Join.{Join}
 use Rattle.compose.specs.declared.joins.PinJoins.{PinJoins}
 use Rattle.compose.specs.declared.mark.DesignMark.{DesignMark}
 use Rattle.compose.specs.Design.{DesignView, IsDesign, IsJoinOf}
@@ -21,40 +19,12 @@ use Rattle.lint.specs.declared.first_two.FirstTwo.{FirstTwo}
 use Rattle.lint.specs.declared.lead.Lead.{Lead}
 use Rattle.lint.specs.declared.warning.DrawnPlace.{DrawnPlace}
 use Rattle.lint.specs.declared.warning.Warning.{Warning}
-use Rattle.lint.specs.declared.warning.Warning.TheVariants.{Both, Drivers, Period}
-use Rattle.lint.specs.Driven.{drives_too}
+use Rattle.lint.specs.declared.warning.Warning.TheVariants.{Both, Drivers, Own, Period}
+use Rattle.lint.specs.Driven.{holds}
 use Rattle.lint.specs.Leads.{is_at, leads_into, mark_on}
 use Rattle.lint.specs.Lists.{each_from, netlist_part, spot}
 use Rattle.lint.specs.Periods.{is_one_value, is_period}
-use Rattle.lint.specs.Rules.{is_cap, is_linear, is_wire_cap}
-
--- ---- joins
-
--- one of the first joins of a pin, so many of them, goes into a mark
-abbrev pub goes_into : PinJoins → DesignMark → ℕ → Bool
-goes_into pin mark count = pin.driven.part == mark.part && (nat_le pin.driven.mark mark.mark && nat_lt (mark.mark - pin.driven.mark) count)
-
--- the join of a pin into the mark of a join comes from the mark that this join comes from
-abbrev pub shares_from : PinJoins → Join → Bool
-shares_from pin join = pin.driver.part == join.from.part && pin.driver.mark + join.to.mark == join.from.mark + pin.driven.mark
-
--- one of the first joins of a pin, so many of them, goes into the mark of a join, from another mark
-abbrev pub goes_along : PinJoins → Join → ℕ → Bool
-goes_along pin join count = goes_into pin join.to count && not (shares_from pin join)
-
--- what draws the first of some joins that goes into the mark of a join, from another mark
-abbrev pub drew_too : Join → List Join → Option Origin
-drew_too join joins = option_map (λ (other : Join). other.origin) (find (drives_too join) joins)
-
--- the warning of a mark that follows a second driver, with what draws both joins; none where there is no first join
-abbrev pub drivers_by : DesignMark → Origin → Option Origin → List Warning
-drivers_by mark other None = []
-drivers_by mark other (Some first) = Drivers mark first other ∷ []
-
--- the joins of a pin are joins of a design
-pub record IsPinOf (d : DesignView) (pin : PinJoins) : Type 0 where
-  pub design : IsDesign d
-  pub joins : All (IsJoinOf d.sheets) (pin_joins pin)
+use Rattle.lint.specs.Rules.{drawn_by, is_cap, is_linear, is_wire_cap}
 
 -- ---- the middle of sizes
 
@@ -162,6 +132,31 @@ met_by (Some first) second lead = if is_at first.from lead.from then second else
 
 abbrev pub met_in : FirstTwo → Lead → Option Lead
 met_in tables lead = met_by (first_at tables.firsts lead.to) (first_at tables.seconds lead.to) lead
+
+-- ---- joins
+
+-- the joins of a pin are joins of a design
+pub record IsPinOf (d : DesignView) (pin : PinJoins) : Type 0 where
+  pub design : IsDesign d
+  pub joins : All (IsJoinOf d.sheets) (pin_joins pin)
+
+-- the warning of a lead of a join with an earlier one that it meets, if there is one
+abbrev pub drivers_at : Lead → Option Lead → List Warning
+drivers_at join None = []
+drivers_at join (Some earlier) = Drivers join.to earlier.origin join.origin ∷ []
+
+abbrev pub lead_drivers : List Lead → Lead → List Warning
+lead_drivers before join = drivers_at join (find (meets join) before)
+
+-- the warning of a lead of a join with a rule, if there is one
+abbrev pub own_with : Lead → Option RuleView → List Warning
+own_with join None = []
+own_with join (Some rule) = option_to_list (option_map (Own join.to join.origin) (drawn_by rule))
+
+-- the warning of a lead of a join into a mark of a sheet
+abbrev pub own_on : Lead → Option SheetView → List Warning
+own_on join None = []
+own_on join (Some sheet) = own_with join (find (holds join.to.mark) sheet.rules)
 
 -- ---- rules that cap marks, as leads
 
