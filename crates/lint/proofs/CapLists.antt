@@ -1,5 +1,5 @@
 -- Rules that cap marks, as leads.
-use Rattle.std.proofs.Common.{◌≡◌, ℕ, zero, suc, ◌+◌, ◌<◌, ◌≤◌, Bool, true, false, not, ◌&&◌, cond, List, [], ◌∷◌, ◌++◌, length, take, get_or, Option, Some, None, find, option_map, refl, ap, sym, ◌∙◌, append-nil, append_assoc, eq-eqb, ne_eqb, arith}
+use Rattle.std.proofs.Common.{◌≡◌, ℕ, zero, suc, ◌+◌, ◌<◌, ◌≤◌, Bool, true, false, not, ◌&&◌, cond, List, [], ◌∷◌, ◌++◌, Option, Some, None, find, option_map, refl, ap, sym, ◌∙◌, append-nil, append_assoc, eq-eqb, ne_eqb, arith}
 use Rattle.std.specs.Prelude.{◌==◌, slice_get, unwrap_or}
 use Rattle.std.specs.List.{flat_map}
 use Rattle.std.specs.Option.{option_map_or, option_or, option_to_list}
@@ -12,10 +12,9 @@ use Rattle.sheet.specs.Rule.{RuleView}
 use Rattle.sheet.specs.SheetContents.{SheetView}
 use Rattle.lint.specs.declared.first_two.FirstTwo.{FirstTwo}
 use Rattle.lint.specs.declared.lead.Lead.{Lead}
-use Rattle.lint.specs.declared.warning.DrawnPlace.{DrawnPlace}
 use Rattle.lint.specs.declared.warning.Warning.{Warning}
 use Rattle.lint.specs.declared.warning.Warning.TheVariants.{Both}
-use Rattle.lint.specs.Leads.{is_at, leads_into}
+use Rattle.lint.specs.Leads.{is_at}
 use Rattle.lint.specs.Lists.{each_behind, each_from, netlist_part, spot}
 use Rattle.lint.specs.Rules.{across_by, across_on, both_in, caps_too, comes_along, draws_skew, drawn_by, from_mark, is_cap, is_upper, is_wire_cap, lead_across, meet, of_two, rule_both, same_mark, sheet_both}
 use Rattle.lint.specs.Step.{AreFirstTwo, both_at, cap_both, cap_lead, caps_in, lead_met, meets, rule_caps, sheet_caps}

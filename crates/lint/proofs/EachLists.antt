@@ -73,12 +73,6 @@ behind_push gives before xs x old now new held grown =
     each_behind_append gives before xs (x ∷ []) ∙ ap (λ ys. each_behind gives before xs ++ ys) (append-nil (gives (before ++ xs) x)) in
     grown ∙ ap (λ ys. ys ++ gives (before ++ xs) x) held ∙ append_assoc old (each_behind gives before xs) (gives (before ++ xs) x) ∙ ap (λ ys. old ++ ys) (sym more)
 
--- one list after another, and both after others
-pub behind_lists : {X Y : Type 0} (gives : List X → X → List Y) (xs ys : List X) (old now new : List Y) → now ≡ old ++ each_behind gives [] xs
-    → new ≡ now ++ each_behind gives xs ys → new ≡ old ++ each_behind gives [] (xs ++ ys)
-behind_lists gives xs ys old now new held grown =
-    grown ∙ ap (λ zs. zs ++ each_behind gives xs ys) held ∙ append_assoc old (each_behind gives [] xs) (each_behind gives xs ys) ∙ ap (λ zs. old ++ zs) (sym (each_behind_append gives [] xs ys))
-
 -- one more element
 pub behind_more : {X Y : Type 0} (gives : List X → X → List Y) (xs : List X) (n : ℕ) (x : X) (old now new : List Y) → n < length xs → x ≡ get_or xs n x
     → now ≡ old ++ each_behind gives [] (take n xs) → new ≡ now ++ gives (take n xs) x → new ≡ old ++ each_behind gives [] (take (n + 1) xs)

@@ -10,7 +10,7 @@ use Rattle.compose.specs.declared.joins.Join.{Join}
 use Rattle.lint.specs.declared.lead.Lead.{Lead}
 use Rattle.lint.specs.declared.warning.Warning.{Warning}
 use Rattle.lint.specs.Driven.{drives_too, holds, join_drivers, own_by, own_join, two_drivers}
-use Rattle.lint.specs.Leads.{join_leads, rules_at}
+use Rattle.lint.specs.Leads.{join_leads}
 use Rattle.lint.specs.Lists.{each_behind}
 use Rattle.lint.specs.Step.{drivers_at, lead_drivers, meets, own_on, own_with}
 

@@ -1,14 +1,10 @@
 -- The joins of pins.
-use Rattle.std.proofs.Common.{◌≡◌, ℕ, zero, suc, ◌+◌, ◌-◌, ◌<◌, ◌≤◌, Bool, true, false, not, ◌&&◌, ◌||◌, cond, nat_le, nat_lt, List, [], ◌∷◌, ◌++◌, length, take, drop, get_or, All, Option, Some, None, option_map, find, refl, ap, sym, ◌∙◌, add-one, append-nil, append_assoc, arith}
-use Rattle.std.specs.Prelude.{◌==◌, IsSomeAnd, slice_get}
+use Rattle.std.proofs.Common.{◌≡◌, ℕ, ◌+◌, ◌-◌, ◌<◌, ◌≤◌, List, [], ◌∷◌, ◌++◌, length, take, get_or, All, Option, Some, None, refl, ap, sym, ◌∙◌, add-one, append-nil, append_assoc, arith}
+use Rattle.std.specs.Prelude.{IsSomeAnd, slice_get}
 use Rattle.std.specs.List.{flat_map}
-use Rattle.std.specs.Option.{option_or}
-use Rattle.std.proofs.lemmas.Bool.Decides.{nat_tests}
-use Rattle.std.proofs.lemmas.List.{at_drop_more, take_more}
+use Rattle.std.proofs.lemmas.List.{take_more}
 use Rattle.std.proofs.lemmas.List.Concat.{flat_map-append}
-use Rattle.std.proofs.lemmas.List.Folds.{find-append}
 use Rattle.std.proofs.lemmas.Option.{slice_get_within}
-use Rattle.origin.specs.declared.origin.Origin.{Origin}
 use Rattle.sheet.specs.SheetContents.{SheetView}
 use Rattle.sheet.specs.Whole.{IsWhole}
 use Rattle.sheet.specs.declared.mark.TheConstants.{MAX_MARKS}
@@ -19,11 +15,7 @@ use Rattle.compose.specs.Design.{DesignView, IsDesign, IsJoinOf}
 use Rattle.compose.specs.Joins.{first_joins, join_at, joins_of_pins, pin_joins}
 use Rattle.compose.proofs.WholeDesigns.{All-slice_get}
 use Rattle.unroll.proofs.BetweenLists.{All-flat_map-at, join_there}
-use Rattle.lint.specs.declared.warning.Warning.{Warning}
-use Rattle.lint.specs.Driven.{drives_too, join_drivers, two_drivers}
-use Rattle.lint.specs.Lists.{each_behind}
-use Rattle.lint.specs.Step.{IsPinOf, drew_too, drivers_by, goes_along, goes_into, shares_from}
-use Rattle.lint.proofs.EachLists.{behind_lists, behind_push}
+use Rattle.lint.specs.Step.{IsPinOf}
 
 -- ---- marks
 

@@ -1,10 +1,14 @@
 -- Words of the contracts by which the functions of this crate find warnings.
-use Rattle.std.specs.Prelude.{◌≡◌, ℕ, Bool, ◌*◌, ◌==◌, ◌&&◌, ◌||◌, false, not, nat_lt, if◌then◌else◌, List, [], ◌∷◌, length, Option, Some, None, find, is_some, option_map, slice_get, count_by, All}
+use Rattle.std.specs.Prelude.{◌≡◌, ℕ, Bool, ◌*◌, ◌==◌, ◌&&◌, ◌||◌, false, not, nat_lt, if◌then◌else◌, List, [], ◌∷◌, ◌++◌, length, Option, Some, None, find, is_some, option_map, slice_get, count_by, All}
 use Rattle.std.specs.HashMap.{get, HashMap}
-use Rattle.std.specs.List.{flat_map, list_any}
+use Rattle.std.specs.List.{after_first, flat_map, list_any}
 use Rattle.std.specs.Option.{option_map_or, option_to_list}
 use Rattle.std.specs.declared.hash.BuildHasherDefault.{BuildHasherDefault}
 use Rattle.std.specs.declared.hash.FoldHasher.{FoldHasher}
+use Rattle.itv_base.specs.Cuts.{after_while, is_space}
+use Rattle.label_grammar.specs.Edge.{EdgeSeen, edge_of}
+use Rattle.label_grammar.specs.Wire.{WireSeen, wire_of}
+use Rattle.origin.specs.declared.origin.Origin.TheVariants as drawn
 use Rattle.sheet.specs.declared.mark.Mark.{Mark}
 use Rattle.sheet.specs.declared.rule.RuleCause.{RuleCause}
 use Rattle.sheet.specs.Rule.{RuleView}
@@ -13,18 +17,57 @@ use Rattle.compose.specs.declared.joins.PinJoins.{PinJoins}
 use Rattle.compose.specs.declared.mark.DesignMark.{DesignMark}
 use Rattle.compose.specs.Design.{DesignView, IsDesign, IsJoinOf}
 use Rattle.compose.specs.Joins.{pin_joins}
+use Rattle.design_plan.specs.Plan.{PlanView}
 use Rattle.lint.specs.declared.clock.Clock.{Clock}
 use Rattle.lint.specs.declared.crossings.Crossing.{Crossing}
 use Rattle.lint.specs.declared.first_two.FirstTwo.{FirstTwo}
 use Rattle.lint.specs.declared.lead.Lead.{Lead}
+use Rattle.lint.specs.declared.texts.TextCheck.{TextCheck}
+use Rattle.lint.specs.declared.texts.TextCheck.TheVariants as checks
 use Rattle.lint.specs.declared.warning.DrawnPlace.{DrawnPlace}
 use Rattle.lint.specs.declared.warning.Warning.{Warning}
-use Rattle.lint.specs.declared.warning.Warning.TheVariants.{Both, Drivers, Own, Period}
+use Rattle.lint.specs.declared.warning.Warning.TheVariants.{Both, Comment, Drivers, Note, Own, Period, Word}
 use Rattle.lint.specs.Driven.{holds}
 use Rattle.lint.specs.Leads.{is_at, leads_into, mark_on}
-use Rattle.lint.specs.Lists.{each_from, netlist_part, spot}
+use Rattle.lint.specs.Lists.{each_from, netlist_part, spot, warned}
 use Rattle.lint.specs.Periods.{is_one_value, is_period}
 use Rattle.lint.specs.Rules.{drawn_by, is_cap, is_linear, is_wire_cap}
+use Rattle.lint.specs.Texts.{begins_with_kind, edge_written, is_before_word, is_edge_comment, is_misplaced, is_sign, is_wire_comment, wire_written}
+
+-- ---- checks of the texts of edges
+
+abbrev pub warning_at : TextCheck → DrawnPlace → Warning
+warning_at checks.Comment place = Comment place
+warning_at checks.Word place = Word place
+warning_at checks.Note place = Note place
+
+-- a note begins, from its first word on, as what belongs before it
+abbrev pub is_note_misplaced : List ℕ → Bool
+is_note_misplaced note = is_misplaced (after_while is_before_word note)
+
+-- a check gives a warning of a text, which was read as an edge of a sheet
+abbrev pub is_edge_given : TextCheck → ℕ → EdgeSeen → List ℕ → Bool
+is_edge_given checks.Comment version edge text = is_edge_comment edge && list_any is_sign text
+is_edge_given checks.Word version edge text = is_edge_comment edge && (not (list_any is_sign text) && begins_with_kind (after_first is_space text))
+is_edge_given checks.Note version edge text = is_note_misplaced (edge_written version edge)
+
+-- a check gives a warning of a text, which was read as an edge of the netlist
+abbrev pub is_wire_given : TextCheck → WireSeen → List ℕ → Bool
+is_wire_given checks.Comment wire text = is_wire_comment wire && list_any is_sign text
+is_wire_given checks.Word wire text = is_wire_comment wire && (not (list_any is_sign text) && begins_with_kind (after_first is_space (after_first is_space text)))
+is_wire_given checks.Note wire text = is_note_misplaced (wire_written wire)
+
+abbrev pub edge_checked : TextCheck → ℕ → ℕ → ℕ → List ℕ → List Warning
+edge_checked check version part n text = warned (is_edge_given check version (edge_of text) text) (warning_at check (spot part (drawn.Edge n)))
+
+abbrev pub wire_checked : TextCheck → ℕ → List ℕ → List Warning
+wire_checked check n text = warned (is_wire_given check (wire_of text) text) (warning_at check (spot netlist_part (drawn.Wire n)))
+
+abbrev pub sheet_checked : TextCheck → ℕ → ℕ → SheetView → List Warning
+sheet_checked check version part sheet = each_from (edge_checked check version part) 0 sheet.edges
+
+abbrev pub checked_warnings : TextCheck → PlanView → DesignView → List Warning
+checked_warnings check plan d = each_from (sheet_checked check plan.netlist.version) 0 d.sheets ++ each_from (wire_checked check) 0 plan.netlist.edges
 
 -- ---- the middle of sizes
 
@@ -60,7 +103,7 @@ given_at mark given lead = if leads_into mark lead && given then Some lead else 
 
 -- each mark has the first of some leads of which this holds
 abbrev pub AreFirst : (DesignMark → Lead → Bool) → FirstLeads → List Lead → Type 0
-AreFirst holds firsts leads = (mark : DesignMark) → first_at firsts mark ≡ find (holds mark) leads
+AreFirst test firsts leads = (mark : DesignMark) → first_at firsts mark ≡ find (test mark) leads
 
 -- ---- periods, according to tables of the first periods of marks, of the first joins into marks, and of the first leads by which marks follow clocks
 

@@ -14,7 +14,6 @@ ghost use Rattle.lint.specs.Warnings.{rule_warnings, warnings_of};
 use crate::asked::push_asked;
 use crate::both::push_both;
 use crate::clock::first_joins;
-use crate::comments::push_comments;
 use crate::drivers::push_drivers;
 use crate::firsts::FirstLeads;
 use crate::followers::push_followers;
@@ -22,14 +21,13 @@ use crate::held::push_held;
 use crate::keys::push_keys;
 use crate::lead::Lead;
 use crate::leads::{joins_of, leads_of};
-use crate::misplaced::push_notes;
 use crate::never::push_never;
 use crate::own::push_own;
 use crate::periods::push_rivals;
 use crate::single::push_single;
+use crate::texts::{TextCheck, push_checked};
 use crate::units::push_units;
 use crate::warning::Warning;
-use crate::words::push_words;
 use compose::Design;
 use design_plan::Plan;
 use itv_base::NoMemory;
@@ -83,9 +81,9 @@ fn push_leads(
 fn push_texts(warnings: &mut Vec<Warning>, plan: &Plan, design: &Design<'_>) -> Result<(), NoMemory>
     ensures pushed { OnOk result (warnings.new.items ≡ warnings.old.items ++ text_warnings plan.now design.now) }
 {
-    push_comments(warnings, plan, design)?;
-    push_words(warnings, plan, design)?;
-    push_notes(warnings, plan, design)?;
+    push_checked(warnings, TextCheck::Comment, plan, design)?;
+    push_checked(warnings, TextCheck::Word, plan, design)?;
+    push_checked(warnings, TextCheck::Note, plan, design)?;
     push_keys(warnings, plan, design)
 }
 

@@ -29,6 +29,7 @@ mod ranged;
 mod rule;
 mod single;
 mod skew;
+mod texts;
 mod units;
 mod warning;
 mod words;
