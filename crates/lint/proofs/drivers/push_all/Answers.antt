@@ -1,5 +1,6 @@
-use Rattle.std.proofs.Common.{◌++◌, ap, sym, take, ◌∙◌, subst, ◌∷◌, []}
+use Rattle.std.proofs.Common.{◌++◌, ap, sym, take, take_all, ◌∙◌, subst, ◌∷◌, [], arith}
 use Rattle.std.proofs.lemmas.List.{take_more}
+use Rattle.lint.specs.Lists.{each_behind}
 use Rattle.lint.specs.Step.{AreFirstTwo, lead_drivers}
 use Rattle.lint.proofs.EachLists.{behind_more}
 use Rattle.lint.proofs.FirstTwoLists.{met_is}
@@ -16,3 +17,8 @@ loop-join-preserved c =
       (rw (c.first_met.ensures, met_is c.loop-join.tables (take n joins) c.loop-join.invariant.1 join) at c.in_ok-push_mark.ensures.pushed),
       subst (AreFirstTwo c.note_lead.new.tables) (sym more) (c.in_ok-note_lead.ensures.noted (take n joins) c.loop-join.invariant.1),
     )
+
+pub returns : goal.returns
+returns c =
+    c.loop-join.invariant.0
+    ∙ ap (λ xs. c.args.warnings.now.items ++ each_behind lead_drivers [] xs) (take_all c.loop-join.join-index c.args.joins.now (omega (arith, c.loop-join-test.false)))
