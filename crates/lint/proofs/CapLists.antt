@@ -89,7 +89,7 @@ module _ (part : ℕ) (texts : List (List ℕ)) (rule : RuleView) (source : Rule
   both_next : (r : RuleView) (found : Option RuleView) (caps : List Lead) → of_two part rule found ≡ both_at (spot part source.origin) (find (meets (cap_lead part rule source)) caps)
       → (b : Bool) → is_cap texts r ≡ b → (there : Option RuleCause) → slice_get r.causes 0 ≡ there
       → of_two part rule (cond (meet texts rule r) (Some r) found)
-          ≡ both_at (spot part source.origin) (find (meets (cap_lead part rule source)) (cond b (option_to_list (option_map (cap_lead part r) there)) [] ++ caps))
+      ≡ both_at (spot part source.origin) (find (meets (cap_lead part rule source)) (cond b (option_to_list (option_map (cap_lead part r) there)) [] ++ caps))
   both_next r found caps rest false other there same = ap (λ b. of_two part rule (cond b (Some r) found)) (meets_caps r other) ∙ rest
   both_next r found caps rest true other None same = absurd (cap_caused texts r other same)
   both_next r found caps rest true other (Some s) same =

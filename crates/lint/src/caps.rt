@@ -65,12 +65,7 @@ fn push_rules(
 }
 
 // Puts a rule at the end, if it is a cap.
-fn push_rule(
-    caps: &mut Vec<Lead>,
-    part: u32,
-    texts: &Texts,
-    rule: &Rule,
-) -> Result<(), NoMemory>
+fn push_rule(caps: &mut Vec<Lead>, part: u32, texts: &Texts, rule: &Rule) -> Result<(), NoMemory>
     ensures pushed { OnOk result (caps.new.items ≡ caps.old.items ++ rule_caps part texts.now rule.now) }
 {
     if is_cap(texts, rule) {
@@ -82,12 +77,7 @@ fn push_rule(
 }
 
 // Puts the lead of a cause of a rule on the sheet of a part at the end.
-fn push_lead(
-    caps: &mut Vec<Lead>,
-    part: u32,
-    rule: &Rule,
-    cause: RuleCause,
-) -> Result<(), NoMemory>
+fn push_lead(caps: &mut Vec<Lead>, part: u32, rule: &Rule, cause: RuleCause) -> Result<(), NoMemory>
     ensures pushed { OnOk result (caps.new.items ≡ caps.old.items ++ cap_lead part rule.now cause ∷ []) }
 {
     let from = DesignMark {

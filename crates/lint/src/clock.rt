@@ -1,7 +1,6 @@
 //! Rules that give clocks their periods, and the drivers of marks.
 
 ghost use Rattle.std.specs.Prelude.{◌≡◌, ◌++◌, IfOk, None, OnOk};
-ghost use Rattle.std.specs.List.{flat_map};
 ghost use Rattle.compose.specs.declared.mark.DesignMark.{DesignMark as MarkSeen};
 ghost use Rattle.lint.specs.Periods.{clocks_of, is_join_into, is_period};
 ghost use Rattle.lint.specs.Step.{AreFirst, clock_by, driver_by, first_at, is_period_into};
@@ -26,11 +25,7 @@ pub struct Clock {
 }
 
 /// The rules of periods among the leads of a design. The table has the first joins into marks.
-pub fn clocks_of(
-    alloc: Global,
-    joins: &FirstLeads,
-    leads: &[Lead],
-) -> Result<Vec<Clock>, NoMemory>
+pub fn clocks_of(alloc: Global, joins: &FirstLeads, leads: &[Lead]) -> Result<Vec<Clock>, NoMemory>
     requires joins { AreFirst is_join_into joins.now leads.now }
     ensures clocks { IfOk result (λ clocks. clocks.items ≡ clocks_of leads.now) }
 {
@@ -40,11 +35,7 @@ pub fn clocks_of(
 }
 
 // Puts the rules of periods among the leads of a design at the end.
-fn push_clocks(
-    clocks: &mut Vec<Clock>,
-    joins: &FirstLeads,
-    leads: &[Lead],
-) -> Result<(), NoMemory>
+fn push_clocks(clocks: &mut Vec<Clock>, joins: &FirstLeads, leads: &[Lead]) -> Result<(), NoMemory>
     requires joins { AreFirst is_join_into joins.now leads.now }
     ensures pushed { OnOk result (clocks.new.items ≡ clocks.old.items ++ clocks_of leads.now) }
 {

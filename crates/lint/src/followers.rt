@@ -145,9 +145,7 @@ fn push_mark(
 fn is_crossed(periods: &FirstLeads, crossings: &[Crossing], mark: DesignMark) -> bool
     ensures { result ≡ crossed_by periods.now crossings.now mark }
 {
-    crossings
-        .iter()
-        .any(|crossing| is_at(crossing.to, mark) && !has_first(periods, crossing.from))
+    crossings.iter().any(|crossing| is_at(crossing.to, mark) && !has_first(periods, crossing.from))
 }
 
 // The first leads by which marks follow clocks. The tables have the first joins into marks, and the first periods of marks.

@@ -94,11 +94,7 @@ fn push_edge(
 }
 
 // Puts the warnings of the edges of the netlist at the end.
-fn push_wires(
-    warnings: &mut Vec<Warning>,
-    check: TextCheck,
-    edges: &Texts,
-) -> Result<(), NoMemory>
+fn push_wires(warnings: &mut Vec<Warning>, check: TextCheck, edges: &Texts) -> Result<(), NoMemory>
     ensures pushed { OnOk result (warnings.new.items ≡ warnings.old.items ++ each_from (wire_checked check) 0 edges.now) }
 {
     for n in 0..edges.len() {

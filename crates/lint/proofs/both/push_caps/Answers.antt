@@ -11,10 +11,9 @@ loop-cap-preserved c =
     let caps = c.args.caps.now in
     let n = c.loop-cap.cap-index in
     let cap = c.cap-item.result in
-    let more = take_more caps n cap c.loop-cap-test.true ∙ ap (λ y. take n caps ++ y ∷ []) (sym c.cap-item.is) in
-    (
+    let more = take_more caps n cap c.loop-cap-test.true ∙ ap (λ y. take n caps ++ y ∷ []) (sym c.cap-item.is) in (
       behind_more cap_both caps n cap c.args.warnings.now.items c.loop-cap.warnings.items c.push_two.new.warnings.items c.loop-cap-test.true c.cap-item.is c.loop-cap.invariant.0
-      (rw (c.first_met.ensures, met_is c.loop-cap.tables (take n caps) c.loop-cap.invariant.1 cap) at c.in_ok-push_two.ensures.pushed),
+          (rw (c.first_met.ensures, met_is c.loop-cap.tables (take n caps) c.loop-cap.invariant.1 cap) at c.in_ok-push_two.ensures.pushed),
       subst (AreFirstTwo c.note_lead.new.tables) (sym more) (c.in_ok-note_lead.ensures.noted (take n caps) c.loop-cap.invariant.1),
     )
 
