@@ -14,7 +14,8 @@ returns c =
     let sheets = each_from sheet_both 0 design.sheets in
     let netlist = both_in netlist_part texts design.rules in
     let across = flat_map (lead_across design.sheets texts) (leads_of design) in
-    rw (
+    record {
+      pushed = rw (
       c.edges.ensures.edges,
       c.netlist.ensures.netlist,
       leads_met design.sheets c.push_sheets.new.tables c.in_ok-push_sheets.ensures.noted texts c.args.leads.now,
@@ -23,4 +24,5 @@ returns c =
       c.in_ok-push_sheets.ensures.pushed,
       append_assoc (old ++ sheets) netlist across,
       append_assoc old sheets (netlist ++ across),
-    ) at c.push_across.ensures.pushed
+      ) at c.push_across.ensures.pushed;
+    }

@@ -10,4 +10,4 @@ loop-lead-preserved c = λ mark.
     c.lead-item.is (c.loop-lead.invariant mark) (rw c.is_pin.ensures at (c.in_ok-note_first.ensures.noted mark))
 
 pub returns : goal.returns
-returns c = λ mark. c.loop-lead.invariant mark ∙ ap (find (is_join_into mark)) (take_all c.loop-lead.lead-index c.args.leads.now (omega (arith, c.loop-lead-test.false)))
+returns c = record { noted = λ mark. c.loop-lead.invariant mark ∙ ap (find (is_join_into mark)) (take_all c.loop-lead.lead-index c.args.leads.now (omega (arith, c.loop-lead-test.false))) }

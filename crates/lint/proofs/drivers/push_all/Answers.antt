@@ -18,6 +18,7 @@ loop-join-preserved c =
     )
 
 pub returns : goal.returns
-returns c =
-    c.loop-join.invariant.0
-    ∙ ap (λ xs. c.args.warnings.now.items ++ each_behind lead_drivers [] xs) (take_all c.loop-join.join-index c.args.joins.now (omega (arith, c.loop-join-test.false)))
+returns c = record {
+  pushed = c.loop-join.invariant.0
+      ∙ ap (λ xs. c.args.warnings.now.items ++ each_behind lead_drivers [] xs) (take_all c.loop-join.join-index c.args.joins.now (omega (arith, c.loop-join-test.false)));
+}

@@ -10,4 +10,4 @@ loop-lead-preserved c = λ mark.
     (first_at c.note_first.new.firsts mark) c.loop-lead-test.true c.lead-item.is (c.loop-lead.invariant mark) (rw c.follows_clock.ensures at (c.in_ok-note_first.ensures.noted mark))
 
 pub returns : goal.returns
-returns c = λ mark. c.loop-lead.invariant mark ∙ ap (find (follows_by c.args.leads.now mark)) (take_all c.loop-lead.lead-index c.args.leads.now (omega (arith, c.loop-lead-test.false)))
+returns c = record { noted = λ mark. c.loop-lead.invariant mark ∙ ap (find (follows_by c.args.leads.now mark)) (take_all c.loop-lead.lead-index c.args.leads.now (omega (arith, c.loop-lead-test.false))) }

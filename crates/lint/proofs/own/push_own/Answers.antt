@@ -16,5 +16,8 @@ pub returns : goal.returns
 returns c =
     let sheets = c.args.design.now.sheets in
     let given = flat_map (λ (lead : Lead). own_on lead (slice_get sheets lead.to.part)) in
-    c.loop-join.invariant ∙ ap (λ xs. c.args.warnings.now.items ++ given xs) (take_all c.loop-join.join-index c.args.joins.now (omega (arith, c.loop-join-test.false)) ∙ c.requires.joins)
-    ∙ ap (λ ys. c.args.warnings.now.items ++ ys) (joins_own sheets c.args.design.now.joins)
+    record {
+      pushed = c.loop-join.invariant
+          ∙ ap (λ xs. c.args.warnings.now.items ++ given xs) (take_all c.loop-join.join-index c.args.joins.now (omega (arith, c.loop-join-test.false)) ∙ c.requires.joins)
+          ∙ ap (λ ys. c.args.warnings.now.items ++ ys) (joins_own sheets c.args.design.now.joins);
+    }
