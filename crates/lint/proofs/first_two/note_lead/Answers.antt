@@ -8,5 +8,5 @@ returns c =
     let tables : FirstTwo = record { firsts = c.note_first-2.new.firsts; seconds = c.note_first.new.firsts } in
     record {
       noted = on_ok_weaker c.note_first-2.result
-          (λ noted leads are. lead_noted c.args.tables.now tables leads c.args.lead.now are noted (rw c.differs-second.ensures at c.in_ok-note_first.ensures.noted)) c.note_first-2.ensures.noted;
+          (λ noted leads are. lead_noted c.args.tables.now tables leads c.args.lead.now are noted (rw (c.differs-second.ensures, c.first_at.ensures) at c.in_ok-note_first.ensures.noted)) c.note_first-2.ensures.noted;
     }
