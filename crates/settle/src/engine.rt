@@ -59,7 +59,6 @@ pub struct Engine {
     pub needs: Needs,
     pub sweep: Sweep,
     pub from: EventId,
-    pub to: EventId,
     /// One below minus the cap: the least value of a bound, in picoseconds.
     pub least: i64,
     /// What the goal says of the to-event.
@@ -147,19 +146,38 @@ impl Engine {
                 return Err(fault);
             }
         };
-        let mut engine = Engine {
+        let goal = NodeBound {
+            node: Node::least(to),
+            value: cap,
+        };
+        let mut engine = Engine::over(alloc, tables, work, from, goal, room);
+        match engine.begin() {
+            Ok(()) => Ok(engine),
+            Err(fault) => {
+                drop(engine);
+                Err(fault)
+            }
+        }
+    }
+
+    // The search over the tables of a network before its first step. The goal is at the cap.
+    fn over(
+        alloc: Global,
+        tables: Tables,
+        work: Work,
+        from: EventId,
+        goal: NodeBound,
+        room: u64,
+    ) -> Engine {
+        Engine {
             alloc,
             tables,
             trail: work.trail,
             needs: work.needs,
             sweep: work.sweep,
             from,
-            to,
-            least: beyond(cap),
-            goal: NodeBound {
-                node: Node::least(to),
-                value: cap,
-            },
+            least: beyond(goal.value),
+            goal,
             falls: work.falls,
             walks: work.walks,
             heard: 0,
@@ -178,13 +196,6 @@ impl Engine {
             is_ended: false,
             is_over: false,
             meter: Meter::new(room),
-        };
-        match engine.begin() {
-            Ok(()) => Ok(engine),
-            Err(fault) => {
-                drop(engine);
-                Err(fault)
-            }
         }
     }
 
