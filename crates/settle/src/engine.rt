@@ -93,40 +93,6 @@ pub struct Engine {
     pub meter: Meter,
 }
 
-// What a search keeps of each bound and of each side.
-#[derive(Drop)]
-struct Work {
-    activity: Vec<u64>,
-    falls: FallCounts,
-    sweep: Sweep,
-    needs: Needs,
-    walks: WalksBack,
-    trail: Trail,
-}
-
-impl Work {
-    // The start of a search over so many events and sides.
-    fn new(
-        alloc: Global,
-        events: u32,
-        sides: usize,
-        from: EventId,
-        cap: i64,
-    ) -> Result<Work, NoMemory> {
-        let nodes = events.saturating_mul(2);
-        let bounds = nodes as usize;
-        let literals = sides.saturating_mul(2);
-        Ok(Work {
-            activity: vec![in alloc; 0; sides]?,
-            falls: FallCounts::new(alloc, bounds)?,
-            sweep: Sweep::new(alloc, nodes)?,
-            needs: Needs::new(alloc, bounds)?,
-            walks: WalksBack::new(alloc, bounds, literals)?,
-            trail: Trail::new(alloc, bounds, literals, Node::most(from), cap)?,
-        })
-    }
-}
-
 impl Engine {
     /// The search at its start, with room for so many items. No blocks are allowed yet.
     pub fn new(
@@ -137,21 +103,12 @@ impl Engine {
         cap: i64,
         room: u64,
     ) -> Result<Engine, NoMemory> {
-        let tables = Tables::new(alloc, net)?;
-        let sides = tables.sides.len();
-        let work = match Work::new(alloc, net.events(), sides, from, cap) {
-            Ok(work) => work,
-            Err(fault) => {
-                drop(tables);
-                return Err(fault);
-            }
-        };
         let goal = NodeBound {
             node: Node::least(to),
             value: cap,
         };
-        let mut engine = Engine::over(alloc, tables, work, from, goal, room);
-        match engine.begin() {
+        let mut engine = Engine::over_nothing(alloc, from, goal, room);
+        match engine.start(net) {
             Ok(()) => Ok(engine),
             Err(fault) => {
                 drop(engine);
@@ -160,26 +117,19 @@ impl Engine {
         }
     }
 
-    // The search over the tables of a network before its first step. The goal is at the cap.
-    fn over(
-        alloc: Global,
-        tables: Tables,
-        work: Work,
-        from: EventId,
-        goal: NodeBound,
-        room: u64,
-    ) -> Engine {
+    // A search over no events. The goal is at the cap.
+    fn over_nothing(alloc: Global, from: EventId, goal: NodeBound, room: u64) -> Engine {
         Engine {
             alloc,
-            tables,
-            trail: work.trail,
-            needs: work.needs,
-            sweep: work.sweep,
+            tables: Tables::new(alloc),
+            trail: Trail::new(alloc),
+            needs: Needs::new(alloc),
+            sweep: Sweep::new(alloc),
             from,
             least: beyond(goal.value),
             goal,
-            falls: work.falls,
-            walks: work.walks,
+            falls: FallCounts::new(alloc),
+            walks: WalksBack::new(alloc),
             heard: 0,
             fresh: Vec::new(alloc),
             refreshed: 0,
@@ -188,7 +138,7 @@ impl Engine {
             told: 0,
             kept: 0,
             outbox: Vec::new(alloc),
-            activity: work.activity,
+            activity: Vec::new(alloc),
             gain: 1024,
             pace: Pace::new(),
             blocks: 0,
@@ -197,6 +147,23 @@ impl Engine {
             is_over: false,
             meter: Meter::new(room),
         }
+    }
+
+    // Makes the tables of a network, and gets room for what is kept of each bound and of each side. Then the search begins.
+    fn start(&mut self, net: &Network) -> Result<(), NoMemory> {
+        self.tables.fill(self.alloc, net)?;
+        let sides = self.tables.sides.len();
+        let literals = sides.saturating_mul(2);
+        let nodes = net.events().saturating_mul(2);
+        let bounds = nodes as usize;
+        self.activity.resize(sides, 0)?;
+        self.falls.make_room(bounds)?;
+        self.sweep.begin(nodes)?;
+        self.needs.make_room(bounds)?;
+        self.walks.make_room(bounds, literals)?;
+        let from = Node::most(self.from);
+        self.trail.begin(bounds, literals, from, self.goal.value)?;
+        self.begin()
     }
 
     /// Allows this many blocks from now on, and the turns for them.

@@ -28,17 +28,23 @@ pub struct Needs {
 }
 
 impl Needs {
-    /// No needs, over so many bounds.
-    pub fn new(alloc: Global, bounds: usize) -> Result<Needs, NoMemory> {
-        Ok(Needs {
+    /// No needs, and no bounds.
+    pub fn new(alloc: Global) -> Needs {
+        Needs {
             values: Vec::new(alloc),
             left: 0,
             level: 0,
             open: 0,
-            assumed: vec![in alloc; 0; bounds]?,
+            assumed: Vec::new(alloc),
             conflict: 0,
             looks: 0,
-        })
+        }
+    }
+
+    /// Gets room for needs of so many bounds.
+    pub fn make_room(&mut self, bounds: usize) -> Result<(), NoMemory> {
+        self.assumed.resize(bounds, 0)?;
+        Ok(())
     }
 
     /// Begins with a conflict among the entries of a trail. Nothing is needed yet.

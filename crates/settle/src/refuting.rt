@@ -5,11 +5,12 @@ use crate::building::Tables;
 use crate::engine::{Conflict, Engine};
 use crate::literal::{Literal, NodeBound, SideLiteral, beyond};
 use crate::node::Node;
-use crate::places::{at, put};
+use crate::places::{at, put, take};
 use crate::trail::{Reason, TrailEntry};
 use edge_clauses::{Basis, EventBound, StoredLine};
 use event_graph::Edge;
 use itv_base::{EventId, NoMemory};
+use std::alloc::Global;
 
 // A clause as it is learnt. `edges` are assumed in the block, and `literals` are their opposites. The first is of the latest level.
 #[derive(Drop)]
@@ -20,6 +21,19 @@ struct Learnt {
     levels: usize,
     level: usize,
     back: usize,
+}
+
+impl Learnt {
+    // A clause without literals.
+    fn new(alloc: Global) -> Learnt {
+        Learnt {
+            literals: Vec::new(alloc),
+            edges: Vec::new(alloc),
+            levels: 0,
+            level: 0,
+            back: 0,
+        }
+    }
 }
 
 impl Engine {
@@ -35,23 +49,25 @@ impl Engine {
             self.outbox.clear();
             return self.begin_anew(conflict);
         }
-        let mut learnt = Learnt {
-            literals: Vec::new(self.alloc),
-            edges: Vec::new(self.alloc),
-            levels: 0,
-            level: 0,
-            back: 0,
-        };
+        let mut learnt = Learnt::new(self.alloc);
+        let shown = self.show(&mut learnt, level);
+        drop(learnt);
+        shown
+    }
+
+    // Goes through what is needed, up to the latest level of it, and learns the clause.
+    fn show(&mut self, learnt: &mut Learnt, level: usize) -> Result<(), NoMemory> {
         for place in (0..self.trail.end_of(level)).rev() {
             if self.needs.is_done() {
                 break;
             }
             let entry = self.trail.entry(place);
             if let Some(value) = self.needs.take(place, entry) {
-                self.go_through(&mut learnt, entry, value)?;
+                self.go_through(learnt, entry, value)?;
             }
         }
         self.meter.look(self.needs.looks());
+        self.put_assumed(learnt)?;
         self.learn(learnt)
     }
 
@@ -282,14 +298,21 @@ impl Engine {
         self.gain = (self.gain / 1_099_511_627_776).max(1024);
     }
 
-    // Writes the first lines of the block, goes back, and learns its clause.
-    fn learn(&mut self, learnt: Learnt) -> Result<(), NoMemory> {
+    // Writes the first lines of the block. The edges go into the line that assumes them.
+    fn put_assumed(&mut self, learnt: &mut Learnt) -> Result<(), NoMemory> {
         for literal in &learnt.literals {
             if let Literal::Bound(bound) = literal.opposite() {
                 let edge = edge_of(&self.tables, self.from, literal.opposite());
                 self.outbox.push(line_of(bound, Basis::Either(edge)))?;
             }
         }
+        let edges = take(&mut learnt.edges, Vec::new(self.alloc));
+        self.outbox.push(StoredLine::Assume(edges))?;
+        Ok(())
+    }
+
+    // Learns the clause, and goes back to the level at which it makes a literal hold.
+    fn learn(&mut self, learnt: &Learnt) -> Result<(), NoMemory> {
         self.meter.keep(learnt.literals.len().saturating_add(1));
         let clause = self.tables.clauses.len();
         let first = at(&learnt.literals, 0, Literal::Bound(self.goal));
@@ -298,11 +321,9 @@ impl Engine {
         self.tables
             .clauses
             .push(basis, &learnt.literals, learnt.levels)?;
-        let back = learnt.back;
-        self.outbox.push(StoredLine::Assume(learnt.edges))?;
         self.age();
         self.pace.count();
-        self.go_back(back);
+        self.go_back(learnt.back);
         self.imply(clause, first)
     }
 

@@ -85,14 +85,22 @@ pub struct WalksBack {
 }
 
 impl WalksBack {
-    /// No walks yet, over this many bounds and literals.
-    pub fn new(alloc: Global, bounds: usize, literals: usize) -> Result<WalksBack, NoMemory> {
-        Ok(WalksBack {
+    /// No walks yet, and no bounds or literals.
+    pub fn new(alloc: Global) -> WalksBack {
+        WalksBack {
             number: 0,
-            stamps: vec![in alloc; 0; bounds]?,
-            outs: vec![in alloc; NO_MARK; bounds]?,
-            literals: vec![in alloc; 0; literals]?,
-        })
+            stamps: Vec::new(alloc),
+            outs: Vec::new(alloc),
+            literals: Vec::new(alloc),
+        }
+    }
+
+    /// Gets room for walks over this many bounds and literals.
+    pub fn make_room(&mut self, bounds: usize, literals: usize) -> Result<(), NoMemory> {
+        self.stamps.resize(bounds, 0)?;
+        self.outs.resize(bounds, NO_MARK)?;
+        self.literals.resize(literals, 0)?;
+        Ok(())
     }
 
     // Begins a walk.
@@ -203,8 +211,15 @@ impl Engine {
     // Proposes the loop back to a bound.
     fn propose_round(&mut self, node: Node) -> Result<(), NoMemory> {
         let mut round = Round::new(self.alloc, node);
-        if self.walks_round(&mut round)? {
-            self.propose(&mut round)?;
+        let proposed = self.propose_if_round(&mut round);
+        drop(round);
+        proposed
+    }
+
+    // Proposes a loop, if the walk comes to its bound again.
+    fn propose_if_round(&mut self, round: &mut Round) -> Result<(), NoMemory> {
+        if self.walks_round(round)? {
+            return self.propose(round);
         }
         Ok(())
     }
