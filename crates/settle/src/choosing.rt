@@ -23,7 +23,7 @@ impl Engine {
         let Some(candidate) = self.first_candidate() else {
             return Ok(Proposal::Times);
         };
-        if self.blocks == 0 || self.rest_at <= self.meter.turns() {
+        if !self.pace.may_choose(self.meter.turns()) {
             return Ok(Proposal::Rests);
         }
         if !self.pace.is_due() {
@@ -43,7 +43,7 @@ impl Engine {
             self.meter.look(self.tables.clauses.size());
             self.tables.clauses.let_go(self.alloc)?;
         }
-        self.falls.reset();
+        self.unseen.falls.reset();
         self.trail.choose(side)
     }
 
@@ -73,7 +73,7 @@ impl Engine {
                 return None;
             }
             let side = way.side?;
-            need = at(&self.activity, side.side(), 0).max(need);
+            need = self.activity.of(side.side()).max(need);
             if !self.trail.has(side.opposite()) {
                 least = earlier(
                     least,

@@ -2,11 +2,12 @@
 
 use crate::arcs::Ground;
 use crate::building::Tables;
-use crate::engine::{Conflict, Engine};
+use crate::engine::Engine;
 use crate::literal::{Literal, NodeBound, SideLiteral, beyond};
 use crate::node::Node;
-use crate::places::{at, put, take};
+use crate::places::{at, take};
 use crate::trail::{Reason, TrailEntry};
+use crate::unseen::Conflict;
 use edge_clauses::{Basis, EventBound, StoredLine};
 use event_graph::Edge;
 use itv_base::{EventId, NoMemory};
@@ -79,7 +80,7 @@ impl Engine {
         };
         self.go_back(0);
         self.take_goal()?;
-        self.sweep.add_all();
+        self.unseen.sweep.add_all();
         match clause {
             Some(clause) => self.look_at_whole(clause),
             None => Ok(()),
@@ -120,13 +121,13 @@ impl Engine {
             let value = beyond(self.trail.value(node));
             let node = other.node;
             self.needs
-                .want_bound(&self.trail, self.goal, NodeBound { node, value });
+                .want_bound(&self.trail, self.scope.goal, NodeBound { node, value });
             return Ok(());
         }
         let bound = Literal::Bound(other.opposite());
         self.put_line(bound, bound, reason)?;
         self.want_reason(bound, reason);
-        self.needs.want_bound(&self.trail, self.goal, other);
+        self.needs.want_bound(&self.trail, self.scope.goal, other);
         Ok(())
     }
 
@@ -143,7 +144,7 @@ impl Engine {
                 value,
             }),
             Literal::Side(side) => {
-                self.count_need(side.side());
+                self.activity.count(side.side());
                 entry.literal
             }
         };
@@ -169,7 +170,7 @@ impl Engine {
         }
         learnt
             .edges
-            .push(edge_of(&self.tables, self.from, literal))?;
+            .push(edge_of(&self.tables, self.scope.from, literal))?;
         learnt.literals.push(literal.opposite())?;
         if level != learnt.level {
             if learnt.levels == 1 {
@@ -200,7 +201,7 @@ impl Engine {
                 node: edge.from,
                 value: bound.value.saturating_sub(edge.weight),
             };
-            self.needs.want_bound(&self.trail, self.goal, from);
+            self.needs.want_bound(&self.trail, self.scope.goal, from);
         }
         if let Ground::Side(side) = edge.ground {
             self.needs.want_side(&self.trail, side);
@@ -221,8 +222,8 @@ impl Engine {
             node: Node::least(edge.to),
             value: beyond(start.saturating_add(edge.weight)),
         };
-        self.needs.want_bound(&self.trail, self.goal, from);
-        self.needs.want_bound(&self.trail, self.goal, to);
+        self.needs.want_bound(&self.trail, self.scope.goal, from);
+        self.needs.want_bound(&self.trail, self.scope.goal, to);
     }
 
     // Needs that none of a rule's literals holds, and the bounds from which its ways lead.
@@ -254,12 +255,12 @@ impl Engine {
                 return self.needs.want_place(&self.trail, place);
             }
         }
-        self.needs.want_bound(&self.trail, self.goal, bound);
+        self.needs.want_bound(&self.trail, self.scope.goal, bound);
     }
 
     // Whether a bound is at a value by the goal, or by an entry before this place.
     fn is_before(&self, bound: NodeBound, place: usize) -> bool {
-        if bound.node == self.goal.node && self.goal.value <= bound.value {
+        if bound.node == self.scope.goal.node && self.scope.goal.value <= bound.value {
             return true;
         }
         match self.trail.first_at(bound) {
@@ -274,54 +275,34 @@ impl Engine {
         for number in 0..clause.literals.count {
             let literal = self.tables.clauses.literal(clause, number);
             if !is_of(literal, held) {
-                self.needs.want(&self.trail, self.goal, literal.opposite());
+                self.needs
+                    .want(&self.trail, self.scope.goal, literal.opposite());
             }
         }
-    }
-
-    // Counts that a side was needed.
-    fn count_need(&mut self, side: usize) {
-        let count = at(&self.activity, side, 0).saturating_add(self.gain);
-        put(&mut self.activity, side, count);
-    }
-
-    // Makes later needs count for more. Where the counts are large, all become smaller.
-    fn age(&mut self) {
-        self.gain = self.gain.saturating_add(self.gain / 8);
-        if self.gain <= 1 << 50 {
-            return;
-        }
-        for side in 0..self.activity.len() {
-            let count = at(&self.activity, side, 0) / 1_099_511_627_776;
-            put(&mut self.activity, side, count);
-        }
-        self.gain = (self.gain / 1_099_511_627_776).max(1024);
     }
 
     // Writes the first lines of the block. The edges go into the line that assumes them.
     fn put_assumed(&mut self, learnt: &mut Learnt) -> Result<(), NoMemory> {
         for literal in &learnt.literals {
             if let Literal::Bound(bound) = literal.opposite() {
-                let edge = edge_of(&self.tables, self.from, literal.opposite());
+                let edge = edge_of(&self.tables, self.scope.from, literal.opposite());
                 self.outbox.push(line_of(bound, Basis::Either(edge)))?;
             }
         }
         let edges = take(&mut learnt.edges, Vec::new(self.alloc));
-        self.outbox.push(StoredLine::Assume(edges))?;
-        Ok(())
+        self.outbox.push(StoredLine::Assume(edges))
     }
 
     // Learns the clause, and goes back to the level at which it makes a literal hold.
     fn learn(&mut self, learnt: &Learnt) -> Result<(), NoMemory> {
         self.meter.keep(learnt.literals.len().saturating_add(1));
         let clause = self.tables.clauses.len();
-        let first = at(&learnt.literals, 0, Literal::Bound(self.goal));
-        let basis = Basis::ByKept(self.kept);
-        self.kept = self.kept.saturating_add(1);
+        let first = at(&learnt.literals, 0, Literal::Bound(self.scope.goal));
+        let basis = self.outbox.next_kept();
         self.tables
             .clauses
             .push(basis, &learnt.literals, learnt.levels)?;
-        self.age();
+        self.activity.age();
         self.pace.count();
         self.go_back(learnt.back);
         self.imply(clause, first)
@@ -341,8 +322,7 @@ impl Engine {
             Literal::Bound(bound) => line_of(bound, basis),
             Literal::Side(side) => StoredLine::Know(self.tables.sides.edge(side), basis),
         };
-        self.outbox.push(line)?;
-        Ok(())
+        self.outbox.push(line)
     }
 
     // The basis of the clause by which a literal holds for a reason.
@@ -353,7 +333,11 @@ impl Engine {
                 Ground::Always(name) => Basis::ByEdge(name),
                 Ground::Side(side) => Basis::Either(self.tables.sides.edge(side)),
             }),
-            Reason::Bounds(_) => Some(Basis::Either(edge_of(&self.tables, self.from, literal))),
+            Reason::Bounds(_) => Some(Basis::Either(edge_of(
+                &self.tables,
+                self.scope.from,
+                literal,
+            ))),
             Reason::Rule(rule) => Some(self.tables.rules.rule(rule).basis),
             Reason::Clause(clause) => Some(self.tables.clauses.clause(clause).basis),
         }

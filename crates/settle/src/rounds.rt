@@ -3,11 +3,12 @@
 use crate::arcs::Ground;
 use crate::bound_rules::{BoundRule, BoundWay};
 use crate::building::short;
-use crate::engine::{Engine, KeptLoop};
+use crate::engine::Engine;
 use crate::literal::{Literal, SideLiteral};
 use crate::node::Node;
 use crate::places::{at, put, take};
 use crate::trail::Reason;
+use crate::unseen::KeptLoop;
 use edge_clauses::{Basis, StoredLine, WalkStep};
 use event_graph::Edge;
 use itv_base::{EdgeName, EventId, NoMemory};
@@ -156,7 +157,7 @@ impl Engine {
             if self.walks.comes_again(here) {
                 return Some(here);
             }
-            if !self.falls.has_fallen_again(here) {
+            if !self.unseen.falls.has_fallen_again(here) {
                 return None;
             }
             here = self.step_back(here)?.from;
@@ -190,7 +191,7 @@ impl Engine {
     fn greatest_way(&mut self, place: usize) -> Option<StepBack> {
         let rule = self.tables.rules.rule(place);
         self.meter.look(rule.ways.count);
-        let mut most = self.least;
+        let mut most = self.scope.least;
         let mut best = None;
         for number in 0..rule.ways.count {
             let given = self.given(rule, number);
@@ -340,7 +341,7 @@ impl Engine {
         }
         if MOST < round.size() || !are_near(&round.ways) || !self.says_more(round) {
             if !round.node.is_most() {
-                self.falls.let_rest(round.node);
+                self.unseen.falls.let_rest(round.node);
             }
             return Ok(());
         }
@@ -376,7 +377,7 @@ impl Engine {
             }
             return open < 2;
         }
-        let mut most = self.least;
+        let mut most = self.scope.least;
         for way in &round.ways {
             most = most.max(self.trail.value(way.from).saturating_add(way.weight));
         }
@@ -401,8 +402,7 @@ impl Engine {
 
     // Adds the rule of a loop, or its clause if it has no ways. A way from the event itself says nothing.
     fn adopt(&mut self, round: &Round) -> Result<(), NoMemory> {
-        let basis = Basis::ByKept(self.kept);
-        self.kept = self.kept.saturating_add(1);
+        let basis = self.outbox.next_kept();
         let ways = other_ways(self.alloc, round)?;
         if ways.is_empty() {
             return self.adopt_clause(basis, round);
@@ -411,7 +411,7 @@ impl Engine {
         self.tables
             .rules
             .push(basis, round.node, &ways, &round.literals)?;
-        self.fresh.push(KeptLoop::Rule(rule))?;
+        self.unseen.fresh.push(KeptLoop::Rule(rule))?;
         Ok(())
     }
 
@@ -420,7 +420,7 @@ impl Engine {
         let literals = self.latest_first(&round.literals)?;
         let clause = self.tables.clauses.len();
         self.tables.clauses.push(basis, &literals, 0)?;
-        self.fresh.push(KeptLoop::Clause(clause))?;
+        self.unseen.fresh.push(KeptLoop::Clause(clause))?;
         Ok(())
     }
 

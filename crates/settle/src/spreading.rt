@@ -3,10 +3,11 @@
 use crate::arcs::Ground;
 use crate::bound_rules::BoundRule;
 use crate::clause_store::Watch;
-use crate::engine::{Conflict, Engine};
+use crate::engine::Engine;
 use crate::literal::{Literal, NodeBound, SideLiteral};
 use crate::node::Node;
 use crate::trail::Reason;
+use crate::unseen::Conflict;
 use itv_base::NoMemory;
 
 // How many turns a fall of a bound takes. What follows from it is looked at again.
@@ -45,18 +46,21 @@ impl Engine {
     /// Lowers a bound, but at most to one below minus the cap. After a conflict nothing is lowered.
     pub fn lower(&mut self, bound: NodeBound, reason: Reason) -> Result<(), NoMemory> {
         let node = bound.node;
-        let value = bound.value.max(self.least);
-        if self.trail.value(node) <= value || self.conflict.is_some() || self.rests(node, reason) {
+        let value = bound.value.max(self.scope.least);
+        if self.trail.value(node) <= value
+            || self.unseen.conflict.is_some()
+            || self.rests(node, reason)
+        {
             return Ok(());
         }
         self.trail.lower(NodeBound { node, value }, reason)?;
         self.meter.take(FALL_TURNS);
-        self.sweep.add(node);
-        if self.falls.is_due(node) {
-            self.walk = Some(node);
+        self.unseen.sweep.add(node);
+        if self.unseen.falls.is_due(node) {
+            self.unseen.walk = Some(node);
         }
         if value.saturating_add(self.trail.value(node.other())) < 0 {
-            self.conflict = Some(Conflict::Bound(node));
+            self.unseen.conflict = Some(Conflict::Bound(node));
         }
         Ok(())
     }
@@ -64,14 +68,14 @@ impl Engine {
     // Whether a bound rests. Clauses lower it all the same.
     fn rests(&self, node: Node, reason: Reason) -> bool {
         match reason {
-            Reason::Edge(_) | Reason::Rule(_) => self.falls.rests(node),
+            Reason::Edge(_) | Reason::Rule(_) => self.unseen.falls.rests(node),
             _ => false,
         }
     }
 
     // Lets a literal hold. After a conflict nothing is held.
     fn hold(&mut self, side: SideLiteral, reason: Reason) -> Result<(), NoMemory> {
-        if self.trail.has(side) || self.conflict.is_some() {
+        if self.trail.has(side) || self.unseen.conflict.is_some() {
             return Ok(());
         }
         self.trail.hold(side, reason)
@@ -180,7 +184,7 @@ impl Engine {
     // The most that the ways of a rule give.
     fn most_of(&self, rule: BoundRule) -> MostWay {
         let mut most = MostWay {
-            value: self.least,
+            value: self.scope.least,
             number: 0,
         };
         for number in 0..rule.ways.count {
@@ -261,8 +265,8 @@ impl Engine {
     /// Makes a literal hold by a clause none of whose other literals can hold.
     pub fn imply(&mut self, clause: usize, literal: Literal) -> Result<(), NoMemory> {
         if self.trail.is_false(literal) {
-            if self.conflict.is_none() {
-                self.conflict = Some(Conflict::Clause(clause));
+            if self.unseen.conflict.is_none() {
+                self.unseen.conflict = Some(Conflict::Clause(clause));
             }
             return Ok(());
         }
@@ -289,7 +293,7 @@ impl Engine {
         match open {
             Some(literal) => self.imply(place, literal),
             None => {
-                self.conflict = Some(Conflict::Clause(place));
+                self.unseen.conflict = Some(Conflict::Clause(place));
                 Ok(())
             }
         }
