@@ -1,5 +1,6 @@
 //! How much sides were needed lately.
 
+use crate::literal::Literal;
 use crate::places::{at, put};
 use itv_base::NoMemory;
 use std::alloc::Global;
@@ -38,10 +39,13 @@ impl Activity {
         at(&self.counts, side, 0)
     }
 
-    /// Counts that a side was needed.
-    pub fn count(&mut self, side: usize) {
-        let count = self.of(side).saturating_add(self.gain);
-        put(&mut self.counts, side, count);
+    /// Counts that the side of a literal was needed. A bound has none.
+    pub fn count(&mut self, literal: Literal) {
+        if let Literal::Side(literal) = literal {
+            let side = literal.side();
+            let count = self.of(side).saturating_add(self.gain);
+            put(&mut self.counts, side, count);
+        }
     }
 
     /// Makes later needs count for more. Where the counts are large, all become smaller.

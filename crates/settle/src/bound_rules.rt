@@ -161,6 +161,9 @@ impl BoundRules {
     /// Keeps the number of the way that gives the most for a rule.
     pub fn hint(&mut self, place: usize, way: usize) {
         let mut rule = self.rule(place);
+        if rule.hint == way {
+            return;
+        }
         rule.hint = way;
         put(&mut self.rules, place, rule);
     }

@@ -91,9 +91,7 @@ impl ClauseStore {
             literals: stretch,
             levels,
         })?;
-        if 0 < levels {
-            self.learnt = self.learnt.saturating_add(1);
-        }
+        self.learnt = self.learnt.saturating_add(levels.min(1));
         self.watches.push(watch_of(clause, false))?;
         self.watches.push(watch_of(clause, true))?;
         if 1 < stretch.count {

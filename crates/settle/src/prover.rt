@@ -129,7 +129,7 @@ impl Prover {
 
     /// The turns that the search has taken.
     pub fn turns(&self) -> u64 {
-        self.engine.meter.turns()
+        self.engine.facts.meter.turns()
     }
 
     /// Whether the search has ended or given up.

@@ -2,8 +2,8 @@
 
 use crate::arcs::Ground;
 use crate::bound_rules::BoundRule;
-use crate::clause_store::Watch;
-use crate::engine::Engine;
+use crate::clause_store::{StoredClause, Watch};
+use crate::facts::Facts;
 use crate::literal::{Literal, NodeBound, SideLiteral};
 use crate::node::Node;
 use crate::trail::Reason;
@@ -20,9 +20,26 @@ struct MostWay {
     number: usize,
 }
 
-impl Engine {
+// What a clause says where some of its literals can't hold.
+#[derive(Clone, Copy)]
+enum ClauseState {
+    /// Nothing: two literals may hold, or one holds.
+    Open,
+    /// That this literal holds: no other one can.
+    Unit(Literal),
+    /// That a conflict is there: no literal can hold.
+    False,
+}
+
+impl Facts {
     /// Begins: sides from an event to itself are met or not, and clauses of one literal make it hold.
     pub fn begin(&mut self) -> Result<(), NoMemory> {
+        self.hold_own_sides()?;
+        self.look_at_units()
+    }
+
+    // Lets each side from an event to itself be met or not.
+    fn hold_own_sides(&mut self) -> Result<(), NoMemory> {
         for side in 0..self.tables.sides.len() {
             let literal = SideLiteral(side.saturating_mul(2));
             let edge = self.tables.sides.edge(literal);
@@ -35,6 +52,11 @@ impl Engine {
                 self.hold(held, Reason::Bounds(0))?;
             }
         }
+        Ok(())
+    }
+
+    // Looks at the clauses of one literal.
+    fn look_at_units(&mut self) -> Result<(), NoMemory> {
         for clause in 0..self.tables.clauses.len() {
             if self.tables.clauses.clause(clause).literals.count == 1 {
                 self.look_at_whole(clause)?;
@@ -55,13 +77,8 @@ impl Engine {
         }
         self.trail.lower(NodeBound { node, value }, reason)?;
         self.meter.take(FALL_TURNS);
-        self.unseen.sweep.add(node);
-        if self.unseen.falls.is_due(node) {
-            self.unseen.walk = Some(node);
-        }
-        if value.saturating_add(self.trail.value(node.other())) < 0 {
-            self.unseen.conflict = Some(Conflict::Bound(node));
-        }
+        let crosses = value.saturating_add(self.trail.value(node.other())) < 0;
+        self.unseen.fall(node, crosses);
         Ok(())
     }
 
@@ -154,9 +171,7 @@ impl Engine {
         self.meter
             .look(rule.ways.count.saturating_add(rule.literals.count));
         let most = self.most_of(rule);
-        if most.number != rule.hint {
-            self.tables.rules.hint(place, most.number);
-        }
+        self.tables.rules.hint(place, most.number);
         if value <= most.value || self.may_hold(rule) {
             return Ok(());
         }
@@ -249,17 +264,29 @@ impl Engine {
         }
         let clause = self.tables.clauses.clause(watch.clause);
         self.meter.look(clause.literals.count);
-        for number in 2..clause.literals.count {
-            let literal = self.tables.clauses.literal(clause, number);
-            if !self.trail.is_false(literal) {
+        match self.unwatched(clause) {
+            Some(number) => {
                 self.tables
                     .clauses
                     .move_watch(place, number, chain, previous);
-                return Ok(true);
+                Ok(true)
+            }
+            None => {
+                self.imply(watch.clause, other)?;
+                Ok(false)
             }
         }
-        self.imply(watch.clause, other)?;
-        Ok(false)
+    }
+
+    // The number of the first literal of a clause that is not watched and may hold, if there is one.
+    fn unwatched(&self, clause: StoredClause) -> Option<usize> {
+        for number in 2..clause.literals.count {
+            let literal = self.tables.clauses.literal(clause, number);
+            if !self.trail.is_false(literal) {
+                return Some(number);
+            }
+        }
+        None
     }
 
     /// Makes a literal hold by a clause none of whose other literals can hold.
@@ -280,22 +307,28 @@ impl Engine {
     pub fn look_at_whole(&mut self, place: usize) -> Result<(), NoMemory> {
         let clause = self.tables.clauses.clause(place);
         self.meter.look(clause.literals.count);
-        let mut open = None;
-        for number in 0..clause.literals.count {
-            let literal = self.tables.clauses.literal(clause, number);
-            if !self.trail.is_false(literal) {
-                if open.is_some() || self.trail.holds(literal) {
-                    return Ok(());
-                }
-                open = Some(literal);
-            }
-        }
-        match open {
-            Some(literal) => self.imply(place, literal),
-            None => {
+        match self.state_of(clause) {
+            ClauseState::Open => Ok(()),
+            ClauseState::Unit(literal) => self.imply(place, literal),
+            ClauseState::False => {
                 self.unseen.conflict = Some(Conflict::Clause(place));
                 Ok(())
             }
         }
+    }
+
+    // What a clause says.
+    fn state_of(&self, clause: StoredClause) -> ClauseState {
+        let mut state = ClauseState::False;
+        for number in 0..clause.literals.count {
+            let literal = self.tables.clauses.literal(clause, number);
+            if !self.trail.is_false(literal) {
+                if matches!(state, ClauseState::Unit(_)) || self.trail.holds(literal) {
+                    return ClauseState::Open;
+                }
+                state = ClauseState::Unit(literal);
+            }
+        }
+        state
     }
 }

@@ -50,6 +50,17 @@ impl Unseen {
         }
     }
 
+    /// A bound has fallen. It waits, and a walk back from it may be due. It may have fallen below what the other bound of its event allows.
+    pub fn fall(&mut self, node: Node, crosses: bool) {
+        self.sweep.add(node);
+        if self.falls.is_due(node) {
+            self.walk = Some(node);
+        }
+        if crosses {
+            self.conflict = Some(Conflict::Bound(node));
+        }
+    }
+
     /// Nothing waits any more, and so many entries of the trail were looked at. Fresh loops are to be looked at again.
     pub fn clear(&mut self, entries: usize) {
         self.sweep.clear();
