@@ -61,11 +61,17 @@ impl Prover {
     {
         let checker = ClauseChecker::start(alloc, net, from, to, claim)?;
         let cap = checker.limits().cap;
-        Ok(Prover {
-            checker,
-            engine: Engine::new(alloc, net, from, to, cap, room)?,
-            lines: Vec::new(alloc),
-        })
+        match Engine::new(alloc, net, from, to, cap, room) {
+            Ok(engine) => Ok(Prover {
+                checker,
+                engine,
+                lines: Vec::new(alloc),
+            }),
+            Err(fault) => {
+                drop(checker);
+                Err(fault)
+            }
+        }
     }
 
     /// A step of the search. The lines always lead to the checker's state.
