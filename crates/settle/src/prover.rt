@@ -109,6 +109,7 @@ impl Prover {
         if self.checker.take(alloc, net, &line)? {
             self.lines.push(line)?;
         } else {
+            drop(line);
             self.engine.stop();
         }
         Ok(SearchState::GoesOn)
