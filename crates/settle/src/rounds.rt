@@ -12,7 +12,7 @@ use crate::trail::Reason;
 use crate::unseen::KeptLoop;
 use edge_clauses::{Basis, StoredLine, WalkStep};
 use event_graph::Edge;
-use itv_base::{EdgeName, EventId, NoMemory};
+use itv_base::{EdgeName, NoMemory};
 use std::alloc::Global;
 
 // How a bound came to its value: by an edge that is met, or by the greatest way of a rule.
