@@ -1,7 +1,7 @@
 //! Searching rows.
 
 ghost use Rattle.std.specs.Prelude.{◌≡◌, ◌<◌, ◌≤◌, false, All, IfOk};
-ghost use Rattle.std.specs.List.{AllZip};
+ghost use Rattle.std.specs.List.{AllZip, list_any};
 ghost use Rattle.drawn_networks.specs.Drawn.{IsRowOf};
 ghost use Rattle.event_graph.specs.Edges.{cause_choices};
 ghost use Rattle.explanations.specs.Apart.{keeps_order};
