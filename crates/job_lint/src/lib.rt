@@ -27,7 +27,6 @@ mod resting;
 mod row_seen;
 mod rows;
 mod said;
-mod searched;
 mod turns;
 mod write;
 
