@@ -86,8 +86,8 @@ is_below middle size = nat_lt (200 * size) middle
 -- ---- tables of the first leads into marks
 
 -- two marks are one, as keys of a table
-abbrev pub same_key : ℕ × ℕ → ℕ × ℕ → Bool
-same_key a b = a.0 == b.0 && a.1 == b.1
+abbrev pub same_mark_key : ℕ × ℕ → ℕ × ℕ → Bool
+same_mark_key a b = a.0 == b.0 && a.1 == b.1
 
 -- a lead for each of some marks
 abbrev pub FirstLeads : Type 0
@@ -95,7 +95,7 @@ FirstLeads = HashMap (ℕ × ℕ) Lead (BuildHasherDefault FoldHasher)
 
 -- the lead of a mark
 abbrev pub first_at : FirstLeads → DesignMark → Option Lead
-first_at firsts mark = get same_key firsts (mark.part, mark.mark)
+first_at firsts mark = get same_mark_key firsts (mark.part, mark.mark)
 
 -- a lead that is given, at the mark that it goes into
 abbrev pub given_at : DesignMark → Bool → Lead → Option Lead
