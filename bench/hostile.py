@@ -1,15 +1,16 @@
 #!/usr/bin/env python3
 """Runs jobs on small networks on which a search may run away, each within 5 seconds of the processor and 500 MB.
 
-    bench/hostile.py PROGRAM [--z3] [NAME ..]       job settle of a built `itv`, on designs; with --job=JOB another job
-    bench/hostile.py PROGRAM --job=all [NAME ..]    every job that reads a design
-    bench/hostile.py --lines PROGRAM [NAME ..]      the plain search of bench/settle, on networks as lines
+    bench/hostile.py PROGRAM [--quiet] [--z3] [NAME ..]       job settle of a built `itv`, on designs; with --job=JOB another job
+    bench/hostile.py PROGRAM [--quiet] --job=all [NAME ..]    every job that reads a design
+    bench/hostile.py --lines PROGRAM [NAME ..]                the plain search of bench/settle, on networks as lines
 
 Prints for each network the processor seconds, the megabytes, what the program says of the pair, and whether the network holds. For job settle it does
 where both bounds are settled, or the network is inconsistent or refused, within these limits. For another job it does where the run ends by itself,
-with an answer. With --z3 it also prints the seconds of z3 for both sides, which has 20 seconds and 4 GB. With --job=all it prints the seconds of each job,
-`late` where a run was ended and `memory` where it found none, the megabytes of the greatest run, and in brackets a run that left something open.
-The last line says how many hold."""
+with an answer. With --quiet the program says nothing on standard error. What it says there after a run counts the warnings of job lint, and may take
+longer than the run itself: so a search is compared with another program with --quiet. With --z3 it also prints the seconds of z3 for both sides, which
+has 20 seconds and 4 GB. With --job=all it prints the seconds of each job, `late` where a run was ended and `memory` where it found none, the megabytes
+of the greatest run, and in brackets a run that left something open. The last line says how many hold."""
 import functools
 import os
 import random
@@ -225,7 +226,7 @@ def draw(net, folder):
     lay_out({"edits": "set {}.{} [{},{}]\n".format(*first) if first else ""}, folder)
 
 
-def runs_of(program, net):
+def runs_of(program, net, is_quiet=False):
     """Each job with its run on a network. A job that checks a text is left out if there is none."""
     with tempfile.TemporaryDirectory() as folder:
         draw(net, folder)
@@ -233,7 +234,7 @@ def runs_of(program, net):
             report = next((word.removeprefix("--report=") for word in words.split() if word.startswith("--report=")), None)
             if report and not os.path.exists(os.path.join(folder, report)):
                 continue
-            done = run([program, *words.split()], folder)
+            done = run([program, *words.split()], folder, is_quiet=is_quiet)
             if job.endswith(" --cert") and has_ended(done):
                 lay_out({job.split(" ")[0]: done.printed}, folder)
             yield job, done
@@ -256,18 +257,18 @@ def cell(done):
     return "late" if done.is_late() else "memory"
 
 
-def measure_all(program, names):
+def measure_all(program, names, is_quiet):
     """A line for each network with the seconds of every job. How many runs there were, and how many of them ended by themselves."""
     row(["network", "MB", *JOBS])
     ended = []
     for name in names:
-        done = dict(runs_of(program, network(name)))
+        done = dict(runs_of(program, network(name), is_quiet))
         ended += map(has_ended, done.values())
         row([name, f"{max(one.room for one in done.values()):.0f}", *(cell(done[job]) if job in done else "" for job in JOBS)])
     return len(ended), sum(ended)
 
 
-def measure_one(program, job, names, by_lines, with_z3):
+def measure_one(program, job, names, by_lines, with_z3, is_quiet):
     """A line for each network with what one job, or the plain search, says of its first row. How many networks there are, and how many hold."""
     row(["network", "events", "seconds", "MB", f"job {job} says", ""] + ["z3"] * with_z3)
     holding = 0
@@ -275,7 +276,8 @@ def measure_one(program, job, names, by_lines, with_z3):
         net = network(name)
         with tempfile.TemporaryDirectory() as folder:
             draw(net, folder)
-            done = run([program], folder, net.lines().encode()) if by_lines else run([program, *JOBS[job].split()], folder)
+            command, given = ([program], net.lines().encode()) if by_lines else ([program, *JOBS[job].split()], b"")
+            done = run(command, folder, given, is_quiet=is_quiet)
             says = bound_lines(done.printed)[:2] or done.printed.decode().splitlines()[:1] * has_ended(done)
             says = ", ".join(f"`{line}`" for line in says)
             holds = is_settled(done) if job == "settle" else has_ended(done)
@@ -300,10 +302,10 @@ def main():
         sys.exit(__doc__)
     program = os.path.abspath(words[0])
     if job == "all":
-        count, held = measure_all(program, names)
+        count, held = measure_all(program, names, "--quiet" in sys.argv)
         print(f"{held} of {count} runs end by themselves within {SECONDS} seconds and 500 MB")
     else:
-        count, held = measure_one(program, job, names, "--lines" in sys.argv, "--z3" in sys.argv)
+        count, held = measure_one(program, job, names, "--lines" in sys.argv, "--z3" in sys.argv, "--quiet" in sys.argv)
         print(f"{held} of {count} hold")
 
 

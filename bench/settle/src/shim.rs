@@ -50,6 +50,11 @@ impl<T: Clone> Vec<T> {
         self.0.extend_from_slice(items);
         Ok(())
     }
+
+    pub fn resize(&mut self, count: usize, item: T) -> Result<(), NoMemory> {
+        self.0.resize(count, item);
+        Ok(())
+    }
 }
 
 impl<T> Deref for Vec<T> {

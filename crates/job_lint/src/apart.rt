@@ -15,7 +15,7 @@ ghost use Rattle.job_lint.specs.Step.Searching.{IsApartEnough, IsApartFor, IsApa
 
 use crate::by_order::ByOrder;
 use crate::kept::{Extent, RangeKept, extent_by, kept_in, order_by_finding, order_by_kept};
-use crate::turns::run_turns;
+use crate::searched::search;
 use drawn_networks::{DrawnNetwork, Row};
 use event_graph::Network;
 use explanations::network_apart;
@@ -85,10 +85,9 @@ fn find_times(alloc: Global, net: &Network, budget: u64) -> Result<Consistency, 
     ensures finding { IfOk result (IsConsistency net.now) }
     ensures settles { IfOk result (λ found. cause_choices net.now.constraints ≤ budget → found ≡ Consistency.Open → ⊥) }
 {
-    let mut extremes = Extremes::new(alloc, net, budget, run_turns(budget))?;
-    let found = extremes.find(alloc, net);
-    drop(extremes);
-    found
+    let searched = search(alloc, net, budget)?;
+    drop(searched.extremes);
+    Ok(searched.found)
 }
 
 /// Looks for times that satisfy the network apart, where some times satisfy the drawn network.
@@ -124,11 +123,10 @@ fn find_in(
     ensures enough { IfOk result (λ apart. cause_choices drawn.now.net.constraints ≤ budget → IsApartEnough drawn.now apart) }
 {
     drawn.network().is_whole();
-    let mut extremes = Extremes::new(alloc, &net, budget, run_turns(budget))?;
-    match extremes.find(alloc, &net) {
-        Ok(found) => Ok(found_apart(drawn, net, extremes, found)),
+    match search(alloc, &net, budget) {
+        Ok(searched) => Ok(found_apart(drawn, net, searched.extremes, searched.found)),
         Err(NoMemory) => {
-            drop(extremes);
+            drop(net);
             Err(NoMemory)
         }
     }

@@ -10,7 +10,7 @@ ghost use Rattle.job_lint.specs.Found.{IsLintFound, LeavesNothingOpen};
 use crate::apart::contradicts_by_order;
 use crate::lint_found::LintFound;
 use crate::rows::see_rows;
-use crate::turns::run_turns;
+use crate::searched::search;
 use drawn_networks::DrawnNetwork;
 use extremes::{Consistency, Extremes};
 use itv_base::NoMemory;
@@ -25,15 +25,8 @@ pub fn find_all(alloc: Global, drawn: &DrawnNetwork, budget: u64) -> Result<Lint
     ensures found { IfOk result (IsLintFound drawn.now) }
     ensures settles { IfOk result (LeavesNothingOpen drawn.now budget) }
 {
-    let net = drawn.network();
-    let mut extremes = Extremes::new(alloc, net, budget, run_turns(budget))?;
-    match extremes.find(alloc, net) {
-        Ok(found) => find_after(alloc, drawn, budget, extremes, found),
-        Err(NoMemory) => {
-            drop(extremes);
-            Err(NoMemory)
-        }
-    }
+    let searched = search(alloc, drawn.network(), budget)?;
+    find_after(alloc, drawn, budget, searched.extremes, searched.found)
 }
 
 // Looks on after the search for times.

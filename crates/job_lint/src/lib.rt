@@ -27,6 +27,7 @@ mod resting;
 mod row_seen;
 mod rows;
 mod said;
+mod searched;
 mod turns;
 mod write;
 

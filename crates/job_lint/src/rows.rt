@@ -1,11 +1,11 @@
 //! Searching rows.
 
 ghost use Rattle.std.specs.Prelude.{◌≡◌, ◌<◌, ◌≤◌, false, All, IfOk};
-ghost use Rattle.std.specs.List.{AllZip, list_any};
+ghost use Rattle.std.specs.List.{AllZip};
 ghost use Rattle.drawn_networks.specs.Drawn.{IsRowOf};
 ghost use Rattle.event_graph.specs.Edges.{cause_choices};
 ghost use Rattle.explanations.specs.Apart.{keeps_order};
-ghost use Rattle.extremes.specs.Found.{IsAttainedBy, IsConsistency};
+ghost use Rattle.extremes.specs.Found.{IsAttainedBy, IsConsistency, IsGreatestFound, is_open};
 ghost use Rattle.extremes.specs.declared.found.Consistency.TheVariants.{Consistent};
 ghost use Rattle.extremes.specs.Ready.{IsReady};
 ghost use Rattle.itv_base.specs.declared.limits.TheConstants.{MAX_BUDGET};
@@ -192,9 +192,32 @@ fn see_pair(
     ensures seen { IfOk result (IsPairSeen net.now from to) }
     ensures settles { IfOk result (λ found. cause_choices net.now.constraints ≤ search.old.extremes.budget → is_pair_open found ≡ false) }
 {
-    match search.extremes.greatest(alloc, net, from, to)? {
+    let found = search.extremes.greatest(alloc, net, from, to)?;
+    let seen = see_found(alloc, net, from, to, &found, &mut search.chains);
+    drop(found);
+    seen
+}
+
+// What is found of a pair, by a search for its greatest separation.
+fn see_found(
+    alloc: Global,
+    net: &Network,
+    from: EventId,
+    to: EventId,
+    found: &Greatest,
+    chains: &mut Chains,
+) -> Result<PairSeen, NoMemory>
+    requires found { IsGreatestFound net.now from to found.now }
+    requires chains { chains.old.events ≡ net.now.events }
+    requires from { from.0 < net.now.events }
+    requires to { to.0 < net.now.events }
+    ensures chains { chains.new.events ≡ net.now.events }
+    ensures seen { IfOk result (IsPairSeen net.now from to) }
+    ensures settles { IfOk result (λ seen. is_open found.now ≡ false → is_pair_open seen ≡ false) }
+{
+    match found {
         Greatest::Closed { value, times } => {
-            see_closed(alloc, net, from, to, value, &times, &mut search.chains)
+            see_closed(alloc, net, from, to, *value, times, chains)
         }
         Greatest::Unbounded { .. } => Ok(PairSeen::Unbounded),
         Greatest::Open { .. } => Ok(PairSeen::Open),

@@ -1,5 +1,5 @@
 -- What the elements of lists give, with one more element.
-use Rattle.std.proofs.Common.{◌≡◌, ℕ, suc, ◌+◌, ◌<◌, List, [], ◌∷◌, ◌++◌, length, take, get_or, Some, ap, sym, ◌∙◌, append-nil, append_assoc, inl, inr, arith}
+use Rattle.std.proofs.Common.{◌≡◌, ℕ, suc, ◌+◌, ◌<◌, List, [], ◌∷◌, ◌++◌, length, take, get_or, Some, refl, ap, sym, ◌∙◌, append-nil, append_assoc, inl, inr, arith}
 use Rattle.std.specs.Prelude.{slice_get}
 use Rattle.std.specs.List.{flat_map}
 use Rattle.std.proofs.lemmas.List.{length-take-le, take_more}
@@ -36,6 +36,11 @@ each_there gives xs n old now new within before grown = elim (slice_get_cases xs
   | inr (past, none) ↦ absurd (omega (arith, within, past))
 ]
 
+-- the same of each element
+pub each_same : {X Y : Type 0} (gives others : ℕ → X → List Y) → ((n : ℕ) (x : X) → gives n x ≡ others n x) → (n : ℕ) (xs : List X) → each_from gives n xs ≡ each_from others n xs
+each_same gives others same n [] = refl
+each_same gives others same n (x ∷ xs) = ap (λ ys. ys ++ each_from gives (n + 1) xs) (same n x) ∙ ap (λ ys. others n x ++ ys) (each_same gives others same (n + 1) xs)
+
 -- ---- without numbers
 
 -- one more element
@@ -47,9 +52,14 @@ flat_more gives xs n x old now new within is before grown =
     ∙ ap (λ ys. flat_map gives (take n xs) ++ ys) (append-nil (gives x)) in
     grown ∙ ap (λ ys. ys ++ gives x) before ∙ append_assoc old (flat_map gives (take n xs)) (gives x) ∙ ap (λ ys. old ++ ys) (sym more)
 
+-- the same of each element
+pub flat_same : {X Y : Type 0} (gives others : X → List Y) → ((x : X) → gives x ≡ others x) → (xs : List X) → flat_map gives xs ≡ flat_map others xs
+flat_same gives others same [] = refl
+flat_same gives others same (x ∷ xs) = ap (λ ys. ys ++ flat_map gives xs) (same x) ∙ ap (λ ys. others x ++ ys) (flat_same gives others same xs)
+
 -- ---- with the elements before
 
-each_behind_append : {X Y : Type 0} (gives : List X → X → List Y) (before xs ys : List X) → each_behind gives before (xs ++ ys) ≡ each_behind gives before xs ++ each_behind gives (before ++ xs) ys
+pub each_behind_append : {X Y : Type 0} (gives : List X → X → List Y) (before xs ys : List X) → each_behind gives before (xs ++ ys) ≡ each_behind gives before xs ++ each_behind gives (before ++ xs) ys
 each_behind_append gives before [] ys = ap (λ front. each_behind gives front ys) (sym (append-nil before))
 each_behind_append gives before (x ∷ xs) ys =
     ap (λ rest. gives before x ++ rest) (each_behind_append gives (before ++ x ∷ []) xs ys ∙ ap (λ front. each_behind gives (before ++ x ∷ []) xs ++ each_behind gives front ys) (append_assoc before (x ∷ []) xs))
@@ -62,12 +72,6 @@ behind_push gives before xs x old now new held grown =
     let more : each_behind gives before (xs ++ x ∷ []) ≡ each_behind gives before xs ++ gives (before ++ xs) x =
     each_behind_append gives before xs (x ∷ []) ∙ ap (λ ys. each_behind gives before xs ++ ys) (append-nil (gives (before ++ xs) x)) in
     grown ∙ ap (λ ys. ys ++ gives (before ++ xs) x) held ∙ append_assoc old (each_behind gives before xs) (gives (before ++ xs) x) ∙ ap (λ ys. old ++ ys) (sym more)
-
--- one list after another, and both after others
-pub behind_lists : {X Y : Type 0} (gives : List X → X → List Y) (xs ys : List X) (old now new : List Y) → now ≡ old ++ each_behind gives [] xs
-    → new ≡ now ++ each_behind gives xs ys → new ≡ old ++ each_behind gives [] (xs ++ ys)
-behind_lists gives xs ys old now new held grown =
-    grown ∙ ap (λ zs. zs ++ each_behind gives xs ys) held ∙ append_assoc old (each_behind gives [] xs) (each_behind gives xs ys) ∙ ap (λ zs. old ++ zs) (sym (each_behind_append gives [] xs ys))
 
 -- one more element
 pub behind_more : {X Y : Type 0} (gives : List X → X → List Y) (xs : List X) (n : ℕ) (x : X) (old now new : List Y) → n < length xs → x ≡ get_or xs n x

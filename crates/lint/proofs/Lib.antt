@@ -3,3 +3,8 @@ pub mod RowLists
 pub mod PinLists
 pub mod LeadLists
 pub mod Middle
+pub mod FirstLists
+pub mod ClockLists
+pub mod FirstTwoLists
+pub mod CapLists
+pub mod JoinLists

@@ -1,25 +1,28 @@
 //! Two linear rules from different marks that hold one mark from above.
 
-ghost use Rattle.std.specs.Prelude.{◌≡◌, ◌++◌, OnOk, find};
+ghost use Rattle.std.specs.Prelude.{◌≡◌, ◌++◌, [], OnOk};
+ghost use Rattle.std.specs.List.{flat_map};
 ghost use Rattle.std.specs.Option.{option_copied};
 ghost use Rattle.lint.specs.Leads.{leads_of};
-ghost use Rattle.lint.specs.Lists.{each_from};
-ghost use Rattle.lint.specs.Rules.{both_in, both_warnings, meet, of_two, rule_both, same_mark, sheet_both};
+ghost use Rattle.lint.specs.Lists.{each_behind, each_from, netlist_part};
+ghost use Rattle.lint.specs.Rules.{both_in, both_warnings, is_wire_cap, same_mark, sheet_both};
+ghost use Rattle.lint.specs.Step.{AreFirstTwo, both_at, cap_both, lead_met, sheet_caps};
 
-use crate::across::push_across;
-use crate::asked::part_count;
-use crate::lead::Lead;
-use crate::rule::{drawn_by, from_mark};
-use crate::skew::is_cap;
+use crate::caps::{sheet_caps, wire_caps};
+use crate::first_two::{FirstTwo, first_met, note_lead};
+use crate::lead::{Lead, is_at, is_wire};
+use crate::rule::is_linear;
+use crate::skew::draws_skew;
 use crate::warning::{DrawnPlace, Warning};
 use compose::Design;
 use design_plan::Plan;
 use itv_base::{NoMemory, Texts};
-use sheet::Rule;
+use std::alloc::Global;
 
 /// Puts the warnings of two rules for one mark at the end: first within each sheet, then within the netlist, and then between a sheet and the netlist.
 /// The leads are those of the design.
 pub fn push_both(
+    alloc: Global,
     warnings: &mut Vec<Warning>,
     leads: &[Lead],
     plan: &Plan,
@@ -28,94 +31,143 @@ pub fn push_both(
     requires leads { leads.now ≡ leads_of design.now }
     ensures pushed { OnOk result (warnings.new.items ≡ warnings.old.items ++ both_warnings plan.now design.now) }
 {
-    let texts = plan.netlist().edges();
-    push_sheets(warnings, design)?;
-    push_rules(warnings, 0, texts, design.wire_rules().as_slice())?;
-    push_across(warnings, texts, leads, design)
+    let mut tables = FirstTwo::new(alloc);
+    let pushed = push_all(alloc, warnings, &mut tables, leads, plan, design);
+    drop(tables);
+    pushed
 }
 
-// Puts the warnings of the sheets at the end.
-fn push_sheets(warnings: &mut Vec<Warning>, design: &Design<'_>) -> Result<(), NoMemory>
+// Puts the warnings at the end, with tables of no leads.
+fn push_all(
+    alloc: Global,
+    warnings: &mut Vec<Warning>,
+    tables: &mut FirstTwo,
+    leads: &[Lead],
+    plan: &Plan,
+    design: &Design<'_>,
+) -> Result<(), NoMemory>
+    requires leads { leads.now ≡ leads_of design.now }
+    requires none { AreFirstTwo tables.old [] }
+    ensures pushed { OnOk result (warnings.new.items ≡ warnings.old.items ++ both_warnings plan.now design.now) }
+{
+    push_sheets(alloc, warnings, tables, design)?;
+    push_netlist(alloc, warnings, plan, design)?;
+    push_across(warnings, tables, plan.netlist().edges(), leads)
+}
+
+// Puts the warnings within each sheet at the end, and notes the caps of the sheets in tables of no leads.
+fn push_sheets(
+    alloc: Global,
+    warnings: &mut Vec<Warning>,
+    tables: &mut FirstTwo,
+    design: &Design<'_>,
+) -> Result<(), NoMemory>
+    requires none { AreFirstTwo tables.old [] }
     ensures pushed { OnOk result (warnings.new.items ≡ warnings.old.items ++ each_from sheet_both 0 design.now.sheets) }
+    ensures noted { OnOk result (AreFirstTwo tables.new (each_from sheet_caps 0 design.now.sheets)) }
 {
-    for part in 0..part_count(design) {
-        let sheet = design.sheet_of(part);
-        push_rules(warnings, part, sheet.edges(), sheet.rules().as_slice())?;
+    let caps = sheet_caps(alloc, design)?;
+    push_caps(warnings, tables, &caps)
+}
+
+// Puts the warnings within the netlist at the end.
+fn push_netlist(
+    alloc: Global,
+    warnings: &mut Vec<Warning>,
+    plan: &Plan,
+    design: &Design<'_>,
+) -> Result<(), NoMemory>
+    ensures pushed { OnOk result (warnings.new.items ≡ warnings.old.items ++ both_in netlist_part plan.now.netlist.edges design.now.rules) }
+{
+    let caps = wire_caps(alloc, plan, design)?;
+    let mut tables = FirstTwo::new(alloc);
+    let pushed = push_caps(warnings, &mut tables, &caps);
+    drop(tables);
+    pushed
+}
+
+// Puts the warnings of some caps at the end, and notes the caps in tables of no leads.
+fn push_caps(
+    warnings: &mut Vec<Warning>,
+    tables: &mut FirstTwo,
+    caps: &[Lead],
+) -> Result<(), NoMemory>
+    requires none { AreFirstTwo tables.old [] }
+    ensures pushed { OnOk result (warnings.new.items ≡ warnings.old.items ++ each_behind cap_both [] caps.now) }
+    ensures noted { OnOk result (AreFirstTwo tables.new caps.now) }
+{
+    for cap in caps {
+        let place = DrawnPlace {
+            part: cap.to.part,
+            origin: cap.origin,
+        };
+        push_two(warnings, first_met(tables, cap), place)?;
+        note_lead(tables, cap)?;
     }
     Ok(())
 }
 
-// Puts the warnings of some rules, whose edges have these texts, at the end.
-fn push_rules(
-    warnings: &mut Vec<Warning>,
-    part: u32,
-    texts: &Texts,
-    rules: &[Rule],
-) -> Result<(), NoMemory>
-    ensures pushed { OnOk result (warnings.new.items ≡ warnings.old.items ++ both_in part texts.now rules.now) }
-{
-    for n in 0..rules.len() {
-        push_rule(warnings, part, texts, &rules[n], &rules[..n])?;
-    }
-    Ok(())
-}
-
-// Puts the warning of a rule after others at the end, if the rule has one.
-fn push_rule(
-    warnings: &mut Vec<Warning>,
-    part: u32,
-    texts: &Texts,
-    rule: &Rule,
-    before: &[Rule],
-) -> Result<(), NoMemory>
-    ensures pushed { OnOk result (warnings.new.items ≡ warnings.old.items ++ rule_both part texts.now before.now rule.now) }
-{
-    push_two(warnings, part, rule, first_met(texts, rule, before))
-}
-
-// Puts the warning of a rule and an earlier rule that it meets at the end, if there is an earlier rule.
+// Puts the warning of a cap and of a place that meets it at the end, if there is a cap.
 fn push_two(
     warnings: &mut Vec<Warning>,
-    part: u32,
-    rule: &Rule,
-    earlier: Option<&Rule>,
+    cap: Option<&Lead>,
+    place: DrawnPlace,
 ) -> Result<(), NoMemory>
-    ensures pushed { OnOk result (warnings.new.items ≡ warnings.old.items ++ of_two part rule.now (option_copied earlier.entry)) }
+    ensures pushed { OnOk result (warnings.new.items ≡ warnings.old.items ++ both_at place (option_copied cap.entry)) }
 {
-    let Some(earlier) = earlier else {
-        return Ok(());
-    };
-    let Some(first) = drawn_by(earlier) else {
-        return Ok(());
-    };
-    let other = drawn_by(rule).unwrap_or(first);
-    let first = DrawnPlace {
-        part,
-        origin: first,
-    };
-    let other = DrawnPlace {
-        part,
-        origin: other,
-    };
-    warnings.push(Warning::Both(first, other))?;
+    if let Some(cap) = cap {
+        let first = DrawnPlace {
+            part: cap.to.part,
+            origin: cap.origin,
+        };
+        warnings.push(Warning::Both(first, place))?;
+    }
     Ok(())
 }
 
-// The first of some rules that a rule meets.
-fn first_met<'a>(texts: &Texts, rule: &Rule, before: &'a [Rule]) -> Option<&'a Rule>
-    ensures { option_copied result ≡ find (meet texts.now rule.now) before.now }
+// Puts the warnings of wires into marks that rules of their sheets cap too at the end. The tables have the caps of the sheets, and the wires have these texts.
+fn push_across(
+    warnings: &mut Vec<Warning>,
+    tables: &FirstTwo,
+    texts: &Texts,
+    leads: &[Lead],
+) -> Result<(), NoMemory>
+    ensures pushed { OnOk result (warnings.new.items ≡ warnings.old.items ++ flat_map (lead_met tables.now texts.now) leads.now) }
 {
-    before.iter().find(|earlier| meet(texts, rule, earlier))
+    for lead in leads {
+        push_lead(warnings, tables, texts, lead)?;
+    }
+    Ok(())
 }
 
-// Whether two linear rules from different marks hold one mark from above, and neither is a skew.
-fn meet(texts: &Texts, a: &Rule, b: &Rule) -> bool
-    ensures { result ≡ meet texts.now a.now b.now }
+// Puts the warning of a lead at the end, if the lead has one.
+fn push_lead(
+    warnings: &mut Vec<Warning>,
+    tables: &FirstTwo,
+    texts: &Texts,
+    lead: &Lead,
+) -> Result<(), NoMemory>
+    ensures pushed { OnOk result (warnings.new.items ≡ warnings.old.items ++ lead_met tables.now texts.now lead.now) }
 {
-    a.target() == b.target()
-        && !same_mark(from_mark(a), from_mark(b))
-        && is_cap(texts, a)
-        && is_cap(texts, b)
+    if !is_wire_cap(texts, lead) {
+        return Ok(());
+    }
+    let place = DrawnPlace {
+        part: 0,
+        origin: lead.origin,
+    };
+    push_two(warnings, first_met(tables, lead), place)
+}
+
+// Whether a lead is a wire to another mark that is linear, has a high end, and is no skew.
+fn is_wire_cap(texts: &Texts, lead: &Lead) -> bool
+    ensures { result ≡ is_wire_cap texts.now lead.now }
+{
+    is_wire(lead.origin)
+        && !is_at(lead.from, lead.to)
+        && is_linear(lead.kind)
+        && lead.range.high().is_some()
+        && !draws_skew(texts, lead.origin)
 }
 
 /// Whether two marks of one sheet are one mark. A mark that is not known may be any.

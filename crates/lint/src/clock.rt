@@ -1,9 +1,11 @@
-//! Rules that give clocks their periods.
+//! Rules that give clocks their periods, and the drivers of marks.
 
-ghost use Rattle.std.specs.Prelude.{◌≡◌, ◌++◌, IfOk, OnOk, find};
-ghost use Rattle.std.specs.Option.{option_copied};
-ghost use Rattle.lint.specs.Periods.{clocks_of, driver_of, has_period, is_join_into, is_period, lead_clock};
+ghost use Rattle.std.specs.Prelude.{◌≡◌, ◌++◌, IfOk, None, OnOk};
+ghost use Rattle.compose.specs.declared.mark.DesignMark.{DesignMark as MarkSeen};
+ghost use Rattle.lint.specs.Periods.{clocks_of, is_join_into, is_period};
+ghost use Rattle.lint.specs.Step.{AreFirst, clock_by, driver_by, first_at, is_period_into};
 
+use crate::firsts::{FirstLeads, first_at, note_first};
 use crate::lead::{Lead, is_at, is_pin};
 use crate::rule::is_linear;
 use crate::warning::DrawnPlace;
@@ -22,31 +24,33 @@ pub struct Clock {
     pub place: DrawnPlace,
 }
 
-/// The rules of periods among the leads of a design.
-pub fn clocks_of(alloc: Global, leads: &[Lead]) -> Result<Vec<Clock>, NoMemory>
+/// The rules of periods among the leads of a design. The table has the first joins into marks.
+pub fn clocks_of(alloc: Global, joins: &FirstLeads, leads: &[Lead]) -> Result<Vec<Clock>, NoMemory>
+    requires joins { AreFirst is_join_into joins.now leads.now }
     ensures clocks { IfOk result (λ clocks. clocks.items ≡ clocks_of leads.now) }
 {
     let mut clocks = Vec::new(alloc);
-    push_clocks(&mut clocks, leads)?;
+    push_clocks(&mut clocks, joins, leads)?;
     Ok(clocks)
 }
 
 // Puts the rules of periods among the leads of a design at the end.
-fn push_clocks(clocks: &mut Vec<Clock>, leads: &[Lead]) -> Result<(), NoMemory>
+fn push_clocks(clocks: &mut Vec<Clock>, joins: &FirstLeads, leads: &[Lead]) -> Result<(), NoMemory>
+    requires joins { AreFirst is_join_into joins.now leads.now }
     ensures pushed { OnOk result (clocks.new.items ≡ clocks.old.items ++ clocks_of leads.now) }
 {
     for lead in leads {
-        push_clock(clocks, leads, lead)?;
+        push_clock(clocks, joins, lead)?;
     }
     Ok(())
 }
 
 // Puts a lead at the end, if it is the rule of a period.
-fn push_clock(clocks: &mut Vec<Clock>, leads: &[Lead], lead: &Lead) -> Result<(), NoMemory>
-    ensures pushed { OnOk result (clocks.new.items ≡ clocks.old.items ++ lead_clock leads.now lead.now) }
+fn push_clock(clocks: &mut Vec<Clock>, joins: &FirstLeads, lead: &Lead) -> Result<(), NoMemory>
+    ensures pushed { OnOk result (clocks.new.items ≡ clocks.old.items ++ clock_by joins.now lead.now) }
 {
     if is_period(lead) && is_linear(lead.kind) {
-        let driver = driver_of(leads, lead.to);
+        let driver = driver_by(joins, lead.to);
         let origin: Origin = lead.origin;
         clocks.push(Clock {
             driver,
@@ -61,13 +65,54 @@ fn push_clock(clocks: &mut Vec<Clock>, leads: &[Lead], lead: &Lead) -> Result<()
     Ok(())
 }
 
-/// Whether a mark has a period of its own.
-pub fn has_period(leads: &[Lead], mark: DesignMark) -> bool
-    ensures { result ≡ has_period leads.now mark }
+/// The mark that drives a mark by its first join, or the mark itself.
+pub fn driver_by(joins: &FirstLeads, mark: DesignMark) -> DesignMark
+    ensures { result ≡ driver_by joins.now mark }
 {
-    leads
-        .iter()
-        .any(|lead| lead.leads_into(mark) && is_period(lead))
+    match first_at(joins, mark) {
+        Some(lead) => lead.from,
+        None => mark,
+    }
+}
+
+/// The first joins into marks among some leads.
+pub fn first_joins(alloc: Global, leads: &[Lead]) -> Result<FirstLeads, NoMemory>
+    ensures joins { IfOk result (λ joins. AreFirst is_join_into joins leads.now) }
+{
+    let mut joins = FirstLeads::new(alloc);
+    note_joins(&mut joins, leads)?;
+    Ok(joins)
+}
+
+// Notes the first joins into marks among some leads, in an empty table.
+fn note_joins(joins: &mut FirstLeads, leads: &[Lead]) -> Result<(), NoMemory>
+    requires none { (mark : MarkSeen) → first_at joins.old mark ≡ None }
+    ensures noted { OnOk result (AreFirst is_join_into joins.new leads.now) }
+{
+    for lead in leads {
+        note_first(joins, is_pin(lead.origin), lead)?;
+    }
+    Ok(())
+}
+
+/// The first periods of marks among some leads.
+pub fn first_periods(alloc: Global, leads: &[Lead]) -> Result<FirstLeads, NoMemory>
+    ensures periods { IfOk result (λ periods. AreFirst is_period_into periods leads.now) }
+{
+    let mut periods = FirstLeads::new(alloc);
+    note_periods(&mut periods, leads)?;
+    Ok(periods)
+}
+
+// Notes the first periods of marks among some leads, in an empty table.
+fn note_periods(periods: &mut FirstLeads, leads: &[Lead]) -> Result<(), NoMemory>
+    requires none { (mark : MarkSeen) → first_at periods.old mark ≡ None }
+    ensures noted { OnOk result (AreFirst is_period_into periods.new leads.now) }
+{
+    for lead in leads {
+        note_first(periods, is_period(lead), lead)?;
+    }
+    Ok(())
 }
 
 // Whether a lead goes from a mark to itself in a later cycle.
@@ -75,26 +120,4 @@ fn is_period(lead: &Lead) -> bool
     ensures { result ≡ is_period lead.now }
 {
     is_at(lead.from, lead.to) && 1 <= lead.shift
-}
-
-/// The mark that drives a mark by its first join, or the mark itself.
-pub fn driver_of(leads: &[Lead], mark: DesignMark) -> DesignMark
-    ensures { result ≡ driver_of leads.now mark }
-{
-    match first_join(leads, mark) {
-        Some(lead) => lead.from,
-        None => mark,
-    }
-}
-
-fn first_join(leads: &[Lead], mark: DesignMark) -> Option<&Lead>
-    ensures { option_copied result ≡ find (is_join_into mark) leads.now }
-{
-    leads.iter().find(|lead| is_join_into(mark, lead))
-}
-
-fn is_join_into(mark: DesignMark, lead: &Lead) -> bool
-    ensures { result ≡ is_join_into mark lead.now }
-{
-    lead.leads_into(mark) && is_pin(lead.origin)
 }

@@ -1,63 +1,64 @@
 //! Marks that follow two drivers.
 
-ghost use Rattle.std.specs.Prelude.{◌≡◌, ◌++◌, OnOk};
-ghost use Rattle.compose.specs.Joins.{joins_of_pins, pin_joins};
-ghost use Rattle.lint.specs.Driven.{driver_warnings, join_drivers};
+ghost use Rattle.std.specs.Prelude.{◌≡◌, ◌++◌, [], OnOk};
+ghost use Rattle.std.specs.List.{flat_map};
+ghost use Rattle.std.specs.Option.{option_copied};
+ghost use Rattle.lint.specs.Driven.{driver_warnings};
+ghost use Rattle.lint.specs.Leads.{join_leads};
 ghost use Rattle.lint.specs.Lists.{each_behind};
-ghost use Rattle.lint.specs.Step.{IsPinOf, drivers_by};
+ghost use Rattle.lint.specs.Step.{AreFirstTwo, drivers_at, lead_drivers};
 
-use crate::pins::{drew_too, join_of};
+use crate::first_two::{FirstTwo, first_met, note_lead};
+use crate::lead::Lead;
 use crate::warning::Warning;
-use compose::{Design, DesignMark, Join, PinJoins};
+use compose::Design;
 use itv_base::NoMemory;
-use origin::Origin;
+use std::alloc::Global;
 
-/// Puts the warnings of marks that follow two drivers at the end.
-pub fn push_drivers(warnings: &mut Vec<Warning>, design: &Design<'_>) -> Result<(), NoMemory>
-    ensures pushed { OnOk result (warnings.new.items ≡ warnings.old.items ++ driver_warnings design.now) }
-{
-    // The joins go into marks of the design.
-    let _cycles = design.cycles();
-    let pins = design.joins().pins();
-    for n in 0..pins.len() {
-        push_pin(warnings, &pins[n], &pins[..n], design)?;
-    }
-    Ok(())
-}
-
-// Puts the warnings of the marks of a pin, after other pins, at the end.
-fn push_pin(
+/// Puts the warnings of marks that follow two drivers at the end. The joins are those of the design.
+pub fn push_drivers(
+    alloc: Global,
     warnings: &mut Vec<Warning>,
-    pin: &PinJoins,
-    before: &[PinJoins],
+    joins: &[Lead],
     design: &Design<'_>,
 ) -> Result<(), NoMemory>
-    requires pin { IsPinOf design.now pin.now }
-    ensures pushed { OnOk result (warnings.new.items ≡ warnings.old.items ++ each_behind join_drivers (joins_of_pins before.now) (pin_joins pin.now)) }
+    requires joins { joins.now ≡ flat_map join_leads design.now.joins }
+    ensures pushed { OnOk result (warnings.new.items ≡ warnings.old.items ++ driver_warnings design.now) }
 {
-    for k in 0..pin.marks {
-        push_join(warnings, &join_of(pin, k, design), before)?;
+    let mut tables = FirstTwo::new(alloc);
+    let pushed = push_all(warnings, &mut tables, joins);
+    drop(tables);
+    pushed
+}
+
+// Puts the warnings of some joins at the end, and notes the joins in tables of no leads.
+fn push_all(
+    warnings: &mut Vec<Warning>,
+    tables: &mut FirstTwo,
+    joins: &[Lead],
+) -> Result<(), NoMemory>
+    requires none { AreFirstTwo tables.old [] }
+    ensures pushed { OnOk result (warnings.new.items ≡ warnings.old.items ++ each_behind lead_drivers [] joins.now) }
+{
+    for join in joins {
+        push_mark(warnings, join, first_met(tables, join))?;
+        note_lead(tables, join)?;
     }
     Ok(())
 }
 
-// Puts the warning of a join, after other pins, at the end, if the join has one.
-fn push_join(warnings: &mut Vec<Warning>, join: &Join, before: &[PinJoins]) -> Result<(), NoMemory>
-    ensures pushed { OnOk result (warnings.new.items ≡ warnings.old.items ++ join_drivers (joins_of_pins before.now) join.now) }
-{
-    push_mark(warnings, join.to, drew_too(join, before), join.origin)
-}
-
-// Puts the warning of a mark at the end, with what draws the first join into it and another. Without a first join there is none.
+// Puts the warning of the mark of a join at the end, with an earlier join from another mark. Without such a join there is none.
 fn push_mark(
     warnings: &mut Vec<Warning>,
-    mark: DesignMark,
-    first: Option<Origin>,
-    other: Origin,
+    join: &Lead,
+    earlier: Option<&Lead>,
 ) -> Result<(), NoMemory>
-    ensures pushed { OnOk result (warnings.new.items ≡ warnings.old.items ++ drivers_by mark other first) }
+    ensures pushed { OnOk result (warnings.new.items ≡ warnings.old.items ++ drivers_at join.now (option_copied earlier.entry)) }
 {
-    if let Some(first) = first {
+    if let Some(earlier) = earlier {
+        let mark = join.to;
+        let first = earlier.origin;
+        let other = join.origin;
         warnings.push(Warning::Drivers { mark, first, other })?;
     }
     Ok(())

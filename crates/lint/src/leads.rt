@@ -127,6 +127,15 @@ fn push_cause(
     Ok(())
 }
 
+/// The leads of the joins of the nets.
+pub fn joins_of(alloc: Global, design: &Design<'_>) -> Result<Vec<Lead>, NoMemory>
+    ensures joins { IfOk result (λ joins. joins.items ≡ flat_map join_leads design.now.joins) }
+{
+    let mut joins = Vec::new(alloc);
+    push_joins(&mut joins, design)?;
+    Ok(joins)
+}
+
 // Puts the leads of the joins of the nets at the end.
 fn push_joins(leads: &mut Vec<Lead>, design: &Design<'_>) -> Result<(), NoMemory>
     ensures pushed { OnOk result (leads.new.items ≡ leads.old.items ++ flat_map join_leads design.now.joins) }

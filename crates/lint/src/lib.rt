@@ -2,14 +2,16 @@
 //! The contract: `warnings_of` gives just the warnings that the definitions give, in their order.
 #![tactic(auto)]
 
-mod across;
 mod all;
 mod asked;
 mod both;
+mod caps;
 mod clock;
 mod comments;
 mod crossings;
 mod drivers;
+mod first_two;
+mod firsts;
 mod followers;
 mod held;
 mod home;
@@ -27,6 +29,7 @@ mod ranged;
 mod rule;
 mod single;
 mod skew;
+mod texts;
 mod units;
 mod warning;
 mod words;

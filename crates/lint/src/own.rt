@@ -1,53 +1,54 @@
 //! Marks that follow a driver, and that an edge of their own sheet holds from above, after another mark.
 
-ghost use Rattle.std.specs.Prelude.{◌≡◌, ◌<◌, ◌++◌, OnOk, find, length};
+ghost use Rattle.std.specs.Prelude.{◌≡◌, ◌++◌, OnOk, find};
 ghost use Rattle.std.specs.List.{flat_map, list_any};
 ghost use Rattle.std.specs.Option.{option_copied};
-ghost use Rattle.compose.specs.Joins.{pin_joins};
-ghost use Rattle.lint.specs.Driven.{holds, is_high_from_other, own_join, own_warnings};
-ghost use Rattle.lint.specs.Step.{IsPinOf};
+ghost use Rattle.lint.specs.Driven.{holds, is_high_from_other, own_warnings};
+ghost use Rattle.lint.specs.Leads.{join_leads};
+ghost use Rattle.lint.specs.Step.{own_on, own_with};
 
-use crate::pins::join_of;
+use crate::asked::sheet_at;
+use crate::lead::Lead;
 use crate::rule::{drawn_by, is_high};
 use crate::warning::Warning;
-use compose::{Design, Join, PinJoins};
+use compose::Design;
 use itv_base::NoMemory;
-use sheet::{Rule, RuleCause};
+use sheet::{Rule, RuleCause, Sheet};
 
-/// Puts the warnings of marks with a driver and an edge of their own at the end.
-pub fn push_own(warnings: &mut Vec<Warning>, design: &Design<'_>) -> Result<(), NoMemory>
-    ensures pushed { OnOk result (warnings.new.items ≡ warnings.old.items ++ own_warnings design.now) }
-{
-    // The joins go into marks of the design.
-    let _cycles = design.cycles();
-    for pin in design.joins().pins() {
-        push_pin(warnings, pin, design)?;
-    }
-    Ok(())
-}
-
-// Puts the warnings of the marks of a pin at the end.
-fn push_pin(
+/// Puts the warnings of marks with a driver and an edge of their own at the end. The joins are those of the design.
+pub fn push_own(
     warnings: &mut Vec<Warning>,
-    pin: &PinJoins,
+    joins: &[Lead],
     design: &Design<'_>,
 ) -> Result<(), NoMemory>
-    requires pin { IsPinOf design.now pin.now }
-    ensures pushed { OnOk result (warnings.new.items ≡ warnings.old.items ++ flat_map (own_join design.now.sheets) (pin_joins pin.now)) }
+    requires joins { joins.now ≡ flat_map join_leads design.now.joins }
+    ensures pushed { OnOk result (warnings.new.items ≡ warnings.old.items ++ own_warnings design.now) }
 {
-    for k in 0..pin.marks {
-        push_join(warnings, &join_of(pin, k, design), design)?;
+    for join in joins {
+        push_on(warnings, join, sheet_at(design, join.to.part))?;
     }
     Ok(())
 }
 
-// Puts the warning of a join at the end, if the join has one.
-fn push_join(warnings: &mut Vec<Warning>, join: &Join, design: &Design<'_>) -> Result<(), NoMemory>
-    requires part { join.now.to.part < length design.now.sheets }
-    ensures pushed { OnOk result (warnings.new.items ≡ warnings.old.items ++ own_join design.now.sheets join.now) }
+// Puts the warning of a join into a mark of a sheet at the end, if there is one.
+fn push_on(warnings: &mut Vec<Warning>, join: &Lead, sheet: Option<&Sheet>) -> Result<(), NoMemory>
+    ensures pushed { OnOk result (warnings.new.items ≡ warnings.old.items ++ own_on join.now (option_copied sheet.entry)) }
 {
-    let rules = design.sheet_of(join.to.part).rules().as_slice();
-    let Some(rule) = first_holding(join.to.mark, rules) else {
+    match sheet {
+        Some(sheet) => push_by(
+            warnings,
+            join,
+            first_holding(join.to.mark, sheet.rules().as_slice()),
+        ),
+        None => Ok(()),
+    }
+}
+
+// Puts the warning of a join and a rule at the end, if there is such a rule.
+fn push_by(warnings: &mut Vec<Warning>, join: &Lead, rule: Option<&Rule>) -> Result<(), NoMemory>
+    ensures pushed { OnOk result (warnings.new.items ≡ warnings.old.items ++ own_with join.now (option_copied rule.entry)) }
+{
+    let Some(rule) = rule else {
         return Ok(());
     };
     let Some(edge) = drawn_by(rule) else {

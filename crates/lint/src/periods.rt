@@ -3,15 +3,32 @@
 ghost use Rattle.std.specs.Prelude.{◌≡◌, [], ◌++◌, OnOk, find};
 ghost use Rattle.std.specs.Option.{option_copied};
 ghost use Rattle.lint.specs.Lists.{each_behind};
-ghost use Rattle.lint.specs.Periods.{clock_periods, is_one_value, is_rival, rival_of, same_end, same_home, same_range};
+ghost use Rattle.lint.specs.Periods.{clock_periods, clocks_of, is_join_into, is_one_value, is_rival, rival_of, same_end, same_home, same_range};
+ghost use Rattle.lint.specs.Step.{AreFirst};
 
-use crate::clock::Clock;
-use crate::lead::{is_at, is_edge};
+use crate::clock::{Clock, clocks_of};
+use crate::firsts::FirstLeads;
+use crate::lead::{Lead, is_at, is_edge};
 use crate::warning::{DrawnPlace, Warning};
 use itv_base::{NoMemory, Range};
+use std::alloc::Global;
 
-/// Puts the warnings of clocks with two periods at the end. These are the rules of periods.
-pub fn push_rivals(warnings: &mut Vec<Warning>, clocks: &[Clock]) -> Result<(), NoMemory>
+/// Puts the warnings of clocks with two periods at the end, from the leads of a design. The table has the first joins into marks.
+pub fn push_rivals(
+    alloc: Global,
+    warnings: &mut Vec<Warning>,
+    joins: &FirstLeads,
+    leads: &[Lead],
+) -> Result<(), NoMemory>
+    requires joins { AreFirst is_join_into joins.now leads.now }
+    ensures pushed { OnOk result (warnings.new.items ≡ warnings.old.items ++ each_behind clock_periods [] (clocks_of leads.now)) }
+{
+    let clocks = clocks_of(alloc, joins, leads)?;
+    push_clocks(warnings, &clocks)
+}
+
+// Puts the warnings of rules of periods at the end.
+fn push_clocks(warnings: &mut Vec<Warning>, clocks: &[Clock]) -> Result<(), NoMemory>
     ensures pushed { OnOk result (warnings.new.items ≡ warnings.old.items ++ each_behind clock_periods [] clocks.now) }
 {
     for n in 0..clocks.len() {

@@ -34,7 +34,8 @@ pub fn from_mark(rule: &Rule) -> Option<u32>
     Some(first.mark)
 }
 
-fn first_cause(rule: &Rule) -> Option<RuleCause>
+/// The first cause of a rule, if it has one.
+pub fn first_cause(rule: &Rule) -> Option<RuleCause>
     ensures { result ≡ slice_get rule.now.causes 0 }
 {
     match rule.causes().as_slice() {

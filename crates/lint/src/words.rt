@@ -1,87 +1,15 @@
-//! Comments whose first word is a kind of a label, or nearly is one.
+//! First words of comments that are kinds of labels, or nearly are.
 
-ghost use Rattle.std.specs.Prelude.{◌≡◌, ◌≤◌, ◌++◌, OnOk, length};
+ghost use Rattle.std.specs.Prelude.{◌≡◌, ◌≤◌, length};
 ghost use Rattle.std.specs.Char.{is_ascii_alphabetic};
 ghost use Rattle.std.specs.List.{after_first, list_any, prefix_len, take_while};
 ghost use Rattle.itv_base.specs.Cuts.{after_while, is_space};
-ghost use Rattle.lint.specs.Lists.{each_from};
-ghost use Rattle.lint.specs.Texts.{begins_with_kind, edge_word, first_word, is_nearly, sheet_words, wire_word, word_warnings};
+ghost use Rattle.lint.specs.Texts.{begins_with_kind, first_word, is_nearly};
 
-use crate::asked::part_count;
-use crate::comments::{has_sign, is_edge_comment, is_wire_comment};
 use crate::letters::small;
-use crate::push::push_where;
-use crate::warning::{DrawnPlace, Warning};
-use compose::Design;
-use design_plan::Plan;
-use itv_base::{NoMemory, Texts};
-use origin::Origin;
 
-/// Puts the warnings of words at the end, first for the sheets, and then for the netlist.
-pub fn push_words(
-    warnings: &mut Vec<Warning>,
-    plan: &Plan,
-    design: &Design<'_>,
-) -> Result<(), NoMemory>
-    ensures pushed { OnOk result (warnings.new.items ≡ warnings.old.items ++ word_warnings plan.now design.now) }
-{
-    push_sheets(warnings, design)?;
-    push_wires(warnings, plan.netlist().edges())
-}
-
-// Puts the warnings of the sheets at the end.
-fn push_sheets(warnings: &mut Vec<Warning>, design: &Design<'_>) -> Result<(), NoMemory>
-    ensures pushed { OnOk result (warnings.new.items ≡ warnings.old.items ++ each_from sheet_words 0 design.now.sheets) }
-{
-    for part in 0..part_count(design) {
-        push_edges(warnings, part, design.sheet_of(part).edges())?;
-    }
-    Ok(())
-}
-
-// Puts the warnings of the edges of the sheet of a part at the end.
-fn push_edges(warnings: &mut Vec<Warning>, part: u32, edges: &Texts) -> Result<(), NoMemory>
-    ensures pushed { OnOk result (warnings.new.items ≡ warnings.old.items ++ each_from (edge_word part) 0 edges.now) }
-{
-    for n in 0..edges.len() {
-        push_edge(warnings, part, n, edges.get(n).as_text())?;
-    }
-    Ok(())
-}
-
-// Puts the warning of an edge at the end, if the edge has one.
-fn push_edge(warnings: &mut Vec<Warning>, part: u32, n: u64, text: &str) -> Result<(), NoMemory>
-    ensures pushed { OnOk result (warnings.new.items ≡ warnings.old.items ++ edge_word part n text.now) }
-{
-    let given = is_edge_comment(text)
-        && !has_sign(text.as_bytes())
-        && begins_with_kind(after_space(text).as_bytes());
-    let origin = Origin::Edge(n);
-    push_where(given, Warning::Word(DrawnPlace { part, origin }), warnings)
-}
-
-// Puts the warnings of the edges of the netlist at the end.
-fn push_wires(warnings: &mut Vec<Warning>, edges: &Texts) -> Result<(), NoMemory>
-    ensures pushed { OnOk result (warnings.new.items ≡ warnings.old.items ++ each_from wire_word 0 edges.now) }
-{
-    for n in 0..edges.len() {
-        push_wire(warnings, n, edges.get(n).as_text())?;
-    }
-    Ok(())
-}
-
-// Puts the warning of an edge of the netlist at the end, if the edge has one.
-fn push_wire(warnings: &mut Vec<Warning>, n: u64, text: &str) -> Result<(), NoMemory>
-    ensures pushed { OnOk result (warnings.new.items ≡ warnings.old.items ++ wire_word n text.now) }
-{
-    let given = is_wire_comment(text)
-        && !has_sign(text.as_bytes())
-        && begins_with_kind(after_space(after_space(text)).as_bytes());
-    push_where(given, Warning::Word(DrawnPlace::wire(n)), warnings)
-}
-
-// The text after the first space, or an empty text where there is no space.
-fn after_space(text: &str) -> &str
+/// The text after the first space, or an empty text where there is no space.
+pub fn after_space(text: &str) -> &str
     ensures { result.now ≡ after_first is_space text.now }
 {
     match text.split_once(' ') {
@@ -90,8 +18,8 @@ fn after_space(text: &str) -> &str
     }
 }
 
-// Whether the first word of a text is nearly a kind of a label.
-fn begins_with_kind(text: &[u8]) -> bool
+/// Whether the first word of a text is nearly a kind of a label.
+pub fn begins_with_kind(text: &[u8]) -> bool
     ensures { result ≡ begins_with_kind text.now }
 {
     is_nearly_one(

@@ -17,7 +17,7 @@ use Rattle.settle.specs.declared.shown_answer.Settled.TheVariants.{Closed, Unbou
 use Rattle.edge_clauses.specs.declared.line.StoredLine.{StoredLine}
 use Rattle.settle.specs.declared.race.RaceEnd.TheVariants.{Closed as ClosedBy, Unbounded as UnboundedBy, Inconsistent as InconsistentBy}
 use Rattle.settle.specs.declared.race.Race.{Race}
-use Rattle.settle.specs.ShownAnswer.{IsFound, IsSettledAt, IsSettledInconsistent, IsSettledUnbounded}
+use Rattle.settle.specs.ShownAnswer.{IsFound, IsRightAnswer, IsSettledAt, IsSettledInconsistent, IsSettledUnbounded}
 use Rattle.edge_clauses.specs.Proofs.{IsProofAs, IsProving, ProverView, lines_of}
 use Rattle.settle.specs.Step.Racing.{AreRaceTimes, IsEnding, IsOverAs, IsRacing, line_count, lines_as}
 
@@ -125,16 +125,20 @@ found_inconsistent net race view turns budget times ray lines is_net racing (ove
       lines = few_lines race view lines.items turns at_lines few;
     }
 
-pub found_unbounded : (net : Net) (race : Race) (turns budget : ℕ) (times : Vec ℤ) (ray : Vec Bool) (view : View) (lines : Vec StoredLine) → IsRacing net race
-    → IsEnding net race (UnboundedBy ray) → ((ts : Vec ℤ) → race.best.times ≡ Some ts → times ≡ ts) → lines.items ≡ []
-    → turns ≤ budget → IsFound net race.from race.to budget (record { answer = Unbounded; times = times; ray = ray; claim = race.best.claim; view = view; lines = lines; turns = turns })
-found_unbounded net race turns budget times ray view lines racing ending at_times none within =
+pub found_unbounded : (net : Net) (race : Race) (ray : Vec Bool) (budget : ℕ) (found : ShownAnswer) → IsRacing net race
+    → IsEnding net race (UnboundedBy ray) → found.answer ≡ Unbounded → ((ts : Vec ℤ) → race.best.times ≡ Some ts → found.times ≡ ts) → found.ray ≡ ray
+    → found.lines.items ≡ [] → found.turns ≤ budget → IsFound net race.from race.to budget found
+found_unbounded net race ray budget found racing ending is_answer at_times is_ray none within =
     let (ts, is, raised) = some_and race.best.times _ ending in
     let are : AreRaceTimes net race.from race.to race.best.claim.value ts.items =
     subst (λ (o : Option (Vec ℤ)). IfSome o (λ times. AreRaceTimes net race.from race.to race.best.claim.value times.items)) is racing.best.found in
     let settled : IsSettledUnbounded net race.from race.to ts.items ray.items = record { satisfies = are.satisfies; near = are.near; raised = raised } in
+    let with_ray : IsSettledUnbounded net race.from race.to ts.items found.ray.items =
+    subst (λ (r : Vec Bool). IsSettledUnbounded net race.from race.to ts.items r.items) (sym is_ray) settled in
+    let with_times : IsSettledUnbounded net race.from race.to found.times.items found.ray.items =
+    subst (λ (t : Vec ℤ). IsSettledUnbounded net race.from race.to t.items found.ray.items) (sym (at_times ts is)) with_ray in
     record {
-      answer = subst (λ (t : Vec ℤ). IsSettledUnbounded net race.from race.to t.items ray.items) (sym (at_times ts is)) settled;
+      answer = subst (λ (a : Settled). IsRightAnswer net race.from race.to budget found a) (sym is_answer) with_times;
       most = within;
       lines = rw none (omega arith);
     }

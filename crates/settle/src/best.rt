@@ -49,14 +49,25 @@ pub fn more_by(
     ensures satisfies { IfSome result (λ more. AreRaceTimes net.now from to more.value times.now.items) }
     ensures more { IfSome result (λ more. claim.value <ℤ more.value) }
 {
-    if times.len() != net.events() as usize || !times.iter().all(|time| is_near(*time)) {
+    if times.len() != net.events() as usize || !are_near(times) {
         return None;
     }
     let more = separation_of(times, from, to);
-    if !is_less(claim, more) || net.broken(times).is_some() {
+    if !is_less(claim, more) {
+        return None;
+    }
+    if net.broken(times).is_some() {
         return None;
     }
     Some(more)
+}
+
+// Whether all numbers are within the greatest cap in absolute value.
+fn are_near(times: &Vec<i64>) -> bool
+    ensures near { IsTrue result → All IsNearValue times.now.items }
+    ensures times { IsTrue result → All IsTime times.now.items }
+{
+    times.iter().all(|time| is_near(*time))
 }
 
 // Whether a number is within the greatest cap in absolute value.

@@ -68,16 +68,23 @@ pub struct BoundRules {
 }
 
 impl BoundRules {
-    /// No rules yet, over so many bounds and literals.
-    pub fn new(alloc: Global, bounds: usize, literals: usize) -> Result<BoundRules, NoMemory> {
-        Ok(BoundRules {
+    /// No rules yet, and no bounds or literals.
+    pub fn new(alloc: Global) -> BoundRules {
+        BoundRules {
             rules: Vec::new(alloc),
             ways: Vec::new(alloc),
             literals: Vec::new(alloc),
             links: Vec::new(alloc),
-            by_bound: vec![in alloc; None; bounds]?,
-            by_literal: vec![in alloc; None; literals]?,
-        })
+            by_bound: Vec::new(alloc),
+            by_literal: Vec::new(alloc),
+        }
+    }
+
+    /// Gets room for rules over so many bounds and literals. There are none yet.
+    pub fn make_room(&mut self, bounds: usize, literals: usize) -> Result<(), NoMemory> {
+        self.by_bound.resize(bounds, None)?;
+        self.by_literal.resize(literals, None)?;
+        Ok(())
     }
 
     /// Adds a rule.
@@ -154,6 +161,9 @@ impl BoundRules {
     /// Keeps the number of the way that gives the most for a rule.
     pub fn hint(&mut self, place: usize, way: usize) {
         let mut rule = self.rule(place);
+        if rule.hint == way {
+            return;
+        }
         rule.hint = way;
         put(&mut self.rules, place, rule);
     }

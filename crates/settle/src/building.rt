@@ -26,66 +26,76 @@ pub struct Tables {
 }
 
 impl Tables {
-    /// The tables of a network.
-    pub fn new(alloc: Global, net: &Network) -> Result<Tables, NoMemory> {
-        let mut sides = sides_of(alloc, net)?;
-        let edges = edges_of(alloc, net, &sides)?;
-        let choices = choices_of(alloc, net, &mut sides)?;
-        Ok(Tables {
-            sides,
-            edges,
-            rules: choices.rules,
-            clauses: choices.clauses,
-            earliest: choices.earliest,
-        })
-    }
-}
-
-// The rules and the clauses of a network, and which of the rules are those of earliest constraints.
-#[derive(Drop)]
-struct Choices {
-    rules: BoundRules,
-    clauses: ClauseStore,
-    earliest: Vec<usize>,
-}
-
-impl Choices {
-    // No choices yet, over so many bounds and literals.
-    fn new(alloc: Global, bounds: usize, literals: usize) -> Result<Choices, NoMemory> {
-        Ok(Choices {
+    /// The tables of nothing.
+    pub fn new(alloc: Global) -> Tables {
+        Tables {
+            sides: SideTable::new(alloc),
+            edges: BoundEdges::new(alloc),
+            rules: BoundRules::new(alloc),
+            clauses: ClauseStore::new(alloc),
             earliest: Vec::new(alloc),
-            clauses: ClauseStore::new(alloc, bounds, literals)?,
-            rules: BoundRules::new(alloc, bounds, literals)?,
-        })
-    }
-
-    // Adds the rule and the clause of a latest or earliest constraint, if it has them.
-    fn push(
-        &mut self,
-        alloc: Global,
-        net: &Network,
-        number: u32,
-        sides: &mut SideTable,
-    ) -> Result<(), NoMemory>
-        requires number { number < length net.now.constraints }
-    {
-        let edges = choice_edges(alloc, net, number)?;
-        if edges.len() < 2 {
-            return Ok(());
         }
-        self.push_rule(alloc, net, number, &edges, sides)?;
-        self.push_clause(alloc, number, &edges, sides)
     }
 
-    // Adds the rule of a constraint with these edges.
-    fn push_rule(
+    /// Makes the tables of a network. There is nothing in them yet.
+    pub fn fill(&mut self, alloc: Global, net: &Network) -> Result<(), NoMemory> {
+        let mut choice = Choice::new(alloc);
+        let filled = self.fill_by(alloc, net, &mut choice);
+        drop(choice);
+        filled
+    }
+
+    // Makes the tables of a network. Each constraint has its choice in the same memory.
+    fn fill_by(
         &mut self,
         alloc: Global,
         net: &Network,
-        number: u32,
-        edges: &Vec<Edge>,
-        sides: &mut SideTable,
-    ) -> Result<(), NoMemory>
+        choice: &mut Choice,
+    ) -> Result<(), NoMemory> {
+        self.push_sides(net, choice)?;
+        self.push_edges(alloc, net)?;
+        self.push_choices(net, choice)
+    }
+
+    // Adds the sides of all latest and earliest constraints.
+    fn push_sides(&mut self, net: &Network, choice: &mut Choice) -> Result<(), NoMemory> {
+        self.sides.make_room(side_count(net))?;
+        for number in 0..net.len() {
+            choice.take_edges(net, number)?;
+            for edge in &choice.edges {
+                let _literal = self.sides.literal(*edge)?;
+            }
+        }
+        Ok(())
+    }
+
+    // Adds the always-edges of a network and the edges of its sides, and sorts them.
+    fn push_edges(&mut self, alloc: Global, net: &Network) -> Result<(), NoMemory> {
+        self.edges.make_room(bounds_of(net))?;
+        for number in 0..net.len() {
+            push_always(net, number, &mut self.edges)?;
+        }
+        push_literals(&self.sides, &mut self.edges)?;
+        self.edges.sort(alloc, self.sides.len())
+    }
+
+    // Adds the rules and the clauses of a network.
+    fn push_choices(&mut self, net: &Network, choice: &mut Choice) -> Result<(), NoMemory> {
+        let literals = self.sides.len().saturating_mul(2);
+        self.clauses.make_room(bounds_of(net), literals)?;
+        self.rules.make_room(bounds_of(net), literals)?;
+        for number in 0..net.len() {
+            choice.take_edges(net, number)?;
+            if 1 < choice.edges.len() {
+                self.push_rule(net, number, choice)?;
+                self.push_clause(number, choice)?;
+            }
+        }
+        Ok(())
+    }
+
+    // Adds the rule of a constraint with this choice.
+    fn push_rule(&mut self, net: &Network, number: u32, choice: &mut Choice) -> Result<(), NoMemory>
         requires number { number < length net.now.constraints }
     {
         let is_late = net.kind(number) == RuleKind::Late;
@@ -97,47 +107,84 @@ impl Choices {
         if !is_late {
             self.earliest.push(self.rules.len())?;
         }
-        let ways = ways_of(alloc, is_late, edges, sides)?;
-        self.rules.push(Basis::ByChoice(number), target, &ways, &[])
+        choice.take_ways(is_late, &mut self.sides)?;
+        self.rules
+            .push(Basis::ByChoice(number), target, &choice.ways, &[])
     }
 
-    // Adds the clause of a constraint with these edges.
-    fn push_clause(
-        &mut self,
-        alloc: Global,
-        number: u32,
-        edges: &Vec<Edge>,
-        sides: &mut SideTable,
-    ) -> Result<(), NoMemory> {
-        let literals = literals_of(alloc, edges, sides)?;
-        self.clauses.push(Basis::ByChoice(number), &literals, 0)
+    // Adds the clause of a constraint with this choice.
+    fn push_clause(&mut self, number: u32, choice: &mut Choice) -> Result<(), NoMemory> {
+        choice.take_literals(&mut self.sides)?;
+        self.clauses
+            .push(Basis::ByChoice(number), &choice.literals, 0)
     }
 }
 
-// The rules and the clauses of a network with these sides.
-fn choices_of(alloc: Global, net: &Network, sides: &mut SideTable) -> Result<Choices, NoMemory> {
-    let literals = sides.len().saturating_mul(2);
-    let mut choices = Choices::new(alloc, bounds_of(net), literals)?;
-    for number in 0..net.len() {
-        choices.push(alloc, net, number, sides)?;
-    }
-    Ok(choices)
+// The choice of a constraint: the edges of which times meet one, in the order of the causes, and the ways and the literals of these edges.
+#[derive(Drop)]
+struct Choice {
+    edges: Vec<Edge>,
+    ways: Vec<BoundWay>,
+    literals: Vec<Literal>,
 }
 
-// The ways of a rule with these edges.
-fn ways_of(
-    alloc: Global,
-    is_late: bool,
-    edges: &Vec<Edge>,
-    sides: &mut SideTable,
-) -> Result<Vec<BoundWay>, NoMemory> {
-    let mut ways = Vec::new(alloc);
-    for edge in edges {
-        let side = sides.literal(*edge)?;
-        let place = short(ways.len());
-        ways.push(way_of(*edge, is_late, place, side))?;
+impl Choice {
+    // The choice of no constraint.
+    fn new(alloc: Global) -> Choice {
+        Choice {
+            edges: Vec::new(alloc),
+            ways: Vec::new(alloc),
+            literals: Vec::new(alloc),
+        }
     }
-    Ok(ways)
+
+    // Takes the edges of a constraint. There are none if the constraint has one cause or is linear, or if an end on the side of the choice is open.
+    fn take_edges(&mut self, net: &Network, number: u32) -> Result<(), NoMemory>
+        requires number { number < length net.now.constraints }
+    {
+        self.edges.clear();
+        let Some(side) = choice_side(net, number) else {
+            return Ok(());
+        };
+        for cause in 0..net.cause_count(number) {
+            let name = EdgeName {
+                constraint: number,
+                cause,
+                side,
+            };
+            match net.edge(name) {
+                Some(edge) => self.edges.push(edge)?,
+                None => {
+                    self.edges.clear();
+                    return Ok(());
+                }
+            }
+        }
+        Ok(())
+    }
+
+    // Takes the ways of the edges in a rule of the latest or of the earliest.
+    fn take_ways(&mut self, is_late: bool, sides: &mut SideTable) -> Result<(), NoMemory> {
+        self.ways.clear();
+        for edge in &self.edges {
+            let side = sides.literal(*edge)?;
+            let place = short(self.ways.len());
+            self.ways.push(way_of(*edge, is_late, place, side))?;
+        }
+        Ok(())
+    }
+
+    // Takes the literals of the edges. Each is there once.
+    fn take_literals(&mut self, sides: &mut SideTable) -> Result<(), NoMemory> {
+        self.literals.clear();
+        for edge in &self.edges {
+            let side = sides.literal(*edge)?;
+            if !has(&self.literals, side) {
+                self.literals.push(Literal::Side(side))?;
+            }
+        }
+        Ok(())
+    }
 }
 
 // The way of an edge in a rule of the latest or of the earliest.
@@ -153,22 +200,6 @@ fn way_of(edge: Edge, is_late: bool, place: u32, side: SideLiteral) -> BoundWay 
         place,
         side: Some(side),
     }
-}
-
-// The literals of a clause with these edges. Each is there once.
-fn literals_of(
-    alloc: Global,
-    edges: &Vec<Edge>,
-    sides: &mut SideTable,
-) -> Result<Vec<Literal>, NoMemory> {
-    let mut literals = Vec::new(alloc);
-    for edge in edges {
-        let side = sides.literal(*edge)?;
-        if !has(&literals, side) {
-            literals.push(Literal::Side(side))?;
-        }
-    }
-    Ok(literals)
 }
 
 // Whether a literal of a side is in a clause.
@@ -191,15 +222,6 @@ fn bounds_of(net: &Network) -> usize {
     (net.events() as usize).saturating_mul(2)
 }
 
-// The sides of a network.
-fn sides_of(alloc: Global, net: &Network) -> Result<SideTable, NoMemory> {
-    let mut sides = SideTable::new(alloc, side_count(net))?;
-    for number in 0..net.len() {
-        push_sides(alloc, net, number, &mut sides)?;
-    }
-    Ok(sides)
-}
-
 // How many causes all latest and earliest constraints have.
 fn side_count(net: &Network) -> usize {
     let mut count = 0usize;
@@ -209,17 +231,6 @@ fn side_count(net: &Network) -> usize {
         }
     }
     count
-}
-
-// The always-edges of a network and the edges of its sides, sorted.
-fn edges_of(alloc: Global, net: &Network, sides: &SideTable) -> Result<BoundEdges, NoMemory> {
-    let mut edges = BoundEdges::new(alloc, bounds_of(net))?;
-    for number in 0..net.len() {
-        push_always(net, number, &mut edges)?;
-    }
-    push_literals(sides, &mut edges)?;
-    edges.sort(alloc, sides.len())?;
-    Ok(edges)
 }
 
 // Adds the always-edges of a constraint. A linear constraint has cause 0 too.
@@ -255,22 +266,6 @@ fn push_always_edge(
     }
 }
 
-// Adds the sides of a latest or earliest constraint.
-fn push_sides(
-    alloc: Global,
-    net: &Network,
-    number: u32,
-    sides: &mut SideTable,
-) -> Result<(), NoMemory>
-    requires number { number < length net.now.constraints }
-{
-    let edges = choice_edges(alloc, net, number)?;
-    for edge in &edges {
-        let _literal = sides.literal(*edge)?;
-    }
-    Ok(())
-}
-
 // Adds the edges of all literals.
 fn push_literals(sides: &SideTable, edges: &mut BoundEdges) -> Result<(), NoMemory> {
     for number in 0..sides.len().saturating_mul(2) {
@@ -278,28 +273,6 @@ fn push_literals(sides: &SideTable, edges: &mut BoundEdges) -> Result<(), NoMemo
         edges.push(sides.edge(literal), Ground::Side(literal))?;
     }
     Ok(())
-}
-
-// The edges of which times meet one, in the order of the causes. There are none if the constraint has one cause or is linear, or if such an end is open.
-fn choice_edges(alloc: Global, net: &Network, number: u32) -> Result<Vec<Edge>, NoMemory>
-    requires number { number < length net.now.constraints }
-{
-    let mut edges = Vec::new(alloc);
-    let Some(side) = choice_side(net, number) else {
-        return Ok(edges);
-    };
-    for cause in 0..net.cause_count(number) {
-        let name = EdgeName {
-            constraint: number,
-            cause,
-            side,
-        };
-        match net.edge(name) {
-            Some(edge) => edges.push(edge)?,
-            None => return Ok(Vec::new(alloc)),
-        }
-    }
-    Ok(edges)
 }
 
 // The side on which times need only meet one cause of a constraint, if it has two or more.

@@ -1,10 +1,13 @@
 //! Choices of sides.
 
+use crate::activity::Activity;
 use crate::bound_rules::{BoundRule, BoundWay};
 use crate::engine::{Engine, Proposal};
+use crate::facts::Facts;
 use crate::literal::SideLiteral;
 use crate::places::at;
 use itv_base::NoMemory;
+use std::alloc::Global;
 
 // A side that may be chosen, with how much it was needed lately and with a value in picoseconds. The greatest need goes first, then the least value.
 #[derive(Clone, Copy)]
@@ -20,40 +23,48 @@ impl Engine {
     /// constraint, they are times. If no block is allowed, the search rests. Now and then it takes back all choices. If it has then learnt many clauses, half of
     /// them go.
     pub fn choose(&mut self) -> Result<Proposal, NoMemory> {
-        let Some(candidate) = self.first_candidate() else {
+        let Some(candidate) = self.facts.first_candidate(&self.activity) else {
             return Ok(Proposal::Times);
         };
-        if self.blocks == 0 || self.rest_at <= self.meter.turns() {
+        if !self.pace.may_choose(self.facts.meter.turns()) {
             return Ok(Proposal::Rests);
         }
         if !self.pace.is_due() {
-            self.choose_side(candidate.side)?;
+            self.facts.choose_side(self.alloc, candidate.side)?;
             return Ok(Proposal::Nothing);
         }
         self.pace.begin();
-        if 0 < self.trail.level() {
-            self.go_back(0);
+        if 0 < self.facts.trail.level() {
+            self.facts.go_back(0);
         }
         Ok(Proposal::Nothing)
     }
+}
 
+impl Facts {
     // Chooses a side. If it is the first choice and many clauses were learnt, half of them go before.
-    fn choose_side(&mut self, side: SideLiteral) -> Result<(), NoMemory> {
-        if self.trail.level() == 0 && MOST_LEARNT <= self.tables.clauses.learnt() {
-            self.meter.look(self.tables.clauses.size());
-            self.tables.clauses.let_go(self.alloc)?;
-        }
-        self.falls.reset();
+    fn choose_side(&mut self, alloc: Global, side: SideLiteral) -> Result<(), NoMemory> {
+        self.forget(alloc)?;
+        self.unseen.falls.reset();
         self.trail.choose(side)
     }
 
+    // Lets half of the learnt clauses go, if there are many and nothing is chosen.
+    fn forget(&mut self, alloc: Global) -> Result<(), NoMemory> {
+        if 0 < self.trail.level() || self.tables.clauses.learnt() < MOST_LEARNT {
+            return Ok(());
+        }
+        self.meter.look(self.tables.clauses.size());
+        self.tables.clauses.let_go(alloc)
+    }
+
     // The side to choose, or none if the bounds break no earliest constraint.
-    fn first_candidate(&mut self) -> Option<Candidate> {
+    fn first_candidate(&mut self, activity: &Activity) -> Option<Candidate> {
         let mut first: Option<Candidate> = None;
         for number in 0..self.tables.earliest.len() {
             let rule = self.tables.rules.rule(at(&self.tables.earliest, number, 0));
             self.meter.look(rule.ways.count);
-            if let Some(candidate) = self.broken_side(rule) {
+            if let Some(candidate) = self.broken_side(rule, activity) {
                 first = earlier(first, candidate);
             }
         }
@@ -62,7 +73,7 @@ impl Engine {
 
     // The side of an earliest constraint that is broken least and may hold, with the greatest need of its sides and with the value of its target. None if
     // some side is met or no side may hold.
-    fn broken_side(&self, rule: BoundRule) -> Option<Candidate> {
+    fn broken_side(&self, rule: BoundRule, activity: &Activity) -> Option<Candidate> {
         let mut least: Option<Candidate> = None;
         let mut need = 0;
         let target = self.trail.value(rule.target.other());
@@ -73,7 +84,7 @@ impl Engine {
                 return None;
             }
             let side = way.side?;
-            need = at(&self.activity, side.side(), 0).max(need);
+            need = activity.of(side.side()).max(need);
             if !self.trail.has(side.opposite()) {
                 least = earlier(
                     least,

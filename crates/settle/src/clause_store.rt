@@ -54,16 +54,23 @@ pub struct ClauseStore {
 }
 
 impl ClauseStore {
-    /// No clauses yet, over so many bounds and literals.
-    pub fn new(alloc: Global, bounds: usize, literals: usize) -> Result<ClauseStore, NoMemory> {
-        Ok(ClauseStore {
+    /// No clauses yet, and no bounds or literals.
+    pub fn new(alloc: Global) -> ClauseStore {
+        ClauseStore {
             clauses: Vec::new(alloc),
             literals: Vec::new(alloc),
             watches: Vec::new(alloc),
-            by_bound: vec![in alloc; None; bounds]?,
-            by_literal: vec![in alloc; None; literals]?,
+            by_bound: Vec::new(alloc),
+            by_literal: Vec::new(alloc),
             learnt: 0,
-        })
+        }
+    }
+
+    /// Gets room for clauses over so many bounds and literals. There are none yet.
+    pub fn make_room(&mut self, bounds: usize, literals: usize) -> Result<(), NoMemory> {
+        self.by_bound.resize(bounds, None)?;
+        self.by_literal.resize(literals, None)?;
+        Ok(())
     }
 
     /// Adds a clause. Of a learnt clause the literals are of so many levels, of another one of 0.
@@ -84,9 +91,7 @@ impl ClauseStore {
             literals: stretch,
             levels,
         })?;
-        if 0 < levels {
-            self.learnt = self.learnt.saturating_add(1);
-        }
+        self.learnt = self.learnt.saturating_add(levels.min(1));
         self.watches.push(watch_of(clause, false))?;
         self.watches.push(watch_of(clause, true))?;
         if 1 < stretch.count {
@@ -217,7 +222,17 @@ impl ClauseStore {
         self.by_bound.fill(None);
         self.by_literal.fill(None);
         self.learnt = 0;
-        for clause in &clauses {
+        self.push_kept(&mut cut, &clauses, &literals)
+    }
+
+    // Adds the clauses that stay, with their literals among these.
+    fn push_kept(
+        &mut self,
+        cut: &mut Cut,
+        clauses: &[StoredClause],
+        literals: &[Literal],
+    ) -> Result<(), NoMemory> {
+        for clause in clauses {
             if cut.keeps(*clause) {
                 let first = clause.literals.first;
                 let end = first.saturating_add(clause.literals.count);

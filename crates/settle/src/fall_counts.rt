@@ -29,12 +29,18 @@ pub struct FallCounts {
 }
 
 impl FallCounts {
-    /// Counts for this many bounds. None has fallen yet.
-    pub fn new(alloc: Global, bounds: usize) -> Result<FallCounts, NoMemory> {
-        Ok(FallCounts {
-            counts: vec![in alloc; NO_FALL; bounds]?,
+    /// Counts of no bounds.
+    pub fn new(alloc: Global) -> FallCounts {
+        FallCounts {
+            counts: Vec::new(alloc),
             epoch: 0,
-        })
+        }
+    }
+
+    /// Gets room for the counts of this many bounds. None has fallen yet.
+    pub fn make_room(&mut self, bounds: usize) -> Result<(), NoMemory> {
+        self.counts.resize(bounds, NO_FALL)?;
+        Ok(())
     }
 
     /// Resets all counts.

@@ -4,6 +4,7 @@
 //! it and a proof by clauses, or times and a ray that show that it is unbounded, or a proof that no times satisfy, or it says that the turns were spent.
 #![tactic(auto)]
 
+mod activity;
 mod arcs;
 mod best;
 mod bound_rules;
@@ -11,11 +12,13 @@ mod building;
 mod choosing;
 mod clause_store;
 mod engine;
+mod facts;
 mod fall_counts;
 mod literal;
 mod meter;
 mod needs;
 mod node;
+mod outbox;
 mod pace;
 mod places;
 mod prover;
@@ -29,6 +32,7 @@ mod side_table;
 mod spreading;
 mod sweep;
 mod trail;
+mod unseen;
 
 pub use edge_clauses::StoredLine;
 pub use run_turns::RunTurns;

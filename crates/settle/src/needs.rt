@@ -1,5 +1,6 @@
 //! What a conflict needs of the entries of the trail.
 
+use crate::facts::Facts;
 use crate::literal::{Literal, NodeBound, SideLiteral};
 use crate::node::Node;
 use crate::places::{at, put};
@@ -28,17 +29,23 @@ pub struct Needs {
 }
 
 impl Needs {
-    /// No needs, over so many bounds.
-    pub fn new(alloc: Global, bounds: usize) -> Result<Needs, NoMemory> {
-        Ok(Needs {
+    /// No needs, and no bounds.
+    pub fn new(alloc: Global) -> Needs {
+        Needs {
             values: Vec::new(alloc),
             left: 0,
             level: 0,
             open: 0,
-            assumed: vec![in alloc; 0; bounds]?,
+            assumed: Vec::new(alloc),
             conflict: 0,
             looks: 0,
-        })
+        }
+    }
+
+    /// Gets room for needs of so many bounds.
+    pub fn make_room(&mut self, bounds: usize) -> Result<(), NoMemory> {
+        self.assumed.resize(bounds, 0)?;
+        Ok(())
     }
 
     /// Begins with a conflict among the entries of a trail. Nothing is needed yet.
@@ -55,21 +62,21 @@ impl Needs {
     }
 
     /// Needs a literal.
-    pub fn want(&mut self, trail: &Trail, goal: NodeBound, literal: Literal) {
+    pub fn want(&mut self, facts: &Facts, literal: Literal) {
         match literal {
-            Literal::Bound(bound) => self.want_bound(trail, goal, bound),
-            Literal::Side(side) => self.want_side(trail, side),
+            Literal::Bound(bound) => self.want_bound(facts, bound),
+            Literal::Side(side) => self.want_side(&facts.trail, side),
         }
     }
 
     /// Needs a bound at a value. Nothing is needed of a bound that the goal gives.
-    pub fn want_bound(&mut self, trail: &Trail, goal: NodeBound, bound: NodeBound) {
+    pub fn want_bound(&mut self, facts: &Facts, bound: NodeBound) {
         self.looks = self.looks.saturating_add(1);
-        if bound.node == goal.node && goal.value <= bound.value {
+        if facts.gives(bound) {
             return;
         }
-        if let Some(place) = trail.first_at(bound) {
-            self.lower(trail, place, bound.value);
+        if let Some(place) = facts.trail.first_at(bound) {
+            self.lower(&facts.trail, place, bound.value);
         }
     }
 

@@ -61,11 +61,17 @@ impl Prover {
     {
         let checker = ClauseChecker::start(alloc, net, from, to, claim)?;
         let cap = checker.limits().cap;
-        Ok(Prover {
-            checker,
-            engine: Engine::new(alloc, net, from, to, cap, room)?,
-            lines: Vec::new(alloc),
-        })
+        match Engine::new(alloc, net, from, to, cap, room) {
+            Ok(engine) => Ok(Prover {
+                checker,
+                engine,
+                lines: Vec::new(alloc),
+            }),
+            Err(fault) => {
+                drop(checker);
+                Err(fault)
+            }
+        }
     }
 
     /// A step of the search. The lines always lead to the checker's state.
@@ -103,6 +109,7 @@ impl Prover {
         if self.checker.take(alloc, net, &line)? {
             self.lines.push(line)?;
         } else {
+            drop(line);
             self.engine.stop();
         }
         Ok(SearchState::GoesOn)
@@ -129,7 +136,7 @@ impl Prover {
 
     /// The turns that the search has taken.
     pub fn turns(&self) -> u64 {
-        self.engine.meter.turns()
+        self.engine.facts.meter.turns()
     }
 
     /// Whether the search has ended or given up.

@@ -340,16 +340,33 @@ fn ray_of(
     requires count { length times.now.items ≡ net.now.events }
     ensures count { IfOk result (λ ray. length ray.items ≡ net.now.events) }
 {
-    let count = times.len();
-    let mut values = vec![in alloc; 0; count]?;
+    let values = times_after(alloc, times, from)?;
+    let level = gap_level(net, &values, limits);
+    let ray = those_above(alloc, &values, level.value);
+    drop(values);
+    ray
+}
+
+// The times less the time of an event.
+fn times_after(alloc: Global, times: &Vec<i64>, from: EventId) -> Result<Vec<i64>, NoMemory>
+    requires from { from.0 < length times.now.items }
+    ensures count { IfOk result (λ values. length values.items ≡ length times.now.items) }
+{
     let base = times[from.0 as usize];
-    for event in 0..count {
+    let mut values = vec![in alloc; 0; times.len()]?;
+    for event in 0..times.len() {
         values[event] = times[event].saturating_sub(base);
     }
-    let level = gap_level(net, &values, limits);
-    let mut ray = vec![in alloc; false; count]?;
-    for event in 0..count {
-        ray[event] = level.value < values[event];
+    Ok(values)
+}
+
+// For each event whether its value is above a level.
+fn those_above(alloc: Global, values: &Vec<i64>, level: i64) -> Result<Vec<bool>, NoMemory>
+    ensures count { IfOk result (λ ray. length ray.items ≡ length values.now.items) }
+{
+    let mut ray = vec![in alloc; false; values.len()]?;
+    for event in 0..values.len() {
+        ray[event] = level < values[event];
     }
     Ok(ray)
 }

@@ -1,15 +1,18 @@
 //! Which choices a conflict needs.
 
 use crate::arcs::Ground;
-use crate::building::Tables;
-use crate::engine::{Conflict, Engine};
+use crate::engine::Engine;
+use crate::facts::Facts;
 use crate::literal::{Literal, NodeBound, SideLiteral, beyond};
+use crate::needs::Needs;
 use crate::node::Node;
-use crate::places::{at, put};
+use crate::places::{at, take};
 use crate::trail::{Reason, TrailEntry};
+use crate::unseen::Conflict;
 use edge_clauses::{Basis, EventBound, StoredLine};
 use event_graph::Edge;
 use itv_base::{EventId, NoMemory};
+use std::alloc::Global;
 
 // A clause as it is learnt. `edges` are assumed in the block, and `literals` are their opposites. The first is of the latest level.
 #[derive(Drop)]
@@ -22,12 +25,39 @@ struct Learnt {
     back: usize,
 }
 
+impl Learnt {
+    // A clause without literals.
+    fn new(alloc: Global) -> Learnt {
+        Learnt {
+            literals: Vec::new(alloc),
+            edges: Vec::new(alloc),
+            levels: 0,
+            level: 0,
+            back: 0,
+        }
+    }
+
+    // Assumes the edge of a literal of a level.
+    fn push(&mut self, edge: Edge, literal: Literal, level: usize) -> Result<(), NoMemory> {
+        self.edges.push(edge)?;
+        self.literals.push(literal.opposite())?;
+        if level != self.level {
+            if self.levels == 1 {
+                self.back = level;
+            }
+            self.level = level;
+            self.levels = self.levels.saturating_add(1);
+        }
+        Ok(())
+    }
+}
+
 impl Engine {
     /// Writes the block that shows a conflict, from its last line to its first, and learns its clause. Then goes back to the level at which the clause makes a
     /// literal hold. The block assumes one entry of the latest level: the latest one from which all that is needed of that level follows. A bound is assumed at
     /// the value at which it is needed.
     pub fn refute(&mut self, conflict: Conflict) -> Result<(), NoMemory> {
-        self.needs.begin(&self.trail)?;
+        self.needs.begin(&self.facts.trail)?;
         self.outbox.push(StoredLine::Close)?;
         self.want_conflict(conflict)?;
         let level = self.needs.level();
@@ -35,23 +65,25 @@ impl Engine {
             self.outbox.clear();
             return self.begin_anew(conflict);
         }
-        let mut learnt = Learnt {
-            literals: Vec::new(self.alloc),
-            edges: Vec::new(self.alloc),
-            levels: 0,
-            level: 0,
-            back: 0,
-        };
-        for place in (0..self.trail.end_of(level)).rev() {
+        let mut learnt = Learnt::new(self.alloc);
+        let shown = self.show(&mut learnt, level);
+        drop(learnt);
+        shown
+    }
+
+    // Goes through what is needed, up to the latest level of it, and learns the clause.
+    fn show(&mut self, learnt: &mut Learnt, level: usize) -> Result<(), NoMemory> {
+        for place in (0..self.facts.trail.end_of(level)).rev() {
             if self.needs.is_done() {
                 break;
             }
-            let entry = self.trail.entry(place);
+            let entry = self.facts.trail.entry(place);
             if let Some(value) = self.needs.take(place, entry) {
-                self.go_through(&mut learnt, entry, value)?;
+                self.go_through(learnt, entry, value)?;
             }
         }
-        self.meter.look(self.needs.looks());
+        self.facts.meter.look(self.needs.looks());
+        self.put_assumed(learnt)?;
         self.learn(learnt)
     }
 
@@ -59,22 +91,14 @@ impl Engine {
     fn begin_anew(&mut self, conflict: Conflict) -> Result<(), NoMemory> {
         let clause = match conflict {
             Conflict::Clause(clause) => Some(clause),
-            Conflict::Bound(node) => self.clause_of(node),
+            Conflict::Bound(node) => self.facts.clause_of(node),
         };
-        self.go_back(0);
-        self.take_goal()?;
-        self.sweep.add_all();
+        self.facts.go_back(0);
+        self.facts.take_goal()?;
+        self.facts.unseen.sweep.add_all();
         match clause {
-            Some(clause) => self.look_at_whole(clause),
+            Some(clause) => self.facts.look_at_whole(clause),
             None => Ok(()),
-        }
-    }
-
-    // The clause that gave a bound its value, if one did.
-    fn clause_of(&self, node: Node) -> Option<usize> {
-        match self.trail.entry(self.trail.last_of(node)?).reason {
-            Reason::Clause(clause) => Some(clause),
-            _ => None,
         }
     }
 
@@ -83,7 +107,7 @@ impl Engine {
         match conflict {
             Conflict::Clause(clause) => {
                 self.put_end(clause)?;
-                self.want_clause(clause, None);
+                self.needs.want_clause(&self.facts, clause, None);
                 Ok(())
             }
             Conflict::Bound(node) => self.want_bounds(node),
@@ -92,25 +116,25 @@ impl Engine {
 
     // Needs what made both bounds of an event exclude each other. The bound has fallen latest.
     fn want_bounds(&mut self, node: Node) -> Result<(), NoMemory> {
-        let Some(place) = self.trail.last_of(node) else {
+        let Some(place) = self.facts.trail.last_of(node) else {
             return Ok(());
         };
-        let reason = self.trail.entry(place).reason;
+        let reason = self.facts.trail.entry(place).reason;
         let other = NodeBound {
             node: node.other(),
-            value: self.trail.value(node.other()),
+            value: self.facts.trail.value(node.other()),
         };
         if let Reason::Goal = reason {
-            let value = beyond(self.trail.value(node));
+            let value = beyond(self.facts.trail.value(node));
             let node = other.node;
             self.needs
-                .want_bound(&self.trail, self.goal, NodeBound { node, value });
+                .want_bound(&self.facts, NodeBound { node, value });
             return Ok(());
         }
         let bound = Literal::Bound(other.opposite());
         self.put_line(bound, bound, reason)?;
-        self.want_reason(bound, reason);
-        self.needs.want_bound(&self.trail, self.goal, other);
+        self.needs.want_reason(&self.facts, bound, reason);
+        self.needs.want_bound(&self.facts, other);
         Ok(())
     }
 
@@ -121,21 +145,13 @@ impl Engine {
         entry: TrailEntry,
         value: i64,
     ) -> Result<(), NoMemory> {
-        let needed = match entry.literal {
-            Literal::Bound(bound) => Literal::Bound(NodeBound {
-                node: bound.node,
-                value,
-            }),
-            Literal::Side(side) => {
-                self.count_need(side.side());
-                entry.literal
-            }
-        };
+        self.activity.count(entry.literal);
+        let needed = at_value(entry.literal, value);
         if entry.level < self.needs.level() || self.needs.is_last() {
             return self.assume(learnt, entry.level, needed);
         }
         self.put_line(needed, entry.literal, entry.reason)?;
-        self.want_reason(needed, entry.reason);
+        self.needs.want_reason(&self.facts, needed, entry.reason);
         Ok(())
     }
 
@@ -151,159 +167,37 @@ impl Engine {
                 return Ok(());
             }
         }
-        learnt
-            .edges
-            .push(edge_of(&self.tables, self.from, literal))?;
-        learnt.literals.push(literal.opposite())?;
-        if level != learnt.level {
-            if learnt.levels == 1 {
-                learnt.back = level;
-            }
-            learnt.level = level;
-            learnt.levels = learnt.levels.saturating_add(1);
-        }
-        Ok(())
+        learnt.push(self.facts.edge_of(literal), literal, level)
     }
 
-    // Needs what makes a literal hold for a reason.
-    fn want_reason(&mut self, literal: Literal, reason: Reason) {
-        match reason {
-            Reason::Choice | Reason::Goal => {}
-            Reason::Edge(place) => self.want_edge(literal, place),
-            Reason::Bounds(start) => self.want_excluded(literal, start),
-            Reason::Rule(rule) => self.want_rule(literal, rule),
-            Reason::Clause(clause) => self.want_clause(clause, Some(literal)),
-        }
-    }
-
-    // Needs that an edge is met, and the bound from which it leads.
-    fn want_edge(&mut self, literal: Literal, place: usize) {
-        let edge = self.tables.edges.edge(place);
-        if let Literal::Bound(bound) = literal {
-            let from = NodeBound {
-                node: edge.from,
-                value: bound.value.saturating_sub(edge.weight),
-            };
-            self.needs.want_bound(&self.trail, self.goal, from);
-        }
-        if let Ground::Side(side) = edge.ground {
-            self.needs.want_side(&self.trail, side);
-        }
-    }
-
-    // Needs the bounds that exclude the opposite of a literal.
-    fn want_excluded(&mut self, literal: Literal, start: i64) {
-        let Literal::Side(side) = literal else {
-            return;
-        };
-        let edge = self.tables.sides.edge(side.opposite());
-        let from = NodeBound {
-            node: Node::most(edge.from),
-            value: start,
-        };
-        let to = NodeBound {
-            node: Node::least(edge.to),
-            value: beyond(start.saturating_add(edge.weight)),
-        };
-        self.needs.want_bound(&self.trail, self.goal, from);
-        self.needs.want_bound(&self.trail, self.goal, to);
-    }
-
-    // Needs that none of a rule's literals holds, and the bounds from which its ways lead.
-    fn want_rule(&mut self, literal: Literal, place: usize) {
-        let Literal::Bound(bound) = literal else {
-            return;
-        };
-        let rule = self.tables.rules.rule(place);
-        self.needs
-            .look(rule.ways.count.saturating_add(rule.literals.count));
-        for number in 0..rule.ways.count {
-            let way = self.tables.rules.way(rule, number);
-            let from = NodeBound {
-                node: way.from,
-                value: bound.value.saturating_sub(way.weight),
-            };
-            self.want_way(from, way.side);
-        }
-        for number in 0..rule.literals.count {
-            let side = self.tables.rules.literal(rule, number);
-            self.needs.want_side(&self.trail, side.opposite());
-        }
-    }
-
-    // Needs a bound, or that a literal does not hold: what came first.
-    fn want_way(&mut self, bound: NodeBound, side: Option<SideLiteral>) {
-        if let Some(place) = side.and_then(|side| self.trail.place_of(side.opposite())) {
-            if !self.is_before(bound, place) {
-                return self.needs.want_place(&self.trail, place);
-            }
-        }
-        self.needs.want_bound(&self.trail, self.goal, bound);
-    }
-
-    // Whether a bound is at a value by the goal, or by an entry before this place.
-    fn is_before(&self, bound: NodeBound, place: usize) -> bool {
-        if bound.node == self.goal.node && self.goal.value <= bound.value {
-            return true;
-        }
-        match self.trail.first_at(bound) {
-            Some(other) => other < place,
-            None => self.trail.value(bound.node) <= bound.value,
-        }
-    }
-
-    // Needs that no literal of a clause holds but the one that it makes hold.
-    fn want_clause(&mut self, place: usize, held: Option<Literal>) {
-        let clause = self.tables.clauses.clause(place);
-        for number in 0..clause.literals.count {
-            let literal = self.tables.clauses.literal(clause, number);
-            if !is_of(literal, held) {
-                self.needs.want(&self.trail, self.goal, literal.opposite());
-            }
-        }
-    }
-
-    // Counts that a side was needed.
-    fn count_need(&mut self, side: usize) {
-        let count = at(&self.activity, side, 0).saturating_add(self.gain);
-        put(&mut self.activity, side, count);
-    }
-
-    // Makes later needs count for more. Where the counts are large, all become smaller.
-    fn age(&mut self) {
-        self.gain = self.gain.saturating_add(self.gain / 8);
-        if self.gain <= 1 << 50 {
-            return;
-        }
-        for side in 0..self.activity.len() {
-            let count = at(&self.activity, side, 0) / 1_099_511_627_776;
-            put(&mut self.activity, side, count);
-        }
-        self.gain = (self.gain / 1_099_511_627_776).max(1024);
-    }
-
-    // Writes the first lines of the block, goes back, and learns its clause.
-    fn learn(&mut self, learnt: Learnt) -> Result<(), NoMemory> {
+    // Writes the first lines of the block. The edges go into the line that assumes them.
+    fn put_assumed(&mut self, learnt: &mut Learnt) -> Result<(), NoMemory> {
         for literal in &learnt.literals {
             if let Literal::Bound(bound) = literal.opposite() {
-                let edge = edge_of(&self.tables, self.from, literal.opposite());
+                let edge = self.facts.edge_of(literal.opposite());
                 self.outbox.push(line_of(bound, Basis::Either(edge)))?;
             }
         }
-        self.meter.keep(learnt.literals.len().saturating_add(1));
-        let clause = self.tables.clauses.len();
-        let first = at(&learnt.literals, 0, Literal::Bound(self.goal));
-        let basis = Basis::ByKept(self.kept);
-        self.kept = self.kept.saturating_add(1);
-        self.tables
+        let edges = take(&mut learnt.edges, Vec::new(self.alloc));
+        self.outbox.push(StoredLine::Assume(edges))
+    }
+
+    // Learns the clause, and goes back to the level at which it makes a literal hold.
+    fn learn(&mut self, learnt: &Learnt) -> Result<(), NoMemory> {
+        self.facts
+            .meter
+            .keep(learnt.literals.len().saturating_add(1));
+        let clause = self.facts.tables.clauses.len();
+        let first = at(&learnt.literals, 0, Literal::Bound(self.facts.scope.goal));
+        let basis = self.outbox.next_kept();
+        self.facts
+            .tables
             .clauses
             .push(basis, &learnt.literals, learnt.levels)?;
-        let back = learnt.back;
-        self.outbox.push(StoredLine::Assume(learnt.edges))?;
-        self.age();
+        self.activity.age();
         self.pace.count();
-        self.go_back(back);
-        self.imply(clause, first)
+        self.facts.go_back(learnt.back);
+        self.facts.imply(clause, first)
     }
 
     /// Proposes the line by which a literal holds at the value of another for a reason. There is none for what the goal says.
@@ -313,15 +207,21 @@ impl Engine {
         held: Literal,
         reason: Reason,
     ) -> Result<(), NoMemory> {
-        let Some(basis) = self.basis_of(held, reason) else {
-            return Ok(());
-        };
-        let line = match literal {
+        match self.facts.line_by(literal, held, reason) {
+            Some(line) => self.outbox.push(line),
+            None => Ok(()),
+        }
+    }
+}
+
+impl Facts {
+    // The line by which a literal holds at the value of another for a reason. There is none for what the goal says.
+    fn line_by(&self, literal: Literal, held: Literal, reason: Reason) -> Option<StoredLine> {
+        let basis = self.basis_of(held, reason)?;
+        Some(match literal {
             Literal::Bound(bound) => line_of(bound, basis),
             Literal::Side(side) => StoredLine::Know(self.tables.sides.edge(side), basis),
-        };
-        self.outbox.push(line)?;
-        Ok(())
+        })
     }
 
     // The basis of the clause by which a literal holds for a reason.
@@ -332,30 +232,150 @@ impl Engine {
                 Ground::Always(name) => Basis::ByEdge(name),
                 Ground::Side(side) => Basis::Either(self.tables.sides.edge(side)),
             }),
-            Reason::Bounds(_) => Some(Basis::Either(edge_of(&self.tables, self.from, literal))),
+            Reason::Bounds(_) => Some(Basis::Either(self.edge_of(literal))),
             Reason::Rule(rule) => Some(self.tables.rules.rule(rule).basis),
             Reason::Clause(clause) => Some(self.tables.clauses.clause(clause).basis),
         }
     }
+    // The edge that times meet where a literal holds. A bound is an edge from or to the from-event.
+    fn edge_of(&self, literal: Literal) -> Edge {
+        match literal {
+            Literal::Side(side) => self.tables.sides.edge(side),
+            Literal::Bound(bound) => edge_of_bound(self.scope.from, bound),
+        }
+    }
+
+    // The clause that gave a bound its value, if one did.
+    fn clause_of(&self, node: Node) -> Option<usize> {
+        match self.trail.entry(self.trail.last_of(node)?).reason {
+            Reason::Clause(clause) => Some(clause),
+            _ => None,
+        }
+    }
+
+    // Whether a bound is at a value by the goal, or by an entry before this place.
+    fn is_before(&self, bound: NodeBound, place: usize) -> bool {
+        if self.gives(bound) {
+            return true;
+        }
+        match self.trail.first_at(bound) {
+            Some(other) => other < place,
+            None => self.trail.value(bound.node) <= bound.value,
+        }
+    }
 }
 
-// The edge that times meet where a literal holds. A bound is an edge from or to the from-event.
-fn edge_of(tables: &Tables, start: EventId, literal: Literal) -> Edge {
-    match literal {
-        Literal::Side(side) => tables.sides.edge(side),
-        Literal::Bound(bound) => {
-            let event = bound.node.event();
-            let (from, to) = if bound.node.is_most() {
-                (start, event)
-            } else {
-                (event, start)
+impl Needs {
+    // Needs what makes a literal hold for a reason.
+    fn want_reason(&mut self, facts: &Facts, literal: Literal, reason: Reason) {
+        match reason {
+            Reason::Choice | Reason::Goal => {}
+            Reason::Edge(place) => self.want_edge(facts, literal, place),
+            Reason::Bounds(start) => self.want_excluded(facts, literal, start),
+            Reason::Rule(rule) => self.want_rule(facts, literal, rule),
+            Reason::Clause(clause) => self.want_clause(facts, clause, Some(literal)),
+        }
+    }
+
+    // Needs that an edge is met, and the bound from which it leads.
+    fn want_edge(&mut self, facts: &Facts, literal: Literal, place: usize) {
+        let edge = facts.tables.edges.edge(place);
+        if let Literal::Bound(bound) = literal {
+            let from = NodeBound {
+                node: edge.from,
+                value: bound.value.saturating_sub(edge.weight),
             };
-            Edge {
-                from,
-                to,
-                weight: bound.value,
+            self.want_bound(facts, from);
+        }
+        if let Ground::Side(side) = edge.ground {
+            self.want_side(&facts.trail, side);
+        }
+    }
+
+    // Needs the bounds that exclude the opposite of a literal.
+    fn want_excluded(&mut self, facts: &Facts, literal: Literal, start: i64) {
+        let Literal::Side(side) = literal else {
+            return;
+        };
+        let edge = facts.tables.sides.edge(side.opposite());
+        let from = NodeBound {
+            node: Node::most(edge.from),
+            value: start,
+        };
+        let to = NodeBound {
+            node: Node::least(edge.to),
+            value: beyond(start.saturating_add(edge.weight)),
+        };
+        self.want_bound(facts, from);
+        self.want_bound(facts, to);
+    }
+
+    // Needs that none of a rule's literals holds, and the bounds from which its ways lead.
+    fn want_rule(&mut self, facts: &Facts, literal: Literal, place: usize) {
+        let Literal::Bound(bound) = literal else {
+            return;
+        };
+        let rule = facts.tables.rules.rule(place);
+        self.look(rule.ways.count.saturating_add(rule.literals.count));
+        for number in 0..rule.ways.count {
+            let way = facts.tables.rules.way(rule, number);
+            let from = NodeBound {
+                node: way.from,
+                value: bound.value.saturating_sub(way.weight),
+            };
+            self.want_way(facts, from, way.side);
+        }
+        for number in 0..rule.literals.count {
+            let side = facts.tables.rules.literal(rule, number);
+            self.want_side(&facts.trail, side.opposite());
+        }
+    }
+
+    // Needs a bound, or that a literal does not hold: what came first.
+    fn want_way(&mut self, facts: &Facts, bound: NodeBound, side: Option<SideLiteral>) {
+        if let Some(place) = side.and_then(|side| facts.trail.place_of(side.opposite())) {
+            if !facts.is_before(bound, place) {
+                return self.want_place(&facts.trail, place);
             }
         }
+        self.want_bound(facts, bound);
+    }
+
+    // Needs that no literal of a clause holds but the one that it makes hold.
+    fn want_clause(&mut self, facts: &Facts, place: usize, held: Option<Literal>) {
+        let clause = facts.tables.clauses.clause(place);
+        for number in 0..clause.literals.count {
+            let literal = facts.tables.clauses.literal(clause, number);
+            if !is_of(literal, held) {
+                self.want(facts, literal.opposite());
+            }
+        }
+    }
+}
+
+// A literal that holds, and a bound at a value that the trail has come to.
+fn at_value(literal: Literal, value: i64) -> Literal {
+    match literal {
+        Literal::Bound(bound) => Literal::Bound(NodeBound {
+            node: bound.node,
+            value,
+        }),
+        Literal::Side(_) => literal,
+    }
+}
+
+// The edge from or to the from-event that times meet where a bound holds.
+fn edge_of_bound(start: EventId, bound: NodeBound) -> Edge {
+    let event = bound.node.event();
+    let (from, to) = if bound.node.is_most() {
+        (start, event)
+    } else {
+        (event, start)
+    };
+    Edge {
+        from,
+        to,
+        weight: bound.value,
     }
 }
 

@@ -3,14 +3,16 @@
 use crate::arcs::Ground;
 use crate::bound_rules::{BoundRule, BoundWay};
 use crate::building::short;
-use crate::engine::{Engine, KeptLoop};
+use crate::engine::Engine;
+use crate::facts::Facts;
 use crate::literal::{Literal, SideLiteral};
 use crate::node::Node;
 use crate::places::{at, put, take};
 use crate::trail::Reason;
+use crate::unseen::KeptLoop;
 use edge_clauses::{Basis, StoredLine, WalkStep};
 use event_graph::Edge;
-use itv_base::{EdgeName, EventId, NoMemory};
+use itv_base::{EdgeName, NoMemory};
 use std::alloc::Global;
 
 // How a bound came to its value: by an edge that is met, or by the greatest way of a rule.
@@ -27,6 +29,16 @@ struct StepBack {
     from: Node,
     weight: i64,
     lead: Lead,
+}
+
+impl StepBack {
+    // How many ways and literals else may be met.
+    fn looks(self) -> usize {
+        match self.lead {
+            Lead::Rule(rule, _) => rule.ways.count.saturating_add(rule.literals.count),
+            _ => 0,
+        }
+    }
 }
 
 // A walk back round a loop from a bound. `ways` and `literals` are what else may be met.
@@ -85,14 +97,22 @@ pub struct WalksBack {
 }
 
 impl WalksBack {
-    /// No walks yet, over this many bounds and literals.
-    pub fn new(alloc: Global, bounds: usize, literals: usize) -> Result<WalksBack, NoMemory> {
-        Ok(WalksBack {
+    /// No walks yet, and no bounds or literals.
+    pub fn new(alloc: Global) -> WalksBack {
+        WalksBack {
             number: 0,
-            stamps: vec![in alloc; 0; bounds]?,
-            outs: vec![in alloc; NO_MARK; bounds]?,
-            literals: vec![in alloc; 0; literals]?,
-        })
+            stamps: Vec::new(alloc),
+            outs: Vec::new(alloc),
+            literals: Vec::new(alloc),
+        }
+    }
+
+    /// Gets room for walks over this many bounds and literals.
+    pub fn make_room(&mut self, bounds: usize, literals: usize) -> Result<(), NoMemory> {
+        self.stamps.resize(bounds, 0)?;
+        self.outs.resize(bounds, NO_MARK)?;
+        self.literals.resize(literals, 0)?;
+        Ok(())
     }
 
     // Begins a walk.
@@ -144,18 +164,183 @@ impl Engine {
     fn met_again(&mut self, node: Node) -> Option<Node> {
         self.walks.begin();
         let mut here = node;
-        for _ in 0..self.trail.bounds().saturating_add(1) {
+        for _ in 0..self.facts.trail.bounds().saturating_add(1) {
             if self.walks.comes_again(here) {
                 return Some(here);
             }
-            if !self.falls.has_fallen_again(here) {
+            if !self.facts.unseen.falls.has_fallen_again(here) {
                 return None;
             }
-            here = self.step_back(here)?.from;
+            here = self.facts.step_back(here)?.from;
         }
         None
     }
 
+    // Proposes the loop back to a bound.
+    fn propose_round(&mut self, node: Node) -> Result<(), NoMemory> {
+        let mut round = Round::new(self.alloc, node);
+        let proposed = self.propose_if_round(&mut round);
+        drop(round);
+        proposed
+    }
+
+    // Proposes a loop, if the walk comes to its bound again.
+    fn propose_if_round(&mut self, round: &mut Round) -> Result<(), NoMemory> {
+        if self.walks_round(round)? {
+            return self.propose(round);
+        }
+        Ok(())
+    }
+
+    // Walks back from a bound, and says whether the walk has come to it again.
+    fn walks_round(&mut self, round: &mut Round) -> Result<bool, NoMemory> {
+        self.walks.begin();
+        let mut here = round.node;
+        for _ in 0..self.facts.trail.bounds() {
+            let Some(step) = self.facts.step_back(here) else {
+                return Ok(false);
+            };
+            self.facts.meter.look(step.looks());
+            self.walks.go_through_step(&self.facts, round, step)?;
+            here = step.from;
+            if here == round.node {
+                return Ok(true);
+            }
+        }
+        Ok(false)
+    }
+
+    // Proposes a loop, if its sum is below 0, it is not too large, and something follows from it. Otherwise a bound of a negated time rests: it would fall on
+    // and on in small steps. The times that the search finds do not depend on it.
+    fn propose(&mut self, round: &mut Round) -> Result<(), NoMemory> {
+        self.facts.meter.look(round.size());
+        if 0 <= round.sum {
+            return Ok(());
+        }
+        if MOST < round.size() || !are_near(&round.ways) || !self.facts.says_more(round) {
+            if !round.node.is_most() {
+                self.facts.unseen.falls.let_rest(round.node);
+            }
+            return Ok(());
+        }
+        self.put_loop(round)?;
+        let basis = self.outbox.next_kept();
+        self.facts.adopt(self.alloc, basis, round)
+    }
+
+    // Proposes the line of a loop. Its steps go into the line.
+    fn put_loop(&mut self, round: &mut Round) -> Result<(), NoMemory> {
+        self.facts
+            .meter
+            .keep(round.size().saturating_mul(2).saturating_add(1));
+        let kept = self.facts.kept_clause(self.alloc, round)?;
+        let mut steps = take(&mut round.steps, Vec::new(self.alloc));
+        if !round.node.is_most() {
+            steps.reverse();
+        }
+        self.outbox
+            .push(StoredLine::Loop(round.node.event(), steps, kept))
+    }
+}
+
+impl WalksBack {
+    // Goes through a step. What else may be met comes to the ways and literals.
+    fn go_through_step(
+        &mut self,
+        facts: &Facts,
+        round: &mut Round,
+        step: StepBack,
+    ) -> Result<(), NoMemory> {
+        let walked = match step.lead {
+            Lead::Always(name) => WalkStep {
+                basis: Basis::ByEdge(name),
+                through: 0,
+            },
+            Lead::Side(side) => {
+                self.join_literal(round, side.opposite())?;
+                WalkStep {
+                    basis: Basis::Either(facts.tables.sides.edge(side)),
+                    through: 0,
+                }
+            }
+            Lead::Rule(rule, number) => {
+                self.join_rule(facts, round, rule, number)?;
+                WalkStep {
+                    basis: rule.basis,
+                    through: facts.tables.rules.way(rule, number).place,
+                }
+            }
+        };
+        round.steps.push(walked)?;
+        round.sum = round.sum.saturating_add(step.weight);
+        Ok(())
+    }
+
+    // Joins what else may be met of a rule. A loop of bounds of times has its ways, moved by the sum so far. One of negated times has them as they are.
+    fn join_rule(
+        &mut self,
+        facts: &Facts,
+        round: &mut Round,
+        rule: BoundRule,
+        through: usize,
+    ) -> Result<(), NoMemory> {
+        for number in 0..rule.ways.count {
+            if number != through {
+                self.join_other(facts, round, rule, number)?;
+            }
+        }
+        for number in 0..rule.literals.count {
+            let literal = facts.tables.rules.literal(rule, number);
+            self.join_literal(round, literal)?;
+        }
+        Ok(())
+    }
+
+    // Joins another way of a rule: its literal if it can't hold, or if the loop is one of negated times.
+    fn join_other(
+        &mut self,
+        facts: &Facts,
+        round: &mut Round,
+        rule: BoundRule,
+        number: usize,
+    ) -> Result<(), NoMemory> {
+        let mut way = facts.tables.rules.way(rule, number);
+        if let Some(side) = way.side {
+            if !round.node.is_most() || facts.trail.has(side.opposite()) {
+                return self.join_literal(round, side);
+            }
+        }
+        way.side = None;
+        way.weight = way.weight.saturating_add(round.sum);
+        self.join_way(round, way)
+    }
+
+    // Joins a way to those of the present walk. Of two ways from the same bound, the wider one stays.
+    fn join_way(&mut self, round: &mut Round, way: BoundWay) -> Result<(), NoMemory> {
+        let mut joined = way;
+        joined.place = short(round.ways.len());
+        if let Some(place) = self.out_from(way.from, round.ways.len()) {
+            joined.place = short(place);
+            let other = at(&round.ways, place, joined);
+            if other.weight < joined.weight {
+                put(&mut round.ways, place, joined);
+            }
+            return Ok(());
+        }
+        round.ways.push(joined)?;
+        Ok(())
+    }
+
+    // Joins a literal to those of the present walk.
+    fn join_literal(&mut self, round: &mut Round, literal: SideLiteral) -> Result<(), NoMemory> {
+        if self.has_first(literal) {
+            round.literals.push(literal)?;
+        }
+        Ok(())
+    }
+}
+
+impl Facts {
     // The step back from a bound, if it has fallen by an edge or a rule.
     fn step_back(&mut self, node: Node) -> Option<StepBack> {
         self.meter.look(1);
@@ -182,7 +367,7 @@ impl Engine {
     fn greatest_way(&mut self, place: usize) -> Option<StepBack> {
         let rule = self.tables.rules.rule(place);
         self.meter.look(rule.ways.count);
-        let mut most = self.least;
+        let mut most = self.scope.least;
         let mut best = None;
         for number in 0..rule.ways.count {
             let given = self.given(rule, number);
@@ -200,153 +385,6 @@ impl Engine {
         })
     }
 
-    // Proposes the loop back to a bound.
-    fn propose_round(&mut self, node: Node) -> Result<(), NoMemory> {
-        let mut round = Round::new(self.alloc, node);
-        if self.walks_round(&mut round)? {
-            self.propose(&mut round)?;
-        }
-        Ok(())
-    }
-
-    // Walks back from a bound, and says whether the walk has come to it again.
-    fn walks_round(&mut self, round: &mut Round) -> Result<bool, NoMemory> {
-        self.walks.begin();
-        let mut here = round.node;
-        for _ in 0..self.trail.bounds() {
-            let Some(step) = self.step_back(here) else {
-                return Ok(false);
-            };
-            self.go_through_step(round, step)?;
-            here = step.from;
-            if here == round.node {
-                return Ok(true);
-            }
-        }
-        Ok(false)
-    }
-
-    // Goes through a step. What else may be met comes to the ways and literals.
-    fn go_through_step(&mut self, round: &mut Round, step: StepBack) -> Result<(), NoMemory> {
-        let walked = match step.lead {
-            Lead::Always(name) => WalkStep {
-                basis: Basis::ByEdge(name),
-                through: 0,
-            },
-            Lead::Side(side) => {
-                self.join_literal(round, side.opposite())?;
-                WalkStep {
-                    basis: Basis::Either(self.tables.sides.edge(side)),
-                    through: 0,
-                }
-            }
-            Lead::Rule(rule, number) => {
-                self.join_rule(round, rule, number)?;
-                WalkStep {
-                    basis: rule.basis,
-                    through: self.tables.rules.way(rule, number).place,
-                }
-            }
-        };
-        round.steps.push(walked)?;
-        round.sum = round.sum.saturating_add(step.weight);
-        Ok(())
-    }
-
-    // Joins what else may be met of a rule. A loop of bounds of times has its ways, moved by the sum so far. One of negated times has them as they are.
-    fn join_rule(
-        &mut self,
-        round: &mut Round,
-        rule: BoundRule,
-        through: usize,
-    ) -> Result<(), NoMemory> {
-        self.meter
-            .look(rule.ways.count.saturating_add(rule.literals.count));
-        for number in 0..rule.ways.count {
-            if number != through {
-                self.join_other(round, rule, number)?;
-            }
-        }
-        for number in 0..rule.literals.count {
-            let literal = self.tables.rules.literal(rule, number);
-            self.join_literal(round, literal)?;
-        }
-        Ok(())
-    }
-
-    // Joins another way of a rule: its literal if it can't hold, or if the loop is one of negated times.
-    fn join_other(
-        &mut self,
-        round: &mut Round,
-        rule: BoundRule,
-        number: usize,
-    ) -> Result<(), NoMemory> {
-        let mut way = self.tables.rules.way(rule, number);
-        if let Some(side) = way.side {
-            if !round.node.is_most() || self.trail.has(side.opposite()) {
-                return self.join_literal(round, side);
-            }
-        }
-        way.side = None;
-        way.weight = way.weight.saturating_add(round.sum);
-        self.join_way(round, way)
-    }
-
-    // Joins a way to those of the present walk. Of two ways from the same bound, the wider one stays.
-    fn join_way(&mut self, round: &mut Round, way: BoundWay) -> Result<(), NoMemory> {
-        let mut joined = way;
-        joined.place = short(round.ways.len());
-        if let Some(place) = self.walks.out_from(way.from, round.ways.len()) {
-            joined.place = short(place);
-            let other = at(&round.ways, place, joined);
-            if other.weight < joined.weight {
-                put(&mut round.ways, place, joined);
-            }
-            return Ok(());
-        }
-        round.ways.push(joined)?;
-        Ok(())
-    }
-
-    // Joins a literal to those of the present walk.
-    fn join_literal(&mut self, round: &mut Round, literal: SideLiteral) -> Result<(), NoMemory> {
-        if self.walks.has_first(literal) {
-            round.literals.push(literal)?;
-        }
-        Ok(())
-    }
-
-    // Proposes a loop, if its sum is below 0, it is not too large, and something follows from it. Otherwise a bound of a negated time rests: it would fall on
-    // and on in small steps. The times that the search finds do not depend on it.
-    fn propose(&mut self, round: &mut Round) -> Result<(), NoMemory> {
-        self.meter.look(round.size());
-        if 0 <= round.sum {
-            return Ok(());
-        }
-        if MOST < round.size() || !are_near(&round.ways) || !self.says_more(round) {
-            if !round.node.is_most() {
-                self.falls.let_rest(round.node);
-            }
-            return Ok(());
-        }
-        self.put_loop(round)?;
-        self.adopt(round)
-    }
-
-    // Proposes the line of a loop. Its steps go into the line.
-    fn put_loop(&mut self, round: &mut Round) -> Result<(), NoMemory> {
-        self.meter
-            .keep(round.size().saturating_mul(2).saturating_add(1));
-        let kept = self.kept_clause(round)?;
-        let mut steps = take(&mut round.steps, Vec::new(self.alloc));
-        if !round.node.is_most() {
-            steps.reverse();
-        }
-        self.outbox
-            .push(StoredLine::Loop(round.node.event(), steps, kept))?;
-        Ok(())
-    }
-
     // Whether a loop of bounds of times lowers its bound, or at most one literal of another one may hold.
     fn says_more(&self, round: &Round) -> bool {
         if !round.node.is_most() {
@@ -361,7 +399,7 @@ impl Engine {
             }
             return open < 2;
         }
-        let mut most = self.least;
+        let mut most = self.scope.least;
         for way in &round.ways {
             most = most.max(self.trail.value(way.from).saturating_add(way.weight));
         }
@@ -369,8 +407,8 @@ impl Engine {
     }
 
     // The clause of a loop: its ways, and then its literals.
-    fn kept_clause(&self, round: &Round) -> Result<Vec<Edge>, NoMemory> {
-        let mut edges = Vec::new(self.alloc);
+    fn kept_clause(&self, alloc: Global, round: &Round) -> Result<Vec<Edge>, NoMemory> {
+        let mut edges = Vec::new(alloc);
         for way in &round.ways {
             edges.push(Edge {
                 from: way.from.event(),
@@ -385,49 +423,66 @@ impl Engine {
     }
 
     // Adds the rule of a loop, or its clause if it has no ways. A way from the event itself says nothing.
-    fn adopt(&mut self, round: &Round) -> Result<(), NoMemory> {
-        let basis = Basis::ByKept(self.kept);
-        self.kept = self.kept.saturating_add(1);
-        let ways = other_ways(self.alloc, round)?;
+    fn adopt(&mut self, alloc: Global, basis: Basis, round: &Round) -> Result<(), NoMemory> {
+        let ways = other_ways(alloc, round)?;
         if ways.is_empty() {
-            return self.adopt_clause(basis, round);
+            drop(ways);
+            return self.adopt_clause(alloc, basis, round);
         }
+        let adopted = self.adopt_rule(basis, round, &ways);
+        drop(ways);
+        adopted
+    }
+
+    // Adds the rule of a loop with these ways.
+    fn adopt_rule(
+        &mut self,
+        basis: Basis,
+        round: &Round,
+        ways: &[BoundWay],
+    ) -> Result<(), NoMemory> {
         let rule = self.tables.rules.len();
+        self.unseen.fresh.push(KeptLoop::Rule(rule))?;
         self.tables
             .rules
-            .push(basis, round.node, &ways, &round.literals)?;
-        self.fresh.push(KeptLoop::Rule(rule))?;
-        Ok(())
+            .push(basis, round.node, ways, &round.literals)
     }
 
     // Adds the clause of a loop without ways.
-    fn adopt_clause(&mut self, basis: Basis, round: &Round) -> Result<(), NoMemory> {
-        let literals = self.latest_first(&round.literals)?;
+    fn adopt_clause(&mut self, alloc: Global, basis: Basis, round: &Round) -> Result<(), NoMemory> {
         let clause = self.tables.clauses.len();
-        self.tables.clauses.push(basis, &literals, 0)?;
-        self.fresh.push(KeptLoop::Clause(clause))?;
-        Ok(())
+        self.unseen.fresh.push(KeptLoop::Clause(clause))?;
+        let literals = self.latest_first(alloc, &round.literals)?;
+        self.tables.clauses.push(basis, &literals, 0)
     }
 
     // The literals of a clause. The first two are those that may hold, or else those that came to be false latest.
-    fn latest_first(&self, sides: &Vec<SideLiteral>) -> Result<Vec<Literal>, NoMemory> {
-        let mut literals = Vec::new(self.alloc);
+    fn latest_first(
+        &self,
+        alloc: Global,
+        sides: &Vec<SideLiteral>,
+    ) -> Result<Vec<Literal>, NoMemory> {
+        let mut literals = Vec::new(alloc);
         for side in sides {
             literals.push(Literal::Side(*side))?;
         }
-        for first in 0..literals.len().min(2) {
-            let mut latest = first;
-            for place in first..literals.len() {
-                if self.rank(&literals, latest) < self.rank(&literals, place) {
-                    latest = place;
-                }
-            }
-            let literal = at(&literals, first, Literal::Side(SideLiteral(0)));
-            let other = at(&literals, latest, literal);
-            put(&mut literals, first, other);
-            put(&mut literals, latest, literal);
-        }
+        self.bring_latest(&mut literals, 0);
+        self.bring_latest(&mut literals, 1);
         Ok(literals)
+    }
+
+    // Exchanges the literal at a place with the latest one from there on.
+    fn bring_latest(&self, literals: &mut Vec<Literal>, first: usize) {
+        let mut latest = first;
+        for place in first..literals.len() {
+            if self.rank(literals, latest) < self.rank(literals, place) {
+                latest = place;
+            }
+        }
+        let literal = at(literals, first, Literal::Side(SideLiteral(0)));
+        let other = at(literals, latest, literal);
+        put(literals, first, other);
+        put(literals, latest, literal);
     }
 
     // The place of the entry that makes a literal of a list false, or the greatest number if it may hold.

@@ -1,11 +1,11 @@
 //! Greatest separations of a network.
 
-ghost use Rattle.std.specs.Prelude.{◌≡◌, ◌<◌, ◌≤◌, ◌+◌, ℕ, ℤ, Some, IfOk};
+ghost use Rattle.std.specs.Prelude.{◌≡◌, ◌<◌, ◌≤◌, ◌+◌, ℕ, ℤ, [], Some, IfOk};
 ghost use Rattle.std.specs.Global.{Vec};
 ghost use Rattle.itv_base.specs.declared.names.EventId.{EventId};
 ghost use Rattle.event_graph.specs.Network.{Net};
 ghost use Rattle.falling.specs.declared.view.View.TheVariants.{Negated, Plain};
-ghost use Rattle.settle.specs.declared.shown_answer.Settled.TheVariants.{Closed};
+ghost use Rattle.settle.specs.declared.shown_answer.Settled.TheVariants.{Closed, Unbounded};
 ghost use Rattle.settle.specs.ShownAnswer.{IsFound, IsMadeFor};
 ghost use Rattle.settle.specs.Step.Racing.{IsEnding, IsRacing, line_count};
 
@@ -97,14 +97,10 @@ fn found_by(
     net.is_whole();
     let Finish { ending, turns } = finish;
     let Race {
-        from: _,
-        to: _,
-        limits: _,
         plain,
         turned,
         best,
-        view: _,
-        blocks: _,
+        ..
     } = race;
     let claim = best.claim;
     match ending {
@@ -120,15 +116,7 @@ fn found_by(
         RaceEnd::Unbounded(ray) => {
             drop(plain);
             drop(turned);
-            ShownAnswer {
-                answer: Settled::Unbounded,
-                times: times_in(alloc, best),
-                ray,
-                claim,
-                view: View::Plain,
-                lines: Vec::new(alloc),
-                turns,
-            }
+            unbounded_by(alloc, best, ray, turns)
         }
         RaceEnd::Inconsistent(view) => {
             drop(best);
@@ -142,6 +130,26 @@ fn found_by(
                 turns,
             }
         }
+    }
+}
+
+// The answer that every number is exceeded. The best times and a ray from them show it.
+fn unbounded_by(alloc: Global, best: Best, ray: Vec<bool>, turns: u64) -> ShownAnswer
+    ensures answer { result.answer ≡ Unbounded }
+    ensures times { (times : Vec ℤ) → best.times ≡ Some times → result.times ≡ times }
+    ensures ray { result.ray ≡ ray }
+    ensures lines { result.lines.items ≡ [] }
+    ensures turns { result.turns ≡ turns }
+{
+    let claim = best.claim;
+    ShownAnswer {
+        answer: Settled::Unbounded,
+        times: times_in(alloc, best),
+        ray,
+        claim,
+        view: View::Plain,
+        lines: Vec::new(alloc),
+        turns,
     }
 }
 

@@ -26,13 +26,19 @@ pub struct SideTable {
 }
 
 impl SideTable {
-    /// No sides yet, and room for some number of them, so that each is found at once.
-    pub fn new(alloc: Global, expected: usize) -> Result<SideTable, NoMemory> {
-        Ok(SideTable {
+    /// No sides yet, and no room for them.
+    pub fn new(alloc: Global) -> SideTable {
+        SideTable {
             edges: Vec::new(alloc),
             next: Vec::new(alloc),
-            heads: vec![in alloc; None; expected.saturating_add(1)]?,
-        })
+            heads: Vec::new(alloc),
+        }
+    }
+
+    /// Gets room for some number of sides, so that each is found at once. There are none yet.
+    pub fn make_room(&mut self, expected: usize) -> Result<(), NoMemory> {
+        self.heads.resize(expected.saturating_add(1), None)?;
+        Ok(())
     }
 
     /// How many sides there are.

@@ -2,11 +2,12 @@
 
 use crate::arcs::Ground;
 use crate::bound_rules::BoundRule;
-use crate::clause_store::Watch;
-use crate::engine::{Conflict, Engine};
+use crate::clause_store::{StoredClause, Watch};
+use crate::facts::Facts;
 use crate::literal::{Literal, NodeBound, SideLiteral};
 use crate::node::Node;
 use crate::trail::Reason;
+use crate::unseen::Conflict;
 use itv_base::NoMemory;
 
 // How many turns a fall of a bound takes. What follows from it is looked at again.
@@ -19,9 +20,26 @@ struct MostWay {
     number: usize,
 }
 
-impl Engine {
+// What a clause says where some of its literals can't hold.
+#[derive(Clone, Copy)]
+enum ClauseState {
+    /// Nothing: two literals may hold, or one holds.
+    Open,
+    /// That this literal holds: no other one can.
+    Unit(Literal),
+    /// That a conflict is there: no literal can hold.
+    False,
+}
+
+impl Facts {
     /// Begins: sides from an event to itself are met or not, and clauses of one literal make it hold.
     pub fn begin(&mut self) -> Result<(), NoMemory> {
+        self.hold_own_sides()?;
+        self.look_at_units()
+    }
+
+    // Lets each side from an event to itself be met or not.
+    fn hold_own_sides(&mut self) -> Result<(), NoMemory> {
         for side in 0..self.tables.sides.len() {
             let literal = SideLiteral(side.saturating_mul(2));
             let edge = self.tables.sides.edge(literal);
@@ -34,6 +52,11 @@ impl Engine {
                 self.hold(held, Reason::Bounds(0))?;
             }
         }
+        Ok(())
+    }
+
+    // Looks at the clauses of one literal.
+    fn look_at_units(&mut self) -> Result<(), NoMemory> {
         for clause in 0..self.tables.clauses.len() {
             if self.tables.clauses.clause(clause).literals.count == 1 {
                 self.look_at_whole(clause)?;
@@ -45,33 +68,31 @@ impl Engine {
     /// Lowers a bound, but at most to one below minus the cap. After a conflict nothing is lowered.
     pub fn lower(&mut self, bound: NodeBound, reason: Reason) -> Result<(), NoMemory> {
         let node = bound.node;
-        let value = bound.value.max(self.least);
-        if self.trail.value(node) <= value || self.conflict.is_some() || self.rests(node, reason) {
+        let value = bound.value.max(self.scope.least);
+        if self.trail.value(node) <= value
+            || self.unseen.conflict.is_some()
+            || self.rests(node, reason)
+        {
             return Ok(());
         }
         self.trail.lower(NodeBound { node, value }, reason)?;
         self.meter.take(FALL_TURNS);
-        self.sweep.add(node);
-        if self.falls.is_due(node) {
-            self.walk = Some(node);
-        }
-        if value.saturating_add(self.trail.value(node.other())) < 0 {
-            self.conflict = Some(Conflict::Bound(node));
-        }
+        let crosses = value.saturating_add(self.trail.value(node.other())) < 0;
+        self.unseen.fall(node, crosses);
         Ok(())
     }
 
     // Whether a bound rests. Clauses lower it all the same.
     fn rests(&self, node: Node, reason: Reason) -> bool {
         match reason {
-            Reason::Edge(_) | Reason::Rule(_) => self.falls.rests(node),
+            Reason::Edge(_) | Reason::Rule(_) => self.unseen.falls.rests(node),
             _ => false,
         }
     }
 
     // Lets a literal hold. After a conflict nothing is held.
     fn hold(&mut self, side: SideLiteral, reason: Reason) -> Result<(), NoMemory> {
-        if self.trail.has(side) || self.conflict.is_some() {
+        if self.trail.has(side) || self.unseen.conflict.is_some() {
             return Ok(());
         }
         self.trail.hold(side, reason)
@@ -150,9 +171,7 @@ impl Engine {
         self.meter
             .look(rule.ways.count.saturating_add(rule.literals.count));
         let most = self.most_of(rule);
-        if most.number != rule.hint {
-            self.tables.rules.hint(place, most.number);
-        }
+        self.tables.rules.hint(place, most.number);
         if value <= most.value || self.may_hold(rule) {
             return Ok(());
         }
@@ -180,7 +199,7 @@ impl Engine {
     // The most that the ways of a rule give.
     fn most_of(&self, rule: BoundRule) -> MostWay {
         let mut most = MostWay {
-            value: self.least,
+            value: self.scope.least,
             number: 0,
         };
         for number in 0..rule.ways.count {
@@ -245,24 +264,36 @@ impl Engine {
         }
         let clause = self.tables.clauses.clause(watch.clause);
         self.meter.look(clause.literals.count);
-        for number in 2..clause.literals.count {
-            let literal = self.tables.clauses.literal(clause, number);
-            if !self.trail.is_false(literal) {
+        match self.unwatched(clause) {
+            Some(number) => {
                 self.tables
                     .clauses
                     .move_watch(place, number, chain, previous);
-                return Ok(true);
+                Ok(true)
+            }
+            None => {
+                self.imply(watch.clause, other)?;
+                Ok(false)
             }
         }
-        self.imply(watch.clause, other)?;
-        Ok(false)
+    }
+
+    // The number of the first literal of a clause that is not watched and may hold, if there is one.
+    fn unwatched(&self, clause: StoredClause) -> Option<usize> {
+        for number in 2..clause.literals.count {
+            let literal = self.tables.clauses.literal(clause, number);
+            if !self.trail.is_false(literal) {
+                return Some(number);
+            }
+        }
+        None
     }
 
     /// Makes a literal hold by a clause none of whose other literals can hold.
     pub fn imply(&mut self, clause: usize, literal: Literal) -> Result<(), NoMemory> {
         if self.trail.is_false(literal) {
-            if self.conflict.is_none() {
-                self.conflict = Some(Conflict::Clause(clause));
+            if self.unseen.conflict.is_none() {
+                self.unseen.conflict = Some(Conflict::Clause(clause));
             }
             return Ok(());
         }
@@ -276,22 +307,28 @@ impl Engine {
     pub fn look_at_whole(&mut self, place: usize) -> Result<(), NoMemory> {
         let clause = self.tables.clauses.clause(place);
         self.meter.look(clause.literals.count);
-        let mut open = None;
-        for number in 0..clause.literals.count {
-            let literal = self.tables.clauses.literal(clause, number);
-            if !self.trail.is_false(literal) {
-                if open.is_some() || self.trail.holds(literal) {
-                    return Ok(());
-                }
-                open = Some(literal);
-            }
-        }
-        match open {
-            Some(literal) => self.imply(place, literal),
-            None => {
-                self.conflict = Some(Conflict::Clause(place));
+        match self.state_of(clause) {
+            ClauseState::Open => Ok(()),
+            ClauseState::Unit(literal) => self.imply(place, literal),
+            ClauseState::False => {
+                self.unseen.conflict = Some(Conflict::Clause(place));
                 Ok(())
             }
         }
+    }
+
+    // What a clause says.
+    fn state_of(&self, clause: StoredClause) -> ClauseState {
+        let mut state = ClauseState::False;
+        for number in 0..clause.literals.count {
+            let literal = self.tables.clauses.literal(clause, number);
+            if !self.trail.is_false(literal) {
+                if matches!(state, ClauseState::Unit(_)) || self.trail.holds(literal) {
+                    return ClauseState::Open;
+                }
+                state = ClauseState::Unit(literal);
+            }
+        }
+        state
     }
 }

@@ -21,18 +21,24 @@ pub struct Sweep {
 }
 
 impl Sweep {
-    /// A sweep over this many bounds. All of them wait.
-    pub fn new(alloc: Global, bounds: u32) -> Result<Sweep, NoMemory> {
-        let mut sweep = Sweep {
-            words: vec![in alloc; 0; (bounds / 64) as usize + 1]?,
-            bounds,
+    /// A sweep over no bounds.
+    pub fn new(alloc: Global) -> Sweep {
+        Sweep {
+            words: Vec::new(alloc),
+            bounds: 0,
             waiting: 0,
             place: 0,
             is_up: true,
             looks: 0,
-        };
-        sweep.add_all();
-        Ok(sweep)
+        }
+    }
+
+    /// Begins a sweep over this many bounds. All of them wait.
+    pub fn begin(&mut self, bounds: u32) -> Result<(), NoMemory> {
+        self.words.resize((bounds / 64) as usize + 1, 0)?;
+        self.bounds = bounds;
+        self.add_all();
+        Ok(())
     }
 
     /// Makes all bounds wait.

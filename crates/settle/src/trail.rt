@@ -60,24 +60,31 @@ pub struct Trail {
 }
 
 impl Trail {
-    /// The start: both bounds of an event are 0, all others are at the cap, and no literal holds.
-    pub fn new(
-        alloc: Global,
+    /// A trail of no bounds and literals.
+    pub fn new(alloc: Global) -> Trail {
+        Trail {
+            values: Vec::new(alloc),
+            last: Vec::new(alloc),
+            places: Vec::new(alloc),
+            entries: Vec::new(alloc),
+            starts: Vec::new(alloc),
+        }
+    }
+
+    /// Begins with so many bounds and literals: both bounds of an event are 0, all others are at the cap, and no literal holds.
+    pub fn begin(
+        &mut self,
         bounds: usize,
         literals: usize,
         from: Node,
         cap: i64,
-    ) -> Result<Trail, NoMemory> {
-        let mut values = vec![in alloc; cap; bounds]?;
-        put(&mut values, from.place(), 0);
-        put(&mut values, from.other().place(), 0);
-        Ok(Trail {
-            values,
-            last: vec![in alloc; None; bounds]?,
-            places: vec![in alloc; None; literals]?,
-            entries: Vec::new(alloc),
-            starts: Vec::new(alloc),
-        })
+    ) -> Result<(), NoMemory> {
+        self.values.resize(bounds, cap)?;
+        put(&mut self.values, from.place(), 0);
+        put(&mut self.values, from.other().place(), 0);
+        self.last.resize(bounds, None)?;
+        self.places.resize(literals, None)?;
+        Ok(())
     }
 
     /// The value of a bound, or 0 if there is no such bound.

@@ -1,8 +1,5 @@
-use Rattle.lint.specs.Rules.{sheet_both}
-use Rattle.lint.proofs.EachLists.{each_more}
+use Rattle.lint.proofs.CapLists.{sheets_caps}
 use Rattle.lint.proofs.both.push_sheets.Goals as goal
 
-pub loop-part-preserved : goal.loop-part-preserved
-loop-part-preserved c =
-    each_more sheet_both c.args.design.now.sheets c.loop-part.part c.sheet_of-sheet.result.now c.args.warnings.now.items c.loop-part.warnings.items c.push_rules.new.warnings.items c.sheet_of-sheet.ensures.sheet
-    c.loop-part.invariant (rw (c.edges.ensures.edges, c.as_slice.ensures.items, c.rules.ensures.rules) at c.in_ok-push_rules.ensures.pushed)
+pub returns-clause-pushed : goal.returns-clause-pushed
+returns-clause-pushed c = rw (c.deref.ensures.value, c.in_ok-caps.ensures.caps, sheets_caps c.args.design.now.sheets) at c.push_caps.ensures.pushed

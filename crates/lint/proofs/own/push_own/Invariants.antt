@@ -1,8 +1,9 @@
 use Rattle.std.proofs.Common.{◌≡◌, ◌++◌, take}
+use Rattle.std.specs.Prelude.{slice_get}
 use Rattle.std.specs.List.{flat_map}
-use Rattle.compose.specs.Joins.{joins_of_pins}
-use Rattle.lint.specs.Driven.{own_join}
+use Rattle.lint.specs.declared.lead.Lead.{Lead}
+use Rattle.lint.specs.Step.{own_on}
 use Rattle.lint.proofs.own.push_own.Given as goal
 
-abbrev pub invariant-loop-pin : goal.invariant-loop-pin
-invariant-loop-pin l = l.warnings.items ≡ l.initial.warnings.items ++ flat_map (own_join l.design.sheets) (joins_of_pins (take l.pin-index l.pin-items))
+abbrev pub invariant-loop-join : goal.invariant-loop-join
+invariant-loop-join l = l.warnings.items ≡ l.initial.warnings.items ++ flat_map (λ (lead : Lead). own_on lead (slice_get l.design.sheets lead.to.part)) (take l.join-index l.joins)

@@ -1,4 +1,4 @@
-use Rattle.std.proofs.Common.{subst}
+use Rattle.std.proofs.Common.{◌≤◌, ℕ, subst, sym}
 use Rattle.settle.specs.declared.race.RaceEnd.{RaceEnd}
 use Rattle.settle.specs.Step.Racing.{IsEnding}
 use Rattle.settle.proofs.Concluding.{found_closed, found_inconsistent, found_unbounded, handed, of_pair}
@@ -13,8 +13,9 @@ returns-in-Closed c = record {
 
 pub returns-in-Unbounded : goal.returns-in-Unbounded
 returns-in-Unbounded c = record {
-  found = λ most within. of_pair c.args.net.now c.args.race c.args.from c.args.to most _ c.requires.from c.requires.to (found_unbounded c.args.net.now c.args.race c.args.finish.turns most c.times_in-in-Unbounded.result c.in-Unbounded.ray _ c.new-in-Unbounded.result c.requires.racing
-      (subst (λ (e : RaceEnd). IsEnding c.args.net.now c.args.race e) c.in-Unbounded.is c.requires.ending) c.times_in-in-Unbounded.ensures c.new-in-Unbounded.ensures.items within);
+  found = λ most within. of_pair c.args.net.now c.args.race c.args.from c.args.to most _ c.requires.from c.requires.to (found_unbounded c.args.net.now c.args.race c.in-Unbounded.ray most c.unbounded_by.result
+      c.requires.racing (subst (λ (e : RaceEnd). IsEnding c.args.net.now c.args.race e) c.in-Unbounded.is c.requires.ending) c.unbounded_by.ensures.answer
+      c.unbounded_by.ensures.times c.unbounded_by.ensures.ray c.unbounded_by.ensures.lines (subst (λ (n : ℕ). n ≤ most) (sym c.unbounded_by.ensures.turns) within));
 }
 
 pub returns-in-Inconsistent : goal.returns-in-Inconsistent

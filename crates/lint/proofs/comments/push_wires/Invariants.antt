@@ -1,7 +1,0 @@
-use Rattle.std.proofs.Common.{◌≡◌, ◌++◌, take}
-use Rattle.lint.specs.Lists.{each_from}
-use Rattle.lint.specs.Texts.{wire_comment}
-use Rattle.lint.proofs.comments.push_wires.Given as goal
-
-abbrev pub invariant-loop-n : goal.invariant-loop-n
-invariant-loop-n l = l.warnings.items ≡ l.initial.warnings.items ++ each_from wire_comment 0 (take l.n l.edges)

@@ -1,7 +1,0 @@
-use Rattle.std.proofs.Common.{◌≡◌, ◌++◌, take}
-use Rattle.lint.specs.Lists.{each_from}
-use Rattle.lint.specs.Texts.{edge_word}
-use Rattle.lint.proofs.words.push_edges.Given as goal
-
-abbrev pub invariant-loop-n : goal.invariant-loop-n
-invariant-loop-n l = l.warnings.items ≡ l.initial.warnings.items ++ each_from (edge_word l.part) 0 (take l.n l.edges)

@@ -1,8 +1,0 @@
-use Rattle.lint.specs.Texts.{wire_word}
-use Rattle.lint.proofs.EachLists.{each_more}
-use Rattle.lint.proofs.words.push_wires.Goals as goal
-
-pub loop-n-preserved : goal.loop-n-preserved
-loop-n-preserved c =
-    each_more wire_word c.args.edges.now c.loop-n.n c.get.result.now c.args.warnings.now.items c.loop-n.warnings.items c.push_wire.new.warnings.items c.get.ensures.item c.loop-n.invariant
-    (rw c.as_text.ensures.text at c.in_ok-push_wire.ensures.pushed)
