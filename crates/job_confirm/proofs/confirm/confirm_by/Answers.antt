@@ -9,12 +9,12 @@ use Rattle.job_confirm.specs.Step.{IsPieceAt}
 use Rattle.job_confirm.proofs.Parts.{ending_stands, none_left_over, text_parts}
 use Rattle.job_confirm.proofs.Settled.{settled_text}
 use Rattle.job_confirm.proofs.Whole.{want_on}
-use Rattle.job_confirm.proofs.confirm.confirm_text.Goals as goal
+use Rattle.job_confirm.proofs.confirm.confirm_by.Goals as goal
 
 pub returns-in_err-place-clause-whole : goal.returns-in_err-place-clause-whole
 returns-in_err-place-clause-whole c settled =
     let p = text_parts c.args.drawn.now c.network-net.result.now c.args.text.now c.network-net.ensures.network settled in
-    want_on _ c.from_residual-in_err-place.result _ c.from_residual-in_err-place.ensures.1 (c.in_err-place.ensures.whole _ p.stands)
+    want_on _ c.from_residual.result _ c.from_residual.ensures.1 (c.in_err-place.ensures.whole _ p.stands)
 
 pub returns-in_err-read-clause-whole : goal.returns-in_err-read-clause-whole
 returns-in_err-read-clause-whole c settled =
