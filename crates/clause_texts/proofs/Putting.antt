@@ -120,7 +120,7 @@ pub lines_more : (lines : List StoredLine) (i : ℕ) (d line : StoredLine) → i
     → flat_map clause_line_text (lines_of (drop i lines)) ≡ clause_line_text (stored_line_of line) ++ flat_map clause_line_text (lines_of (drop (i + 1) lines))
 lines_more lines i d line h e = rw (e, add-one, drop-cons lines i d h) refl
 
--- the lines of a batch, and the lines behind it
+-- the lines of a batch, and the lines after it
 pub batch_first : (all batch rest : List StoredLine) → all ≡ batch ++ rest
     → flat_map clause_line_text (lines_of all) ≡ flat_map clause_line_text (lines_of batch) ++ flat_map clause_line_text (lines_of rest)
 batch_first all batch rest e =

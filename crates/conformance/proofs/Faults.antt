@@ -25,7 +25,7 @@ use Rattle.conformance.proofs.KnownFiles.{came_over, ready_over, refused_over, s
 
 -- ---- an output that failed
 
--- a reading that goes on behind another comes to what it goes on to
+-- a reading that goes on after another comes to what it goes on to
 on_by : {A B : Type 0} (files : Files) (next : List ℕ → FileReading A) (k : A → FileReading B) (most : ℕ) (place : RefusalPlace) (name : List ℕ) (x : A) (file : Option (List ℕ))
     → ((bytes : List ℕ) → end_over files (next bytes) ≡ ready x → end_over files (next bytes >>= k) ≡ end_over files (k x))
     → option_map_or (λ bytes. end_over files (next (take most bytes))) file (unread place name) ≡ ready x

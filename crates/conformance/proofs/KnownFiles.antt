@@ -75,7 +75,7 @@ use Rattle.itv_cli.specs.declared.ready.Ready.TheVariants as given
 use Rattle.itv_cli.proofs.Ending.{task_is}
 use Rattle.conformance.specs.Clients.{Asks, Draws, IsAnswerOf, IsRefusalOf, IsRightReportOf}
 
--- if a reading behind another comes to something, the first comes to a value and the second comes to this by the value
+-- if a reading after another comes to something, the first comes to a value and the second comes to this by the value
 then_by : {A B : Type 0} (files : Files) (next : List ℕ → FileReading A) (k : A → FileReading B) (most : ℕ) (place : RefusalPlace) (name : List ℕ) (y : B) (file : Option (List ℕ))
     → ((bytes : List ℕ) → end_over files (next bytes >>= k) ≡ ready y → (x : A) × (end_over files (next bytes) ≡ ready x) × (end_over files (k x) ≡ ready y))
     → option_map_or (λ bytes. end_over files (next (take most bytes) >>= k)) file (unread place name) ≡ ready y
@@ -171,7 +171,7 @@ fallen_of files design budget cert answer bytes drawn h draws =
 
 -- ---- runs
 
--- what a sink in memory holds behind a text
+-- what a sink in memory holds after a text
 pub sink_bytes : (old new : SinkMemView) (text : List ℕ) → sink_state new ≡ grown (sink_state old) text → new.bytes ≡ old.bytes ++ text
 sink_bytes old new text e = same_Some new.bytes (old.bytes ++ text) (ap (λ (t : SinkState). t.written) e)
 

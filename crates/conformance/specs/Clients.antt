@@ -106,7 +106,7 @@ pub record IsUnreadOf (old new : ShelfState) (asked : Task) (bytes : List ℕ) :
 
 -- ---- jobs
 
--- a run wrote a text of a kind behind what the sink held
+-- a run wrote a text of a kind after what the sink held
 abbrev pub WroteOne : SinkMemView → SinkMemView → (List ℕ → Type 0) → Type 0
 WroteOne old new Is = (text : List ℕ) × Is text × (new.bytes ≡ old.bytes ++ text)
 

@@ -108,7 +108,7 @@ pub fn unread_of(
     }
 }
 
-/// A run that ends for want of memory has written nothing. It leaves what contracts see of the files and the output as
+/// A run that ends without memory has written nothing. It leaves what contracts see of the files and the output as
 /// it was.
 pub fn untouched_of(
     alloc: Global,

@@ -8,7 +8,7 @@ use Rattle.itv_cli.specs.Run.{call_of}
 use Rattle.itv_cli.specs.Status.{EndsWith, HasNoWords, HasRun, code_of, nothing_failed, nothing_written}
 use Rattle.itv_cli.specs.Status.EndsWith.{without_words, with_run}
 
--- where memory is missing before a run, the status is the status of a run that ends for want of memory
+-- where memory is missing before a run, the status is the status of a run that ends without memory
 pub without_memory : (status : ℕ) → status ≡ code_of NoMemory → EndsWith status
 without_memory status is = with_run [] nothing_failed nothing_written (NoMemory, record { sink = refl; shelf = refl }, is)
 

@@ -55,7 +55,7 @@ pub fn run_words<H: Shelf, K: Sink>(
     }
 }
 
-// The run on the words behind the first word.
+// The run on the words after the first word.
 fn run_given<H: Shelf, K: Sink>(
     alloc: Global,
     given: Args<Global>,

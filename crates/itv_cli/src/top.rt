@@ -24,7 +24,7 @@ use std::alloc::Global;
 /// a drawing, or a summary. Bad words get a line of their own, and a request for help gets the text of help. All memory is taken before the
 /// first put, and after a put that failed nothing more is put.
 ///
-/// Want of memory may come in place of any end, and nothing is written then.
+/// Lack of memory may come in place of any end, and nothing is written then.
 pub fn run<H: Shelf, K: Sink>(alloc: Global, words: &Texts, shelf: &mut H, sink: &mut K) -> Outcome
     ensures means { OutcomeMeans
         (call_of words.now (H.state shelf.old) (H.state shelf.new) (K.state sink.old) (K.state sink.new)) result }

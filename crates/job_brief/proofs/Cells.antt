@@ -1,4 +1,4 @@
--- Lines of a table that are put in pieces: cells behind commas, and quoted texts.
+-- Lines of a table that are put in pieces: cells after commas, and quoted texts.
 use Rattle.std.proofs.Common.{◌≡◌, ◌<◌, ◌+◌, ℕ, List, [], ◌∷◌, ◌++◌, length, map, drop, get_or, Bor, refl, sym, ap, ◌∙◌, append_assoc, append-nil, add-one, drop-cons}
 use Rattle.std.specs.List.{concat, flat_map, join_with_byte}
 use Rattle.std.proofs.lemmas.Grind.{flat_map-append}
@@ -8,12 +8,12 @@ use Rattle.job_brief.specs.Table.{cells_end, cells_text, doubled, in_quotes}
 
 -- ---- cells
 
--- the first cell, and the others behind commas
+-- the first cell, and the others after commas
 join_commas : (cell : List ℕ) (cells : List (List ℕ)) → join_with_byte 44 (cell ∷ cells) ≡ cell ++ flat_map behind_comma cells
 join_commas cell [] = sym (append-nil cell)
 join_commas cell (other ∷ cells) = ap (λ rest. cell ++ (44 ∷ rest)) (join_commas other cells)
 
--- the cells of two lists, and what stands behind them
+-- the cells of two lists, and what stands after them
 commas_both : (cells more : List (List ℕ)) (rest : List ℕ)
     → flat_map behind_comma cells ++ (flat_map behind_comma more ++ rest) ≡ flat_map behind_comma (cells ++ more) ++ rest
 commas_both cells more rest =
@@ -26,7 +26,7 @@ line_of_cells cell cells more =
     append_assoc cell (flat_map behind_comma cells) (flat_map behind_comma more ++ cells_end) ∙ ap (λ l. cell ++ l) (commas_both cells more cells_end)
     ∙ sym (append_assoc cell (flat_map behind_comma (cells ++ more)) cells_end) ∙ ap (λ l. l ++ cells_end) (sym (join_commas cell (cells ++ more)))
 
--- the cells of four lists behind the first cell
+-- the cells of four lists after the first cell
 pub cells_are : (cell : List ℕ) (asked found by last : List (List ℕ))
     → (cell ++ flat_map behind_comma asked) ++ (flat_map behind_comma found ++ (flat_map behind_comma by ++ (flat_map behind_comma last ++ cells_end)))
     ≡ cells_text (cell ∷ (asked ++ (found ++ (by ++ last))))

@@ -1,4 +1,4 @@
--- Words of several lists behind spaces.
+-- Words of several lists after spaces.
 use Rattle.std.proofs.Common.{◌≡◌, List, ◌++◌, ap, ◌∙◌}
 use Rattle.std.specs.List.{flat_map}
 use Rattle.line_words.specs.Words.{Word}

@@ -83,7 +83,7 @@ fold_at drawn found row [] = record { first = row; last = row.number } ∷ []
 fold_at drawn found row (run ∷ runs) =
     if goes_on_at drawn found run.last row.number then record { first = run.first; last = row.number } ∷ runs else run ∷ fold_at drawn found row runs
 
--- runs with one more row in the run of this number, or in a new run behind all runs
+-- runs with one more row in the run of this number, or in a new run after all runs
 abbrev pub folded_at : ℕ → RowRank → List RunPlace → List RunPlace
 folded_at number row [] = record { first = row; last = row.number } ∷ []
 folded_at zero row (run ∷ runs) = record { first = run.first; last = row.number } ∷ runs
@@ -121,7 +121,7 @@ abbrev pub order_word : Bool → List Word
 order_word true = codes "order" ∷ []
 order_word false = []
 
--- the words of the line of a run behind its number: what is asked with the bounds, and the rest up to the cycles
+-- the words of the line of a run after its number: what is asked with the bounds, and the rest up to the cycles
 abbrev pub front_words : RowLine → List Word
 front_words row = row_words row.kind (name_view row.from) (name_view row.to) ++ (bound_words row.both.least ++ bound_words row.both.greatest)
 
@@ -138,7 +138,7 @@ counts_words counts =
 
 -- ---- lines of a table
 
--- a cell behind a comma
+-- a cell after a comma
 abbrev pub behind_comma : List ℕ → List ℕ
 behind_comma cell = 44 ∷ cell
 
@@ -147,7 +147,7 @@ abbrev pub judgement_cells : Option Judged → List (List ℕ)
 judgement_cells None = [] ∷ [] ∷ [] ∷ []
 judgement_cells (Some judged) = line_of (verdict_words judged.word) ∷ end_text judged.slack.low ∷ end_text judged.slack.high ∷ []
 
--- the cells of a line behind the number: what is asked, the bounds with the judgement, what draws the row, and the rest
+-- the cells of a line after the number: what is asked, the bounds with the judgement, what draws the row, and the rest
 abbrev pub asked_cells : RowLine → List (List ℕ)
 asked_cells row = kind_word row.kind ∷ quoted (name_word (name_view row.from)) ∷ quoted (name_word (name_view row.to)) ∷ range_cells row.kind
 

@@ -81,7 +81,7 @@ fn put_bounds<K: Sink>(both: &BothBounds, sink: &mut K) -> Result<(), PutFailed>
     put_bound_words(both.greatest, sink)
 }
 
-// The line of a row behind its bounds.
+// The line of a row after its bounds.
 fn put_back<K: Sink>(row: &RowLine<'_>, sink: &mut K) -> Result<(), PutFailed>
     ensures { Puts (K.state sink.old) (K.state sink.new) (flat_map spaced (back_words row.now)) result }
 {
@@ -182,7 +182,7 @@ fn put_passes<K: Sink>(rows: u64, pass: u64, sink: &mut K) -> Result<(), PutFail
     )
 }
 
-// The line of counts behind the requirements that pass, and its end.
+// The line of counts after the requirements that pass, and its end.
 fn put_fails<K: Sink>(fail: u64, undecided: u64, sink: &mut K) -> Result<(), PutFailed>
     ensures { Puts (K.state sink.old) (K.state sink.new)
         (flat_map spaced (codes "fail" ∷ number_text fail ∷ codes "undecided" ∷ number_text undecided ∷ []) ++ 10 ∷ []) result }

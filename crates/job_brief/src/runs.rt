@@ -84,7 +84,7 @@ fn rows_go_on(drawn: &DrawnNetwork, found: &[RowFound], number: u32, next: u32) 
     goes_on(drawn, seen, following)
 }
 
-// Puts a row to the run of a number, or behind all runs into a new one.
+// Puts a row to the run of a number, or after all runs into a new one.
 fn put_at(at: usize, row: RowRank, runs: &mut Vec<RunPlace>) -> Result<(), NoMemory>
     requires at { at ≤ length runs.old.items }
     ensures put { OnOk result (runs.new.items ≡ folded_at at row runs.old.items) }

@@ -11,7 +11,7 @@ use Rattle.slack_report.specs.Reading.{flags_in}
 use Rattle.slack_report.specs.Text.{members_from, which_word}
 use Rattle.slack_report.proofs.LineLaws.{flags_invert}
 
--- what is read of the words behind a first word
+-- what is read of the words after a first word
 keyed_found : {A : Type 0} (key : Word) (read : List Word → Option A) (words others : List Word) (x : A) (found : Option A) → found ≡ keyed key read words → words ≡ key ∷ others
     → read others ≡ Some x → found ≡ Some x
 keyed_found key read words others x found is same again = is ∙ (ap (keyed key read) same ∙ (keyed_is key read others ∙ again))

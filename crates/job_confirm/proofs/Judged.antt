@@ -1,4 +1,4 @@
--- What stands next behind the bounds of a row in a right text.
+-- What stands next after the bounds of a row in a right text.
 use Rattle.std.proofs.Common.{◌≡◌, ℕ, ℤ, true, false, if◌then◌else◌, List, [], ◌∷◌, ◌++◌, codes, refl, sym, ap, subst, ◌∙◌}
 use Rattle.std.specs.Prelude.{Result}
 use Rattle.std.specs.Global.{Vec}
@@ -37,7 +37,7 @@ verdict_same range shown least greatest low high word is_low is_high is_word sam
     ap (λ bound. verdict_of range bound (bound_of shown.greatest)) (bound_of_same shown.least least same_least ∙ sym is_low)
     ∙ (ap (λ bound. verdict_of range low bound) (bound_of_same shown.greatest greatest same_greatest ∙ sym is_high) ∙ sym is_word)
 
--- the times behind the verdict of a requirement are read
+-- the times after the verdict of a requirement are read
 pub judged_past : (net : Net) (row : Row) (kind : RowKind) (range : Ends) (least greatest : SettledBound) (low high : Bound) (word : Verdict) (rest : List ℕ) (r : Result (Vec ℤ) CheckStop)
     → kind ≡ kinds.Req range → low ≡ bound_of least → high ≡ bound_of greatest → word ≡ verdict_of range low high
     → ((past : List ℤ) (more : List ℕ) → IsViolation net row range word past
@@ -53,16 +53,16 @@ judged_past net row kind range least greatest low high word rest r is_kind is_lo
     read shown.past.items (behind ++ more) (subst (λ (w : Verdict). IsViolation net row range w shown.past.items) same here)
     (subst (λ (w : Verdict). rest ≡ entry_text (line.verdict w) ++ ((if is_fail w then entry_text (line.times shown.past.items) else []) ++ (behind ++ more))) same parts)
 
--- ---- the times behind a fail
+-- ---- the times after a fail
 
--- behind a verdict that is no fail there are no times
+-- after a verdict that is no fail there are no times
 pub no_fail : (net : Net) (row : Row) (range : Ends) (word : Verdict) (past : List ℤ) → is_fail word ≡ false → IsViolation net row range word past → past ≡ []
 no_fail net row range FailHigh past plain is = absurd (cc plain)
 no_fail net row range FailLow past plain is = absurd (cc plain)
 no_fail net row range Pass past plain is = is
 no_fail net row range Undecided past plain is = is
 
--- the line of a fail stands next, and times that break the end stand behind it
+-- the line of a fail stands next, and times that break the end stand after it
 pub record IsBroken (net : Net) (row : Row) (range : Ends) (word : Verdict) (key : List ℕ) (past : List ℤ) (rest more : List ℕ) : Type 0 where
   pub begins : Begins rest key (entry_text (line.times past) ++ more)
   pub printed : ArePrintedTimes net row.from past

@@ -74,9 +74,9 @@ row_parts drawn net text place number at row shown more same is other shows stan
     subst (λ (r : Row). RowParts drawn net text place number r shown more) (row_same drawn.rows number row at other is)
     (subst (λ (n : Net). RowParts drawn n text place number row shown more) (sym same) (parts_of drawn text place number row shown more shows stands))
 
--- ---- what stands behind a finding
+-- ---- what stands after a finding
 
--- all rows stand behind a consistent finding
+-- all rows stand after a consistent finding
 pub rows_stand : (drawn : Drawn) (text : List ℕ) (place : ℕ) (finding shown : Finding) (times : _) (found : List RowFound) (more : List ℕ) → finding ≡ Consistent times → IsSameFinding shown finding
     → AreFound true drawn.net drawn.rows shown found → drop place text ≡ behind_text drawn true shown found ++ more
     → AreRowsFound true drawn.net drawn.rows found × (drop place text ≡ entry_text (line.rows (length drawn.rows)) ++ (rows_text drawn true 0 drawn.rows found ++ more))
@@ -93,7 +93,7 @@ not_consistent : (times : Vec ℤ) → ((proof : Proof) × (Consistent times ≡
 not_consistent times (inl (proof, e)) = absurd (cc e)
 not_consistent times (inr e) = absurd (cc e)
 
--- nothing stands behind another finding
+-- nothing stands after another finding
 pub none_stand : (drawn : Drawn) (text : List ℕ) (place : ℕ) (finding shown : Finding) (found read : List RowFound) (more : List ℕ) → ((proof : Proof) × (finding ≡ Inconsistent proof)) ⊎ (finding ≡ Spent)
     → IsSameFinding shown finding → AreFound true drawn.net drawn.rows shown found → drop place text ≡ behind_text drawn true shown found ++ more → read ≡ []
     → AreSameRows found read × (drop place text ≡ more)
@@ -127,7 +127,7 @@ text_parts drawn net text same (turns, (answer, answers)) = record {
   stands = answers.is_text;
 }
 
--- no byte is left behind the last part
+-- no byte is left after the last part
 pub none_left_over : (text : List ℕ) (place : ℕ) → drop place text ≡ [] → place < length text → ⊥
 none_left_over [] place none within = omega arith
 none_left_over (b ∷ text) zero none within = absurd (cc none)

@@ -1,4 +1,4 @@
--- Pieces of a text, one behind another.
+-- Pieces of a text, one after another.
 use Rattle.std.proofs.Common.{◌≡◌, ◌≤◌, ℕ, List, [], ◌∷◌, ◌++◌, length, take, refl, sym, ap, ◌∙◌, append_assoc}
 use Rattle.job_confirm.specs.Step.{IsPieceAt}
 
@@ -6,7 +6,7 @@ pub append_none : (xs : List ℕ) → xs ++ [] ≡ xs
 append_none [] = refl
 append_none (x ∷ xs) = ap (λ ys. x ∷ ys) (append_none xs)
 
--- a piece and another piece behind it
+-- a piece and another piece after it
 pub behind_then : (text : List ℕ) (place middle behind : ℕ) (first second : List ℕ) → IsPieceAt text place first middle → IsPieceAt text middle second behind
     → IsPieceAt text place (first ++ second) behind
 behind_then text place middle behind first second a b = record {

@@ -1,4 +1,4 @@
--- Rows that were read, one behind another.
+-- Rows that were read, one after another.
 use Rattle.std.proofs.Common.{◌≡◌, ◌<◌, ◌≤◌, ◌+◌, ℕ, true, List, [], ◌∷◌, ◌++◌, length, take, Some, slice_get, refl, sym, subst, ap, ◌∙◌, append_assoc, arith}
 use Rattle.std.proofs.lemmas.List.{length-take-le}
 use Rattle.std.proofs.lemmas.Option.{slice_get_within}
@@ -30,7 +30,7 @@ text_push drawn net number last (r ∷ rows) (f ∷ found) row of_row are is =
     ap (λ text. row_text drawn true number r f ++ text) (text_push drawn net (number + 1) last rows found row of_row are.1 (omega arith))
     ∙ sym (append_assoc (row_text drawn true number r f) (rows_text drawn true (number + 1) rows found) (row_text drawn true last row of_row))
 
--- the rows so far, and the place behind them
+-- the rows so far, and the place after them
 pub record AreRead (drawn : Drawn) (text : List ℕ) (start number : ℕ) (found : List RowFound) (place : ℕ) : Type 0 where
   pub are_found : AreRowsFound true drawn.net (take number drawn.rows) found
   pub behind : IsPieceAt text start (rows_text drawn true 0 (take number drawn.rows) found) place

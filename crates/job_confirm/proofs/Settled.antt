@@ -31,7 +31,7 @@ row_is_found net rows number at found is greatest least past row other =
     subst (λ (r : Row). IsRowFound true net r found) (row_same rows number at row is other) (record { greatest = greatest; least = least; past = past })
 
 module _ (drawn : Drawn) (text : List ℕ) where
-  -- the parts of a row stand one behind another
+  -- the parts of a row stand one after another
   pub behind_parts : (number place line_end max_end min_end behind : ℕ) (at : Row) (found : RowFound) → slice_get drawn.rows number ≡ Some at
       → IsPieceAt text place (entry_text (line.row number at.kind (name_of drawn at.from) (name_of drawn at.to))) line_end
       → IsPieceAt text line_end (bound_text true Max found.greatest) max_end → IsPieceAt text max_end (bound_text true Min found.least) min_end
@@ -41,7 +41,7 @@ module _ (drawn : Drawn) (text : List ℕ) where
       subst (λ (r : Row). IsPieceAt text place (row_text drawn true number r found) behind) (row_same drawn.rows number at row is other)
       (behind_then text place line_end behind _ _ a (behind_then text line_end max_end behind _ _ b (behind_then text max_end min_end behind _ _ c d)))
 
-  -- the parts of a whole text stand one behind another
+  -- the parts of a whole text stand one after another
   pub settled_text : (finding : Finding) (found : List RowFound) (front_end finding_end rows_end behind : ℕ) → IsFinding true drawn.net finding
       → AreFound true drawn.net drawn.rows finding found → IsPieceAt text 0 (front_text drawn) front_end → IsPieceAt text front_end (finding_text true finding) finding_end
       → IsPieceAt text finding_end (behind_text drawn true finding found) rows_end
@@ -76,7 +76,7 @@ module _ {A : Type 0} (found_of : A → RowFound) (place_of : A → ℕ) (drawn 
       subst (λ (n : Net). (row : Row) → slice_get drawn.rows number ≡ Some row → IsRowFound true n row (found_of read)) same
       (row_is_found net drawn.rows number at (found_of read) is (subst (IsBound true net Max at) (sym of_greatest) is_greatest) (subst (IsBound true net Min at) (sym of_least) is_least) past)
 
-  -- its parts stand one behind another
+  -- its parts stand one after another
   pub row_behind : (place line_end max_end min_end : ℕ) (r : Result A CheckStop) → IsPieceAt text place (entry_text (line.row number at.kind (name_of drawn at.from) (name_of drawn at.to))) line_end
       → IsPieceAt text line_end (bound_text true Max greatest) max_end → IsPieceAt text max_end (bound_text true Min least) min_end
       → IfOk r (λ read. (found_of read).greatest ≡ greatest) → IfOk r (λ read. (found_of read).least ≡ least)

@@ -174,7 +174,7 @@ pub is_taken : (net : Net) (goal : Goal) (check : ClauseCheckerView) (read : Lis
 is_taken net goal check read l others proving same proof refused =
     let (after, (next, is, leads), over) = goes_on net goal check read (l ∷ others) proving same proof in refused next is
 
--- behind all lines of a right proof the checker is over
+-- after all lines of a right proof the checker is over
 pub is_over : (net : Net) (goal : Goal) (check : ClauseCheckerView) (read shown : List StoredLine) → IsProving net (record { check = check; lines = read }) → check.goal ≡ goal
     → lines_of read ≡ lines_of shown → IsClauseProof net goal (lines_of shown) → IsOver check.goal check.state
 is_over net goal check read shown proving same all proof =

@@ -35,11 +35,11 @@ want_on P r e h want = let p = err_from_is_err_and r h in gives_want P r p.0 p.1
 
 -- ---- pieces of a text
 
--- behind a piece stands the rest
+-- after a piece stands the rest
 pub piece_behind : (text bytes more : List ℕ) (place same : ℕ) → same ≡ length bytes → drop place text ≡ bytes ++ more → drop (place + same) text ≡ more
 piece_behind text bytes more place same is stands = sym (drop-drop same place text) ∙ (ap (λ bs. drop same bs) stands ∙ drop_at bytes more same (sym is))
 
--- four parts and what stands behind them
+-- four parts and what stands after them
 pub four_parts : (a b c d more : List ℕ) → (a ++ (b ++ (c ++ d))) ++ more ≡ a ++ (b ++ (c ++ (d ++ more)))
 four_parts a b c d more = append_assoc a (b ++ (c ++ d)) more ∙ ap (λ x. a ++ x) (append_assoc b (c ++ d) more ∙ ap (λ x. b ++ x) (append_assoc c d more))
 
@@ -48,7 +48,7 @@ three_parts a b c more = append_assoc a (b ++ c) more ∙ ap (λ x. a ++ x) (app
 
 -- ---- rows
 
--- the line of a row, its bounds, and what stands behind them
+-- the line of a row, its bounds, and what stands after them
 pub row_stands : (drawn : Drawn) (text : List ℕ) (place number : ℕ) (row : Row) (shown : RowFound) (more : List ℕ) → drop place text ≡ row_text drawn true number row shown ++ more
     → drop place text ≡ entry_text (line.row number row.kind (name_of drawn row.from) (name_of drawn row.to))
     ++ (bound_text true Max shown.greatest ++ (bound_text true Min shown.least ++ (judged_text row.kind shown ++ more)))

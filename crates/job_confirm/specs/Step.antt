@@ -36,7 +36,7 @@ use Rattle.job_confirm.specs.declared.views.Views.{Views}
 abbrev pub draft_state : Draft → SinkState
 draft_state draft = record { written = Some draft.bytes.items; faults = draft.faults }
 
--- a text has a piece at a place, and `behind` is the place behind the piece
+-- a text has a piece at a place, and `behind` is the place after the piece
 pub record IsPieceAt (text : List ℕ) (place : ℕ) (piece : List ℕ) (behind : ℕ) : Type 0 where
   pub within : behind ≤ length text
   pub same : take behind text ≡ take place text ++ piece

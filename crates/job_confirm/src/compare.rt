@@ -1,5 +1,5 @@
 //! Writing each part of a text again from what was read of it, and comparing both. The functions return the place
-//! behind the part, and refuse the line of the first byte that differs.
+//! after the part, and refuse the line of the first byte that differs.
 
 ghost use Rattle.std.specs.Prelude.{◌≡◌, ◌<◌, ◌≤◌, ◌++◌, ℕ, List, true, Some, IfOk, drop, length, slice_get};
 ghost use Rattle.itv_base.specs.Outside.{Puts};
@@ -23,7 +23,7 @@ use line_words::LineBuffer;
 use slack_report::{EndWord, Item, Which, write_item};
 use std::alloc::Global;
 
-/// The place behind the heading and the events.
+/// The place after the heading and the events.
 pub fn behind_front(
     alloc: Global,
     drawn: &DrawnNetwork,
@@ -38,7 +38,7 @@ pub fn behind_front(
     draft.place_behind(text, 0)
 }
 
-/// The place behind a finding.
+/// The place after a finding.
 pub fn behind_finding(
     alloc: Global,
     finding: &Finding,
@@ -55,7 +55,7 @@ pub fn behind_finding(
     draft.place_behind(text, place)
 }
 
-/// The place behind the number of rows.
+/// The place after the number of rows.
 pub fn behind_count(
     alloc: Global,
     drawn: &DrawnNetwork,
@@ -83,7 +83,7 @@ fn put_count<K: Sink>(
     write_item(&Item::Rows { count }, buffer, sink)
 }
 
-/// The place behind the line of a row.
+/// The place after the line of a row.
 pub fn behind_row(
     alloc: Global,
     drawn: &DrawnNetwork,
@@ -104,7 +104,7 @@ pub fn behind_row(
     draft.place_behind(text, place)
 }
 
-/// The place behind a bound.
+/// The place after a bound.
 pub fn behind_bound(
     alloc: Global,
     which: Which,
@@ -122,7 +122,7 @@ pub fn behind_bound(
     draft.place_behind(text, place)
 }
 
-/// The place behind the verdict on a requirement, with its times and its slack. A row that only asks has no verdict.
+/// The place after the verdict on a requirement, with its times and its slack. A row that only asks has no verdict.
 pub fn behind_judged(
     alloc: Global,
     kind: RowKind,
@@ -142,7 +142,7 @@ pub fn behind_judged(
     draft.place_behind(text, place)
 }
 
-/// The place behind the word at the end.
+/// The place after the word at the end.
 pub fn behind_ending(
     alloc: Global,
     drawn: &DrawnNetwork,

@@ -66,7 +66,7 @@ fn confirm_by(
     Ok(())
 }
 
-// The finding that was read, and the place behind it.
+// The finding that was read, and the place after it.
 #[derive(Drop)]
 struct FindingRead {
     finding: Finding,

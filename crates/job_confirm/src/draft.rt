@@ -26,7 +26,7 @@ impl Draft {
         }
     }
 
-    /// The place behind the gathered bytes, if a text has them at a place. If the text differs, the line of the first
+    /// The place after the gathered bytes, if a text has them at a place. If the text differs, the line of the first
     /// byte that differs is refused.
     pub fn place_behind(&self, text: &[u8], place: usize) -> Result<usize, CheckStop>
         requires place { place ≤ length text.now }

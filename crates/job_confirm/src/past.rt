@@ -1,4 +1,4 @@
-//! Checking the times behind a verdict.
+//! Checking the times after a verdict.
 
 ghost use Rattle.std.specs.Prelude.{◌≡◌, ◌++◌, ℕ, ℤ, [], if◌then◌else◌, IfOk, List, codes};
 ghost use Rattle.requirements.specs.declared.verdict.Verdict.TheVariants.{FailHigh, FailLow};
@@ -21,7 +21,7 @@ use requirements::{Verdict, judge};
 use right_report::is_fail;
 use std::alloc::Global;
 
-/// Reads and checks the times that stand next behind the bounds of a row. If the verdict is a fail, the times must
+/// Reads and checks the times that stand next after the bounds of a row. If the verdict is a fail, the times must
 /// break the requirement. Otherwise there are none. Refuses the first line at which they do not hold.
 pub fn past_next(
     alloc: Global,
@@ -44,7 +44,7 @@ pub fn past_next(
     }
 }
 
-// Reads and checks the times behind a verdict that is a fail. Behind another verdict there are none.
+// Reads and checks the times after a verdict that is a fail. After another verdict there are none.
 fn broken_next(
     alloc: Global,
     net: &Network,

@@ -21,7 +21,7 @@ use job_settle::Proof;
 use std::alloc::Global;
 
 /// Reads and checks the proof that stands next, of a claim on a pair of a network. Refuses the first line that the
-/// checker does not take. If the lines are no proof, refuses the line behind the last one.
+/// checker does not take. If the lines are no proof, refuses the line after the last one.
 pub fn proof_next(
     alloc: Global,
     net: &Network,

@@ -25,7 +25,7 @@ use line_words::{behind_word, line_len, long_in, only_word, split_words};
 use slack_report::{Which, flags_in, longs_in, which_word};
 use std::alloc::Global;
 
-/// The rest of a text, from a line on. What the reader gives is a line as it could have been written. Writing it again
+/// The rest of a text, from a line on. What the reader gives is a line that a writer can write. Writing it again
 /// shows whether it was written so.
 #[derive(Drop)]
 pub struct Reader<'a> {
@@ -54,14 +54,14 @@ impl<'a> Reader<'a> {
         CheckStop::Refused { left: self.left() }
     }
 
-    /// Goes behind the line that stands next.
+    /// Goes past the line that stands next.
     pub fn pass(&mut self)
         ensures passed { (line more : List ℕ) → Begins self.old.rest.now line more → self.new.rest.now ≡ more }
     {
         self.rest = after_line(self.rest);
     }
 
-    /// Whether this line stands next. If it does, goes behind it.
+    /// Whether this line stands next. If it does, goes past it.
     pub fn passes(&mut self, line: &[u8]) -> bool
         ensures stands { (next more : List ℕ) → Begins self.old.rest.now next more → IsTrue result ↔ (next ≡ line.now) }
         ensures passed { (next more : List ℕ) → Begins self.old.rest.now next more → IsTrue result → self.new.rest.now ≡ more }
@@ -165,7 +165,7 @@ impl<'a> Reader<'a> {
     }
 }
 
-// The first line of a text without its end, and the text behind it. None if no line ends.
+// The first line of a text without its end, and the text after it. None if no line ends.
 fn cut_line(text: &[u8]) -> Option<(&[u8], &[u8])>
     ensures cut { (line more : List ℕ) → Begins text.now line more → IsCutAs result line more }
 {
@@ -186,7 +186,7 @@ fn next_line(text: &[u8]) -> Option<&[u8]>
     }
 }
 
-// The text behind its first line.
+// The text after its first line.
 fn after_line(text: &[u8]) -> &[u8]
     ensures after { (line more : List ℕ) → Begins text.now line more → result.now ≡ more }
 {
@@ -240,14 +240,14 @@ fn claim_in(text: &[u8]) -> Option<Claim>
     }
 }
 
-// The number behind a word, if there are no other words.
+// The number after a word, if there are no other words.
 fn number_behind(words: &[&str], key: &str) -> Option<i64>
     ensures { result ≡ keyed key.now (one long_in) (texts words.now) }
 {
     long_in(only_word(behind_word(words, key)?)?)
 }
 
-// The numbers behind the word `times`.
+// The numbers after the word `times`.
 fn times_in(alloc: Global, words: &[&str]) -> Result<Option<Vec<i64>>, NoMemory>
     ensures { IfOk result (λ o. option_map (λ v. v.items) o ≡ keyed (codes "times") (many long_in) (texts words.now)) }
 {
@@ -257,7 +257,7 @@ fn times_in(alloc: Global, words: &[&str]) -> Result<Option<Vec<i64>>, NoMemory>
     }
 }
 
-// The set of the events behind the word `raise`.
+// The set of the events after the word `raise`.
 fn raised_in(alloc: Global, events: u32, words: &[&str]) -> Result<Option<Vec<bool>>, NoMemory>
     ensures { IfOk result (λ o. option_map (λ v. v.items) o ≡ keyed (codes "raise") (flags_in events 0) (texts words.now)) }
 {

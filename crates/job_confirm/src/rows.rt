@@ -25,14 +25,14 @@ use line_words::LineBuffer;
 use slack_report::Which;
 use std::alloc::Global;
 
-/// The rows that were read, and the place behind them.
+/// The rows that were read, and the place after them.
 #[derive(Drop)]
 pub struct RowsRead {
     pub found: Vec<RowFound>,
     pub place: usize,
 }
 
-/// Reads and checks the rows at a place behind a finding: all rows behind a consistent finding, and no rows behind
+/// Reads and checks the rows at a place after a finding: all rows after a consistent finding, and no rows after
 /// another one.
 pub fn rows_behind(
     alloc: Global,
@@ -91,7 +91,7 @@ fn all_rows(
     Ok(RowsRead { found, place })
 }
 
-// The row that was read, and the place behind it.
+// The row that was read, and the place after it.
 #[derive(Drop)]
 struct RowRead {
     found: RowFound,
@@ -137,7 +137,7 @@ fn row_next(
     )
 }
 
-// The bound that was read, and the place behind it.
+// The bound that was read, and the place after it.
 #[derive(Drop)]
 struct BoundRead {
     found: SettledBound,
@@ -170,7 +170,7 @@ fn bound_read(
     Ok(BoundRead { found, place })
 }
 
-// Reads and checks what stands behind the bounds of a row, at a place.
+// Reads and checks what stands after the bounds of a row, at a place.
 fn judged_read(
     alloc: Global,
     net: &Network,

@@ -132,7 +132,7 @@ AreRowsFound cert net [] (found ∷ others) = ⊥
 AreRowsFound cert net (row ∷ rows) [] = ⊥
 AreRowsFound cert net (row ∷ rows) (found ∷ others) = IsRowFound cert net row found × AreRowsFound cert net rows others
 
--- behind a consistent finding: what is found of each row; behind any other finding: nothing
+-- after a consistent finding: what is found of each row; after any other finding: nothing
 abbrev pub AreFound : Bool → Net → List Row → Finding → List RowFound → Type 0
 AreFound cert net rows (Consistent times) found = AreRowsFound cert net rows found
 AreFound cert net rows (Inconsistent proof) found = found ≡ []

@@ -67,7 +67,7 @@ rows_text drawn cert number [] found = []
 rows_text drawn cert number (row ∷ rows) [] = []
 rows_text drawn cert number (row ∷ rows) (found ∷ others) = row_text drawn cert number row found ++ rows_text drawn cert (number + 1) rows others
 
--- behind a consistent finding the number of rows and each row; behind any other finding nothing
+-- after a consistent finding the number of rows and each row; after any other finding nothing
 abbrev pub behind_text : Drawn → Bool → Finding → List RowFound → List ℕ
 behind_text drawn cert (Consistent times) found = entry_text (line.rows (length drawn.rows)) ++ rows_text drawn cert 0 drawn.rows found
 behind_text drawn cert (Inconsistent proof) found = []

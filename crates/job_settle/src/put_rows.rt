@@ -22,7 +22,7 @@ use requirements::{Verdict, judge, slack};
 use right_report::is_fail;
 use slack_report::{Item, Which, write_item};
 
-/// Behind a consistent finding, puts how many rows there are and what was found of each. Behind any other finding, puts nothing.
+/// After a consistent finding, puts how many rows there are and what was found of each. After any other finding, puts nothing.
 pub fn put_behind<K: Sink>(
     drawn: &DrawnNetwork,
     cert: bool,

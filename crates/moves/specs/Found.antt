@@ -15,7 +15,8 @@ use Rattle.moves.specs.declared.margin.Margin.TheVariants as margins
 abbrev pub CanBeDrawn : Drawn → DrawnNumber → Side → ℤ → Type 0
 CanBeDrawn drawn number side by = HasDrawableCauses (moved_at drawn number (widened side by)) (number ∷ [])
 
--- what a margin says of an end of a number, which is moved outward; it was left open only where the budget is less than the number of cause choices
+-- what a margin says of an end of a number, which is moved outward: `by` picoseconds outward every requirement passes, and one picosecond more breaks a row;
+-- it was left open only where the budget is less than the number of cause choices
 abbrev pub IsEndMargin : Drawn → ℕ → DrawnNumber → Side → Margin → Type 0
 IsEndMargin drawn budget number side margins.Free = Passes (moved_at drawn number (opened side))
 IsEndMargin drawn budget number side (margins.Until by row) = CanBeDrawn drawn number side by × Passes (moved_at drawn number (widened side by))

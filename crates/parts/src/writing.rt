@@ -78,7 +78,7 @@ pub fn bytes_of(alloc: Global, text: &str) -> Option<Vec<u8>> {
     Some(bytes)
 }
 
-// The byte that a byte means, which may stand behind a backslash.
+// The byte that a byte means, which may stand after a backslash.
 fn meant_by(is_escape: bool, byte: u8) -> u8 {
     match (is_escape, byte) {
         (true, b'n') => b'\n',

@@ -10,12 +10,12 @@ const JOBS: &str =
 /// What is wrong with words.
 #[derive(Clone, Copy)]
 pub enum WordsFault<'a> {
-    /// There is no such option. It may be the name of a job behind dashes.
+    /// There is no such option. It may be the name of a job after dashes.
     NoOption(&'a str),
     /// The option is one of the launcher, which stands in front of all other words.
     OfLauncher(&'a str),
     NoJob(&'a str),
-    /// A value is missing behind this option.
+    /// A value is missing after this option.
     NoValue(WordsOption),
     /// The value of this option is no number that it takes.
     NoNumber(&'a str, WordsOption),
@@ -205,7 +205,7 @@ struct Given<'a> {
     has_csv: bool,
     // The option whose value is the next word.
     wanting: Option<WordsOption>,
-    // Whether `--` was read, behind which there are no options.
+    // Whether `--` was read, after which there are no options.
     is_plain: bool,
 }
 
@@ -280,7 +280,7 @@ impl<'a> Given<'a> {
         }
     }
 
-    // Reads the word behind an option.
+    // Reads the word after an option.
     fn read_value(&mut self, option: WordsOption, value: &'a str) -> Result<(), WordsFault<'a>> {
         if value.starts_with('-') && value != "-" {
             return Err(WordsFault::NoValue(option));

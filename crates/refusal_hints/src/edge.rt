@@ -20,7 +20,7 @@ pub fn element_at<'v>(tree: &'v Value, key: &str, n: u64) -> Option<&'v Value> {
     list_at(tree, key)?.get(n as usize)
 }
 
-/// The label of the text of an edge, which stands behind so many spaces.
+/// The label of the text of an edge, which stands after so many spaces.
 pub fn label_in(text: &str, spaces: u32) -> &str {
     let mut label = text;
     for _ in 0..spaces {
@@ -64,7 +64,7 @@ pub fn put_edge(hint: &mut Hint, n: u64, text: &str) {
     hint.put_quoted(text);
 }
 
-/// Why the label of an edge is refused: the label stands behind so many spaces, and is of this version.
+/// Why the label of an edge is refused: the label stands after so many spaces, and is of this version.
 pub fn put_label_refused(
     hint: &mut Hint,
     n: u64,

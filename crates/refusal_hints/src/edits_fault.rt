@@ -48,7 +48,7 @@ fn line_at(bytes: &[u8], n: u64) -> &[u8] {
     b""
 }
 
-// Whether nothing stands behind a line, not even a line end.
+// Whether nothing stands after a line, not even a line end.
 fn is_last(bytes: &[u8], n: u64) -> bool {
     let mut feeds = 0u64;
     for byte in bytes {
@@ -67,7 +67,7 @@ fn put_line(hint: &mut Hint, n: u64, line: &str) {
     hint.put_quoted(line);
 }
 
-// What is wrong with a line, behind its text. `is_cut` says that it has no end.
+// What is wrong with a line, after its text. `is_cut` says that it has no end.
 fn put_why_line(hint: &mut Hint, line: &str, is_cut: bool, fault: EditsFault) {
     match fault {
         EditsFault::Range(_, RangeFault::TooWide) => put_range_misfit(hint, line, wide_end(line)),
@@ -86,7 +86,7 @@ const RETURN: &str = "the line ends with a carriage return: save the file with l
 const FORM: &str =
     "an edit is set SUBJECT [LOW,HIGH], where SUBJECT is PART edge N, net N, wire N or C.I, as set RAM edge 0 [3000,15000]";
 
-// What is said behind the text of a line.
+// What is said after the text of a line.
 fn put_after(hint: &mut Hint, says: &str) {
     hint.put(": ");
     hint.put(says);

@@ -73,7 +73,7 @@ fn has_grade_fault(hint: &mut Hint, name: &str, value: &Value) -> bool {
 
 const NO_PARAMETERS: &str = "is no object from names to lists of two ends";
 
-// What is said of a grade, behind its name and a joint.
+// What is said of a grade, after its name and a joint.
 fn put_about_grade(hint: &mut Hint, name: &str, joint: &str, says: &str) {
     hint.put("grade ");
     hint.put_quoted(name);

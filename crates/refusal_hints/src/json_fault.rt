@@ -117,7 +117,7 @@ fn place_at(bytes: &[u8], line: usize, column: usize) -> Place {
     }
 }
 
-// The column behind a byte: only the first byte of a character counts.
+// The column after a byte: only the first byte of a character counts.
 fn column_after(column: u64, byte: u8) -> u64 {
     if 0x80 <= byte && byte < 0xc0 {
         column
@@ -134,7 +134,7 @@ fn place_fault(place: Place) -> &'static str {
     }
 }
 
-// What is wrong with a byte behind another one.
+// What is wrong with a byte after another one.
 fn byte_fault(before: u8, here: u8) -> &'static str {
     if before == b',' && is_close(here) {
         "there may be no comma in front of a closing bracket"

@@ -59,7 +59,7 @@ pub fn high_low_end(text: &str) -> Option<Misfit<'_>> {
     Some(Misfit::new(low, EMPTY_RANGE))
 }
 
-/// Where the range of a text leaves the form, or what stands behind it, or `None` if the text has no range or nothing is wrong with it.
+/// Where the range of a text leaves the form, or what stands after it, or `None` if the text has no range or nothing is wrong with it.
 pub fn range_misfit(text: &str) -> Option<Misfit<'_>> {
     let (_, ends) = text.split_once('[')?;
     match behind_ends(ends) {
@@ -132,7 +132,7 @@ fn is_kind(word: &str) -> bool {
     matches!(word, "lin" | "late" | "early" | "req" | "ask")
 }
 
-// What is left behind `+` and a shift, if they are there.
+// What is left after `+` and a shift, if they are there.
 fn behind_shift(text: &str) -> Result<&str, Misfit<'_>> {
     let Some(rest) = strip(text, "+") else {
         return Ok(text);
@@ -144,7 +144,7 @@ fn behind_shift(text: &str) -> Result<&str, Misfit<'_>> {
     }
 }
 
-// What is left behind `:` and a tag, if they are there.
+// What is left after `:` and a tag, if they are there.
 fn behind_tag(text: &str) -> Result<&str, Misfit<'_>> {
     let Some(rest) = strip(text, ":") else {
         return Ok(text);
@@ -162,7 +162,7 @@ fn behind_tag(text: &str) -> Result<&str, Misfit<'_>> {
     Ok(behind)
 }
 
-// What is left behind a space and a range or a name.
+// What is left after a space and a range or a name.
 fn behind_span(text: &str, version: u32) -> Result<&str, Misfit<'_>> {
     if text.is_empty() {
         return wrong(text, NO_RANGE);
@@ -183,7 +183,7 @@ fn behind_span(text: &str, version: u32) -> Result<&str, Misfit<'_>> {
     }
 }
 
-// What is left behind `$` and a name.
+// What is left after `$` and a name.
 fn behind_name<'a>(text: &'a str, name: &'a str, version: u32) -> Result<&'a str, Misfit<'a>> {
     if version != 2 {
         return wrong(text, "$ needs a netlist with \"itv\": 2");
@@ -199,7 +199,7 @@ fn behind_name<'a>(text: &'a str, name: &'a str, version: u32) -> Result<&'a str
     }
 }
 
-// What is left behind two ends and `]`.
+// What is left after two ends and `]`.
 fn behind_ends(text: &str) -> Result<&str, Misfit<'_>> {
     let rest = behind_number(text, SPACE_IN_RANGE)?;
     if rest.starts_with(']') {
@@ -218,7 +218,7 @@ fn behind_ends(text: &str) -> Result<&str, Misfit<'_>> {
     }
 }
 
-// What is left behind an end. `space` is what is said of a space in front of it.
+// What is left after an end. `space` is what is said of a space in front of it.
 fn behind_number<'a>(text: &'a str, space: &'static str) -> Result<&'a str, Misfit<'a>> {
     if text.starts_with(' ') {
         return wrong(text, space);
@@ -236,7 +236,7 @@ fn behind_number<'a>(text: &'a str, space: &'static str) -> Result<&'a str, Misf
     Ok(rest)
 }
 
-// The text up to a comma, a bracket or a space, and the text behind it.
+// The text up to a comma, a bracket or a space, and the text after it.
 fn split_end(text: &str) -> (&str, &str) {
     let end = text.split([',', ']', ' ']).next().unwrap_or(text);
     (end, strip(text, end).unwrap_or(""))
@@ -253,7 +253,7 @@ fn is_number(digits: &str, end: &str) -> bool {
     behind.is_empty() && !run.is_empty() && (!run.starts_with('0') || end == "0")
 }
 
-// What is said behind a text that is no end.
+// What is said after a text that is no end.
 fn why_no_end(end: &str) -> &'static str {
     let digits = end.trim_start_matches(['-', '+']);
     let (run, behind) = split_digits(digits);

@@ -85,7 +85,7 @@ fn count_marks(lane: &LaneText) -> u64 {
     count
 }
 
-// Puts the marks of a lane in a list of so many marks, from mark k of the list on. The number of the mark behind them.
+// Puts the marks of a lane in a list of so many marks, from mark k of the list on. The number of the mark after them.
 fn put_marks(hint: &mut Hint, lane: &LaneText, k: u64, count: u64) -> u64 {
     let mut next = k;
     for byte in node_of(lane).bytes() {

@@ -7,7 +7,7 @@ use crate::part::netlist_of;
 use itv_base::Shelf;
 use netlist::Netlist;
 
-// What stands behind the name of a sheet that is not there.
+// What stands after the name of a sheet that is not there.
 const FROM_HERE: &str =
     " names: names count from the current folder, and itv -C FOLDER runs in another one";
 
@@ -92,7 +92,7 @@ fn put_file<L: NameLook>(hint: &mut Hint, name: &str, look: &L) {
     hint.put(back);
 }
 
-// What is said in front of the name of a file, and behind it.
+// What is said in front of the name of a file, and after it.
 fn around(name: &str, looked: Looked) -> (&'static str, &'static str) {
     match looked {
         _ if name.is_empty() => ("the name of a file is empty", ""),

@@ -27,7 +27,7 @@ use std::alloc::Global;
 /// limit that it passes, with the count. All counts come before any memory is taken. So the time to refuse a design that passes a
 /// limit grows as the design itself.
 ///
-/// `NoMemory` may come in place of what is drawn, but not in place of a limit that is passed. A refusal leaves nothing behind.
+/// `NoMemory` may come in place of what is drawn, but not in place of a limit that is passed. Nothing is kept of it after a refusal.
 pub fn unroll(alloc: Global, design: &Design<'_>) -> Result<DrawnNetwork, UnrollFault>
     ensures answer { AgreesWith is_memory (λ drawn. drawn) result (unrolled design.now) }
     ensures memory { IsErrOf result UnrollFault.NoMemory → IsOk (unrolled design.now) }
