@@ -16,13 +16,13 @@ returns c =
     let across = flat_map (lead_across design.sheets texts) (leads_of design) in
     record {
       pushed = rw (
-      c.edges.ensures.edges,
-      c.netlist.ensures.netlist,
-      leads_met design.sheets c.push_sheets.new.tables c.in_ok-push_sheets.ensures.noted texts c.args.leads.now,
-      c.requires.leads,
-      c.in_ok-push_netlist.ensures.pushed,
-      c.in_ok-push_sheets.ensures.pushed,
-      append_assoc (old ++ sheets) netlist across,
-      append_assoc old sheets (netlist ++ across),
+        c.edges.ensures.edges,
+        c.netlist.ensures.netlist,
+        leads_met design.sheets c.push_sheets.new.tables c.in_ok-push_sheets.ensures.noted texts c.args.leads.now,
+        c.requires.leads,
+        c.in_ok-push_netlist.ensures.pushed,
+        c.in_ok-push_sheets.ensures.pushed,
+        append_assoc (old ++ sheets) netlist across,
+        append_assoc old sheets (netlist ++ across),
       ) at c.push_across.ensures.pushed;
     }
