@@ -12,6 +12,6 @@ push-requires c =
 pub returns-in-Ok : goal.returns-in-Ok
 returns-in-Ok c = record {
   added =
-    added c.args.drawn.now.net c.args.constraint c.kind_of-kind.result c.target_of-target.result c.args.causes.now c.args.grown.now c.push.new.self c.kind_of-kind.ensures.kind
-    c.target_of-target.ensures.target c.in-Ok.ensures.added;
+      added c.args.drawn.now.net c.args.constraint c.kind_of-kind.result c.target_of-target.result c.args.causes.now c.args.grown.now c.push.new.self c.kind_of-kind.ensures.kind
+      c.target_of-target.ensures.target c.in-Ok.ensures.added;
 }
