@@ -61,10 +61,10 @@ fn draw(alloc: Global, design: &Design<'_>, marks: u32) -> Result<DrawnNetwork, 
     let numbered = NumberedDesign::new(alloc, design)?;
     let rules = rules_of(alloc, &numbered)?;
     let asked = rows_of(alloc, &numbered)?;
-    let network = network_of(alloc, marks, cycles, &rules)?;
-    let origins = origins_of(alloc, cycles, &rules)?;
-    let parts = copied_texts(alloc, design.parts())?;
-    let labels = labels_of(alloc, design)?;
     let rows = rows_in(alloc, marks, cycles, &asked)?;
+    let labels = labels_of(alloc, design)?;
+    let parts = copied_texts(alloc, design.parts())?;
+    let origins = origins_of(alloc, cycles, &rules)?;
+    let network = network_of(alloc, marks, cycles, &rules)?;
     Ok(DrawnNetwork::of(network, origins, parts, labels, rows))
 }
