@@ -1,11 +1,11 @@
 //! Checking the proof of a pair, line by line.
 
-ghost use Rattle.std.specs.Prelude.{◌≡◌, ◌++◌, ℕ, All, IfOk, List, OnOk};
+ghost use Rattle.std.specs.Prelude.{◌≡◌, ◌++◌, ℕ, [], All, IfOk, List, OnOk};
 ghost use Rattle.std.specs.List.{flat_map};
 ghost use Rattle.edge_clauses.specs.Lines.{IsClauseProof, IsOver};
 ghost use Rattle.line_words.specs.Numbers.{IsLong};
 ghost use Rattle.edge_clauses.specs.declared.line.StoredLine.{StoredLine};
-ghost use Rattle.edge_clauses.specs.Proofs.{IsProofAs, lines_of};
+ghost use Rattle.edge_clauses.specs.Proofs.{IsProofAs, IsProving, lines_of};
 ghost use Rattle.clause_texts.specs.Text.{IsClauseLine, clause_line_text, proof_text};
 ghost use Rattle.job_settle.specs.declared.proof.Proof.{Proof};
 ghost use Rattle.job_confirm.specs.Step.{AreViewsOf, BeginsOther, Gives, IsPairOf, IsSameProof, IsShownProof};
@@ -16,6 +16,7 @@ use crate::views::Views;
 use edge_clauses::{Claim, ClauseChecker, StoredLine};
 use event_graph::{Network, Pair};
 use falling::View;
+use itv_base::NoMemory;
 use job_settle::Proof;
 use std::alloc::Global;
 
@@ -86,11 +87,33 @@ fn lines_next(
         → All IsClauseLine (lines_of shown) → BeginsOther more → reader.old.rest.now ≡ flat_map clause_line_text (lines_of shown) ++ more
         → Gives (λ lines. (lines_of shown ≡ lines_of lines.items) × (reader.new.rest.now ≡ more)) result }
 {
-    let mut checker = ClauseChecker::start(alloc, net, pair.from, pair.to, claim)?;
+    match ClauseChecker::start(alloc, net, pair.from, pair.to, claim) {
+        Ok(mut checker) => {
+            let lines = lines_taken(alloc, net, &mut checker, reader);
+            drop(checker);
+            lines
+        }
+        Err(NoMemory) => Err(CheckStop::NoMemory),
+    }
+}
+
+// Reads the lines of a proof of a checker's goal. The checker has taken no line yet, and takes each of them.
+fn lines_taken(
+    alloc: Global,
+    net: &Network,
+    checker: &mut ClauseChecker,
+    reader: &mut Reader<'_>,
+) -> Result<Vec<StoredLine>, CheckStop>
+    requires proving { IsProving net.now (record { check = checker.old; lines = [] }) }
+    ensures proof { IfOk result (λ lines. IsClauseProof net.now checker.old.goal (lines_of lines.items)) }
+    ensures read { (shown : List StoredLine) → (more : List ℕ) → IsClauseProof net.now checker.old.goal (lines_of shown)
+        → All IsClauseLine (lines_of shown) → BeginsOther more → reader.old.rest.now ≡ flat_map clause_line_text (lines_of shown) ++ more
+        → Gives (λ lines. (lines_of shown ≡ lines_of lines.items) × (reader.new.rest.now ≡ more)) result }
+{
     let mut lines = Vec::new(alloc);
     for _number in 0..reader.left() {
         let Some(line) = reader.clause(alloc)? else {
-            return ended(&checker, lines, reader);
+            return ended(checker, lines, reader);
         };
         if !checker.take(alloc, net, &line)? {
             return Err(reader.refused());
@@ -98,7 +121,7 @@ fn lines_next(
         lines.push(line)?;
         reader.pass();
     }
-    ended(&checker, lines, reader)
+    ended(checker, lines, reader)
 }
 
 // The lines that a checker has taken, if they are a proof. Otherwise the line that stands next is refused.
