@@ -1,6 +1,6 @@
 //! How far constraints are from an event, counted in edges.
 
-ghost use Rattle.std.specs.Prelude.{◌≡◌, ◌<◌, ◌≤◌, ◌⊎◌, IfOk, IfSome, IsTrue, MatchOption, All, Some, [], ◌∷◌, length};
+ghost use Rattle.std.specs.Prelude.{◌≡◌, ◌<◌, ◌≤◌, ◌⊎◌, IfOk, IfSome, IsTrue, MatchOption, OnOk, All, Some, [], ◌∷◌, length};
 ghost use Rattle.event_graph.specs.Times.{IsTime};
 ghost use Rattle.branch.specs.Splits.{AreSplits};
 ghost use Rattle.branch.specs.Step.Breaking.{AreBetween, IsFirstBrokenSplit, MeetsSome};
@@ -54,27 +54,18 @@ impl Distances {
         ensures { IfOk result (AreSplits net.now) }
     {
         let events = net.events();
-        let count = net.splittable_count() as usize;
-        let mut rules = Vec::with_capacity(alloc, count)?;
-        let mut entering = ByEvent::new(alloc, events)?;
+        let reached = Vec::from_elem(alloc, false, events as usize)?;
+        let queue = Vec::from_elem(alloc, EventId(0), events as usize)?;
+        let mut rules = Vec::with_capacity(alloc, net.splittable_count() as usize)?;
         let mut sources = ByEvent::new(alloc, events)?;
-        for number in 0..net.len() {
-            // Without constraints to split, no search goes backwards, and no starts are needed.
-            if count > 0 {
-                add_sources(net, number, &mut sources)?;
-            }
-            if net.cause_count(number) > 1 {
-                let rule = Splittable::new(alloc, net, number)?;
-                add_entering(&rule, rules.len(), &mut entering)?;
-                rules.push(rule)?;
-            }
-        }
+        let mut entering = ByEvent::new(alloc, events)?;
+        fill(alloc, net, &mut rules, &mut sources, &mut entering)?;
         Ok(Distances {
             rules,
             entering,
             sources,
-            reached: Vec::from_elem(alloc, false, events as usize)?,
-            queue: Vec::from_elem(alloc, EventId(0), events as usize)?,
+            reached,
+            queue,
         })
     }
 
@@ -118,6 +109,32 @@ impl Distances {
         };
         first_wanted(graph, &mut self.reached, &mut self.queue, to)
     }
+}
+
+// Adds the constraints with two or more causes, and what enters each event.
+fn fill(
+    alloc: Global,
+    net: &Network,
+    rules: &mut Vec<Splittable>,
+    sources: &mut ByEvent<EventId>,
+    entering: &mut ByEvent<usize>,
+) -> Result<(), NoMemory>
+    requires none { rules.old.items ≡ [] }
+    ensures splits { OnOk result (AreSplits net.now rules.new.items) }
+{
+    // Without constraints to split, no search goes backwards, and no starts are needed.
+    let is_searched = net.splittable_count() > 0;
+    for number in 0..net.len() {
+        if is_searched {
+            add_sources(net, number, sources)?;
+        }
+        if net.cause_count(number) > 1 {
+            let rule = Splittable::new(alloc, net, number)?;
+            add_entering(&rule, rules.len(), entering)?;
+            rules.push(rule)?;
+        }
+    }
+    Ok(())
 }
 
 // Adds the starts of the always-edges of a constraint.

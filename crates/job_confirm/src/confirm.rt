@@ -25,19 +25,37 @@ pub fn confirm_text(alloc: Global, drawn: &DrawnNetwork, text: &[u8]) -> Result<
     ensures confirmed { OnOk result (IsSettleText drawn.now true text.now) }
     ensures whole { IsSettleText drawn.now true text.now → GivesSome result }
 {
-    let net = drawn.network();
-    let views = Views::new(alloc, net)?;
     let mut buffer = LineBuffer::new(alloc, LINE_ROOM)?;
-    let place = behind_front(alloc, drawn, text, &mut buffer)?;
-    let read = finding_read(alloc, net, &views, text, place, &mut buffer)?;
+    let views = Views::new(alloc, drawn.network())?;
+    let confirmed = confirm_by(alloc, drawn, &views, text, &mut buffer);
+    drop(views);
+    drop(buffer);
+    confirmed
+}
+
+// Checks a text against a drawn network and its views.
+fn confirm_by(
+    alloc: Global,
+    drawn: &DrawnNetwork,
+    views: &Views,
+    text: &[u8],
+    buffer: &mut LineBuffer,
+) -> Result<(), CheckStop>
+    requires views { AreViewsOf drawn.now.net views.now }
+    ensures confirmed { OnOk result (IsSettleText drawn.now true text.now) }
+    ensures whole { IsSettleText drawn.now true text.now → GivesSome result }
+{
+    let net = drawn.network();
+    let place = behind_front(alloc, drawn, text, buffer)?;
+    let read = finding_read(alloc, net, views, text, place, buffer)?;
     let rows = rows_behind(
         alloc,
         drawn,
         &read.finding,
-        &views,
+        views,
         text,
         read.place,
-        &mut buffer,
+        buffer,
     )?;
     let place = behind_ending(
         alloc,
@@ -46,7 +64,7 @@ pub fn confirm_text(alloc: Global, drawn: &DrawnNetwork, text: &[u8]) -> Result<
         &rows.found,
         text,
         rows.place,
-        &mut buffer,
+        buffer,
     )?;
     if place < text.len() {
         return Err(CheckStop::Refused {

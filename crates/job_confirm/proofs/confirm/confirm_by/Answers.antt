@@ -9,7 +9,7 @@ use Rattle.job_confirm.specs.Step.{IsPieceAt}
 use Rattle.job_confirm.proofs.Parts.{ending_stands, none_left_over, text_parts}
 use Rattle.job_confirm.proofs.Settled.{settled_text}
 use Rattle.job_confirm.proofs.Whole.{want_on}
-use Rattle.job_confirm.proofs.confirm.confirm_text.Goals as goal
+use Rattle.job_confirm.proofs.confirm.confirm_by.Goals as goal
 
 pub returns-in_err-place-clause-whole : goal.returns-in_err-place-clause-whole
 returns-in_err-place-clause-whole c settled =

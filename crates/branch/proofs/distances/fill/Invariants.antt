@@ -1,5 +1,5 @@
 use Rattle.branch.proofs.MetSplits.{AreSplitsBelow}
-use Rattle.branch.proofs.distances.Distances.new.Given as goal
+use Rattle.branch.proofs.distances.fill.Given as goal
 
 -- the numbers of the constraints so far
 abbrev pub invariant-loop-number : goal.invariant-loop-number

@@ -1,11 +1,11 @@
 use Rattle.std.proofs.Common.{arith, slice_get}
 use Rattle.branch.specs.Splits.{IsSplitOf}
 use Rattle.branch.proofs.MetSplits.{all_splits, no_splits, splits_counted, splits_not, splits_with, splits_without}
-use Rattle.branch.proofs.distances.Distances.new.Goals as goal
-use Rattle.branch.proofs.distances.Distances.new.Goals.{then-cause_count-gt1+in_ok-rule+in_ok-add_entering+in_ok-push, else-cause_count-gt1}
+use Rattle.branch.proofs.distances.fill.Goals as goal
+use Rattle.branch.proofs.distances.fill.Goals.{then-cause_count-gt1+in_ok-rule+in_ok-add_entering+in_ok-push, else-cause_count-gt1}
 
 pub loop-number-init : goal.loop-number-init
-loop-number-init c = rw c.in_ok-rules.ensures.items (no_splits c.args.net.now)
+loop-number-init c = rw c.requires.none (no_splits c.args.net.now)
 
 pub loop-number-preserved : goal.loop-number-preserved
 loop-number-preserved c =
@@ -23,6 +23,6 @@ loop-number-preserved c =
           rw w.rules-is (splits_without net c.loop-number.rules.items number so_far is_not))
     ]
 
-pub returns : goal.returns
-returns c =
+pub returns-clause-splits : goal.returns-clause-splits
+returns-clause-splits c =
     all_splits c.args.net.now c.loop-number.rules.items c.loop-number.number c.loop-number.invariant (omega (arith, c.loop-number-test.false, c.len-number-end.ensures.count))
