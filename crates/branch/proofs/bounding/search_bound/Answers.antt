@@ -1,4 +1,4 @@
-use Rattle.std.proofs.Common.{◌≡◌, ◌+◌, ◌∙◌, ℤ, List, [], ◌++◌, Some, sym, ap, subst}
+use Rattle.std.proofs.Common.{◌≡◌, ◌+◌, ◌∙◌, ℤ, List, [], ◌++◌, Some, sym, ap, subst, arith}
 use Rattle.event_graph.specs.Proof.{Bound, ProofLine}
 use Rattle.branch.specs.Needed.{IsNeededToBound}
 use Rattle.event_graph.specs.Cases.{open_cases}
@@ -84,3 +84,37 @@ cases-preserved g c =
       trial = c.step.ensures.trial;
       same = keeps_then net c.args.search.now c.cases.search c.step.new.search inv.same same;
     }
+
+pub returns-in_err-step-clause-same : goal.returns-in_err-step-clause-same
+returns-in_err-step-clause-same g c = keeps_then c.args.net.now c.args.search.now c.cases.search c.step.new.search c.cases.invariant.same c.step.ensures.same
+
+pub returns-in-None-clause-same : goal.returns-in-None-clause-same
+returns-in-None-clause-same g c = keeps_then c.args.net.now c.args.search.now c.cases.search c.step.new.search c.cases.invariant.same c.step.ensures.same
+
+pub returns-in-Some-AllClosed-clause-same : goal.returns-in-Some-AllClosed-clause-same
+returns-in-Some-AllClosed-clause-same g c = keeps_then c.args.net.now c.args.search.now c.cases.search c.step.new.search c.cases.invariant.same c.step.ensures.same
+
+pub returns-in-Some-Stopped-clause-same : goal.returns-in-Some-Stopped-clause-same
+returns-in-Some-Stopped-clause-same g c = keeps_then c.args.net.now c.args.search.now c.cases.search c.step.new.search c.cases.invariant.same c.step.ensures.same
+
+pub returns-in_err-step-clause-within : goal.returns-in_err-step-clause-within
+returns-in_err-step-clause-within g c = c.in_err-step.ensures.within
+
+pub returns-in_err-step-clause-rose : goal.returns-in_err-step-clause-rose
+returns-in_err-step-clause-rose g c = on_err c.from_residual.result _ c.in_err-step.ensures.rose
+
+pub returns-in-None-clause-within : goal.returns-in-None-clause-within
+returns-in-None-clause-within g c =
+    let more = rw c.in-None.is at c.in_ok-step.ensures.advances in
+    omega (arith, more.2.2, c.cases.invariant.at.left, c.step.ensures.same.budget)
+
+pub returns-in-Some-AllClosed-clause-within : goal.returns-in-Some-AllClosed-clause-within
+returns-in-Some-AllClosed-clause-within g c = rw (c.in-Some-AllClosed.is ∙ ap Some c.in-Some-AllClosed.field-0-is) at c.in_ok-step.ensures.ends
+
+pub returns-in-Some-Stopped-clause-within : goal.returns-in-Some-Stopped-clause-within
+returns-in-Some-Stopped-clause-within g c =
+    let used = rw (c.in-Some-Stopped.is ∙ ap Some c.in-Some-Stopped.field-0-is) at c.in_ok-step.ensures.ends in
+    omega (arith, used)
+
+pub cases-smaller : goal.cases-smaller
+cases-smaller g c = c.in_ok-step.ensures.work (c.in-Some-Entered.is ∙ ap Some c.in-Some-Entered.field-0-is)

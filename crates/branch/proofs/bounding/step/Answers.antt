@@ -1,4 +1,4 @@
-use Rattle.std.proofs.Common.{◌≡◌, ◌≤ℤ◌, ◌<ℤ◌, ◌∙◌, ℤ, Bool, List, All, [], ◌∷◌, length, sym, refl, subst, arith}
+use Rattle.std.proofs.Common.{◌≡◌, ◌≤ℤ◌, ◌<ℤ◌, ◌∙◌, ℤ, Bool, List, All, [], ◌∷◌, length, sym, refl, subst, arith, ap}
 use Rattle.std.proofs.lemmas.Int.{ints}
 use Rattle.event_graph.specs.Proof.{Bound, Split}
 use Rattle.event_graph.specs.Satisfying.{Satisfies}
@@ -142,3 +142,94 @@ returns-in-Unbounded-clause-advances g c =
     let looked = c.in-Unbounded.ensures.looks in
     let rays : AreRays net aim candidate ray = record { satisfies = looked.0; raises = looked.1; least = looked.2; close = looked.3 } in
     ([], g.met.S.Scribe.grew_none _, (subst (λ (xs : List ℤ). AreRays net aim xs ray) (sym is_times) rays, refl, refl))
+
+pub take-requires : goal.take-requires
+take-requires g c = ap (λ (xs : List ℤ). length xs) c.deref.ensures.value ∙ c.look_at_case.ensures.trial.candidate ∙ sym c.requires.best.satisfies.count
+
+pub split_case-requires-clause-free : goal.split_case-requires-clause-free
+split_case-requires-clause-free g c = c.in-Splits.ensures.looks.free
+
+pub close_case-requires-clause-value : goal.close_case-requires-clause-value
+close_case-requires-clause-value g c = (c.in-Beaten.ensures.looks.0, c.in-Beaten.ensures.looks.1)
+
+pub close_case-requires-clause-source : goal.close_case-requires-clause-source
+close_case-requires-clause-source g c = (c.args.aim.from, c.requires.source)
+
+pub close_case-in-Attained-requires-clause-value : goal.close_case-in-Attained-requires-clause-value
+close_case-in-Attained-requires-clause-value g c = (c.in-Attained.value, c.in-Attained.ensures.looks.0)
+
+pub close_case-in-Attained-requires-clause-source : goal.close_case-in-Attained-requires-clause-source
+close_case-in-Attained-requires-clause-source g c = (c.args.aim.from, c.requires.source)
+
+pub returns-in_err-split_case-in-Splits-clause-same : goal.returns-in_err-split_case-in-Splits-clause-same
+returns-in_err-split_case-in-Splits-clause-same g c = c.split_case.ensures.same
+
+pub returns-in_err-split_case-in-Splits-clause-within : goal.returns-in_err-split_case-in-Splits-clause-within
+returns-in_err-split_case-in-Splits-clause-within g c = on_err c.from_residual.result _ c.in_err-split_case-in-Splits.ensures.within
+
+pub returns-in_err-split_case-in-Splits-clause-rose : goal.returns-in_err-split_case-in-Splits-clause-rose
+returns-in_err-split_case-in-Splits-clause-rose g c = on_err c.from_residual.result _ c.in_err-split_case-in-Splits.ensures.rose
+
+pub returns-in_ok-split_case-in-Splits-clause-same : goal.returns-in_ok-split_case-in-Splits-clause-same
+returns-in_ok-split_case-in-Splits-clause-same g c = c.split_case.ensures.same
+
+pub returns-in_ok-split_case-in-Splits-clause-ends : goal.returns-in_ok-split_case-in-Splits-clause-ends
+returns-in_ok-split_case-in-Splits-clause-ends g c = c.in_ok-split_case-in-Splits.ensures.ends
+
+pub returns-in_err-split_case-in-Splits-clause-places : goal.returns-in_err-split_case-in-Splits-clause-places
+returns-in_err-split_case-in-Splits-clause-places g c = c.requires.best.satisfies.count
+
+pub returns-in_ok-split_case-in-Splits-clause-places : goal.returns-in_ok-split_case-in-Splits-clause-places
+returns-in_ok-split_case-in-Splits-clause-places g c = c.requires.best.satisfies.count
+
+pub returns-in_err-close_case-in-Beaten-clause-same : goal.returns-in_err-close_case-in-Beaten-clause-same
+returns-in_err-close_case-in-Beaten-clause-same g c = c.close_case.ensures.same
+
+pub returns-in_err-close_case-in-Beaten-clause-within : goal.returns-in_err-close_case-in-Beaten-clause-within
+returns-in_err-close_case-in-Beaten-clause-within g c = on_err c.from_residual-in_err-close_case-in-Beaten.result _ c.in_err-close_case-in-Beaten.ensures.within
+
+pub returns-in_err-close_case-in-Beaten-clause-rose : goal.returns-in_err-close_case-in-Beaten-clause-rose
+returns-in_err-close_case-in-Beaten-clause-rose g c = on_err c.from_residual-in_err-close_case-in-Beaten.result _ c.in_err-close_case-in-Beaten.ensures.rose
+
+pub returns-in_ok-close_case-in-Beaten-clause-same : goal.returns-in_ok-close_case-in-Beaten-clause-same
+returns-in_ok-close_case-in-Beaten-clause-same g c = c.close_case.ensures.same
+
+pub returns-in_ok-close_case-in-Beaten-clause-ends : goal.returns-in_ok-close_case-in-Beaten-clause-ends
+returns-in_ok-close_case-in-Beaten-clause-ends g c = c.in_ok-close_case-in-Beaten.ensures.ends
+
+pub returns-in_err-close_case-in-Beaten-clause-places : goal.returns-in_err-close_case-in-Beaten-clause-places
+returns-in_err-close_case-in-Beaten-clause-places g c = c.requires.best.satisfies.count
+
+pub returns-in_ok-close_case-in-Beaten-clause-places : goal.returns-in_ok-close_case-in-Beaten-clause-places
+returns-in_ok-close_case-in-Beaten-clause-places g c = c.requires.best.satisfies.count
+
+pub returns-in_err-close_case-in-Attained-clause-same : goal.returns-in_err-close_case-in-Attained-clause-same
+returns-in_err-close_case-in-Attained-clause-same g c = c.close_case-in-Attained.ensures.same
+
+pub returns-in_err-close_case-in-Attained-clause-within : goal.returns-in_err-close_case-in-Attained-clause-within
+returns-in_err-close_case-in-Attained-clause-within g c = on_err c.from_residual-in_err-close_case-in-Attained.result _ c.in_err-close_case-in-Attained.ensures.within
+
+pub returns-in_err-close_case-in-Attained-clause-rose : goal.returns-in_err-close_case-in-Attained-clause-rose
+returns-in_err-close_case-in-Attained-clause-rose g c = on_err c.from_residual-in_err-close_case-in-Attained.result _ c.in_err-close_case-in-Attained.ensures.rose
+
+pub returns-in_ok-close_case-in-Attained-clause-same : goal.returns-in_ok-close_case-in-Attained-clause-same
+returns-in_ok-close_case-in-Attained-clause-same g c = c.close_case-in-Attained.ensures.same
+
+pub returns-in_ok-close_case-in-Attained-clause-ends : goal.returns-in_ok-close_case-in-Attained-clause-ends
+returns-in_ok-close_case-in-Attained-clause-ends g c = c.in_ok-close_case-in-Attained.ensures.ends
+
+pub returns-in_err-close_case-in-Attained-clause-places : goal.returns-in_err-close_case-in-Attained-clause-places
+returns-in_err-close_case-in-Attained-clause-places g c = ap (λ (xs : List ℤ). length xs) (c.take.ensures.times ∙ c.deref.ensures.value) ∙ c.look_at_case.ensures.trial.candidate
+
+pub returns-in_ok-close_case-in-Attained-clause-places : goal.returns-in_ok-close_case-in-Attained-clause-places
+returns-in_ok-close_case-in-Attained-clause-places g c = ap (λ (xs : List ℤ). length xs) (c.take.ensures.times ∙ c.deref.ensures.value) ∙ c.look_at_case.ensures.trial.candidate
+
+pub returns-in_ok-close_case-in-Beaten-clause-work : goal.returns-in_ok-close_case-in-Beaten-clause-work
+returns-in_ok-close_case-in-Beaten-clause-work g c = λ is. c.in_ok-close_case-in-Beaten.ensures.work (cc)
+
+pub returns-in-Unbounded-clause-same : goal.returns-in-Unbounded-clause-same
+returns-in-Unbounded-clause-same g c = record { room = refl; budget = refl; bounds = record { source = refl; made = λ made. made } }
+
+pub returns-in-Unbounded-clause-places : goal.returns-in-Unbounded-clause-places
+returns-in-Unbounded-clause-places g c =
+    ap (λ (xs : List ℤ). length xs) (c.take-in-Unbounded.ensures.times ∙ c.deref-in-Unbounded.ensures.value) ∙ c.look_at_case.ensures.trial.candidate

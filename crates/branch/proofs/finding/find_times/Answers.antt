@@ -159,3 +159,28 @@ returns-in-Some-Stopped-clause-count g c =
     let all_used : now.leaves ≡ c.args.budget = used ∙ same.budget ∙ inv.budget in
     let searched : IsFindSearched net (inv.lines.0 ++ more.0) (open_cases net now.cases.chosen) now.leaves = more.2 inv.lines.0 inv.lines.2 in
     stopped_count net Nothing (IsNeededToFind net) c.args.budget (inv.lines.0 ++ more.0) now.leaves now.leaves now.cases.chosen c.requires.net (omega (arith, all_used)) (omega arith) searched
+
+pub cases-preserved : goal.cases-preserved
+cases-preserved g c =
+    let inv = c.cases.invariant in
+    let more = rw (c.in-Some-Entered.is ∙ ap Some c.in-Some-Entered.field-0-is) at c.in_ok-try_times.ensures.advances in
+    let at = rw (c.in-Some-Entered.is ∙ ap Some c.in-Some-Entered.field-0-is) at c.in_ok-try_times.ensures.ends in
+    let same = c.try_times.ensures.same in
+    record {
+      lines = (inv.lines.0 ++ more.0, g.met.S.Scribe.grew_more _ _ _ _ _ inv.lines.1 more.1, more.2 inv.lines.0 inv.lines.2);
+      at = at;
+      room = same.room ∙ inv.room;
+      budget = same.budget ∙ inv.budget;
+    }
+
+pub cases-smaller : goal.cases-smaller
+cases-smaller g c = c.in_ok-try_times.ensures.work (c.in-Some-Entered.is ∙ ap Some c.in-Some-Entered.field-0-is)
+
+pub returns-in-None-clause-near : goal.returns-in-None-clause-near
+returns-in-None-clause-near g c = λ is. let more = rw c.in-None.is at c.in_ok-try_times.ensures.advances in more.2.1
+
+pub returns-in_err-try_times-clause-rose : goal.returns-in_err-try_times-clause-rose
+returns-in_err-try_times-clause-rose g c = on_err c.from_residual-in_err-try_times.result _ c.in_err-try_times.ensures.rose
+
+pub returns-in_err-cut_loop-clause-rose : goal.returns-in_err-cut_loop-clause-rose
+returns-in_err-cut_loop-clause-rose g c = on_err c.from_residual.result _ c.in_err-cut_loop.ensures.rose
