@@ -4,7 +4,7 @@ ghost use Rattle.std.specs.Prelude.{◌≡◌};
 
 use event_graph::negated_time;
 use itv_base::EdgeName;
-use requirements::Bound;
+use requirements::{Bound, negated_known};
 
 /// The greatest or the least separation of a row, in picoseconds, with its reason. A least separation is minus the greatest separation of the
 /// reversed pair, and its reason is given for this pair.
@@ -59,8 +59,8 @@ impl BoundFound {
             },
             BoundFound::Unbounded { set } => BoundFound::Unbounded { set },
             BoundFound::Within { limit, attained } => BoundFound::Within {
-                limit: limit.map(negated_time),
-                attained: attained.map(negated_time),
+                limit: negated_known(limit),
+                attained: negated_known(attained),
             },
         }
     }

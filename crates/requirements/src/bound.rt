@@ -1,6 +1,7 @@
 //! Bounds of the separation of a pair of events.
 
-ghost use Rattle.std.specs.Prelude.{◌≡◌};
+ghost use Rattle.std.specs.Prelude.{◌≡◌, neg_ℤ, IfSome, option_map};
+ghost use Rattle.event_graph.specs.Times.{IsTime};
 
 use event_graph::negated_time;
 
@@ -50,9 +51,21 @@ impl Bound {
             Bound::Closed(value) => Bound::Closed(negated_time(value)),
             Bound::Unbounded => Bound::Unbounded,
             Bound::Within { limit, attained } => Bound::Within {
-                limit: limit.map(negated_time),
-                attained: attained.map(negated_time),
+                limit: negated_known(limit),
+                attained: negated_known(attained),
             },
         }
+    }
+}
+
+/// Minus a number of picoseconds, or none where it is not known. It is below 2^61 in absolute value.
+pub fn negated_known(number: Option<i64>) -> Option<i64>
+    requires { IfSome number IsTime }
+    ensures number { result ≡ option_map neg_ℤ number }
+    ensures within { IfSome result IsTime }
+{
+    match number {
+        None => None,
+        Some(value) => Some(negated_time(value)),
     }
 }

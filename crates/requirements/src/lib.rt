@@ -10,7 +10,7 @@ mod raising;
 mod slacks;
 mod verdict;
 
-pub use bound::{BothBounds, Bound, Slack};
+pub use bound::{BothBounds, Bound, Slack, negated_known};
 pub use raising::raise_past;
 pub use slacks::slack;
 pub use verdict::{Verdict, judge};
