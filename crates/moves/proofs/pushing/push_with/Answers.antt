@@ -10,6 +10,8 @@ push-requires c =
     c.target_of-target.ensures.target c.requires.causes)
 
 pub returns-in-Ok : goal.returns-in-Ok
-returns-in-Ok c =
+returns-in-Ok c = record {
+  added =
     added c.args.drawn.now.net c.args.constraint c.kind_of-kind.result c.target_of-target.result c.args.causes.now c.args.grown.now c.push.new.self c.kind_of-kind.ensures.kind
-    c.target_of-target.ensures.target c.in-Ok.ensures.added
+    c.target_of-target.ensures.target c.in-Ok.ensures.added;
+}

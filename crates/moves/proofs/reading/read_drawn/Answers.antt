@@ -5,6 +5,6 @@ use Rattle.moves.proofs.reading.read_drawn.Goals as goal
 
 pub returns : goal.returns
 returns c = record {
-  net = subst IsNet c.network.ensures.network c.events.ensures.net;
+  net = subst IsNet c.network.ensures.network c.is_whole.ensures.net;
   fit = subst (OriginsFit c.args.drawn.now.net) c.origins.ensures.origins c.origins.ensures.fit;
 }
