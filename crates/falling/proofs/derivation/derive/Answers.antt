@@ -1,6 +1,6 @@
 use Rattle.std.proofs.Common.{◌≡◌, ◌+◌, ◌<◌, ◌∙◌, ◌++◌, ◌∷◌, [], ℤ, List, Bool, false, IsTrue, ap, subst, sym, arith}
 use Rattle.falling.proofs.Counting.{due_within}
-use Rattle.falling.proofs.Deriving.{has_ended, leads_more, length-more, under_way_first, under_way_next}
+use Rattle.falling.proofs.Deriving.{has_ended, has_settled, is_spent, leads_more, length-more, near_values, under_way_first, under_way_next}
 use Rattle.falling.specs.Step.Agenda.{AreOthersTried}
 use Rattle.falling.specs.Derivation.{fallen, starting_values}
 use Rattle.falling.proofs.derivation.derive.Goals as goal
@@ -66,3 +66,26 @@ turns-preserved g c =
       tried = subst (λ (values : List ℤ). AreOthersTried c.args.net.now values c.wake.new.self.pending) (sym c.lower.ensures)
           (c.wake.ensures.tried c.args.net.now c.turns.values c.in-Some.line.value c.in-Some.ensures.made c.in-Some.ensures.line.lower c.in-Some.ensures.tried);
     }
+
+pub next_line-requires-clause-near : goal.next_line-requires-clause-near
+next_line-requires-clause-near g c =
+    let inv = c.turns.invariant.lines in
+    near_values c.args.net.now c.args.from c.turns.values c.requires.limits.small inv.2.not_ended inv.2.most
+
+pub returns-then-taken-turns-clause-lines : goal.returns-then-taken-turns-clause-lines
+returns-then-taken-turns-clause-lines g c =
+    let inv = c.turns.invariant.lines in (
+      inv.0,
+      inv.1,
+      inv.2.taken_lines,
+      is_spent c.args.net.now c.args.from inv.0 c.turns.values c.turns.taken c.args.turns c.in-Some.line inv.2 c.in-Some.ensures.line c.if-taken-turns.true,
+    )
+
+pub returns-clause-lines : goal.returns-clause-lines
+returns-clause-lines g c =
+    let inv = c.turns.invariant.lines in (
+      inv.0,
+      inv.1,
+      inv.2.taken_lines,
+      has_settled c.args.net.now c.args.from inv.0 c.turns.values c.turns.taken c.args.turns inv.2 c.in-None.ensures.none c.turns.invariant.left,
+    )
