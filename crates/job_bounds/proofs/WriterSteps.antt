@@ -7,7 +7,6 @@ use Rattle.event_graph.specs.Network.{Net}
 use Rattle.event_graph.specs.Proof.{ProofLine}
 use Rattle.job_bounds.specs.Step.Searched.{sized}
 use Rattle.certificate.specs.Scribing.{SinkGrew}
-use Rattle.certificate.specs.Text.{proof_line_text}
 use Rattle.itv_base.proofs.Written.{grown-append, grown-nil}
 use Rattle.slack_report.proofs.Judging.{report_text-append}
 use Rattle.right_report.proofs.RightOrder.{reads-append}
@@ -66,10 +65,6 @@ no_verdicts (line ∷ lines) = no_verdicts lines
 no_end_in : (lines : List ProofLine) → end_in (map proof lines) ≡ None
 no_end_in [] = refl
 no_end_in (line ∷ lines) = no_end_in lines
-
-unfolding words_of
-proof_text-lines [] = refl
-proof_text-lines (line ∷ lines) = ap (λ text. proof_line_text line ++ text) (proof_text-lines lines)
 
 -- ---- lines that were put
 
