@@ -52,11 +52,28 @@ fn say<R: Env + Files + Eprint + AllocGlobal>(rt: &R, status: u8) {
 }
 
 fn text_of<R: Env + Files + AllocGlobal>(rt: &R, status: u8) -> Result<String, NoMemory> {
-    let alloc = rt.alloc();
-    let words = match env::args(rt) {
-        Ok(args) => words_of(alloc, args)?,
-        Err(_) => Texts::new(alloc)?,
-    };
-    let mut shelf = ShelfDir::new(alloc, rt)?;
-    said_after(alloc, &words, status, &mut shelf, &LookDir(rt))
+    let words = words_in(rt)?;
+    let text = text_about(rt, &words, status);
+    drop(words);
+    text
+}
+
+// The words of the program, or none if the system does not give them.
+fn words_in<R: Env + AllocGlobal>(rt: &R) -> Result<Texts, NoMemory> {
+    match env::args(rt) {
+        Ok(args) => words_of(rt.alloc(), args),
+        Err(_) => Texts::new(rt.alloc()),
+    }
+}
+
+// What is said of a run on these words.
+fn text_about<R: Files + AllocGlobal>(
+    rt: &R,
+    words: &Texts,
+    status: u8,
+) -> Result<String, NoMemory> {
+    let mut shelf = ShelfDir::new(rt.alloc(), rt)?;
+    let text = said_after(rt.alloc(), words, status, &mut shelf, &LookDir(rt));
+    drop(shelf);
+    text
 }
