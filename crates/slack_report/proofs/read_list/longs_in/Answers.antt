@@ -1,15 +1,9 @@
-use Rattle.std.proofs.Common.{sym}
+use Rattle.std.proofs.Common.{[], sym}
 use Rattle.line_words.specs.Numbers.{long_in}
 use Rattle.line_words.specs.Views.{texts}
 use Rattle.line_words.specs.Words.{many}
-use Rattle.line_words.proofs.Looping.{many_done, many_goes, many_stops}
+use Rattle.line_words.proofs.Looping.{many_done, many_stops}
 use Rattle.slack_report.proofs.read_list.longs_in.Goals as goal
-
-pub loop-word-preserved : goal.loop-word-preserved
-loop-word-preserved c =
-    rw c.in_ok-push.ensures.items
-    (many_goes long_in c.args.words.now c.loop-word.word-index (record { ref_ptr = (0, 0); now = [] }) c.loop-word.list.items c.in-Some.value (many long_in (texts c.args.words.now)) c.loop-word-test.true
-    (sym c.in-Some.ensures.number) c.loop-word.invariant)
 
 pub returns-in_default : goal.returns-in_default
 returns-in_default c =
