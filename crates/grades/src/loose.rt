@@ -49,7 +49,7 @@ impl Model for LooseGrade {
 /// Grades in the byte order of their names.
 pub type LooseGrades = Listing<LooseGrade>;
 
-/// The grades of a tree. There are none without the key `itv_grades`. The answer is `None` where its value has not the form of grades.
+/// The grades of a tree. There are none without the key `itv_grades`. The answer is `None` if its value does not have the form of grades.
 pub fn written_grades(alloc: Global, tree: &Value) -> Result<Option<LooseGrades>, NoMemory>
     ensures { IfOk result (λ grades. grades ≡ written_grades (get (codes "itv_grades") (view tree.now))) }
 {
@@ -59,7 +59,7 @@ pub fn written_grades(alloc: Global, tree: &Value) -> Result<Option<LooseGrades>
     }
 }
 
-// The grades of a value, or `None` where it has not the form of grades.
+// The grades of a value, or `None` if it does not have the form of grades.
 fn listed_grades(alloc: Global, value: &Value) -> Result<Option<LooseGrades>, NoMemory>
     ensures { IfOk result (λ grades. grades ≡ grades_in (view value.now)) }
 {
