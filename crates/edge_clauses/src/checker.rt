@@ -78,7 +78,7 @@ impl ClauseChecker {
     }
 
     /// Takes a line if a proof allows it, and returns whether it does. A line that is refused leads to no state. The checker is unchanged then, and also
-    /// where memory is lacking.
+    /// if memory is lacking.
     pub fn take(
         &mut self,
         alloc: Global,

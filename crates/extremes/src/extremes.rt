@@ -42,7 +42,7 @@ pub struct Extremes {
 }
 
 impl Extremes {
-    /// Takes the memory for the searches over cases and for the negation of the network, or answers `NoMemory`. Nothing is searched yet.
+    /// Takes the memory for the searches by cases and for the negation of the network, or answers `NoMemory`. Nothing is searched yet.
     pub fn new(
         alloc: Global,
         net: &Network,
@@ -405,7 +405,7 @@ impl Extremes {
     }
 }
 
-// The consistency that a search over cases finds.
+// The consistency that a search by cases finds.
 fn consistency_of(found: SearchFinding) -> Consistency
     ensures { result ≡ consistency_of found }
 {
