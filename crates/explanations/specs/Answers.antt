@@ -109,8 +109,8 @@ pub record AreRowBounds (net : Net) (budget : ℕ) (word : FindingWord) (row : R
   pub greatest : IsBoundOf net word row greatest both.greatest
   pub least : IsBoundOf net word row (least_by both.greatest) both.least
 
--- a requirement that passes in the drawn network passes in the network apart too, by bounds that are found there; or the bounds that are given are
--- found there, and it does not pass by them
+-- a requirement that passes in the drawn network passes in the network apart too, with bounds that are found there; or the bounds that are given are
+-- found there, and it does not pass with them
 abbrev pub RestsOnOrder : Net → ℕ → FindingWord → Row → Ends → Option BothBounds → Type 0
 RestsOnOrder apart budget word row range None = (both : BothBounds) × AreRowBounds apart budget word row both × (verdict_by range both ≡ verdicts.Pass)
 RestsOnOrder apart budget word row range (Some both) = AreRowBounds apart budget word row both × (verdict_by range both ≡ verdicts.Pass → ⊥)

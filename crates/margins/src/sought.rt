@@ -71,7 +71,7 @@ impl EndSought<'_> {
         )
     }
 
-    /// How far the end may be moved by the edges behind the bounds: a guess.
+    /// How far the end may be moved, according to the edges behind the bounds: a guess.
     pub fn room(&self, sides: &[SideChain]) -> Option<i64> {
         room(self.drawn, &[self.number], Step::Widen(self.side), sides)
     }

@@ -1,4 +1,4 @@
-//! How far a move may go by the edges behind the bounds: guesses, of which no contract says that they are good ones.
+//! How far a move may go, according to the edges behind the bounds: guesses, of which no contract says that they are good ones.
 
 use crate::drawing::{draw_edge, draw_row};
 use crate::probed::SideChain;
@@ -53,8 +53,8 @@ fn lesser(least: Option<i64>, other: i64) -> Option<i64> {
     }
 }
 
-/// How far some numbers have to be moved for times that break a requirement to come back to its end by the edges behind the bound. It is `None` where the
-/// bound does not fall.
+/// How far some numbers have to be moved for times that break a requirement to come back to its end, according to the edges behind the bound. It is `None`
+/// if the bound does not fall.
 pub fn excess(
     drawn: &DrawnNetwork,
     numbers: &[&DrawnNumber],

@@ -49,7 +49,7 @@ pub fn named_in(text: &str) -> Option<(Named<'_>, &str)>
     by_word(word, behind)
 }
 
-// What a text names, by its first word and the text after the word.
+// What a text names, given its first word and the text after the word.
 fn by_word<'a>(word: &'a str, behind: &'a str) -> Option<(Named<'a>, &'a str)>
     ensures { option_map (λ x. (subject_view x.0, x.1.now)) result ≡ subject_named word.now behind.now }
 {

@@ -200,7 +200,7 @@ fn border_beyond(
     }
 }
 
-// The border at a value behind which a row breaks. Where the rules contradict each other at the value itself, the border comes before that.
+// The border at a value after which a row breaks. Where the rules contradict each other at the value itself, the border comes before that.
 fn border_by_row(
     alloc: Global,
     sought: &SpanSought<'_>,

@@ -33,7 +33,7 @@ pub enum Tried {
     Span(SpanFound),
     /// A row breaks. The next value is this far on, if the edges behind its bounds say so.
     On(Option<i64>),
-    /// It is not worth to guess further.
+    /// It is not worth guessing further.
     Nothing,
 }
 
@@ -69,7 +69,7 @@ pub fn find_span(
     span_from(alloc, &sought, base, turns)
 }
 
-// The span of the numbers, by what was found of the network as drawn.
+// The span of the numbers, according to what was found of the network as drawn.
 fn span_from(
     alloc: Global,
     sought: &SpanSought<'_>,
