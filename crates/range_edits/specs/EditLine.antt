@@ -41,7 +41,7 @@ pub record IsEditOf (drawn : Drawn) (line : List ℕ) (e : RangeEdit) : Type 0 w
 
 -- ---- its reading
 
--- one thing is read after another, where both can be read
+-- one reading after another, if both read something
 infixl 10 ◌>>◌
 abbrev pub ◌>>◌ : {A B : Type 0} → Option A → (A → Option B) → Option B
 o >> f = option_and_then f o
