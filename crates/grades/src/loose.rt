@@ -69,7 +69,7 @@ fn listed_grades(alloc: Global, value: &Value) -> Result<Option<LooseGrades>, No
     }
 }
 
-// The grades of the members of an object, or `None` where a member is no grade.
+// The grades of the members of an object, or `None` if a member is no grade.
 fn grades_in(alloc: Global, map: &Map<String, Value>) -> Result<Option<LooseGrades>, NoMemory>
     ensures { IfOk result (λ grades. grades ≡ all_of grade_of (members (members_view map.now.entries))) }
 {
@@ -83,7 +83,7 @@ fn grades_in(alloc: Global, map: &Map<String, Value>) -> Result<Option<LooseGrad
     Ok(Some(grades))
 }
 
-// The grade of a member, or `None` where it is no grade.
+// The grade of a member, or `None` if it is no grade.
 fn grade_of(alloc: Global, name: &str, value: &Value) -> Result<Option<LooseGrade>, NoMemory>
     ensures { IfOk result (λ grade. grade ≡ grade_of (name.now, view value.now)) }
 {
@@ -102,7 +102,7 @@ fn grade_of(alloc: Global, name: &str, value: &Value) -> Result<Option<LooseGrad
     }))
 }
 
-// The parameters of the members of an object, or `None` where a member is no parameter.
+// The parameters of the members of an object, or `None` if a member is no parameter.
 fn parameters_in(
     alloc: Global,
     map: &Map<String, Value>,
@@ -119,7 +119,7 @@ fn parameters_in(
     Ok(Some(parameters))
 }
 
-// The parameter of a member, or `None` where it is no parameter.
+// The parameter of a member, or `None` if it is no parameter.
 fn parameter_of(
     alloc: Global,
     name: &str,

@@ -97,7 +97,7 @@ pub fn middle(least: i64, most: i64) -> i64 {
     least.saturating_add(most.saturating_sub(least) / 2)
 }
 
-// The bracket with one move between those of a bracket in place of one of them, or `None` where the searches were left open.
+// The bracket with one move between those of a bracket in place of one of them, or `None` if the searches were left open.
 fn tighter(
     alloc: Global,
     sought: &EndSought<'_>,

@@ -19,7 +19,7 @@ pub enum Step {
     Down,
 }
 
-/// How far some numbers may be moved before the edges behind one of the bounds bring times past the end of a requirement. It is `None` where no
+/// How far some numbers may be moved before the edges behind one of the bounds bring times past the end of a requirement. It is `None` if no
 /// such bound grows.
 pub fn room(
     drawn: &DrawnNetwork,

@@ -257,7 +257,7 @@ fn border_by_contradiction(
     Ok(contradicts(gap.has))
 }
 
-// One half of what is between two values: some times satisfy with the one, and none with the other one. It is `None` where a search was left open.
+// One half of what is between two values: some times satisfy with the one, and none with the other one. It is `None` if a search was left open.
 fn halved(
     alloc: Global,
     sought: &SpanSought<'_>,

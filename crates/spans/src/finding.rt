@@ -38,7 +38,7 @@ pub enum Tried {
 }
 
 /// Finds how far some numbers may be moved down and up as one before a requirement breaks. The base is what was found of the network as drawn: every requirement
-/// passes, or a row breaks. A margin is left open only where a search is, or where no requirement breaks with as many further values as the budget has cases. Of
+/// passes, or a row breaks. A margin is left open only if a search is, or if no requirement breaks with as many further values as the budget has cases. Of
 /// a design that fails as drawn some value is found with which every requirement passes, if there is one with no more picoseconds up or down than that.
 pub fn find_span(
     alloc: Global,

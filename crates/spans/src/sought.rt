@@ -93,7 +93,7 @@ impl SpanSought<'_> {
         Ok(value_of(aim, probed.found))
     }
 
-    /// Whether some times satisfy with a value, or `None` where that was left open.
+    /// Whether some times satisfy with a value, or `None` if that was left open.
     pub fn consistency_at(
         &self,
         alloc: Global,
@@ -194,7 +194,7 @@ impl SpanSought<'_> {
         }
     }
 
-    // What is found of a frame of an interval, where each event counts from so many values; or `None` where it can't be drawn.
+    // What is found of a frame of an interval, where each event counts from so many values; or `None` if it can't be drawn.
     fn probe_frame(
         &self,
         alloc: Global,
@@ -259,7 +259,7 @@ fn breaks_for(aim: SpanAim, row: u32) -> ValueFound
     }
 }
 
-// Whether some times satisfy a network, according to what is found of it; or `None` where that was left open.
+// Whether some times satisfy a network, according to what is found of it; or `None` if that was left open.
 fn consistency_of(found: NetFound) -> Option<bool>
     ensures { result ≡ consistency_of found }
 {
