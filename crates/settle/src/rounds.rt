@@ -15,7 +15,7 @@ use event_graph::Edge;
 use itv_base::{EdgeName, NoMemory};
 use std::alloc::Global;
 
-// How a bound came to its value: by an edge that is met, or by the greatest way of a rule.
+// What gave a bound its value: an edge that is met, or the greatest way of a rule.
 #[derive(Clone, Copy)]
 enum Lead {
     Always(EdgeName),
