@@ -1,4 +1,4 @@
--- The greatest bound of a pair by the answer of a search.
+-- The greatest bound of a pair, from the answer of a search.
 use Rattle.std.specs.Prelude.{Some}
 use Rattle.requirements.specs.declared.bound.Bound.{Bound}
 use Rattle.requirements.specs.declared.bound.Bound.TheVariants as bounds

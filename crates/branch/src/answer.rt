@@ -49,6 +49,6 @@ impl GreatestAnswer {
 pub enum Root {
     /// No times meet the always-edges.
     NoTimes,
-    /// It is this number, or `None` where it is unbounded.
+    /// It is this number, or `None` if it is unbounded.
     Bound(Option<i64>),
 }

@@ -1,4 +1,4 @@
-//! The search over cases: whether any times satisfy a network of latest and earliest constraints, and the greatest separation of a
+//! The search by cases: whether any times satisfy a network of latest and earliest constraints, and the greatest separation of a
 //! pair of events. The contract of the crate: an answer is right, and the lines that its search writes are a proof of the answer,
 //! or of as much as the budget allowed.
 #![tactic(auto)]

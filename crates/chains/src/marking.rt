@@ -50,7 +50,7 @@ impl Marking {
     }
 }
 
-// Marks a constraint. A constraint without a flag is passed over.
+// Marks a constraint. A constraint without a flag is ignored.
 fn mark(marks: &mut [bool], number: u32)
     ensures { HasMarked marks.old (Split number ∷ []) marks.new }
 {

@@ -93,7 +93,7 @@ pub fn difference_in(word: &str) -> Option<Edge>
     target_in(from, strip(rest, ">")?)
 }
 
-// An edge from an event, by the event that it leads to and its weight.
+// An edge from an event, read from the event that it leads to and its weight.
 fn target_in(from: u32, word: &str) -> Option<Edge>
     ensures { result ≡ target_in from word.now }
 {
@@ -102,7 +102,7 @@ fn target_in(from: u32, word: &str) -> Option<Edge>
     weight_in(from, to, strip(rest, ":")?)
 }
 
-// An edge between these events, by its weight.
+// An edge between these events, read from its weight.
 fn weight_in(from: u32, to: u32, word: &str) -> Option<Edge>
     ensures { result ≡ weight_in from to word.now }
 {

@@ -84,7 +84,7 @@ whatif_of rows =
 abbrev pub margin_of : List Row → Option Task
 margin_of rows = searching (λ design budget. margin design (first_of (codes "together") rows) budget) rows
 
--- the task of a job with this name, if all that it needs is there; what it does not need is passed over
+-- the task of a job with this name, if all that it needs is there; what it does not need is ignored
 abbrev pub task_named : List Row → Text → Option Task
 task_named rows name =
     if bytes_eq name (codes "bounds") then searched_of (Bounds (has_flag (codes "cert") rows)) rows

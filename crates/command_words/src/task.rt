@@ -2,7 +2,7 @@
 
 use crate::job::{CheckJob, PlanJob, SearchJob};
 
-/// A job with what it needs: what is read, and what is done with it. What else the words give is passed over.
+/// A job with what it needs: what is read, and what is done with it. What else the words give is ignored.
 #[derive(Clone, Copy)]
 pub enum Task<'a> {
     /// To search what a design draws: the name of its file, the job, and the budget of each search.

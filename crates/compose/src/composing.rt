@@ -1,4 +1,4 @@
-//! Composing a design of a netlist and its sheets.
+//! Composing a design from a netlist and its sheets.
 
 ghost use Rattle.std.specs.Prelude.{◌≡◌, All, IfOk, IsSome, map};
 ghost use Rattle.itv_base.specs.Reading.{AgreesWith};

@@ -95,7 +95,7 @@ pub record IsFrontOfRight (drawn : Drawn) (bytes : List ℕ) : Type 0 where
   pub rest : List ℕ
   pub text : report_text lines ≡ bytes ++ rest
 
--- the reading of a task came to a file whose fetch failed. The name of this file is the last that failed. The bytes are the line for the place of the
+-- the reading of a task reached a file whose fetch failed. The name of this file is the last that failed. The bytes are the line for the place of the
 -- file.
 pub record IsUnreadOf (old new : ShelfState) (asked : Task) (bytes : List ℕ) : Type 0 where
   pub place : RefusalPlace

@@ -9,7 +9,7 @@ use Rattle.design_reading.specs.Design.{design_at}
 use Rattle.design_reading.specs.FileReading.{RunsTo, ready}
 use Rattle.job_bounds.specs.Reports.{IsWrittenReport}
 
--- if the reading of a design comes to a drawn network, and job bounds writes a report for it with the lines of proofs, job check accepts the text of
+-- if the reading of a design gives a drawn network, and job bounds writes a report for it with the lines of proofs, job check accepts the text of
 -- this report for the network
 abbrev pub OwnReportIsAccepted : Type 0
 OwnReportIsAccepted = (shelf : ShelfState) (design : List ℕ) (drawn : Drawn) (most : ℕ) (lines : List Entry) → RunsTo shelf (design_at design) (ready drawn)

@@ -140,8 +140,8 @@ pub fn explained_of(
     run(alloc, words, shelf, sink)
 }
 
-/// A run of job brief. With any end of a report it writes the lines of the rows, as a table where the words want one. It ends undecided only if the budget is below the number
-/// of cause choices.
+/// A run of job brief. With any end of a report it writes the lines of the rows, as a table if the words want one. It
+/// ends undecided only if the budget is below the number of cause choices.
 pub fn briefed_of(alloc: Global, words: &Texts, shelf: &mut ShelfMem, sink: &mut SinkMem) -> Outcome
     ensures wrote { (budget : ℕ) (csv : Bool) (plan : PlanView) (drawn : Drawn) → AsksBrief words.now shelf.old.files budget csv plan drawn
         → (end : IsReportEnd result) → WroteOne sink.old sink.new (AnswersBrief (plan_notes plan) drawn budget csv (answer_of end.0)) }

@@ -48,7 +48,7 @@ with_sheet sheets key sheet = insert_entry same_key sheets key sheet
 
 -- ---- the sheets of files
 
--- the speed grades of a file; in version 1 there are none, and what stands under their key is passed over
+-- the speed grades of a file; in version 1 there are none, and what stands under their key is ignored
 abbrev pub grades_in : ℕ → RefusalPlace → Data → FileReading (Option (List Grade))
 grades_in version place tree =
     if version == 2 then (at place Grades (grades_of tree) >>= λ grades. gives (Some grades)) else gives None

@@ -21,6 +21,6 @@ Opens view old new opening (Err NoMemory) = new ≡ old
 abbrev pub ReadsAs : {A B : Type 0} → (B → A) → FileReading A → Result B Stop → Type 0
 ReadsAs view opening result = (state : ShelfState) → Opens view state state opening result
 
--- why a reading gave nothing, by the fault of a reader at a place
+-- why a reading gave nothing, given the fault of a reader at a place
 abbrev pub stop_of : {F : Type 0} → (F → Bool) → (F → Refusal) → RefusalPlace → F → Stop
 stop_of is_memory why place fault = if is_memory fault then NoMemory else Refused place (why fault)

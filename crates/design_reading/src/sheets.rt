@@ -88,7 +88,7 @@ fn read_sheets(
     push_parts(alloc, place, name, &grades, &diagram, parts, sheets)
 }
 
-// The speed grades of a file. In version 1 there are none, and what stands under their key is passed over.
+// The speed grades of a file. In version 1 there are none, and what stands under their key is ignored.
 fn grades_in(
     alloc: Global,
     version: u32,

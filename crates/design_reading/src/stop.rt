@@ -48,7 +48,7 @@ impl From<OutOfMemory> for Stop {
     }
 }
 
-/// Why a reading gave nothing, by a fault of a diagram.
+/// Why a reading gave nothing, given a fault of a diagram.
 pub fn diagram_stop(place: RefusalPlace, fault: DiagramFault) -> Stop
     ensures { result ≡ stop_of is_diagram_memory Refusal.Diagram place fault }
 {
@@ -58,7 +58,7 @@ pub fn diagram_stop(place: RefusalPlace, fault: DiagramFault) -> Stop
     }
 }
 
-/// Why a reading gave nothing, by a fault of the speed grades of a file.
+/// Why a reading gave nothing, given a fault of the speed grades of a file.
 pub fn grades_stop(place: RefusalPlace, fault: GradesFault) -> Stop
     ensures { result ≡ stop_of is_grades_memory Refusal.Grades place fault }
 {
@@ -68,7 +68,7 @@ pub fn grades_stop(place: RefusalPlace, fault: GradesFault) -> Stop
     }
 }
 
-/// Why a reading gave nothing, by a fault of a sheet.
+/// Why a reading gave nothing, given a fault of a sheet.
 pub fn sheet_stop(place: RefusalPlace, fault: SheetFault) -> Stop
     ensures { result ≡ stop_of is_sheet_memory Refusal.Sheet place fault }
 {
@@ -78,7 +78,7 @@ pub fn sheet_stop(place: RefusalPlace, fault: SheetFault) -> Stop
     }
 }
 
-/// Why a reading gave nothing, by a fault of a netlist.
+/// Why a reading gave nothing, given a fault of a netlist.
 pub fn netlist_stop(place: RefusalPlace, fault: NetlistFault) -> Stop
     ensures { result ≡ stop_of is_netlist_memory Refusal.Netlist place fault }
 {
@@ -88,7 +88,7 @@ pub fn netlist_stop(place: RefusalPlace, fault: NetlistFault) -> Stop
     }
 }
 
-/// Why a reading gave nothing, by a fault of the joins of a design.
+/// Why a reading gave nothing, given a fault of the joins of a design.
 pub fn join_stop(place: RefusalPlace, fault: JoinFault) -> Stop
     ensures { result ≡ stop_of is_join_memory Refusal.Joins place fault }
 {
@@ -98,7 +98,7 @@ pub fn join_stop(place: RefusalPlace, fault: JoinFault) -> Stop
     }
 }
 
-/// Why a reading gave nothing, by a limit that is passed.
+/// Why a reading gave nothing, given a limit that is passed.
 pub fn limit_stop(place: RefusalPlace, fault: UnrollFault) -> Stop
     ensures { result ≡ stop_of is_limit_memory Refusal.Limits place fault }
 {
@@ -108,7 +108,7 @@ pub fn limit_stop(place: RefusalPlace, fault: UnrollFault) -> Stop
     }
 }
 
-/// Why a reading gave nothing, by a fault of a file of edits.
+/// Why a reading gave nothing, given a fault of a file of edits.
 pub fn edits_stop(place: RefusalPlace, fault: EditsFault) -> Stop
     ensures stop { result ≡ stop_of is_edits_memory Refusal.Edits place fault }
 {

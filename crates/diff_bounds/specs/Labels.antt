@@ -1,4 +1,4 @@
--- Labels of events, which fall along edges, and the edge by which each label came.
+-- Labels of events, which fall along edges, and the edge over which each label came.
 use Rattle.std.specs.Prelude.{◌≡◌, ◌<◌, ◌≤◌, ℕ, ℤ, pos, neg_ℤ, ◌+ℤ◌, ◌≤ℤ◌, ◌⊎◌, Bool, true, false, List, [], ◌∷◌, Option, Some, None, slice_index_or, int_lt, ◌+◌}
 use Rattle.itv_base.specs.declared.names.EdgeName.{EdgeName}
 use Rattle.event_graph.specs.declared.edge.Edge.{Edge}
@@ -13,7 +13,7 @@ use Rattle.event_graph.specs.Limits.{weight_limit}
 abbrev pub GraphLabels : Type 0
 GraphLabels = ℕ → Option ℤ
 
--- the edge by which the label of each event came, or none for a label that came by no edge
+-- the edge over which the label of each event came, or none for a label that came over no edge
 abbrev pub Parents : Type 0
 Parents = ℕ → Option EdgeName
 
@@ -70,7 +70,7 @@ pub record IsRooted (net : Net) (parent : Parents) (event : ℕ) : Type 0 where
   pub climb : IsClimb net parent event way root
   pub top : parent root ≡ None
 
--- the label of an event came by an edge; it has not fallen since then, but the label at the start of the edge may have fallen
+-- the label of an event came over an edge; it has not fallen since then, but the label at the start of the edge may have fallen
 pub record IsHeld (s : Scope) (label : GraphLabels) (event : ℕ) (name : EdgeName) : Type 0 where
   pub e : Edge
   pub among : IsAmong s name e
@@ -82,8 +82,8 @@ pub record IsHeld (s : Scope) (label : GraphLabels) (event : ℕ) (name : EdgeNa
   pub here : label event ≡ Some far
   pub below : (near +ℤ e.weight) ≤ℤ far
 
--- labels that fell from first labels over the edges of a scope: a label with a parent came by it, a label without one is still the first label, and
--- each climb by parents ends
+-- labels that fell from first labels over the edges of a scope: a label with a parent came over it, a label without one is still the first label, and
+-- each climb over parents ends
 pub record IsForest (s : Scope) (start label : GraphLabels) (parent : Parents) : Type 0 where
   pub rooted : (event : ℕ) → event < s.net.events → IsRooted s.net parent event
   pub held : (event : ℕ) (name : EdgeName) → event < s.net.events → parent event ≡ Some name → IsHeld s label event name

@@ -193,7 +193,7 @@ impl Bounds {
         self.chosen.truncate(count);
     }
 
-    /// The greatest separation of an event of the network from the source in picoseconds, or `None` where it is unbounded. A graph has
+    /// The greatest separation of an event of the network from the source in picoseconds, or `None` if it is unbounded. A graph has
     /// to stand from a source.
     pub fn upper(&self, event: EventId) -> Option<i64>
         requires stands { (net : Net) × Stands net self.now }

@@ -1,4 +1,4 @@
-//! Times by labels.
+//! Times from labels.
 
 ghost use Rattle.std.specs.Prelude.{◌≡◌, ◌+◌, ◌*◌, ◌<◌, ◌≤◌, ℕ, ℤ, pos, ◌+ℤ◌, ◌≤ℤ◌, All, IfSome, Some, length, slice_index_or};
 ghost use Rattle.std.specs.Prelude.{is_none, slice_get, slice_set};

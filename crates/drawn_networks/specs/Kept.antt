@@ -8,7 +8,7 @@ use Rattle.drawn_networks.specs.declared.event_label.EventLabel.{EventLabel}
 use Rattle.drawn_networks.specs.declared.row.Row.{Row}
 use Rattle.drawn_networks.specs.Drawn.{Drawn, IsRowOf, OriginsFit}
 
--- the name that a label gives, by the names of the parts
+-- the name that a label gives, given the names of the parts
 abbrev pub name_by : List (List ℕ) → EventLabel → Name
 name_by parts label = record { part = unwrap_or (slice_get parts label.part) []; mark = label.mark; cycle = label.cycle }
 

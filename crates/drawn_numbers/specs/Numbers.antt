@@ -16,7 +16,7 @@ use Rattle.drawn_numbers.specs.declared.drawn_number.DrawnNumber.TheVariants as 
 
 -- ---- what a number draws
 
--- the number gives its range to a cause that this draws, by the part of the target of the cause's constraint; the order of a lane is no number
+-- the number gives its range to a cause that this draws, given the part of the target of the cause's constraint; the order of a lane is no number
 abbrev pub draws : DrawnNumber → List ℕ → Origin → Bool
 draws (numbers.Edge own edge) part (origins.Edge number) = number == edge && bytes_eq own part
 draws (numbers.Net net) part (origins.Pin number pin) = number == net
@@ -65,7 +65,7 @@ IsCauseOf net name = IsSome (cause_at net name.constraint name.cause)
 
 -- ---- other ranges
 
--- the network with another range for each of these causes; a cause that is not there is passed over
+-- the network with another range for each of these causes; a cause that is not there is ignored
 abbrev pub with_ranges : Net → List CauseName → Ends → Net
 with_ranges net [] range = net
 with_ranges net (name ∷ names) range = with_ranges (with_range net name.constraint name.cause range) names range

@@ -7,7 +7,7 @@ use crate::cause_name::CauseName;
 use event_graph::Network;
 use itv_base::Range;
 
-/// Gives each of these causes another range, in picoseconds. A cause that is not there is passed over. Takes no memory.
+/// Gives each of these causes another range, in picoseconds. A cause that is not there is ignored. Takes no memory.
 pub fn set_ranges(net: &mut Network, causes: &[CauseName], range: Range)
     ensures set { net.new ≡ with_ranges net.old causes.now range }
 {

@@ -27,7 +27,7 @@ use std::marker::Model;
 ///
 /// A checker is made for a network and a goal. Every later call needs the same network. A line that is taken changes a bound, adds a known edge, keeps a
 /// clause, or opens or closes a block. The lines are a proof once [`ClauseChecker::is_over`] returns true. A refused line changes nothing, and neither does
-/// a line for which memory is lacking. The checker allocates memory for the clauses line by line.
+/// a line for which memory runs out. The checker allocates memory for the clauses line by line.
 #[derive(Drop)]
 pub struct ClauseChecker {
     terms: Terms,
@@ -78,7 +78,7 @@ impl ClauseChecker {
     }
 
     /// Takes a line if a proof allows it, and returns whether it does. A line that is refused leads to no state. The checker is unchanged then, and also
-    /// where memory is lacking.
+    /// if memory runs out.
     pub fn take(
         &mut self,
         alloc: Global,

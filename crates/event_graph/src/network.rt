@@ -328,7 +328,7 @@ impl Network {
     }
 
     /// The number of the first constraint, from `start` on, that the times break, or none if and only if they break
-    /// none of these constraints. So a loop that continues after each result passes over the constraints once. The times
+    /// none of these constraints. So a loop that continues after each result goes over the constraints once. The times
     /// are as for [`Network::broken`].
     pub fn broken_from(&self, times: &[i64], start: u32) -> Option<u32>
         requires count { length times.now ≡ self.now.events }

@@ -42,7 +42,7 @@ pub trait Scribe {
         ensures cut { OnErr result (WasCut self.old (Loop edges.now ∷ []) self.new) }
         ensures rose { OnErr result (FaultCounted (faults self.old) (faults self.new)) };
 
-    /// The scribe grows by no lines where nothing is written.
+    /// The scribe grows by no lines if nothing is written.
     ghost grew_none: { (s : Self) → Grew s [] s };
 
     /// The scribe grows by some lines and then by more of them.

@@ -41,7 +41,7 @@ word_of (Inconsistent set) = findings.Inconsistent
 word_of Unsettled = findings.Unsettled
 
 -- A finding is right. Some times satisfy; or the constraints of the set contradict each other by themselves; or it was left open, and some times meet all
--- always-edges. It is open only where a stopped proof used the budget up.
+-- always-edges. It is open only if a stopped proof used the budget up.
 abbrev pub IsFindingFound : Net → ℕ → Finding → Type 0
 IsFindingFound net budget Consistent = (times : List ℤ) × Satisfies times net
 IsFindingFound net budget (Inconsistent set) = IsContradictionFound net budget set.items
@@ -76,7 +76,7 @@ bound_of (Within limit attained) = bounds.Within limit attained
 abbrev pub IsBoundShown : Net → ℕ → Row → NextBound → Bound → Type 0
 IsBoundShown net budget row side bound = is_within bound ≡ true → (lines : List ProofLine) × ShowsBound net budget lines row side bound
 
--- a bound is right after a finding, what stands behind it is so too, and it is open only where a search used the budget up
+-- a bound is right after a finding, what stands behind it is so too, and it is open only if a search used the budget up
 pub record IsBoundFound (net : Net) (budget : ℕ) (word : FindingWord) (row : Row) (side : NextBound) (found : BoundFound) : Type 0 where
   pub right : IsBoundOf net word row side (bound_of found)
   pub behind : IsBehind net row side found
@@ -101,7 +101,7 @@ IsFindingApart apart budget word findings.Consistent = word ≡ findings.Consist
 IsFindingApart apart budget word findings.Inconsistent = ⊥
 IsFindingApart apart budget word findings.Unsettled = word ≡ findings.Consistent → IsFindingOpen apart budget
 
--- both bounds of a row are right in a network, by themselves and after a finding, and they are open only where searches used the budget up
+-- both bounds of a row are right in a network, by themselves and after a finding, and they are open only if searches used the budget up
 pub record AreRowBounds (net : Net) (budget : ℕ) (word : FindingWord) (row : Row) (both : BothBounds) : Type 0 where
   pub holds : IsGreatestBound net row.from row.to both.greatest × IsLeastBound net row.from row.to both.least
   pub greatest_shown : IsBoundShown net budget row greatest both.greatest
@@ -109,8 +109,8 @@ pub record AreRowBounds (net : Net) (budget : ℕ) (word : FindingWord) (row : R
   pub greatest : IsBoundOf net word row greatest both.greatest
   pub least : IsBoundOf net word row (least_by both.greatest) both.least
 
--- a requirement that passes in the drawn network passes in the network apart too, by bounds that are found there; or the bounds that are given are
--- found there, and it does not pass by them
+-- a requirement that passes in the drawn network passes in the network apart too, with bounds that are found there; or the bounds that are given are
+-- found there, and it does not pass with them
 abbrev pub RestsOnOrder : Net → ℕ → FindingWord → Row → Ends → Option BothBounds → Type 0
 RestsOnOrder apart budget word row range None = (both : BothBounds) × AreRowBounds apart budget word row both × (verdict_by range both ≡ verdicts.Pass)
 RestsOnOrder apart budget word row range (Some both) = AreRowBounds apart budget word row both × (verdict_by range both ≡ verdicts.Pass → ⊥)

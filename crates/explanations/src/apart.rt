@@ -9,7 +9,7 @@ use itv_base::NoMemory;
 use origin::Origin;
 use std::alloc::Global;
 
-/// The network of a drawn network without the constraints that keep the order of a lane. The answer is `None` where no constraint keeps one; the
+/// The network of a drawn network without the constraints that keep the order of a lane. The answer is `None` if no constraint keeps one; the
 /// network apart is the network itself then.
 pub fn network_apart(alloc: Global, drawn: &DrawnNetwork) -> Result<Option<Network>, NoMemory>
     ensures apart { IfOk result (λ apart. MatchOption apart (net_apart drawn.now ≡ drawn.now.net) (λ net. net ≡ net_apart drawn.now)) }

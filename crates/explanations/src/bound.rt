@@ -15,11 +15,11 @@ pub enum BoundFound {
         value: i64,
         chain: Vec<EdgeName>,
     },
-    /// The separation has no bound. `set` has for each event whether it is in a set of events that can be put off by any number.
+    /// The separation has no bound. `set` has for each event whether it is in a set of events that can be raised by any number.
     Unbounded {
         set: Vec<bool>,
     },
-    /// The budget and the turns were spent before it was known. `limit` is the limit by the always-edges, if there is one. `attained` is the best
+    /// The budget and the turns were spent before it was known. `limit` is what the always-edges alone allow, if they bound it. `attained` is the best
     /// separation that was attained, if there is one.
     Within {
         limit: Option<i64>,

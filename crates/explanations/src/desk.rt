@@ -58,7 +58,7 @@ impl Desk {
     }
 }
 
-// The network apart with its memory, or `None` where it is the drawn network itself.
+// The network apart with its memory, or `None` if it is the drawn network itself.
 fn new_apart(alloc: Global, drawn: &DrawnNetwork, budget: u64) -> Result<Option<Apart>, NoMemory>
     requires least { 1 ≤ budget }
     requires most { budget ≤ MAX_BUDGET }

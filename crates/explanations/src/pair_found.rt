@@ -11,7 +11,7 @@ use requirements::Bound;
 pub enum PairFound {
     /// A search found this.
     Searched(Greatest),
-    /// Nothing is searched after an unsettled finding. This is the limit by the always-edges in picoseconds, if there is one.
+    /// Nothing is searched after an unsettled finding. This is the root bound in picoseconds, or `None` if the pair is unbounded.
     Limited(Option<i64>),
 }
 

@@ -16,7 +16,7 @@ use itv_base::{NoMemory, Range, RowKind};
 use requirements::{BothBounds, Verdict, judge};
 use std::alloc::Global;
 
-/// Both bounds of a row in the network apart, or `None`. A requirement has them if it passes in the drawn network, and does not pass by them. `both`
+/// Both bounds of a row in the network apart, or `None`. A requirement has them if it passes in the drawn network, and does not pass with them. `both`
 /// are its bounds in the drawn network.
 pub fn bounds_apart(
     alloc: Global,
@@ -50,7 +50,7 @@ pub fn bounds_apart(
     }
 }
 
-// Both bounds of a row in the network apart, if the row does not pass by them.
+// Both bounds of a row in the network apart, if the row does not pass with them.
 fn broken_apart(
     alloc: Global,
     row: &Row,

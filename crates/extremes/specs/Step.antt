@@ -16,7 +16,7 @@ use Rattle.extremes.specs.declared.found.Consistency.{Consistency}
 use Rattle.extremes.specs.declared.found.Consistency.TheVariants.{Consistent, Inconsistent, Open}
 use Rattle.extremes.specs.declared.found.Greatest.{Greatest}
 
--- the consistency that a search over cases finds
+-- the consistency that a search by cases finds
 abbrev pub consistency_of : SearchFinding → Consistency
 consistency_of founds.Consistent = Consistent
 consistency_of founds.Inconsistent = Inconsistent

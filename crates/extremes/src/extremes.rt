@@ -42,7 +42,7 @@ pub struct Extremes {
 }
 
 impl Extremes {
-    /// Takes the memory for the searches over cases and for the negation of the network, or answers `NoMemory`. Nothing is searched yet.
+    /// Takes the memory for the searches by cases and for the negation of the network, or answers `NoMemory`. Nothing is searched yet.
     pub fn new(
         alloc: Global,
         net: &Network,
@@ -80,10 +80,10 @@ impl Extremes {
         self.turns
     }
 
-    /// Looks for times that satisfy the network: by few cases, then by clauses, and by as many cases as the budget allows where clauses gave up. If it was
+    /// Looks for times that satisfy the network: by few cases, then by clauses, and by as many cases as the budget allows if clauses gave up. If it was
     /// found consistent, greatest separations can be found; if it was found inconsistent, the constraints that contradict each other. The answer is open
-    /// only where a search by cases used the budget up; so it is not where the budget is no less than the number of cause choices. Times that clauses
-    /// found count as none where they are so far apart that no search by cases could start from them.
+    /// only if a search by cases used the budget up; so it is not if the budget is no less than the number of cause choices. Times that clauses
+    /// found count as none if they are so far apart that no search by cases could start from them.
     pub fn find(&mut self, alloc: Global, net: &Network) -> Result<Consistency, NoMemory>
         requires made { IsFor net.now self.old }
         ensures made { IsFor net.now self.new }
@@ -253,7 +253,7 @@ impl Extremes {
     }
 
     /// Finds the greatest separation of a pair of events of a network that was found consistent: by few cases, then by clauses, and by as many cases as
-    /// the budget allows where clauses gave up. The answer is open only where a search by cases used the budget up; so it is not where the budget is no
+    /// the budget allows if clauses gave up. The answer is open only if a search by cases used the budget up; so it is not if the budget is no
     /// less than the number of cause choices.
     pub fn greatest(
         &mut self,
@@ -386,7 +386,7 @@ impl Extremes {
     }
 
     /// The greatest separation of a pair of events over the times that meet the always-edges alone, in picoseconds: a limit of its greatest
-    /// separation. It is `None` where there is no greatest one. Nothing is searched.
+    /// separation. It is `None` if there is no greatest one. Nothing is searched.
     pub fn limit(&mut self, net: &Network, from: EventId, to: EventId) -> Option<i64>
         requires made { IsFor net.now self.old }
         requires always { (times : List ℤ) × MeetsAlways times net.now }
@@ -405,7 +405,7 @@ impl Extremes {
     }
 }
 
-// The consistency that a search over cases finds.
+// The consistency that a search by cases finds.
 fn consistency_of(found: SearchFinding) -> Consistency
     ensures { result ≡ consistency_of found }
 {

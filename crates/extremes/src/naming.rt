@@ -46,7 +46,7 @@ fn mark_basis(marks: &mut [bool], basis: Basis)
     }
 }
 
-// Marks a constraint. A constraint without a flag is passed over.
+// Marks a constraint. A constraint without a flag is ignored.
 fn mark(marks: &mut [bool], number: u32)
     ensures count { length marks.new ≡ length marks.old }
 {

@@ -11,7 +11,7 @@ use branch::MAX_START;
 use event_graph::move_all;
 use itv_base::EventId;
 
-/// Satisfying times, moved so that the earliest one is 0. The answer is `None` where the latest one is past the greatest separation that a search may
+/// Satisfying times, moved so that the earliest one is 0. The answer is `None` if the latest one is past the greatest separation that a search may
 /// start from. The times are in picoseconds, each below 2^61 in absolute value.
 pub fn start_of(times: Vec<i64>) -> Option<Vec<i64>>
     requires some { 0 < length times.items }

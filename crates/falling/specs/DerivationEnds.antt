@@ -1,4 +1,4 @@
--- How a derivation goes.
+-- The limits of a network, and derivations whose turns are spent.
 use Rattle.std.specs.Prelude.{◌≡◌, ◌≤◌, ℕ, ℤ, pos, neg_ℤ, List, length}
 use Rattle.itv_base.specs.declared.names.EventId.{EventId}
 use Rattle.event_graph.specs.Limits.{weight_limit}

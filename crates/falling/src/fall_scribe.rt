@@ -1,4 +1,4 @@
-//! Who notes the lines of a derivation while it is found.
+//! Writers of the lines of a derivation while it is found.
 
 ghost use Rattle.std.specs.Prelude.{◌≡◌, ℕ, List, [], ◌∷◌, ◌++◌, OnOk, OnErr};
 ghost use Rattle.itv_base.specs.Outside.{FaultCounted};
@@ -13,16 +13,16 @@ use thiserror::Error;
 #[error("a line of a derivation could not be noted")]
 pub struct FallScribeFailed;
 
-/// Takes the lines of a derivation, one after another. Each call notes its line, or fails: then the notes have
-/// some front of the line at their end, and their count of faults rose.
+/// Takes the lines of a derivation, one after another. Each call notes its line, or fails. After a failure the
+/// scribe has some front of the line at its end, and its count of faults rose.
 pub trait FallScribe {
-    /// How often the notes have failed. The count never falls.
+    /// How often the scribe has failed. The count never falls.
     ghost faults: { Self → ℕ };
 
-    /// The notes grew by just these lines.
+    /// The scribe grew by just these lines.
     ghost Grew: { Self → List FallLine → Self → Type 0 };
 
-    /// The notes failed in the last of these lines, and have the lines before it.
+    /// The scribe failed in the last of these lines, and has the lines before it.
     ghost WasCut: { Self → List FallLine → Self → Type 0 };
 
     /// Notes that an event falls to a value, in picoseconds, by an always-edge.
@@ -41,13 +41,13 @@ pub trait FallScribe {
             ((record { event = event; value = value; reason = ByLatest constraint }) ∷ []) self.new) }
         ensures rose { OnErr result (FaultCounted (faults self.old) (faults self.new)) };
 
-    /// Notes that stay as they are grew by no lines.
+    /// The scribe grows by no lines if nothing is noted.
     ghost grew_none: { (s : Self) → Grew s [] s };
 
-    /// Notes that grew by some lines and then by more grew by all of them, in this order.
+    /// The scribe grows by some lines and then by more of them.
     ghost grew_more: { (s t u : Self) (xs ys : List FallLine) → Grew s xs t → Grew t ys u → Grew s (xs ++ ys) u };
 
-    /// Notes that grew by some lines and then failed in the last of more failed in the last of all of them.
+    /// The scribe grows by some lines, and then fails in others.
     ghost cut_after: { (s t u : Self) (xs ys : List FallLine) → Grew s xs t → WasCut t ys u → WasCut s (xs ++ ys) u };
 
     /// Lines that are noted leave the count of faults as it is.

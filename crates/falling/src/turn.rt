@@ -17,7 +17,7 @@ use event_graph::Network;
 use itv_base::{EdgeName, RuleKind, Side};
 
 /// The first line of the constraint of least number that allows a line. A constraint without a flag allows none. A constraint that is looked at
-/// in vain loses its flag.
+/// without result loses its flag.
 pub fn next_line(net: &Network, values: &[i64], pending: &mut PendingFlags) -> Option<FallLine>
     requires count { length values.now ≡ net.now.events }
     requires near { All IsNearValue values.now }

@@ -11,7 +11,7 @@ use thiserror::Error;
 /// order of their names.
 #[derive(Clone, Copy, Debug, Error)]
 pub enum GradesFault {
-    /// `itv_grades` is there and has not the form: an object from names to objects from names to lists of two ends, each a whole number or null.
+    /// `itv_grades` is there without the form: an object from names to objects from names to lists of two ends, each a whole number or null.
     #[error("`itv_grades` has not the form of speed grades")]
     Grades,
     /// The two ends of a parameter are no range: the number of the grade, the number of the parameter in it, and the reason.

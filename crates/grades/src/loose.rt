@@ -49,7 +49,7 @@ impl Model for LooseGrade {
 /// Grades in the byte order of their names.
 pub type LooseGrades = Listing<LooseGrade>;
 
-/// The grades of a tree. There are none without the key `itv_grades`. The answer is `None` where its value has not the form of grades.
+/// The grades of a tree. There are none without the key `itv_grades`. The answer is `None` if its value does not have the form of grades.
 pub fn written_grades(alloc: Global, tree: &Value) -> Result<Option<LooseGrades>, NoMemory>
     ensures { IfOk result (λ grades. grades ≡ written_grades (get (codes "itv_grades") (view tree.now))) }
 {
@@ -59,7 +59,7 @@ pub fn written_grades(alloc: Global, tree: &Value) -> Result<Option<LooseGrades>
     }
 }
 
-// The grades of a value, or `None` where it has not the form of grades.
+// The grades of a value, or `None` if it does not have the form of grades.
 fn listed_grades(alloc: Global, value: &Value) -> Result<Option<LooseGrades>, NoMemory>
     ensures { IfOk result (λ grades. grades ≡ grades_in (view value.now)) }
 {
@@ -69,7 +69,7 @@ fn listed_grades(alloc: Global, value: &Value) -> Result<Option<LooseGrades>, No
     }
 }
 
-// The grades of the members of an object, or `None` where a member is no grade.
+// The grades of the members of an object, or `None` if a member is no grade.
 fn grades_in(alloc: Global, map: &Map<String, Value>) -> Result<Option<LooseGrades>, NoMemory>
     ensures { IfOk result (λ grades. grades ≡ all_of grade_of (members (members_view map.now.entries))) }
 {
@@ -83,7 +83,7 @@ fn grades_in(alloc: Global, map: &Map<String, Value>) -> Result<Option<LooseGrad
     Ok(Some(grades))
 }
 
-// The grade of a member, or `None` where it is no grade.
+// The grade of a member, or `None` if it is no grade.
 fn grade_of(alloc: Global, name: &str, value: &Value) -> Result<Option<LooseGrade>, NoMemory>
     ensures { IfOk result (λ grade. grade ≡ grade_of (name.now, view value.now)) }
 {
@@ -102,7 +102,7 @@ fn grade_of(alloc: Global, name: &str, value: &Value) -> Result<Option<LooseGrad
     }))
 }
 
-// The parameters of the members of an object, or `None` where a member is no parameter.
+// The parameters of the members of an object, or `None` if a member is no parameter.
 fn parameters_in(
     alloc: Global,
     map: &Map<String, Value>,
@@ -119,7 +119,7 @@ fn parameters_in(
     Ok(Some(parameters))
 }
 
-// The parameter of a member, or `None` where it is no parameter.
+// The parameter of a member, or `None` if it is no parameter.
 fn parameter_of(
     alloc: Global,
     name: &str,

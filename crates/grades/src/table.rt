@@ -47,7 +47,7 @@ impl Grades {
         grade_in(self.grades.as_slice(), name)
     }
 
-    /// The range, in picoseconds, that a grade gives for the name of a parameter. The answer is `None` where there is no such grade, or where it has
+    /// The range, in picoseconds, that a grade gives for the name of a parameter. The answer is `None` if there is no such grade, or if it has
     /// no such parameter.
     pub fn range_of(&self, grade: &str, name: &str) -> Option<Range>
         ensures range { result ≡ option_and_then (λ g. range_in g name.now) (grade_called self.now grade.now) }

@@ -14,10 +14,10 @@ use std::alloc::Global;
 // What is said where a reading does not show why something was refused.
 const REFUSED: &str = "docs/drawing.md says under \"Refusals\" what this line means";
 
-/// What a person is told after the run of these words that ended with this status: a line `itv: ..` with its end, or an empty text where
+/// What is said to a person after the run of these words that ended with this status: a line `itv: ..` with its end, or an empty text if
 /// there is nothing to say. The status 10 stands for words that the system did not give.
 ///
-/// The files of the run are read again where each of them is a plain file. The answer of the run does not change, whatever is found.
+/// The files of the run are read again if each of them is a plain file. The answer of the run does not change, whatever is found.
 pub fn said_after<H: Shelf, L: NameLook>(
     alloc: Global,
     words: &Texts,
@@ -67,7 +67,7 @@ fn put_after<H: Shelf, L: NameLook>(
     }
 }
 
-// Of words that are not understood.
+// Puts what is said of words that are not understood.
 fn put_words(hint: &mut Hint, words: &Texts) {
     match words_fault(words) {
         Some(fault) => put_words_fault(hint, fault),
@@ -76,14 +76,14 @@ fn put_words(hint: &mut Hint, words: &Texts) {
     hint.put("; usage: itv [OPTIONS] DESIGN, and itv --help says more");
 }
 
-// Of an output that failed. Whoever reads a pipe may close it when it has read enough.
+// Puts what is said of an output that failed. Whoever reads a pipe may close it when it has read enough.
 fn put_unwritten<L: NameLook>(hint: &mut Hint, look: &L) {
     if look.look("/dev/stdout") != Looked::Pipe {
         hint.put("the output could not be written whole");
     }
 }
 
-// Of a task whose run ended with this status.
+// Puts what is said of a task whose run ended with this status.
 fn put_task<H: Shelf, L: NameLook>(
     hint: &mut Hint,
     task: Task<'_>,
@@ -100,7 +100,7 @@ fn put_task<H: Shelf, L: NameLook>(
     }
 }
 
-// Of a design that was answered.
+// Puts what is said of a design that was answered.
 fn put_design<H: Shelf, L: NameLook>(
     hint: &mut Hint,
     task: Task<'_>,
@@ -128,7 +128,7 @@ fn is_about_design(task: Task<'_>) -> bool {
     }
 }
 
-// Of a design or a file that was refused.
+// Puts what is said of a design or a file that was refused.
 fn put_refused<H: Shelf, L: NameLook>(hint: &mut Hint, task: Task<'_>, shelf: &mut H, look: &L) {
     let files = files_of(task);
     if let Some(design) = files.design {

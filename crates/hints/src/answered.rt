@@ -11,7 +11,8 @@ use refusal_hints::Hint;
 // The status of a run where some requirement is broken.
 const SOME_FAIL: u8 = 1;
 
-/// Of a design whose run ended with this status: an event that nothing bounds, if some requirement is broken, and how many warnings job lint has.
+/// Puts what is said of a design whose run ended with this status: an event that nothing bounds, if some requirement is broken, and how many warnings
+/// job lint has.
 pub fn put_answered<H: Shelf>(hint: &mut Hint, design: &str, status: u8, shelf: &mut H) {
     if let Ok(plan) = open_plan(hint.alloc(), design, shelf) {
         put_plan(hint, design, status, &plan);
@@ -19,7 +20,7 @@ pub fn put_answered<H: Shelf>(hint: &mut Hint, design: &str, status: u8, shelf: 
     }
 }
 
-// Of a plan that was read.
+// Puts what is said of a plan that was read.
 fn put_plan(hint: &mut Hint, design: &str, status: u8, plan: &Plan) {
     if let Ok(drawn) = draw_plan(hint.alloc(), plan) {
         put_drawn(hint, design, status, plan, &drawn);
@@ -27,7 +28,7 @@ fn put_plan(hint: &mut Hint, design: &str, status: u8, plan: &Plan) {
     }
 }
 
-// Of a plan and of the network that it draws.
+// Puts what is said of a plan and of the network that it draws.
 fn put_drawn(hint: &mut Hint, design: &str, status: u8, plan: &Plan, drawn: &DrawnNetwork) {
     if status == SOME_FAIL {
         put_unbounded(hint, drawn);

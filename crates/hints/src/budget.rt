@@ -3,7 +3,7 @@
 use command_words::{SearchJob, Task};
 use refusal_hints::Hint;
 
-/// Puts that the budget left an answer open, be it to a question or to a requirement, and what may settle the answer.
+/// Puts that the budget left an answer open, to a question or to a requirement, and what may settle the answer.
 pub fn put_open(hint: &mut Hint, task: Task<'_>) {
     hint.put("the budget left an answer open: ");
     hint.put(settles(task));

@@ -1,4 +1,4 @@
-//! What a person is told after a run: why the words, a file or the design was refused, which event nothing bounds, or that job lint warns of the
+//! What is said to a person after a run: why the words, a file or the design was refused, which event nothing bounds, or that job lint warns of the
 //! design. There is no contract on what is said: a hint is not proved, and no answer of a run rests on one. Each takes time and memory in proportion
 //! to the files.
 #![tactic(auto)]

@@ -20,8 +20,8 @@ enum Extent {
     OneSide,
 }
 
-/// Of a design some of whose requirements are broken: an event of a requirement that no rule and no net bounds, or else one that none bounds on a side that
-/// the requirement is about. Nothing is put where there is none.
+/// Puts what is said of a design some of whose requirements are broken: an event of a requirement that no rule and no net bounds, or else one that none
+/// bounds on a side that the requirement is about. Nothing is put if there is none.
 pub fn put_unbounded(hint: &mut Hint, drawn: &DrawnNetwork) {
     match holders_of(hint.alloc(), drawn) {
         Ok(held) => {

@@ -19,7 +19,7 @@ abbrev pub walk : {X A F : Type 0} → (ℕ → A → X → Result A F) → ℕ 
 walk step n done [] = Ok done
 walk step n done (x ∷ xs) = step n done x >>= λ more. walk step (n + 1) more xs
 
--- likewise, one step for each of so many numbers from n on
+-- one step for each of so many numbers from n on, up to the first fault; each step gets what the steps before it gave
 abbrev pub walk_to : {A F : Type 0} → (ℕ → A → Result A F) → ℕ → A → ℕ → Result A F
 walk_to step n done zero = Ok done
 walk_to step n done (suc left) = step n done >>= λ more. walk_to step (n + 1) more left

@@ -6,7 +6,7 @@ use crate::text::NoMemory;
 use std::alloc::Global;
 use std::marker::Model;
 
-/// A list of things of one type, each by its number from 0. Contracts see the list itself.
+/// A list of elements of one type, numbered from 0. Contracts see the list itself.
 #[derive(Drop)]
 pub struct Listing<T> {
     items: Vec<T>,
@@ -30,21 +30,21 @@ impl<T> Listing<T> {
         }
     }
 
-    /// How many things there are.
+    /// How many elements there are.
     pub fn len(&self) -> u64
         ensures count { result ≡ length self.now }
     {
         self.items.len() as u64
     }
 
-    /// Whether there is nothing.
+    /// Whether there are none.
     pub fn is_empty(&self) -> bool
         ensures test { result ≡ (length self.now == 0) }
     {
         self.items.is_empty()
     }
 
-    /// The thing at a place, counted from 0.
+    /// The element at a place, counted from 0.
     pub fn get(&self, k: u64) -> &T
         requires { k < length self.now }
         ensures item { slice_get self.now k ≡ Some result.now }
@@ -52,7 +52,7 @@ impl<T> Listing<T> {
         &self.items[k as usize]
     }
 
-    /// All things in order.
+    /// All elements in order.
     pub fn as_slice(&self) -> &[T]
         ensures items { result.now ≡ self.now }
     {
@@ -61,7 +61,7 @@ impl<T> Listing<T> {
 }
 
 impl<T: Drop> Listing<T> {
-    /// Puts a thing at the end. Where memory is not found the list is unchanged.
+    /// Puts an element at the end. If memory is not found, the list is unchanged.
     pub fn push(&mut self, item: T) -> Result<(), NoMemory>
         ensures ok { OnOk result (self.new ≡ self.old ++ item ∷ []) }
         ensures err { OnErr result (self.new ≡ self.old) }

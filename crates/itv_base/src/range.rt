@@ -70,7 +70,7 @@ impl Range {
         }
     }
 
-    /// The low end in picoseconds, or `None` where it is open.
+    /// The low end in picoseconds, or `None` if it is open.
     pub fn low(&self) -> Option<i64>
         ensures end { result ≡ self.now.low }
         ensures within { IsEnd result }
@@ -78,7 +78,7 @@ impl Range {
         self.low
     }
 
-    /// The high end in picoseconds, or `None` where it is open.
+    /// The high end in picoseconds, or `None` if it is open.
     pub fn high(&self) -> Option<i64>
         ensures end { result ≡ self.now.high }
         ensures within { IsEnd result }

@@ -62,7 +62,7 @@ impl ShelfMem {
         })
     }
 
-    /// Sets the file of a name. Where memory is not found the shelf is unchanged.
+    /// Sets the file of a name. If memory is not found, the shelf is unchanged.
     pub fn add(&mut self, alloc: Global, name: &str, bytes: &[u8]) -> Result<(), NoMemory>
         ensures ok { OnOk result (self.new
             ≡ record self.old { files = map.insert self.old.files name.now bytes.now }) }
@@ -76,7 +76,7 @@ impl ShelfMem {
         Ok(())
     }
 
-    /// Lists a call that is to fail, given by its number from 0. Where memory is not found the shelf is unchanged.
+    /// Lists a call that is to fail, given by its number from 0. If memory is not found, the shelf is unchanged.
     pub fn fail_call(&mut self, call: u32) -> Result<(), NoMemory>
         ensures ok { OnOk result (self.new ≡ record self.old { failing = self.old.failing ++ call ∷ [] }) }
         ensures err { OnErr result (self.new ≡ self.old) }

@@ -30,7 +30,7 @@ impl Texts {
         })
     }
 
-    /// Puts a copy of a text at the end. Where memory is not found the list is unchanged.
+    /// Puts a copy of a text at the end. If memory is not found, the list is unchanged.
     pub fn push(&mut self, alloc: Global, text: &str) -> Result<(), NoMemory>
         ensures ok { OnOk result (self.new ≡ self.old ++ text.now ∷ []) }
         ensures err { OnErr result (self.new ≡ self.old) }

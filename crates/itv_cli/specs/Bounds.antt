@@ -8,7 +8,7 @@ use Rattle.job_base.specs.Ending.{answer_of}
 use Rattle.job_bounds.specs.Reports.{Reports}
 use Rattle.job_bounds.specs.declared.summary.Summary.{Summary}
 
--- an answer is undecided only where the budget of a search is below the number of cause choices
+-- an answer is undecided only if the budget of a search is below the number of cause choices
 abbrev pub DecidesWithin : Drawn → ℕ → Answer → Type 0
 DecidesWithin drawn budget answer = answer ≡ Undecided → budget < cause_choices drawn.net.constraints
 

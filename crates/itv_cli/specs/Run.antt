@@ -96,7 +96,7 @@ pub record HasWriteFault (call : Call) : Type 0 where
   pub wanted : IntendedText call text
   pub cut : CutShort call.sink_before call.sink_after text
 
--- memory was not found: nothing was written, and no fetch failed
+-- memory ran out: nothing was written, and no fetch failed
 pub record IsUntouched (call : Call) : Type 0 where
   pub sink : call.sink_after ≡ call.sink_before
   pub shelf : IsShelfUnchanged call
@@ -155,12 +155,12 @@ abbrev pub FilesDecide : Option Files → Option Files → Task → Outcome → 
 FilesDecide None listed asked outcome = IfSome listed (λ files. OutcomeBy (end_over files (opening asked)) outcome)
 FilesDecide (Some made) listed asked outcome = OutcomeBy (end_over made (opening asked)) outcome
 
--- if the words ask for a task and no fault was counted, the files of the task decide the end, or memory was not found
+-- if the words ask for a task and no fault was counted, the files of the task decide the end, or memory ran out
 abbrev pub Completes : Call → Outcome → Type 0
 Completes call outcome =
     (asked : Task) → taken call.words ≡ task asked → HasNoFault call → (outcome ≡ NoMemory) ⊎ FilesDecide (made_for asked) call.shelf_before.files asked outcome
 
--- if the words ask for no task and no put failed, the end is the end for these words, or memory was not found
+-- if the words ask for no task and no put failed, the end is the end for these words, or memory ran out
 abbrev pub RefusesWords : Call → Outcome → Type 0
 RefusesWords call outcome =
     ¬ (FaultCounted call.sink_before.faults call.sink_after.faults)

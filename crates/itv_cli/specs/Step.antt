@@ -39,7 +39,7 @@ pub record HasForm (drawn : Drawn) : Type 0 where
 abbrev pub list_in : Drawn → Option (List ℕ) → FileReading (Option (List NumberSeen))
 list_in drawn list = option_map_or (λ text. at Design refusals.Number (numbers_in drawn text) >>= λ numbers. gives (Some numbers)) list (gives None)
 
--- what is read for job margin, by a plan and the network that it draws
+-- what is read for job margin, given a plan and the network that it draws
 abbrev pub margin_at : PlanView → Drawn → Option (List ℕ) → ℕ → FileReading Ready
 margin_at plan drawn list budget = list_at drawn list >>= λ numbers. gives (given.Margin plan drawn numbers budget)
 
@@ -54,7 +54,7 @@ IsAllowed (given.Generated drawn size budget) = IsBudget budget
 IsAllowed (given.Margin plan drawn numbers budget) = IsBudget budget
 IsAllowed (given.Whatif drawn edits budget) = (length drawn.rows ≤ MAX_SESSION_ROWS) × IsBudget budget × All (IsThere drawn) edits
 
--- what the reading for a task answers over files that are made for it; nothing is said if memory was missing
+-- what the reading for a task answers over files that are made for it; nothing is said if memory ran out
 abbrev pub OpensMade : Files → Task → Result Ready Stop → Type 0
 OpensMade files asked (Ok x) = ready x ≡ end_over files (opening asked)
 OpensMade files asked (Err (Refused place why)) = refused place why ≡ end_over files (opening asked)

@@ -1,7 +1,7 @@
 //! The program's work: from the words, the files and a sink to what a job writes, and to the end of the run.
-//! A job reads a design and answers. Each job is a case of [`ready::Ready`]; `opening.rt` has what it reads, and `job.rt` what it
-//! writes. The run itself knows no job.
-//! The one contract is the contract of `run`: what is true where a run ends with an outcome.
+//! A job reads a design and answers. `opening.rt` has what each job reads, which is a [`ready::Ready`], and `job.rt` what it writes.
+//! The run itself knows no job.
+//! The one contract is the contract of `run`: what is true if a run ends with an outcome.
 #![tactic(auto)]
 
 mod job;

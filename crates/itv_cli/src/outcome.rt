@@ -6,11 +6,11 @@ ghost use Rattle.std.specs.Prelude.{◌≡◌};
 #[derive(Clone, Copy)]
 pub enum Outcome {
     /// What the job wrote has no bad news: every requirement passes and every bound is settled, or there is a matrix, or the report
-    /// is accepted.
+    /// is accepted, or job lint has no line to print.
     AllPass,
     /// The words ask for help, and the text of help was written.
     Help,
-    /// Some requirement is broken.
+    /// Some requirement is broken, or job lint has a line to print.
     SomeFail,
     /// No times satisfy the network, or for a matrix its always-edges.
     Inconsistent,
@@ -23,7 +23,7 @@ pub enum Outcome {
     ReadFault,
     /// The output could not be written.
     WriteFault,
-    /// Memory was wanted and not found, before anything was written.
+    /// Memory ran out before anything was written.
     NoMemory,
     /// The words are refused, or lack what their job needs.
     BadWords,

@@ -56,7 +56,7 @@ pub enum Ready {
         budget: u64,
     },
     /// To find how far the numbers of a drawn network may be moved, and to speak of the plan that draws it: the numbers that are moved as one, or
-    /// `None` where each is moved by itself, and the cases that each search may close.
+    /// `None` if each is moved by itself, and the cases that each search may close.
     Margin {
         plan: Plan,
         drawn: DrawnNetwork,

@@ -20,9 +20,9 @@ use std::alloc::Global;
 /// Does what the words ask for: reads the files of a job, and writes what the job answers.
 ///
 /// The words name a job and a design. The files of the design are fetched, and what they draw is unrolled. The first refusal ends the run
-/// with its line, and so does a file that can't be read. Then the job writes its report, its bounds, its matrix, whether a report is right,
-/// a drawing, or a summary. Bad words get a line of their own, and a request for help gets the text of help. All memory is taken before the
-/// first put, and after a put that failed nothing more is put.
+/// with its line, and so does a file that can't be read. Then the job writes what it answers. Bad words get
+/// a line of their own, and a request for help gets the text of help. All memory is taken before the first put, and after a put that failed
+/// nothing more is put.
 ///
 /// Lack of memory may come in place of any end, and nothing is written then.
 pub fn run<H: Shelf, K: Sink>(alloc: Global, words: &Texts, shelf: &mut H, sink: &mut K) -> Outcome

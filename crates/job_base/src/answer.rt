@@ -10,7 +10,7 @@ use slack_report::EndWord;
 pub enum Answer {
     /// No line of the text is bad news.
     AllPass,
-    /// Some requirement is broken.
+    /// Some requirement is broken, or job lint has a line to print.
     SomeFail,
     /// No times satisfy the network.
     Inconsistent,

@@ -23,7 +23,7 @@ pub fn written_is_accepted()
     ensures law { WrittenIsAccepted }
 {}
 
-/// Where a put failed, a front of some text is there. The text is of lines that begin a right report, with the lines of proofs or without them.
+/// If a put failed, a front of some text is there. The text is of lines that begin a right report, with the lines of proofs or without them.
 pub fn begun_is_right()
     ensures law { BegunIsRight }
 {}

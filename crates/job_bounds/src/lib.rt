@@ -1,5 +1,5 @@
 //! Job bounds: from a drawn network and a budget to a report. The contract of the crate: `write_bounds` writes a right report of the network. Lines
-//! of proofs, printed or left out, show its finding and its bounds. Where a put failed, the beginning of such a report is written.
+//! of proofs, printed or left out, show its finding and its bounds. If a put failed, the beginning of such a report is written.
 #![tactic(auto)]
 
 mod bound_witness;

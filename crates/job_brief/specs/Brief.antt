@@ -10,7 +10,7 @@ use Rattle.job_why.specs.Text.{Noted, ending_of}
 use Rattle.job_brief.specs.Text.{brief_text}
 
 -- The text says what is found of each row, and in lines of words also what is found of the network. All that is found is right, and the finding
--- or a bound is open only where a search by cases used the budget up. The word at the end of the lines gives the answer, of a table too, where it does not stand.
+-- or a bound is open only if a search by cases used the budget up. The word at the end of the lines gives the answer, of a table too, where it does not stand.
 pub record AnswersBrief (noted : Noted) (drawn : Drawn) (budget : ℕ) (csv : Bool) (answer : Answer) (text : List ℕ) : Type 0 where
   pub finding : Finding
   pub found : List RowFound

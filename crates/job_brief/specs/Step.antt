@@ -1,4 +1,4 @@
--- Words of the contracts by which the steps of job brief call one another.
+-- What the steps of job brief promise one another.
 use Rattle.std.specs.Prelude.{◌≡◌, ◌==◌, ◌&&◌, ◌||◌, ℕ, zero, suc, nat_lt, Bool, true, false, if◌then◌else◌, List, [], ◌∷◌, ◌++◌, map, slice_get, count_by, Option, Some, None, codes}
 use Rattle.itv_base.specs.Names.{name_view}
 use Rattle.itv_base.specs.Numerals.{end_text, number_text}
@@ -47,7 +47,7 @@ numbered_rows drawn found = numbered_from 0 drawn.rows found
 abbrev pub place_of : NumberedRow → RowRank
 place_of numbered = record { number = numbered.number; rank = rank_of numbered; misses = misses_of numbered; worst = worst_of numbered }
 
--- the rank of a row with a number, by its judgement
+-- the rank of a row with a number, according to its judgement
 abbrev pub place_by : ℕ → Option Judged → RowRank
 place_by number None = record { number = number; rank = 3; misses = false; worst = None }
 place_by number (Some judged) = record {
@@ -77,7 +77,7 @@ both_meet test (Some a) (Some b) = test a b
 abbrev pub goes_on_at : Drawn → List RowFound → ℕ → ℕ → Bool
 goes_on_at drawn found row next = both_meet (goes_on drawn) (slice_get (numbered_rows drawn found) row) (slice_get (numbered_rows drawn found) next)
 
--- runs with one more row, by its rank
+-- runs with one more row, given its rank
 abbrev pub fold_at : Drawn → List RowFound → RowRank → List RunPlace → List RunPlace
 fold_at drawn found row [] = record { first = row; last = row.number } ∷ []
 fold_at drawn found row (run ∷ runs) =

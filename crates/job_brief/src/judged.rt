@@ -16,7 +16,7 @@ pub struct Judged {
     pub slack: Slack,
 }
 
-/// The judgement of a row, by what is found of it. An ask has none.
+/// The judgement of a row, given what is found of it. An ask has none.
 pub fn judged_of(kind: RowKind, found: &RowFound) -> Option<Judged>
     requires times { HasRowTimes found.now }
     ensures judged { result ≡ judged_in kind found.now }

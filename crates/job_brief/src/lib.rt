@@ -1,5 +1,5 @@
 //! Job brief: each row on one line, the worst first, as words or as a table; rows that say the same in one cycle after another are one line.
-//! The contract of the crate: `write_brief` writes what is found of the network and of each of its rows. Where a put failed, it wrote a
+//! The contract of the crate: `write_brief` writes what is found of the network and of each of its rows. If a put failed, it wrote a
 //! front of such a text.
 #![tactic(auto)]
 

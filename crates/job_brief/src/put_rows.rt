@@ -53,7 +53,7 @@ pub fn put_rows<N: Notes, K: Sink>(
     Ok(())
 }
 
-// What the line of a run says, by its first row and its last one.
+// What the line of a run says, given its first row and its last one.
 fn line_of<'a, N: Notes>(
     csv: bool,
     number: u32,

@@ -12,7 +12,7 @@ use itv_base::NoMemory;
 use job_base::row_at;
 use std::alloc::Global;
 
-/// The ranks of all rows of which something is found, by their numbers. All the memory that this needs is taken first.
+/// The ranks of all rows of which something is found, in the order of their numbers. All the memory that this needs is taken first.
 pub fn ranks_of(
     alloc: Global,
     drawn: &DrawnNetwork,

@@ -14,7 +14,7 @@ use itv_base::NoMemory;
 use job_base::row_at;
 use std::alloc::Global;
 
-/// The runs of all rows of which something is found, by their first rows. Each row goes to the first run with whose last row it goes on, or
+/// The runs of all rows of which something is found, in the order of their first rows. Each row goes to the first run with whose last row it goes on, or
 /// begins one. All the memory that this needs is taken first.
 pub fn runs_of(
     alloc: Global,

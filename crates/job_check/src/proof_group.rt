@@ -140,7 +140,7 @@ fn minus(value: i64) -> i64
     }
 }
 
-// Takes the proof lines from a line on for a goal. If there is none, the lines are passed over.
+// Takes the proof lines from a line on for a goal. If there is none, the lines are ignored.
 fn check_for(
     net: &Network,
     checker: &mut Checker,

@@ -65,7 +65,7 @@ abbrev pub pair_of : Which → Row → Pair
 pair_of Max row = record { from = row.from; to = row.to }
 pair_of Min row = record { from = row.to; to = row.from }
 
--- the greatest separation of the pair, by the number of the bound
+-- the greatest separation of the pair, given the number of the bound
 abbrev pub claim_of : Which → ℤ → ℤ
 claim_of Max value = value
 claim_of Min value = neg_ℤ value

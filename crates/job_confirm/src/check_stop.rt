@@ -11,7 +11,7 @@ use std::alloc::AllocFailed;
 pub enum CheckStop {
     /// A line is refused: the line in which the last `left` bytes of the text begin.
     Refused { left: usize },
-    /// Memory was wanted and not found.
+    /// Memory ran out.
     NoMemory,
 }
 

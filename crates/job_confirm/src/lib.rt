@@ -1,5 +1,5 @@
 //! Job confirm: whether a text of job settle is right, without any search. The contract of the crate: a text is accepted
-//! exactly where it is a text of job settle with its proofs, whoever wrote it, unless memory runs out. A checker has
+//! if and only if it is a text of job settle with its proofs, whoever wrote it, unless memory runs out. A checker has
 //! taken each proof of an accepted text.
 #![tactic(auto)]
 

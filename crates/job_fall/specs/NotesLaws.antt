@@ -1,4 +1,4 @@
--- The laws of notes.
+-- The laws of the scribe that writes the lines of a derivation to a sink.
 use Rattle.std.specs.Prelude.{◌≡◌, List, [], ◌∷◌, ◌++◌, refl}
 use Rattle.std.proofs.Common.{sym, ap, subst, ◌∙◌, append_assoc}
 use Rattle.itv_base.specs.Outside.{CutShort, SinkState, grown}

@@ -69,7 +69,7 @@ AnswersRow net which r turns lines solver answer =
 
 -- ---- what is written
 
--- the finding by an answer for the pair of event 0 and event 0. That pair is never unbounded
+-- the finding from an answer for the pair of event 0 and event 0. That pair is never unbounded
 abbrev pub found_by : Fallen → FallFinding
 found_by (fallen.Closed value) = founds.Consistent
 found_by fallen.Unbounded = founds.Consistent
@@ -87,7 +87,7 @@ HasFound net founds.Consistent = (times : List ℤ) × Satisfies times net
 HasFound net founds.Inconsistent = Unit {0}
 HasFound net founds.Spent = Unit {0}
 
--- the bound of a row with this from-event, by an answer. For a consistent network no answer is inconsistent
+-- the bound of a row with this from-event, from an answer. For a consistent network no answer is inconsistent
 abbrev pub shown_bound : Which → EventId → List ℤ → List Bool → Fallen → FallBound
 shown_bound which from times ray (fallen.Closed value) = closed (shown_by which value) (moved from times)
 shown_bound which from times ray fallen.Unbounded = unbounded (moved from times) ray

@@ -1,4 +1,4 @@
-//! Notes that write the lines of a derivation to a sink.
+//! A scribe that writes the lines of a derivation to a sink.
 
 ghost use Rattle.std.specs.Prelude.{◌≡◌};
 ghost use Rattle.std.proofs.Common.{ap, refl, ◌∙◌};

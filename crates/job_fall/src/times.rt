@@ -7,8 +7,8 @@ ghost use Rattle.falling.specs.Cap.{IsNearValue};
 use event_graph::move_all;
 use itv_base::EventId;
 
-/// Copies the times to `out`, less the time of an event. All times are in picoseconds and at most 2^61 in absolute
-/// value. The event must be there.
+/// Copies the times to `out`, less the time of an event. All times are in picoseconds and within the greatest cap
+/// in absolute value. The event must be there.
 pub fn take_moved(out: &mut [i64], times: &[i64], origin: EventId)
     requires count { length out.old ≡ length times.now }
     requires event { origin.0 < length times.now }

@@ -43,7 +43,7 @@ ContradictsByOrder network by =
 -- ---- rows
 
 -- What is found of the greatest separation of a pair. It is this number, and some satisfying times that attain it meet each edge of a chain with
--- equality; or from some satisfying times the second event can be put off without end; or nothing is known.
+-- equality; or from some satisfying times the second event can be raised without end; or nothing is known.
 abbrev pub IsPairSeen : Net → EventId → EventId → PairSeen → Type 0
 IsPairSeen net from to (seen.Closed value chain) = IsGreatest net from to value × Explains net from to value chain.items
 IsPairSeen net from to seen.Unbounded = (set : List Bool) × CanRise net from to set
@@ -60,13 +60,13 @@ PassesByOrder network row range by =
     IsByOrder by (IsMet network.net row.from row.to range × IsNotMet (net_apart network) row.from row.to range)
     (IsNotMet network.net row.from row.to range ⊎ IsMet (net_apart network) row.from row.to range)
 
--- a row that only asks passes by nothing
+-- a row that only asks has no requirement that passes
 abbrev pub RowPasses : Drawn → Row → RowKind → ByOrder → Type 0
 RowPasses network row kinds.Ask by = by ≡ by_order.No
 RowPasses network row (kinds.Req range) by = PassesByOrder network row range by
 
--- what is found of a row: of its greatest separation, of the greatest separation of the reversed pair, and whether its requirement passes by the order
--- of lanes alone
+-- what is found of a row: of its greatest separation, of the greatest separation of the reversed pair, and whether its requirement passes because of
+-- the order of lanes alone
 pub record IsRowSeen (network : Drawn) (row : Row) (found : RowSeen) : Type 0 where
   pub greatest : IsPairSeen network.net row.from row.to found.greatest
   pub least : IsPairSeen network.net row.to row.from found.least

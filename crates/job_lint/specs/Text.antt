@@ -97,7 +97,7 @@ spot_told plan d spot = told_words plan (part_word d spot.part) spot.origin
 abbrev pub at_told : PlanView → Drawn → DrawnAt → List Word
 at_told plan network at = told_words plan (event_part network at.event) at.origin
 
--- ---- keys that are passed over
+-- ---- keys that are ignored
 
 -- a near key of the sheet of a part
 abbrev pub sheet_key_word : DesignView → ℕ → ℕ → Word

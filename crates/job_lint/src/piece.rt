@@ -30,7 +30,7 @@ pub enum Piece<'a> {
     Count(u64),
 }
 
-/// The places at the end of a line, of which the reader is told the notes or the texts.
+/// The places at the end of a line, whose notes or texts are printed.
 #[derive(Clone, Copy)]
 pub enum Told<'a> {
     Nothing,

@@ -28,9 +28,9 @@ use std::alloc::Global;
 const LINE_ROOM: u32 = 256;
 
 /// Writes what in a design may say something else than was meant: a line for each warning of the drawing, for each end of a range that no times attain,
-/// and for each row whose answer rests on the order of a lane or was left open; or that the order of lanes contradicts the other rules, or that the search
-/// for times was left open. A line about an edge that is meant is left out and counted. Each search closes at most `budget` cases, and takes at most a
-/// thousand turns for each. All is found before the first put.
+/// and for each row whose answer rests on the order of a lane or was left open. In place of the lines of ends and rows one line may say that the order of
+/// lanes contradicts the other rules, or that the search for times was left open. A line about an edge that is meant is left out and counted. Each search
+/// closes at most `budget` cases, and takes at most a thousand turns for each. All is found before the first put.
 pub fn write_lint<K: Sink>(
     alloc: Global,
     plan: &Plan,

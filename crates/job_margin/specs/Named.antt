@@ -13,7 +13,7 @@ use Rattle.moves.specs.declared.number_seen.NumberSeen.{NumberSeen}
 abbrev pub is_called : List ℕ → NumberSeen → Bool
 is_called text seen = bytes_eq text (drawn_number_text seen.number)
 
--- one more number of a list, by what it is called; the fault is its place, where no number is called so, or the list has it before
+-- one more number of a list, given what it is called; the fault is its place, where no number is called so, or the list has it before
 abbrev pub with_named : List NumberSeen → ℕ → List NumberSeen → List ℕ → Result (List NumberSeen) ℕ
 with_named all place named text =
     if list_any (is_called text) named then Err place else option_map_or (λ seen. Ok (named ++ seen ∷ [])) (find (is_called text) all) (Err place)

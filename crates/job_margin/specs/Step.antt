@@ -83,7 +83,7 @@ abbrev pub IsListOf : Drawn → List NumberSeen → Bool → Option (List Number
 IsListOf drawn seen false list = (list ≡ None) × (seen ≡ numbers_of drawn)
 IsListOf drawn seen true list = list ≡ Some seen
 
--- what is read of a list, seen by a view, is what its reading gives; nothing is said if memory was missing
+-- what is read of a list, seen by a view, is what its reading gives; nothing is said if memory ran out
 abbrev pub IsListRead : {A B : Type 0} → (B → A) → Result B ListFault → Result A ℕ → Type 0
 IsListRead view (Ok named) reading = reading ≡ Ok (view named)
 IsListRead view (Err (NoNumber place)) reading = reading ≡ Err place

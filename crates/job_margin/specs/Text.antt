@@ -55,7 +55,7 @@ is_left_open margin = false
 abbrev pub are_left_open : List NumberFound → Bool
 are_left_open found = list_any (λ (f : NumberFound). list_any (λ (m : Word × Margin). is_left_open m.1) (margins_of f)) found
 
--- the finding, by the word that the network as drawn would end with
+-- the finding, according to the word that the network as drawn would end with
 abbrev pub finding_word : EndWord → Word
 finding_word Inconsistent = codes "inconsistent"
 finding_word Undecided = codes "spent"

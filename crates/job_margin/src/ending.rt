@@ -5,7 +5,7 @@ ghost use Rattle.job_margin.specs.Text.{end_of, finding_word};
 
 use slack_report::EndWord;
 
-/// The word of the finding, by the word that the network as drawn would end with.
+/// The word of the finding, according to the word that the network as drawn would end with.
 pub fn finding_word(word: EndWord) -> &'static [u8]
     ensures word { result.now ≡ finding_word word }
 {

@@ -19,7 +19,7 @@ use Rattle.job_base.specs.Events.{event_lines}
 abbrev pub Entries : Type 0
 Entries = List (List (Option ℤ))
 
--- the entries from an event, by the number of the event
+-- the entries from an event, given the number of the event
 abbrev pub row_of : Entries → ℕ → List (Option ℤ)
 row_of rows from = slice_index_or rows from []
 

@@ -1,4 +1,4 @@
--- Words of the contracts by which the steps of job self call one another.
+-- What the steps of job self promise one another.
 use Rattle.std.specs.Prelude.{ℕ, List, [], ◌∷◌}
 use Rattle.itv_base.specs.Numerals.{number_text}
 use Rattle.job_self.specs.Summary.{words_text}

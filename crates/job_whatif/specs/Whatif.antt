@@ -33,8 +33,8 @@ pub record IsFirst (net : Net) (pairs : List Pair) (budget : ℕ) (s : SessionVi
 abbrev pub no_change : Change
 no_change = record { kept = 0; searched = 0 }
 
--- The edits of a drawn network lead from a session through other sessions, each of which is right. The text is of all these sessions, and the answer
--- is by the last one.
+-- The edits of a drawn network lead from a session through other sessions, each of which is right. The text is of all these sessions, and the last
+-- one gives the answer.
 pub record AnswersFrom (drawn : Drawn) (first : SessionView) (kinds : List RowKind) (edits : List RangeEdit) (answer : Answer) (text : List ℕ) : Type 0 where
   pub last : SessionView
   pub notes : List Note

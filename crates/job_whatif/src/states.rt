@@ -21,7 +21,7 @@ use range_edits::{RangeEdit, Subject};
 use slack_report::{add_number, add_piece, add_range, add_spaced};
 use whatif::{Change, Note};
 
-/// Adds the states after edits, by their notes. The first of these states has number 1.
+/// Adds the states after edits, given their notes. The first of these states has number 1.
 pub fn add_states(
     text: &mut Vec<u8>,
     kinds: &[RowKind],

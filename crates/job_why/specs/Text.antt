@@ -39,7 +39,7 @@ use Rattle.explanations.specs.Answers.{both_of, bound_of, verdict_by, verdict_in
 
 -- ---- origins
 
--- the notes of what draws causes and rows, by the names of parts, and the speed grades of the parts
+-- the notes of what draws causes and rows, given the names of parts, and the speed grades of the parts
 abbrev pub Noted : Type 0
 Noted = NotesKept
 
@@ -82,7 +82,7 @@ part_at drawn name = unwrap_or (option_map (λ (c : Constraint). part_of drawn c
 abbrev pub drawn_words : Noted → Drawn → EdgeName → List Word
 drawn_words noted drawn name = unwrap_or (option_map (origin_words noted (part_at drawn name)) (origin_at drawn name)) []
 
--- a step from an event to an event, with a weight and the edge behind it
+-- a step from an event to an event, with a weight and what draws its edge
 abbrev pub step_words : Noted → Drawn → EdgeName → EventId → EventId → ℤ → List Word
 step_words noted drawn name from to weight =
     codes "step" ∷ name_in drawn from ∷ name_in drawn to ∷ signed_text weight ∷ drawn_words noted drawn name

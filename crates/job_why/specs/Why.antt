@@ -8,7 +8,7 @@ use Rattle.explanations.specs.declared.row.RowFound.{RowFound}
 use Rattle.explanations.specs.Answers.{AreFound, IsFindingFound, SettlesWithin}
 use Rattle.job_why.specs.Text.{Noted, ending_of, why_text}
 
--- The text says what is found of the network and of each row, with the reasons. All of it is right, and the finding or a bound is open only where a search
+-- The text says what is found of the network and of each row, with the reasons. All of it is right, and the finding or a bound is open only if a search
 -- by cases used the budget up. The answer is given by the word at the end.
 pub record AnswersWhy (noted : Noted) (drawn : Drawn) (budget : ℕ) (answer : Answer) (text : List ℕ) : Type 0 where
   pub finding : Finding

@@ -1,4 +1,4 @@
-//! The bounds of a row that are printed, and by which verdicts and slacks are judged.
+//! The bounds of a row that are printed, and from which its verdict and its slack follow.
 
 ghost use Rattle.std.specs.Prelude.{◌≡◌};
 ghost use Rattle.explanations.specs.Answers.{both_of, bound_of};
@@ -6,7 +6,7 @@ ghost use Rattle.explanations.specs.Answers.{both_of, bound_of};
 use explanations::RowFound;
 use requirements::BothBounds;
 
-/// Both bounds of a row. Verdicts and slacks are judged by them.
+/// Both bounds of a row. Its verdict and its slack follow from them.
 pub fn both_of(found: &RowFound) -> BothBounds
     ensures least { result.least ≡ bound_of found.now.least }
     ensures greatest { result.greatest ≡ bound_of found.now.greatest }

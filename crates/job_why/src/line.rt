@@ -16,7 +16,7 @@ pub enum Line<'a> {
     },
     /// An event that can be raised by any number, together with the others of its set.
     Raise(EventName<'a>),
-    /// Both bounds without the order of lanes, and the verdict by these bounds.
+    /// Both bounds without the order of lanes, and the verdict according to these bounds.
     Order {
         both: BothBounds,
         word: Verdict,

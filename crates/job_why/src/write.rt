@@ -41,7 +41,7 @@ pub fn write_why<N: Notes, K: Sink>(
     Ok(put_found(notes, drawn, &found, &mut buffer, sink)?)
 }
 
-// Puts the whole text. Returns the answer by the word at its end.
+// Puts the whole text. Returns the answer for the word at its end.
 fn put_found<N: Notes, K: Sink>(
     notes: &N,
     drawn: &DrawnNetwork,

@@ -1,4 +1,4 @@
--- Near keys: keys of objects that are passed over, and that nearly are keys that are read.
+-- Near keys: keys of objects that are ignored, and that nearly are keys that are read.
 use Rattle.std.specs.Prelude.{ℕ, ◌+◌, ◌-◌, ◌==◌, ◌&&◌, nat_le, Bool, false, not, if◌then◌else◌, List, [], ◌∷◌, ◌++◌, length, map, filter, take, codes, option_and_then, slice_get}
 use Rattle.std.specs.List.{list_any}
 use Rattle.std.specs.Option.{option_map_or}
@@ -51,7 +51,7 @@ sheet_keys = codes "signal" ∷ codes "edge" ∷ codes "itv_grades" ∷ []
 abbrev pub lane_keys : List (List ℕ)
 lane_keys = codes "name" ∷ codes "wave" ∷ codes "node" ∷ []
 
--- the near keys of the lanes of an element of `signal`; an element is a lane, a group of elements, or passed over
+-- the near keys of the lanes of an element of `signal`; an element is a lane, a group of elements, or ignored
 abbrev mutual
   pub near_at : Data → List (List ℕ)
   near_at (array group) = near_within group

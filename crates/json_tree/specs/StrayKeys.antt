@@ -14,7 +14,7 @@ use Rattle.json_tree.specs.declared.stray_key.StrayKey.{StrayKey}
 abbrev pub netlist_keys : List (List ℕ)
 netlist_keys = codes "itv" ∷ codes "cycles" ∷ codes "parts" ∷ codes "nets" ∷ codes "edges" ∷ []
 
--- version 1 passes over the grade, and knows its key
+-- version 1 ignores the grade, and knows its key
 abbrev pub part_keys : List (List ℕ)
 part_keys = codes "name" ∷ codes "sheet" ∷ codes "grade" ∷ []
 

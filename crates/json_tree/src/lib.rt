@@ -1,6 +1,6 @@
 //! What is in a tree of JSON: lists, texts, names and whole numbers, under a key or by themselves, pairs of ends, and keys of objects
-//! that are ignored: near keys of sheets, which differ from keys that are read only by capitals or by one final `s`, and stray keys
-//! of netlists, which are all keys that are not known. All readers of trees share the words of its contracts: the elements of an
+//! that are ignored. The near keys of sheets differ from keys that are read only by capitals or by one final `s`. The stray keys of
+//! netlists are all keys that are not known. All readers of trees share the words of its contracts: the elements of an
 //! array, and the members of an object with their keys. The one contract: a call gives what its definition says of the tree. It
 //! gives `None` if and only if the tree has no such value there.
 #![tactic(auto)]

@@ -10,7 +10,7 @@ use itv_base::{NoMemory, Texts};
 use serde_json::{Map, Value};
 use std::alloc::Global;
 
-/// Puts the near keys of an object at the end. A value that is no object has none. Where memory is not found, some of
+/// Puts the near keys of an object at the end. A value that is no object has none. If memory is not found, some of
 /// them may be there.
 pub(crate) fn push_near(
     alloc: Global,

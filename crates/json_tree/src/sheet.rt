@@ -9,7 +9,7 @@ use itv_base::{NoMemory, Texts};
 use serde_json::Value;
 use std::alloc::Global;
 
-/// The near keys of a sheet, which are passed over and nearly are keys that are read: its own near keys, and then the
+/// The near keys of a sheet, which are ignored and nearly are keys that are read: its own near keys, and then the
 /// near keys of its lanes in order.
 pub fn near_in_sheet(alloc: Global, tree: &Value) -> Result<Texts, NoMemory>
     ensures { IfOk result (λ keys. keys ≡ near_in_sheet (view tree.now)) }
@@ -22,7 +22,7 @@ pub fn near_in_sheet(alloc: Global, tree: &Value) -> Result<Texts, NoMemory>
     Ok(near)
 }
 
-// Puts the near keys of the lanes of a group's elements at the end. Where memory is not found, some of them may be there.
+// Puts the near keys of the lanes of a group's elements at the end. If memory is not found, some of them may be there.
 fn push_near_within(alloc: Global, near: &mut Texts, group: &[Value]) -> Result<(), NoMemory>
     ensures { OnOk result (near.new ≡ near.old ++ near_within (items_view group.now)) }
 {

@@ -31,7 +31,7 @@ pub fn stray_in_netlist(alloc: Global, tree: &Value) -> Result<StrayKeys, NoMemo
     Ok(stray)
 }
 
-// Puts the stray keys of the parts of a netlist at the end. Where memory is not found, some of them may be there.
+// Puts the stray keys of the parts of a netlist at the end. If memory is not found, some of them may be there.
 fn push_of_parts(alloc: Global, stray: &mut StrayKeys, tree: &Value) -> Result<(), NoMemory>
     ensures { OnOk result (stray.new ≡ stray.old ++ stray_of_parts (view tree.now)) }
 {
@@ -41,7 +41,7 @@ fn push_of_parts(alloc: Global, stray: &mut StrayKeys, tree: &Value) -> Result<(
     }
 }
 
-// Puts the stray keys of the elements of a list of parts at the end. Where memory is not found, some of them may be there.
+// Puts the stray keys of the elements of a list of parts at the end. If memory is not found, some of them may be there.
 fn push_of_each_part(alloc: Global, stray: &mut StrayKeys, list: &[Value]) -> Result<(), NoMemory>
     ensures { OnOk result (stray.new ≡ stray.old ++ stray_from part_keys (λ n. places.Part n) 0 (map view list.now)) }
 {
@@ -57,7 +57,7 @@ fn push_of_each_part(alloc: Global, stray: &mut StrayKeys, list: &[Value]) -> Re
     Ok(())
 }
 
-// Puts the stray keys of the nets of a netlist at the end. Where memory is not found, some of them may be there.
+// Puts the stray keys of the nets of a netlist at the end. If memory is not found, some of them may be there.
 fn push_of_nets(alloc: Global, stray: &mut StrayKeys, tree: &Value) -> Result<(), NoMemory>
     ensures { OnOk result (stray.new ≡ stray.old ++ stray_of_nets (view tree.now)) }
 {
@@ -67,7 +67,7 @@ fn push_of_nets(alloc: Global, stray: &mut StrayKeys, tree: &Value) -> Result<()
     }
 }
 
-// Puts the stray keys of the elements of a list of nets at the end. Where memory is not found, some of them may be there.
+// Puts the stray keys of the elements of a list of nets at the end. If memory is not found, some of them may be there.
 fn push_of_each_net(alloc: Global, stray: &mut StrayKeys, list: &[Value]) -> Result<(), NoMemory>
     ensures { OnOk result (stray.new ≡ stray.old ++ stray_from net_keys (λ n. places.Net n) 0 (map view list.now)) }
 {

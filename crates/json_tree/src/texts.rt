@@ -9,7 +9,7 @@ use itv_base::{NoMemory, Text, Texts};
 use serde_json::Value;
 use std::alloc::Global;
 
-/// The texts of a list. An element that is no text is passed over.
+/// The texts of a list. An element that is no text is ignored.
 pub fn strings_in(alloc: Global, list: &[Value]) -> Result<Texts, NoMemory>
     ensures { IfOk result (λ texts. texts ≡ filter_map as_str (map view list.now)) }
 {

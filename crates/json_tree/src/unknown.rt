@@ -14,7 +14,7 @@ use serde_json::{Map, Value};
 use std::alloc::Global;
 
 /// Puts the keys of an object that are not known at the end, each with the place of the object. A value that is no
-/// object has none. Where memory is not found, some of them may be there.
+/// object has none. If memory is not found, some of them may be there.
 pub(crate) fn push_unknown(
     alloc: Global,
     stray: &mut StrayKeys,

@@ -49,7 +49,7 @@ is_ask kind = false
 
 -- ---- versions
 
--- How the labels of a version give their ends, by what is in them of type `E`: whether it can be spelled, how it is spelled, and the ends, if they are
+-- How the labels of a version give their ends, from what is in them of type `E`: whether it can be spelled, how it is spelled, and the ends, if they are
 -- known from the label itself.
 pub record Version (E : Type 0) : Type 0 where
   pub has_form : E → Bool

@@ -12,7 +12,7 @@ use Rattle.label_grammar.specs.declared.label.Kind.{Kind}
 use Rattle.label_grammar.specs.declared.label.Kind.TheVariants.{Lin, Late, Early, Req, Ask}
 use Rattle.label_grammar.specs.Label.{LooseLabel, Span, fixed, named, is_ask, kind_text}
 
--- one thing is read after another, where both can be read
+-- one reading after another, if both read something
 infixl 10 ◌>>=◌
 abbrev pub ◌>>=◌ : {A B : Type 0} → Option A → (A → Option B) → Option B
 o >>= f = option_and_then f o

@@ -51,7 +51,7 @@ fn write_note<K: Sink>(note: Option<&str>, sink: &mut K) -> Result<(), PutFailed
     }
 }
 
-/// Writes the spelling of a label. Where a put failed, a front of the spelling was written, and the sink's count of faults rose.
+/// Writes the spelling of a label. If a put failed, a front of the spelling was written, and the sink's count of faults rose.
 pub fn write_label<K: Sink>(label: &Label<'_>, sink: &mut K) -> Result<(), PutFailed>
     requires { IsProper version_1 (label_view label.now) }
     ensures puts { Puts (K.state sink.old) (K.state sink.new) (spelling version_1 (label_view label.now)) result }

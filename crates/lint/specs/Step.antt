@@ -1,4 +1,4 @@
--- Words of the contracts by which the functions of this crate find warnings.
+-- Words of contracts within this crate: how its functions find warnings.
 use Rattle.std.specs.Prelude.{◌≡◌, ℕ, Bool, ◌*◌, ◌==◌, ◌&&◌, ◌||◌, false, not, nat_lt, if◌then◌else◌, List, [], ◌∷◌, ◌++◌, length, Option, Some, None, find, is_some, option_map, slice_get, count_by, All}
 use Rattle.std.specs.HashMap.{get, HashMap}
 use Rattle.std.specs.List.{after_first, flat_map, list_any}

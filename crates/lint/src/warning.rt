@@ -38,7 +38,7 @@ pub enum Warning {
     Word(DrawnPlace),
     /// The note of an edge begins with a unit of time or with a bracket.
     Note(DrawnPlace),
-    /// A key of the sheet of a part is passed over, and nearly is a key that is read. `key` is its number, from 0, among the near keys of the
+    /// A key of the sheet of a part is ignored, and nearly is a key that is read. `key` is its number, from 0, among the near keys of the
     /// sheet.
     SheetKey {
         part: u32,

@@ -14,7 +14,7 @@ use moves::{Margin, NetFound};
 use probing::Probed;
 use std::alloc::Global;
 
-// Rounds in which the next move is guessed by the edges behind bounds. After them the middle is taken.
+// Rounds in which the next move is guessed from the edges behind bounds. After them the middle is taken.
 const GUIDED_ROUNDS: u32 = 20;
 
 /// With the lesser move of an end every requirement passes, and with the greater one a row breaks. Moves are outward and in picoseconds. The guess is the
@@ -62,8 +62,8 @@ fn is_wide(bracket: Bracket) -> bool
     bracket.passes + 1 < bracket.breaks
 }
 
-// The next move between those of a bracket: the guess, or the nearest one. Without a guess it is the nearest one to the greater move first, and then the middle,
-// and after many rounds too.
+// The next move between those of a bracket: the one nearest to the guess. Without a guess it is at first the one nearest to the greater move. In later rounds
+// without a guess, and after many rounds with one, it is the middle.
 fn between(bracket: Bracket, rounds: u32) -> i64
     requires wide { (bracket.passes +ℤ pos 1) <ℤ bracket.breaks }
     ensures above { bracket.passes <ℤ result }
@@ -97,7 +97,7 @@ pub fn middle(least: i64, most: i64) -> i64 {
     least.saturating_add(most.saturating_sub(least) / 2)
 }
 
-// The bracket with one move between those of a bracket in place of one of them, or `None` where the searches were left open.
+// The bracket with one move between those of a bracket in place of one of them, or `None` if the searches were left open.
 fn tighter(
     alloc: Global,
     sought: &EndSought<'_>,
@@ -119,7 +119,7 @@ fn tighter(
     next
 }
 
-// The bracket with one move between those of a bracket, by what a probe found there.
+// The bracket with one move between those of a bracket, according to what a probe found there.
 fn tightened(
     alloc: Global,
     sought: &EndSought<'_>,

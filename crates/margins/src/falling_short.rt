@@ -111,7 +111,7 @@ fn margin_from_least(
     found
 }
 
-// The same, by what a probe of the least move found.
+// The same, according to what a probe of the least move found.
 fn margin_by_least(
     alloc: Global,
     sought: &EndSought<'_>,
@@ -207,7 +207,7 @@ fn gap_with(
     next
 }
 
-// What is found with a move between those of a gap, by what a probe found there.
+// What is found with a move between those of a gap, according to what a probe found there.
 fn gap_by(
     alloc: Global,
     sought: &EndSought<'_>,

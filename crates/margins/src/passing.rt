@@ -67,7 +67,7 @@ fn margin_from_least(
     found
 }
 
-// The margin of an end that can't be drawn where it is, by what a probe of the least move found.
+// The margin of an end that can't be drawn where it is, according to what a probe of the least move found.
 fn margin_at_least(
     alloc: Global,
     sought: &EndSought<'_>,
@@ -154,7 +154,7 @@ fn climbed_to(
     next
 }
 
-// What is found with a move above one with which every requirement passes, by what a probe found there.
+// What is found with a move above one with which every requirement passes, according to what a probe found there.
 fn climbed_by(
     alloc: Global,
     sought: &EndSought<'_>,
@@ -187,7 +187,7 @@ fn climbed_by(
     }
 }
 
-// The margin above a move with which every requirement passes, where no bound is known to grow: by the network with the end open.
+// The margin above a move with which every requirement passes, where no bound is known to grow: from the network with the end open.
 fn margin_by_opening(
     alloc: Global,
     sought: &EndSought<'_>,
@@ -206,7 +206,7 @@ fn margin_by_opening(
     found
 }
 
-// The margin above a move with which every requirement passes, by what a probe of the network with the end open found.
+// The margin above a move with which every requirement passes, according to what a probe of the network with the end open found.
 fn margin_by_open(
     alloc: Global,
     sought: &EndSought<'_>,
@@ -293,7 +293,7 @@ fn margin_to_limit(
     found
 }
 
-// The same, by what a probe of the greatest move that can be drawn found.
+// The same, according to what a probe of the greatest move that can be drawn found.
 fn margin_at_limit(
     alloc: Global,
     sought: &EndSought<'_>,

@@ -43,7 +43,7 @@ impl EndSought<'_> {
         }
     }
 
-    // The network with the end moved outward, or `None` where the moved end can't be drawn.
+    // The network with the end moved outward, or `None` if the moved end can't be drawn.
     fn network_at(&self, alloc: Global, by: i64) -> Result<Option<Network>, NoMemory>
         requires by { IsMoveBy by }
         ensures net { IfOk result (λ moved. IfSome moved (λ net. net ≡ net_moved (widened self.now.side by) self.now.drawn.now (self.now.number.now ∷ []))) }
@@ -71,7 +71,7 @@ impl EndSought<'_> {
         )
     }
 
-    /// How far the end may be moved by the edges behind the bounds: a guess.
+    /// How far the end may be moved, according to the edges behind the bounds: a guess.
     pub fn room(&self, sides: &[SideChain]) -> Option<i64> {
         room(self.drawn, &[self.number], Step::Widen(self.side), sides)
     }

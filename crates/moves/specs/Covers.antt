@@ -1,5 +1,5 @@
 -- One network for a whole interval of values of some numbers: a cover, which allows all that is allowed with one of them, or a core, which allows what is allowed
--- with each. Each event counts its time from a multiple of the value: in times counted so a period that is moved stays as it is.
+-- with each. Each event counts its time from a multiple of the value: in such times a period that is moved stays as it is.
 use Rattle.std.specs.Prelude.{◌≡◌, ℤ, neg_ℤ, ◌-ℤ◌, ◌*ℤ◌, List, [], ◌∷◌, length, map}
 use Rattle.std.specs.List.{AllZip}
 use Rattle.itv_base.specs.declared.names.EventId.{EventId}
@@ -21,7 +21,7 @@ times_counted [] value times = times
 times_counted (count ∷ counts) value [] = []
 times_counted (count ∷ counts) value (time ∷ times) = (time -ℤ (count *ℤ value)) ∷ times_counted counts value times
 
--- how much a separation is less in times counted so
+-- how much less a separation is in such times
 abbrev pub lag : List ℤ → ℤ → EventId → EventId → ℤ
 lag counts value from to = separation counts from to *ℤ value
 
@@ -47,7 +47,7 @@ pub record IsTighterRow (row tight : Row) : Type 0 where
   pub to : row.to ≡ tight.to
   pub wants : (value : ℤ) → MeetsKind tight.kind value → MeetsKind row.kind value
 
--- a drawn network covers the one with some numbers moved by a value: in times counted so, its network allows no less, and its rows want no less
+-- a drawn network covers the one with some numbers moved by a value: in such times its network allows no less, and its rows want no less
 pub record Covers (counts : List ℤ) (drawn : Drawn) (numbers : List DrawnNumber) (cover : Drawn) (value : ℤ) : Type 0 where
   pub count : length counts ≡ drawn.net.events
   pub wider : IsWider (net_counted counts value (shifted_at drawn numbers value).net) cover.net
@@ -55,7 +55,7 @@ pub record Covers (counts : List ℤ) (drawn : Drawn) (numbers : List DrawnNumbe
 
 -- ---- cores
 
--- a drawn network lies within the one with some numbers moved by a value: in times counted so, it allows no more, and its rows want no more
+-- a drawn network lies within the one with some numbers moved by a value: in such times it allows no more, and its rows want no more
 pub record IsCoreOf (counts : List ℤ) (drawn : Drawn) (numbers : List DrawnNumber) (core : Drawn) (value : ℤ) : Type 0 where
   pub count : length counts ≡ drawn.net.events
   pub narrower : IsWider core.net (net_counted counts value (shifted_at drawn numbers value).net)

@@ -16,7 +16,7 @@ abbrev pub CanBeDrawn : Drawn → DrawnNumber → Side → ℤ → Type 0
 CanBeDrawn drawn number side by = HasDrawableCauses (moved_at drawn number (widened side by)) (number ∷ [])
 
 -- what a margin says of an end of a number, which is moved outward: `by` picoseconds outward every requirement passes, and one picosecond more breaks a row;
--- it was left open only where the budget is less than the number of cause choices
+-- it was left open only if the budget is less than the number of cause choices
 abbrev pub IsEndMargin : Drawn → ℕ → DrawnNumber → Side → Margin → Type 0
 IsEndMargin drawn budget number side margins.Free = Passes (moved_at drawn number (opened side))
 IsEndMargin drawn budget number side (margins.Until by row) = CanBeDrawn drawn number side by × Passes (moved_at drawn number (widened side by))
@@ -32,8 +32,8 @@ IsEndMargin drawn budget number side margins.Spent = cause_choices drawn.net.con
 abbrev pub IsWay : (ℤ → Drawn) → ℤ → ℤ → Type 0
 IsWay at from last = (from ≤ℤ last) × ((times : List ℤ) × Satisfies times (at last).net) × ((by : ℤ) → from ≤ℤ by → by ≤ℤ last → NoneBreaks (at by))
 
--- what a margin says of numbers that move as one, from one move on: up to which move no requirement breaks, and what stands beyond. It was left open only where
--- none breaks with each of as many further moves as the budget says, or where the budget is less than the number of cause choices.
+-- what a margin says of numbers that move as one, from one move on: up to which move no requirement breaks, and what stands beyond. It was left open only if
+-- none breaks with each of as many further moves as the budget says, or if the budget is less than the number of cause choices.
 abbrev pub IsMarginFrom : (ℤ → Drawn) → List DrawnNumber → ℕ → ℤ → Margin → Type 0
 IsMarginFrom at numbers budget from margins.Free = (by : ℤ) → from ≤ℤ by → NoneBreaks (at by)
 IsMarginFrom at numbers budget from (margins.Until by row) = IsWay at from by × BreaksRow (at (by +ℤ pos 1)) row

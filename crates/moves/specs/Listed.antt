@@ -13,18 +13,18 @@ use Rattle.drawn_numbers.specs.declared.drawn_number.DrawnNumber.TheVariants as 
 use Rattle.moves.specs.declared.number_seen.NumberSeen.{NumberSeen}
 use Rattle.moves.specs.Moving.{any_draws}
 
--- the number behind what draws a cause of a part, with the range of the cause; the order of a lane is no number
+-- the number that draws a cause of a part, given its origin, with the range of the cause; the order of a lane is no number
 abbrev pub number_by : List ℕ → Origin → Ends → List NumberSeen
 number_by part (origins.Lane lane) range = []
 number_by part (origins.Edge edge) range = (record { number = numbers.Edge part edge; range = range }) ∷ []
 number_by part (origins.Pin net pin) range = (record { number = numbers.Net net; range = range }) ∷ []
 number_by part (origins.Wire wire) range = (record { number = numbers.Wire wire; range = range }) ∷ []
 
--- some numbers, with the number behind a cause where none of them draws it
+-- some numbers, and the number that draws a cause, if none of them draws it
 abbrev pub with_cause : List ℕ → List NumberSeen → Cause × Origin → List NumberSeen
 with_cause part seen (cause, origin) = if any_draws (map (λ (s : NumberSeen). s.number) seen) part origin then seen else seen ++ number_by part origin cause.range
 
--- and with the numbers behind the causes of a constraint
+-- the same for each cause of a constraint
 abbrev pub with_causes : Drawn → List NumberSeen → Constraint × List Origin → List NumberSeen
 with_causes drawn seen (c, drew) = fold (with_cause (name_of drawn c.target).part) seen (zip c.causes drew)
 
@@ -32,7 +32,7 @@ with_causes drawn seen (c, drew) = fold (with_cause (name_of drawn c.target).par
 abbrev pub numbers_of : Drawn → List NumberSeen
 numbers_of drawn = fold (with_causes drawn) [] (zip drawn.net.constraints drawn.origins)
 
--- some numbers, with the number behind a requirement where none of them draws it
+-- some numbers, and the number that draws a requirement, if none of them draws it
 abbrev pub with_kind : List ℕ → List NumberSeen → Origin → RowKind → List NumberSeen
 with_kind part seen origin kinds.Ask = seen
 with_kind part seen origin (kinds.Req range) = if any_draws (map (λ (s : NumberSeen). s.number) seen) part origin then seen else seen ++ number_by part origin range

@@ -90,7 +90,7 @@ cause_moved move test cause origin = if test origin then record cause { range = 
 abbrev pub AreDrawable : (Origin → Bool) → List Cause → List Origin → Type 0
 AreDrawable test = AllZip (λ (cause : Cause) (origin : Origin). IsTrue (test origin) → IsRange cause.range)
 
--- a drawn network of which nothing but its network and its rows is looked at
+-- a drawn network without origins and names: only its network and its rows are looked at
 abbrev pub bare_drawn : Net → List Row → Drawn
 bare_drawn net rows = record { net = net; origins = []; names = []; rows = rows }
 

@@ -41,7 +41,7 @@ pub fn all_numbers_of(alloc: Global, drawn: &DrawnNetwork) -> Result<Vec<NumberS
     Ok(seen)
 }
 
-// Adds the number behind a requirement, where none of the numbers draws it.
+// Adds the number that draws a requirement, if none of the numbers draws it.
 fn add_row(
     alloc: Global,
     drawn: &DrawnNetwork,
@@ -61,7 +61,7 @@ fn add_row(
     }
 }
 
-// Adds the numbers behind the causes of a constraint.
+// Adds the numbers that draw the causes of a constraint, each if none of the numbers draws the cause.
 fn add_causes(
     alloc: Global,
     drawn: &DrawnNetwork,
@@ -82,7 +82,7 @@ fn add_causes(
     Ok(())
 }
 
-// Adds the number behind a range that this draws, where none of the numbers draws it.
+// Adds the number of an origin of a part, with a range, unless one of the numbers draws the same.
 fn add_number(
     alloc: Global,
     part: &str,
@@ -112,7 +112,7 @@ fn some_draws(seen: &[NumberSeen], part: &str, origin: Origin) -> bool
     seen.iter().any(|seen| seen.number.draws(part, origin))
 }
 
-// Adds the number behind what draws a cause of a part, if there is one.
+// Adds the number of an origin of a part, if there is one. The order of a lane has none.
 fn push_number(
     alloc: Global,
     part: &str,

@@ -32,7 +32,7 @@ pub enum Move {
     Shift(i64),
 }
 
-/// The network in which each range that one of the numbers draws is moved. The answer is `None` where one of its ranges can't be drawn.
+/// The network in which each range that one of the numbers draws is moved. The answer is `None` if one of its ranges can't be drawn.
 pub fn moved_network(
     alloc: Global,
     drawn: &DrawnNetwork,
@@ -58,7 +58,7 @@ pub fn moved_network(
     Ok(Some(moved))
 }
 
-// The causes of a constraint, with each range moved that one of the numbers draws. The answer is `None` where one of their ranges can't be drawn.
+// The causes of a constraint, with each range moved that one of the numbers draws. The answer is `None` if one of their ranges can't be drawn.
 fn moved_causes(
     alloc: Global,
     drawn: &DrawnNetwork,
@@ -88,7 +88,7 @@ fn moved_causes(
     Ok(Some(causes))
 }
 
-// A cause, with its range moved where it is drawn. The answer is `None` where the moved range can't be drawn.
+// A cause, with its range moved where it is drawn. The answer is `None` if the moved range can't be drawn.
 fn moved_cause(cause: Cause, is_drawn: bool, by: Move) -> Option<Cause>
     requires by { IsMove by }
     ensures moved { IfSome result (λ moved. moved ≡ cause_by is_drawn by cause) }
@@ -122,7 +122,7 @@ fn some_draws(numbers: &[&DrawnNumber], part: &str, origin: Origin) -> bool
     numbers.iter().any(|number| number.draws(part, origin))
 }
 
-/// The moved range, or `None` where it can't be drawn: an end would be beyond the limit, or the low end above the high one.
+/// The moved range, or `None` if it can't be drawn: an end would be beyond the limit, or the low end above the high one.
 pub fn moved_range(range: Range, by: Move) -> Option<Range>
     requires by { IsMove by }
     ensures moved { IfSome result (λ moved. moved ≡ moved_by by range) }
@@ -160,7 +160,7 @@ fn opened_range(range: Range, side: Side) -> Option<Range>
     }
 }
 
-// The range of two ends, or `None` where they make none.
+// The range of two ends, or `None` if they make none.
 fn range_of(low: Option<i64>, high: Option<i64>) -> Option<Range>
     ensures range { IfSome result (λ range. range ≡ record { low = low; high = high }) }
     ensures some { IsSome result ↔ IsRange (record { low = low; high = high }) }

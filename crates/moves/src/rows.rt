@@ -13,7 +13,7 @@ use drawn_numbers::DrawnNumber;
 use itv_base::{NoMemory, RowKind};
 use std::alloc::Global;
 
-/// The rows of a drawn network, with each range of a requirement moved that one of the numbers draws. The answer is `None` where a range can't be drawn.
+/// The rows of a drawn network, with each range of a requirement moved that one of the numbers draws. The answer is `None` if a range can't be drawn.
 pub fn moved_rows(
     alloc: Global,
     drawn: &DrawnNetwork,

@@ -25,7 +25,7 @@ pub const MOST_SEARCHES: u64 = 4_096;
 /// Finds for each end of a drawn range whether satisfying times attain it, once for all cycles and places that the same thing draws: an edge of a
 /// sheet, a pin of a net or a wire. The network was found consistent. An end is searched from its first place on, until it is attained. No end is left
 /// open where the budget is no less than the number of cause choices and all ends of all cycles are no more than [`MOST_SEARCHES`]. The answer is
-/// `NoMemory` where memory is not found.
+/// `NoMemory` if memory runs out.
 pub fn find_narrow(
     alloc: Global,
     drawn: &DrawnNetwork,

@@ -56,7 +56,7 @@ fn found_of(greatest: Greatest, weight: i64, so_far: Option<i64>) -> EndFound
     }
 }
 
-// What is found of an end with a weight, by a greatest separation and the greatest one so far.
+// What is found of an end with a weight, given a greatest separation and the greatest one so far.
 fn found_by(value: i64, weight: i64, so_far: Option<i64>) -> EndFound
     ensures found { (net : Net) (e : EdgeSeen) → IsGreatest net e.from e.to value → IsSearched net e weight so_far result }
     ensures settled { IsEndSettled result }

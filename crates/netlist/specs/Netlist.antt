@@ -63,7 +63,7 @@ abbrev pub name_if : Option Data → Option (Option (List ℕ))
 name_if None = Some None
 name_if (Some d) = option_map (λ name. Some name) (name_of d)
 
--- the grade of a part; in version 1 what stands under its key is passed over
+-- the grade of a part; in version 1 what stands under its key is ignored
 abbrev pub grade_of : ℕ → Data → Option (Option (List ℕ))
 grade_of version d = if version == 2 then name_if (get (codes "grade") d) else Some None
 

@@ -69,7 +69,7 @@ fn read_part(alloc: Global, version: u32, element: &Value) -> Result<Option<Part
     }))
 }
 
-// The grade of a part, or no grade. In version 1 it is passed over. Nothing where the grade does not have the form of a name.
+// The grade of a part, or no grade. In version 1 it is ignored. `None` if the grade does not have the form of a name.
 fn grade_of(version: u32, element: &Value) -> Option<Option<&str>>
     ensures { option_map (λ grade. option_copied grade) result ≡ grade_of version (view element.now) }
 {

@@ -1,6 +1,5 @@
--- The definitions of this crate: the text of an origin, and which origins keep marks in order.
+-- The definitions of this crate: the text of an origin, which origins keep marks in order, and what a keeper of notes gives.
 pub mod Text
 pub mod Order
--- The definitions of this crate: what a keeper of notes gives.
 pub use Rattle.origin.specs.Text
 pub mod NotesKept

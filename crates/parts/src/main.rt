@@ -1,6 +1,6 @@
 //! Calls of the parts of the program, one by one: standard input has cases, and each row of a case is a call whose answer is printed.
-//! `docs/parts.md` has the form of the cases. Nothing here compares an answer: the file `stdout` beside the crate has what is wanted.
-//! A row that has not the form that its verb wants, or that wants memory that is not there, is answered by `unfit`.
+//! `docs/parts.md` has the form of the cases. Nothing here compares an answer: the file `stdout` of the crate has what is wanted.
+//! The answer is `unfit` if a row does not have the form that its verb wants, or if memory runs out.
 #![tactic(auto)]
 
 mod bounds;

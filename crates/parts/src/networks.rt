@@ -8,8 +8,8 @@ use line_words::short_in;
 use std::alloc::Global;
 
 /// The network of a subject. Its first line is as in `events 3`. Each other line is a constraint, or `chain LOW:HIGH`, by which each event comes
-/// in this range after the event before it. Where there is no room for a constraint, the fault is written. `None`, and the row is refused, where a
-/// line has not its form.
+/// in this range after the event before it. If there is no room for a constraint, the fault is written. The answer is `None`, and the row is refused,
+/// if a line does not have its form.
 pub fn network(alloc: Global, subject: &str, out: &mut Out) -> Option<Network> {
     let net = pushed(alloc, subject, out);
     if net.is_none() {

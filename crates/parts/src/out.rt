@@ -3,7 +3,7 @@
 use std::alloc::Global;
 use std::fmt::{Display, Write};
 
-/// A text that grows piece by piece. Once a row is refused, or memory is not found, nothing more is put until the row has ended. So a call asks once,
+/// A text that grows piece by piece. Once a row is refused, or memory runs out, nothing more is put until the row has ended. So a call asks once,
 /// at its end, and not after each piece.
 #[derive(Drop)]
 pub struct Out {
@@ -20,15 +20,17 @@ impl Out {
         }
     }
 
+    /// The whole text.
     pub fn as_str(&self) -> &str {
         self.text.as_str()
     }
 
-    /// Refuses the row: it has not the form that its verb wants, or memory was wanted and not found.
+    /// Refuses the row: it does not have the form that its verb wants, or memory ran out.
     pub fn refuse(&mut self) {
         self.is_unfit = true;
     }
 
+    /// Whether the row is refused.
     pub fn is_unfit(&self) -> bool {
         self.is_unfit
     }

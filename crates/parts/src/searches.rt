@@ -1,4 +1,4 @@
-//! Greatest separations by searches over choices of causes, whatever the choices, and by both searches.
+//! Greatest separations by the search by cases, by the search by clauses, and by both searches.
 
 ghost use Rattle.std.specs.Prelude.{◌<◌, IsTrue, IfSome};
 ghost use Rattle.branch.specs.Work.{IsMadeFor};

@@ -57,7 +57,7 @@ fn step(alloc: Global, trail: &mut Trail, row: &str, out: &mut Out)
     }
 }
 
-// Does a step, or nothing if there is no room for it. `None` where a number is none that it takes.
+// Does a step, or nothing if there is no room for it. `None` if a number is none that it takes.
 fn do_step(trail: &mut Trail, word: &str, numbers: &[i64]) -> Option<()>
     requires levels { trail.old.levels ≡ 2 }
     requires slots { length trail.old.current.stamps ≡ 2 }

@@ -1,4 +1,4 @@
-//! Verdicts and slacks by two bounds, and times that are raised past an end.
+//! Verdicts and slacks from two bounds, and times that are raised past an end.
 
 ghost use Rattle.std.specs.Prelude.{IsTrue};
 ghost use Rattle.event_graph.specs.Times.{IsTime};

@@ -1,4 +1,4 @@
-//! How far a move may go by the edges behind the bounds: guesses, of which no contract says that they are good ones.
+//! How far a move may go, according to the edges behind the bounds: guesses, of which no contract says that they are good ones.
 
 use crate::drawing::{draw_edge, draw_row};
 use crate::probed::SideChain;
@@ -19,7 +19,7 @@ pub enum Step {
     Down,
 }
 
-/// How far some numbers may be moved before the edges behind one of the bounds bring times past the end of a requirement. It is `None` where no
+/// How far some numbers may be moved before the edges behind one of the bounds bring times past the end of a requirement. It is `None` if no
 /// such bound grows.
 pub fn room(
     drawn: &DrawnNetwork,
@@ -53,8 +53,8 @@ fn lesser(least: Option<i64>, other: i64) -> Option<i64> {
     }
 }
 
-/// How far some numbers have to be moved for times that break a requirement to come back to its end by the edges behind the bound. It is `None` where the
-/// bound does not fall.
+/// How far some numbers have to be moved for times that break a requirement to come back to its end, according to the edges behind the bound. It is `None`
+/// if the bound does not fall.
 pub fn excess(
     drawn: &DrawnNetwork,
     numbers: &[&DrawnNumber],

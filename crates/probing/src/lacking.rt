@@ -9,7 +9,7 @@ use drawn_numbers::DrawnNumber;
 use event_graph::{Network, separation};
 use itv_base::{EdgeName, RuleKind, Side};
 
-/// The least move of an end outward with which given times satisfy a network, where they satisfy it with the end open. It is `None` where no constraint asks
+/// The least move of an end outward with which given times satisfy a network, where they satisfy it with the end open. It is `None` if no constraint asks
 /// for a move. The times are in picoseconds, one per event, each below 2^61 in absolute value.
 pub fn need(drawn: &DrawnNetwork, number: &DrawnNumber, side: Side, times: &[i64]) -> Option<i64>
     requires times { All IsTime times.now }

@@ -41,7 +41,7 @@ pub record IsEditOf (drawn : Drawn) (line : List ℕ) (e : RangeEdit) : Type 0 w
 
 -- ---- its reading
 
--- one thing is read after another, where both can be read
+-- one reading after another, if both read something
 infixl 10 ◌>>◌
 abbrev pub ◌>>◌ : {A B : Type 0} → Option A → (A → Option B) → Option B
 o >> f = option_and_then f o
@@ -50,11 +50,11 @@ o >> f = option_and_then f o
 abbrev pub number_of : List ℕ → Option (ℕ × List ℕ)
 number_of text = option_map (λ n. (n, after_while is_ascii_digit text)) (number_in (2 ^ 32 - 1) (take_while is_ascii_digit text))
 
--- a net, by the word `net` and the text after it
+-- a net, given the word `net` and the text after it
 abbrev pub net_named : List ℕ → List ℕ → Option (Subject × List ℕ)
 net_named word behind = when (bytes_eq word (codes "net")) (stripped (codes " ") behind >> λ rest. number_of rest >> λ x. Some (Number (numbers.Net x.0), x.1))
 
--- an edge of the netlist, by the word `wire`
+-- an edge of the netlist, given the word `wire`
 abbrev pub wire_named : List ℕ → List ℕ → Option (Subject × List ℕ)
 wire_named word behind = when (bytes_eq word (codes "wire")) (stripped (codes " ") behind >> λ rest. number_of rest >> λ x. Some (Number (numbers.Wire x.0), x.1))
 
@@ -62,13 +62,13 @@ wire_named word behind = when (bytes_eq word (codes "wire")) (stripped (codes " 
 abbrev pub part_edge_named : List ℕ → List ℕ → Option (Subject × List ℕ)
 part_edge_named word behind = when (is_name word) (stripped (codes " edge ") behind >> λ rest. number_of rest >> λ x. Some (Number (numbers.Edge word x.0), x.1))
 
--- a cause of a constraint, by the number of the constraint
+-- a cause of a constraint, given the number of the constraint
 abbrev pub cause_named : List ℕ → List ℕ → Option (Subject × List ℕ)
 cause_named word behind =
     number_in (2 ^ 32 - 1) word >> λ constraint. stripped (codes ".") behind >> λ dotted. number_of dotted >> λ x.
     Some (Cause (record { constraint = constraint; cause = x.0 }), x.1)
 
--- what a text names, by its first word and the text after the word; a part may be called as the word before a number is
+-- what a text names, given its first word and the text after the word; a part may be called as the word before a number is
 abbrev pub subject_named : List ℕ → List ℕ → Option (Subject × List ℕ)
 subject_named word behind = or_else (net_named word behind) (or_else (wire_named word behind) (or_else (part_edge_named word behind) (cause_named word behind)))
 
@@ -87,7 +87,7 @@ range_judged n (Err labels.EmptyRange) = Err (Range n ranges.EmptyRange)
 abbrev pub edit_there : Drawn → ℕ → RangeEdit → Result RangeEdit EditsFault
 edit_there drawn n e = if is_there drawn e.subject then Ok e else Err (NoSuch n)
 
--- the edit of the line of a number, by the subject that it names: the form is judged before the range, and the range before the subject
+-- the edit of the line of a number, given the subject that it names: the form is judged before the range, and the range before the subject
 abbrev pub edit_named : Drawn → ℕ → Option (Subject × List ℕ) → Result RangeEdit EditsFault
 edit_named drawn n None = Err (Line n)
 edit_named drawn n (Some x) = range_judged n (judged_alone (only_ends (ends_of x.1))) >>= λ range. edit_there drawn n (record { subject = x.0; range = range })

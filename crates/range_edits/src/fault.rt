@@ -22,7 +22,7 @@ pub enum EditsFault {
     /// The ends on the line make no range.
     #[error("the ends of line {0} make no range")]
     Range(u64, RangeFault),
-    /// The network does not have the cause that the line names, or no cause is drawn by the number that it names.
+    /// The network does not have the cause that the line names, or the number that it names draws no cause.
     #[error("the cause of line {0} is not there")]
     NoSuch(u64),
     /// Memory ran out.

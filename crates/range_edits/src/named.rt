@@ -39,7 +39,7 @@ pub fn owned_subject(alloc: Global, named: Named<'_>) -> Result<Subject, NoMemor
     }
 }
 
-/// What a line names, and the text after it, or `None` where the line does not begin as an edit does.
+/// What a line names, and the text after it, or `None` if the line does not begin as an edit does.
 #[tactic(auto, unfolding(crate::specs::EditLine::subject_of))]
 pub fn named_in(text: &str) -> Option<(Named<'_>, &str)>
     ensures named { option_map (λ x. (subject_view x.0, x.1.now)) result ≡ subject_of text.now }
@@ -49,7 +49,7 @@ pub fn named_in(text: &str) -> Option<(Named<'_>, &str)>
     by_word(word, behind)
 }
 
-// What a text names, by its first word and the text after the word.
+// What a text names, given its first word and the text after the word.
 fn by_word<'a>(word: &'a str, behind: &'a str) -> Option<(Named<'a>, &'a str)>
     ensures { option_map (λ x. (subject_view x.0, x.1.now)) result ≡ subject_named word.now behind.now }
 {

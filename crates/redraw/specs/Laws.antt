@@ -1,4 +1,4 @@
--- Laws of narrowed times and of drawings, which hold by the definitions alone.
+-- Laws of narrowed times and of drawings, over the definitions alone.
 use Rattle.std.specs.Prelude.{◌≡◌, ◌<◌, ◌≤◌, ℕ, ℤ, pos, neg_ℤ, ◌-ℤ◌, ◌≤ℤ◌, ◌<ℤ◌, List, length, map, All, Some, slice_get, slice_index_or}
 use Rattle.std.specs.List.{range_with_len}
 use Rattle.itv_base.specs.declared.names.EventId.{EventId}

@@ -1,5 +1,4 @@
--- The modules of definitions of this crate.
+-- The definitions of this crate, module by module: what the text of a drawing is read as.
 pub mod ReadAgain
 pub mod Chain
--- The definitions of this crate, module by module: what the text of a drawing is read as.
 pub mod DesignAgain

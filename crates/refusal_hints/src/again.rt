@@ -7,7 +7,7 @@ use itv_base::Shelf;
 use netlist::Netlist;
 use std::alloc::Global;
 
-/// Whether the files of a task are plain ones, and so are the sheets that its design names: then they can be read once more. A pipe can not.
+/// Whether the files of a task are plain ones, and so are the sheets that its design names: then they can be read once more. A pipe can't.
 pub fn can_read_again<H: Shelf, L: NameLook>(
     alloc: Global,
     files: NamedFiles<'_>,
@@ -41,7 +41,7 @@ fn are_plain<L: NameLook>(netlist: &Netlist, look: &L) -> bool {
         .all(|name| is_plain(Some(name.as_text()), look))
 }
 
-// Whether nothing stands under a name, or something that is no pipe.
+// Whether there is no name, or nothing, a file or a folder stands under it.
 fn is_plain<L: NameLook>(name: Option<&str>, look: &L) -> bool {
     match name {
         Some(name) => !matches!(look.look(name), Looked::Pipe | Looked::Other),

@@ -12,7 +12,7 @@ const JOBS: &str =
 pub enum WordsFault<'a> {
     /// There is no such option. It may be the name of a job after dashes.
     NoOption(&'a str),
-    /// The option is one of the launcher, which stands in front of all other words.
+    /// The option is one of the launcher, which stands before all other words.
     OfLauncher(&'a str),
     NoJob(&'a str),
     /// A value is missing after this option.

@@ -27,7 +27,7 @@ pub fn put_grades_fault(hint: &mut Hint, tree: &Value, fault: GradesFault) {
     }
 }
 
-// The first thing of the grades that has not their form.
+// The first grade or parameter that does not have its form, or that the grades are no object.
 fn put_form_fault(hint: &mut Hint, tree: &Value) {
     match object_of(tree.get(GRADES)) {
         Some(grades) => put_first_fault(hint, grades),
@@ -83,7 +83,7 @@ fn put_about_grade(hint: &mut Hint, name: &str, joint: &str, says: &str) {
     hint.put(says);
 }
 
-// The first of parameters that has not their form.
+// The first of some parameters that does not have its form.
 fn first_misfit(parameters: &Map<String, Value>) -> Option<(&str, &Value)> {
     for (name, value) in parameters.iter() {
         if !is_name(name.as_str()) || !is_ends(value) {
@@ -202,7 +202,7 @@ fn lacks_grade(part: &Part, grades: Option<&Value>) -> bool {
     part.grade.is_some() && grade_in(part, grades).is_none()
 }
 
-/// The label of an edge names a parameter that the grade of a part on this file has not.
+/// The label of an edge names a parameter that the grade of a part on this file does not have.
 pub fn put_parameter_missing(
     hint: &mut Hint,
     sheet: RefusedSheet<'_>,

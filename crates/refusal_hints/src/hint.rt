@@ -10,7 +10,7 @@ const MOST_SHOWN: usize = 120;
 // The most names of a list that are shown.
 const MOST_NAMED: u64 = 100;
 
-/// A text that grows piece by piece. Where memory is not found the text is cut: it takes nothing more, and its end is a fault. So a caller asks once,
+/// A text that grows piece by piece. If memory is not found, the text is cut: it takes nothing more, and its end is a fault. So a caller asks once,
 /// at the end, and not after each piece.
 #[derive(Drop)]
 pub struct Hint {
@@ -116,8 +116,8 @@ impl Hint {
         self.push(char::from(mark));
     }
 
-    /// Puts what there are of a thing, before so many names, as `the parts are `, or that there are none. `one` is the word for a single thing,
-    /// and `many` for several.
+    /// Puts the words before so many names, as `the parts are `, or that there are none. `one` is the word for what has a single name, and `many`
+    /// for several.
     pub fn put_what(&mut self, count: u64, one: &str, many: &str) {
         let (front, thing, back) = match count {
             0 => ("there are no ", many, ""),

@@ -50,7 +50,7 @@ fn put_pin_fault(hint: &mut Hint, plan: &Plan, net: u64, pin: u64) {
     }
 }
 
-// A pin of a net, in front of what is said of it.
+// A pin of a net, before what is said of it.
 fn put_pin(hint: &mut Hint, net: u64, text: &PinText) {
     put_net(hint, net);
     hint.put(", pin ");

@@ -8,7 +8,7 @@ use itv_base::{END_LIMIT, MAX_SHIFT, is_name, split_digits, split_name, strip};
 pub struct Misfit<'a> {
     /// What is left of the label there.
     pub rest: &'a str,
-    // A word of the label that is shown, with what stands in front of it.
+    // A word of the label that is shown, with what stands before it.
     shown: Option<(&'static str, &'a str)>,
     says: &'static str,
 }
@@ -218,7 +218,7 @@ fn behind_ends(text: &str) -> Result<&str, Misfit<'_>> {
     }
 }
 
-// What is left after an end. `space` is what is said of a space in front of it.
+// What is left after an end. `space` is what is said of a space before it.
 fn behind_number<'a>(text: &'a str, space: &'static str) -> Result<&'a str, Misfit<'a>> {
     if text.starts_with(' ') {
         return wrong(text, space);

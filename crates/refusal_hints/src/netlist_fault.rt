@@ -136,7 +136,7 @@ fn name_at<'v>(tree: &'v Value, key: &str, n: u64) -> Option<&'v str> {
 
 // ---- nets
 
-// A net, with its name where it has one, in front of what is said of it.
+// A net, with its name if it has one, before what is said of it.
 fn put_net(hint: &mut Hint, tree: &Value, n: u64) {
     hint.put("net ");
     hint.put_number(n);
@@ -230,7 +230,7 @@ fn put_wire_fault<H: Shelf>(hint: &mut Hint, tree: &Value, n: u64, shelf: &mut H
     }
 }
 
-// The first of the two words in front of a label that is no mark of a part.
+// The first of the two words before a label that is no mark of a part.
 fn first_no_mark(text: &str) -> Option<&str> {
     let (from, rest) = text.split_once(' ')?;
     let (to, _) = rest.split_once(' ')?;

@@ -15,7 +15,7 @@ pub fn put_value(hint: &mut Hint, value: &Value) {
     }
 }
 
-/// Puts what a key of a thing should have, and what it has.
+/// Puts what a key should have, and what it has.
 pub fn put_about_key(hint: &mut Hint, key: &str, value: Option<&Value>, wanted: &str) {
     hint.put("its \"");
     hint.put(key);

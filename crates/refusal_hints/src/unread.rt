@@ -92,7 +92,7 @@ fn put_file<L: NameLook>(hint: &mut Hint, name: &str, look: &L) {
     hint.put(back);
 }
 
-// What is said in front of the name of a file, and after it.
+// What is said before the name of a file, and after it.
 fn around(name: &str, looked: Looked) -> (&'static str, &'static str) {
     match looked {
         _ if name.is_empty() => ("the name of a file is empty", ""),

@@ -30,17 +30,17 @@ pub record AreBounds (net : Net) (from to : EventId) (least greatest : Bound) : 
   pub is_least : IsLeastBound net from to least
   pub is_greatest : IsGreatestBound net from to greatest
 
--- if a requirement passes by right bounds, it is met
+-- if a requirement passes according to right bounds, it is met
 abbrev pub PassIsMet : Type 0
 PassIsMet = (net : Net) (from to : EventId) (range : Ends) (least greatest : Bound) → AreBounds net from to least greatest
     → verdict_of range least greatest ≡ Pass → IsMet net from to range
 
--- if a requirement fails on the high side by right bounds, it is broken there
+-- if a requirement fails on the high side according to right bounds, it is broken there
 abbrev pub FailHighIsBroken : Type 0
 FailHighIsBroken = (net : Net) (from to : EventId) (range : Ends) (least greatest : Bound) → AreBounds net from to least greatest
     → verdict_of range least greatest ≡ FailHigh → IsBrokenHigh net from to range
 
--- if a requirement fails on the low side by right bounds, it is broken there
+-- if a requirement fails on the low side according to right bounds, it is broken there
 abbrev pub FailLowIsBroken : Type 0
 FailLowIsBroken = (net : Net) (from to : EventId) (range : Ends) (least greatest : Bound) → AreBounds net from to least greatest
     → verdict_of range least greatest ≡ FailLow → IsBrokenLow net from to range
@@ -55,12 +55,12 @@ IsWithin (Within limit attained) = Unit {0}
 abbrev pub UndecidedIsWithin : Type 0
 UndecidedIsWithin = (range : Ends) (least greatest : Bound) → verdict_of range least greatest ≡ Undecided → IsWithin least ⊎ IsWithin greatest
 
--- the sum of the low end and the low slack is the least separation, by a right bound
+-- the sum of the low end and the low slack is the least separation, if the bound is right
 abbrev pub LowSlackIsDistance : Type 0
 LowSlackIsDistance = (net : Net) (from to : EventId) (range : Ends) (least greatest : Bound) (slack : ℤ) → IsLeastBound net from to least
     → (slack_of range least greatest).low ≡ Some slack → IsSomeAnd range.low (λ low. IsLeast net from to (low +ℤ slack))
 
--- the high end less the high slack is the greatest separation, by a right bound
+-- the high end less the high slack is the greatest separation, if the bound is right
 abbrev pub HighSlackIsDistance : Type 0
 HighSlackIsDistance = (net : Net) (from to : EventId) (range : Ends) (least greatest : Bound) (slack : ℤ) → IsGreatestBound net from to greatest
     → (slack_of range least greatest).high ≡ Some slack → IsSomeAnd range.high (λ high. IsGreatest net from to (high -ℤ slack))

@@ -1,4 +1,4 @@
--- The verdict on a requirement by the two bounds of its pair.
+-- The verdict on a requirement according to the two bounds of its pair.
 use Rattle.std.specs.Prelude.{ℤ, Bool, true, false, ◌&&◌, int_lt, int_le, if◌then◌else◌, Option, Some, None}
 use Rattle.itv_base.specs.Range.{Ends}
 use Rattle.requirements.specs.declared.bound.Bound.{Bound}

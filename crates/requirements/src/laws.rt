@@ -2,17 +2,17 @@
 
 ghost use Rattle.requirements.specs.Laws.{ClosedHighHasSlack, ClosedLowHasSlack, FailHighIsBroken, FailLowIsBroken, HighSlackIsDistance, LowSlackIsDistance, PassIsMet, ReversedGreatestIsLeast, UndecidedIsWithin};
 
-/// If a requirement passes by right bounds, it is met: every satisfying separation lies in its range.
+/// If a requirement passes according to right bounds, it is met: every satisfying separation lies in its range.
 pub fn pass_is_met()
     ensures { PassIsMet }
 {}
 
-/// If a requirement fails on the high side by right bounds, a satisfying separation is past its high end.
+/// If a requirement fails on the high side according to right bounds, a satisfying separation is past its high end.
 pub fn fail_high_is_broken()
     ensures { FailHighIsBroken }
 {}
 
-/// If a requirement fails on the low side by right bounds, a satisfying separation is past its low end.
+/// If a requirement fails on the low side according to right bounds, a satisfying separation is past its low end.
 pub fn fail_low_is_broken()
     ensures { FailLowIsBroken }
 {}
@@ -22,7 +22,7 @@ pub fn undecided_is_within()
     ensures { UndecidedIsWithin }
 {}
 
-/// A slack by a right bound says how far the nearest satisfying separation is inside an end. The sum of the low end and the low
+/// A slack from a right bound says how far the nearest satisfying separation is inside an end. The sum of the low end and the low
 /// slack is the least satisfying separation. The high end less the high slack is the greatest one.
 pub fn slack_is_distance()
     ensures low { LowSlackIsDistance }

@@ -28,7 +28,7 @@ ProvesBound net found r coming lines (bounds.Closed value) = (found ≡ findings
 ProvesBound net found r coming lines bounds.Unbounded = found ≡ findings.Consistent
 ProvesBound net found r coming lines (bounds.Within limit attained) = IsLimit net r coming limit × HasAttained found attained
 
--- the value or the attained number of a bound is below 2^61 in absolute value; a limit is so by itself
+-- the value or the attained number of a bound is below 2^61 in absolute value; of a limit this need not be asked
 abbrev pub IsWithinTimes : Bound → Type 0
 IsWithinTimes (bounds.Closed value) = IsTime value
 IsWithinTimes bounds.Unbounded = Unit {0}

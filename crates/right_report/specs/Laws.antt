@@ -1,4 +1,4 @@
--- Laws of right reports, which hold by the definitions alone.
+-- Laws of right reports, over the definitions alone.
 use Rattle.std.specs.Prelude.{◌≡◌, ◌<◌, ◌⊎◌, ℕ, ℤ, Bool, List, All, Some, length, slice_get}
 use Rattle.itv_base.specs.Range.{Ends}
 use Rattle.event_graph.specs.Bounds.{IsInconsistent, IsUnbounded}

@@ -1,4 +1,4 @@
--- Right reports: which lines may follow in each state, and are right there by the lines before them.
+-- Right reports: which lines may follow in each state, and are right there, given the lines before them.
 pub mod ReportState
 pub mod Following
 pub mod LineClaims

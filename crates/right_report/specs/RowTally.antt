@@ -11,7 +11,7 @@ use Rattle.right_report.specs.Right.ReportState.{with_bounds, with_verdict}
 abbrev pub kinds_of : List Row → List RowKind
 kinds_of rows = map (λ (row : Row). row.kind) rows
 
--- the tally with one more row. A requirement has a verdict by its bounds, and an ask has none
+-- the tally with one more row. A requirement has a verdict according to its bounds, and an ask has none
 abbrev pub with_row : ReportTally → RowKind → BothBounds → ReportTally
 with_row tally kinds.Ask both = with_bounds tally both.least both.greatest
 with_row tally (kinds.Req range) both = with_verdict (with_bounds tally both.least both.greatest) (verdict_of range both.least both.greatest)

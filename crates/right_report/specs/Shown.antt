@@ -50,7 +50,7 @@ shown net most = record (right net) {
   bound = λ found r coming lines value. (right net).bound found r coming lines value × ShowsBound net most lines r coming value;
 }
 
--- the claims of a right report that prints no lines of proofs; there are such lines all the same
+-- the claims of a right report that prints no lines of proofs; there are such lines nevertheless
 abbrev pub bare : Net → ℕ → LineClaims
 bare net most = record (right net) {
   finding = λ lines word. (right net).finding lines word × (lines ≡ []) × ((hidden : List ProofLine) × ShowsFinding net most hidden word);

@@ -14,7 +14,7 @@ use Rattle.right_report.specs.Checked.{checked}
 use Rattle.right_report.specs.Shown.{goal_of}
 
 -- What the lines of a proof so far have to show, if this line comes after them. Only a closed bound and an inconsistent finding need a proof;
--- before any other line the lines of a proof are passed over.
+-- before any other line the lines of a proof are ignored.
 abbrev pub goal_by : ReportState → Entry → Option ProofGoal
 goal_by (at_bound current coming lines) (bound word (bounds.Closed value)) = Some (goal_of current.row coming value)
 goal_by (at_bound current coming lines) other = None
@@ -23,7 +23,7 @@ goal_by (at_finding lines) other = None
 goal_by (at_event number []) (finding findings.Inconsistent) = Some Nothing
 goal_by at other = None
 
--- what the lines of a proof so far have to show, by the first line to come that is not a line of a proof
+-- what the lines of a proof so far have to show, according to the next line that is not a line of a proof
 abbrev pub goal_ahead : ReportState → List Entry → Option ProofGoal
 goal_ahead at [] = None
 goal_ahead at (proof line ∷ lines) = goal_ahead at lines

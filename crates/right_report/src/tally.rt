@@ -48,8 +48,8 @@ impl ReportTally {
         }
     }
 
-    /// The tally with one more row of this kind with these bounds. A requirement has a verdict by its bounds, and an ask
-    /// has none.
+    /// The tally with one more row of this kind with these bounds. A requirement has a verdict according to its bounds,
+    /// and an ask has none.
     pub fn with_row(self, kind: RowKind, both: &BothBounds) -> ReportTally
         ensures tally { result ≡ with_row self kind both.now }
     {

@@ -73,7 +73,7 @@ impl ClauseStore {
         Ok(())
     }
 
-    /// Adds a clause. Of a learnt clause the literals are of so many levels, of another one of 0.
+    /// Adds a clause. The literals of a learnt clause are of so many levels. For any other clause the number is 0.
     pub fn push(
         &mut self,
         basis: Basis,

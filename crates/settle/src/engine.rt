@@ -124,7 +124,7 @@ impl Engine {
         self.go_on(claim)
     }
 
-    // A step of a search of which no lines wait: tells what holds at level 0, ends, or looks on.
+    // A step of a search of which no lines wait: proposes what holds at level 0, ends, or looks at what comes next.
     fn go_on(&mut self, claim: i64) -> Result<Proposal, NoMemory> {
         if self.outbox.told < self.facts.trail.end_of(0) {
             self.tell()?;

@@ -1,7 +1,7 @@
 //! Greatest separations of any network, with choices of both kinds. A search bounds each event from both sides, chooses sides, and learns a clause over
 //! bounds and sides from each conflict. Two searches take turns: one in the network, one in its negation. Neither is proved to be right; a checker takes or
 //! refuses each of their lines as it is made. The contract of the crate: [`Settler::greatest`] gives the greatest separation of a pair with times that attain
-//! it and a proof by clauses, or times and a ray that show that it is unbounded, or a proof that no times satisfy, or it says that the turns were spent.
+//! it and a proof by clauses; or times and a ray that show that it is unbounded; or a proof that no times satisfy. Or it says that the turns were spent.
 #![tactic(auto)]
 
 mod activity;

@@ -9,7 +9,7 @@ use std::alloc::Global;
 pub struct Outbox {
     /// The last line comes first.
     lines: Vec<StoredLine>,
-    /// How many entries of level 0 have been told to the checker.
+    /// How many entries of level 0 have been proposed to the checker, or need no line.
     pub told: usize,
     /// How many clauses the checker has kept, once it has taken the lines that wait.
     kept: u32,

@@ -3,7 +3,7 @@
 // How many conflicts the shortest stretch has.
 const SHORTEST: u64 = 100;
 
-// How many turns are allowed with each block. A search that comes to few conflicts gives the turn to the other one all the same.
+// How many turns are allowed with each block. So a search with few conflicts gives the turn to the other one too.
 const BLOCK_TURNS: u64 = 200_000;
 
 /// The blocks that a search is allowed, and the conflicts since it began anew. The stretches between are 1, 1, 2, 1, 1, 2, 4, and so on times the shortest one.

@@ -353,7 +353,7 @@ impl Needs {
     }
 }
 
-// A literal that holds, and a bound at a value that the trail has come to.
+// A literal that holds, and a bound at a value that the trail has reached.
 fn at_value(literal: Literal, value: i64) -> Literal {
     match literal {
         Literal::Bound(bound) => Literal::Bound(NodeBound {

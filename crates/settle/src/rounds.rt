@@ -15,7 +15,7 @@ use event_graph::Edge;
 use itv_base::{EdgeName, NoMemory};
 use std::alloc::Global;
 
-// How a bound came to its value: by an edge that is met, or by the greatest way of a rule.
+// What gave a bound its value: an edge that is met, or the greatest way of a rule.
 #[derive(Clone, Copy)]
 enum Lead {
     Always(EdgeName),
@@ -88,7 +88,7 @@ const FARTHEST: i64 = 1 << 60;
 pub struct WalksBack {
     /// The number of the latest walk.
     number: usize,
-    /// For each bound the number of the latest walk that came by it.
+    /// For each bound the number of the latest walk that reached it.
     stamps: Vec<usize>,
     /// For each bound the way out from it of the latest walk that has one.
     outs: Vec<OutMark>,
@@ -120,7 +120,7 @@ impl WalksBack {
         self.number = self.number.saturating_add(1);
     }
 
-    // Comes to a bound, and says whether this walk has come to it before.
+    // Reaches a bound, and says whether this walk has reached it before.
     fn comes_again(&mut self, node: Node) -> bool {
         if at(&self.stamps, node.place(), 0) == self.number {
             return true;
@@ -151,7 +151,7 @@ impl WalksBack {
 }
 
 impl Engine {
-    /// Walks back from a bound along the ways that give the bounds their values. If the walk comes to a bound twice, it has gone round a loop. The loop is
+    /// Walks back from a bound along the ways that give the bounds their values. If the walk reaches a bound twice, it has gone round a loop. The loop is
     /// proposed if its sum is below 0 and something follows from it at once.
     pub fn go_round(&mut self, node: Node) -> Result<(), NoMemory> {
         match self.met_again(node) {
@@ -160,7 +160,7 @@ impl Engine {
         }
     }
 
-    // The first bound to which the walk back from a bound comes twice, if there is one. All bounds of a loop round which they fall on and on have fallen twice.
+    // The first bound that the walk back from a bound reaches twice, if there is one. All bounds of a loop round which they fall on and on have fallen twice.
     fn met_again(&mut self, node: Node) -> Option<Node> {
         self.walks.begin();
         let mut here = node;
@@ -184,7 +184,7 @@ impl Engine {
         proposed
     }
 
-    // Proposes a loop, if the walk comes to its bound again.
+    // Proposes a loop, if the walk reaches its bound again.
     fn propose_if_round(&mut self, round: &mut Round) -> Result<(), NoMemory> {
         if self.walks_round(round)? {
             return self.propose(round);
@@ -192,7 +192,7 @@ impl Engine {
         Ok(())
     }
 
-    // Walks back from a bound, and says whether the walk has come to it again.
+    // Walks back from a bound, and says whether the walk has reached it again.
     fn walks_round(&mut self, round: &mut Round) -> Result<bool, NoMemory> {
         self.walks.begin();
         let mut here = round.node;
@@ -244,7 +244,7 @@ impl Engine {
 }
 
 impl WalksBack {
-    // Goes through a step. What else may be met comes to the ways and literals.
+    // Goes through a step, and joins what else may be met to the ways and literals.
     fn go_through_step(
         &mut self,
         facts: &Facts,
@@ -456,7 +456,7 @@ impl Facts {
         self.tables.clauses.push(basis, &literals, 0)
     }
 
-    // The literals of a clause. The first two are those that may hold, or else those that came to be false latest.
+    // The literals of a clause. The first two are those that may hold, or else those that became false latest.
     fn latest_first(
         &self,
         alloc: Global,

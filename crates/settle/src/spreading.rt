@@ -82,7 +82,7 @@ impl Facts {
         Ok(())
     }
 
-    // Whether a bound rests. Clauses lower it all the same.
+    // Whether a bound rests. Clauses lower it nevertheless.
     fn rests(&self, node: Node, reason: Reason) -> bool {
         match reason {
             Reason::Edge(_) | Reason::Rule(_) => self.unseen.falls.rests(node),

@@ -1,5 +1,5 @@
 //! One sheet of a part: the marks on its lanes, its pins, the rules between its marks, the separations that it asks for, the texts of
-//! its edges, and its near keys: the keys that are passed over and nearly are keys which are read.
+//! its edges, and its near keys: the keys that are ignored and nearly are keys which are read.
 //! A mark is named by its number on the sheet: the marks are numbered lane by lane and then by place.
 //! The one contract: `read_sheet` gives the sheet of the drawing, or its first fault if and only if it has one.
 #![tactic(auto)]

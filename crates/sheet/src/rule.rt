@@ -67,7 +67,7 @@ impl Rule {
         &self.causes
     }
 
-    /// Puts a cause at the end. Where memory is not found the rule is unchanged.
+    /// Puts a cause at the end. If memory is not found, the rule is unchanged.
     pub(crate) fn push_cause(&mut self, cause: RuleCause) -> Result<(), NoMemory>
         ensures ok { OnOk result (self.new ≡ record self.old { causes = self.old.causes ++ cause ∷ [] }) }
         ensures err { OnErr result (self.new ≡ self.old) }

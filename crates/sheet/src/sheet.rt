@@ -69,7 +69,7 @@ impl Sheet {
         &self.edges
     }
 
-    /// The near keys of the drawing's tree, which are passed over and nearly are keys that are read: its own, and then the near keys of
+    /// The near keys of the drawing's tree, which are ignored and nearly are keys that are read: its own, and then the near keys of
     /// its lanes in order.
     pub fn near(&self) -> &Texts
         ensures near { result.now ≡ self.now.near }

@@ -129,7 +129,7 @@ abbrev pub IsFramedRow : FrameKind → Row → Row → Type 0
 IsFramedRow frames.Cover row framed = IsTighterRow row framed
 IsFramedRow frames.Core row framed = IsTighterRow framed row
 
--- the causes of a constraint on a target frame the drawn ones with the numbers moved up by a value, in counted times
+-- these causes frame the drawn causes of a constraint on a target, with the numbers moved up by a value, in counted times
 abbrev pub FramesCauses : FrameKind → List ℤ → Drawn → List DrawnNumber → ℕ → EventId → List Cause → ℤ → Type 0
 FramesCauses kind counts drawn numbers constraint target causes value =
     AllZip (IsFramedCause kind) (map (cause_counted counts value target) (causes_moved (moved_up value) drawn numbers constraint)) causes
@@ -283,7 +283,7 @@ pub record IsShownTo (sought : SpanSought) (aim : SpanAim) (direction : Directio
 abbrev pub IsFurther : Direction → ℤ → ℕ → ℤ → Type 0
 IsFurther direction from count value = (outward direction from +ℤ pos count) ≤ℤ outward direction value
 
--- what is known of a way from a value on that did not come to its goal
+-- what is known of a way from a value on that did not reach its goal
 abbrev pub IsShort : SpanSought → SpanAim → Direction → ℤ → Shortfall → Type 0
 IsShort sought aim direction from (shorts.Stops last found) =
     IsShownTo sought aim direction from last.by × IsNetFound (at_value sought (last.by +ℤ on_of direction)) found × IsStop aim found
@@ -315,7 +315,7 @@ IsAhead sought direction from (heads.Contradicts at) = IsWithinReach sought at.b
 IsAhead sought direction from heads.Nothing = Unit {0}
 IsAhead sought direction from heads.Left = IsEnough sought → ⊥
 
--- what a look at a value came to
+-- the result of a look at a value
 abbrev pub IsGlanced : SpanSought → Direction → ℤ → ℤ → Glanced → Type 0
 IsGlanced sought direction from next (looks.On look) = look.at.by ≡ next
 IsGlanced sought direction from next (looks.Found ahead) = IsAhead sought direction from ahead

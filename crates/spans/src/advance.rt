@@ -40,7 +40,7 @@ pub struct ShownStretch {
     pub size: i64,
 }
 
-/// What one more interval came to.
+/// The result of one more interval.
 #[derive(Clone, Copy)]
 pub enum Stretched {
     /// Each value up to the value of this stretch was shown.

@@ -200,7 +200,7 @@ fn border_beyond(
     }
 }
 
-// The border at a value behind which a row breaks. Where the rules contradict each other at the value itself, the border comes before that.
+// The border at a value after which a row breaks. Where the rules contradict each other at the value itself, the border comes before that.
 fn border_by_row(
     alloc: Global,
     sought: &SpanSought<'_>,
@@ -257,7 +257,7 @@ fn border_by_contradiction(
     Ok(contradicts(gap.has))
 }
 
-// One half of what is between two values: some times satisfy with the one, and none with the other one. It is `None` where a search was left open.
+// One half of what is between two values: some times satisfy with the one, and none with the other one. It is `None` if a search was left open.
 fn halved(
     alloc: Global,
     sought: &SpanSought<'_>,

@@ -1,4 +1,4 @@
-//! How many values each event counts from: a guess, by which a cover holds or does not.
+//! How many values each event counts from: a guess, which decides what a cover shows.
 
 ghost use Rattle.std.specs.Prelude.{◌≡◌, ◌<◌, IfOk, length, vec_len};
 ghost use Rattle.spans.specs.Step.{AreEventCounts, IsCount};

@@ -97,7 +97,7 @@ pub fn farthest(direction: Direction) -> Value
     }
 }
 
-/// The values behind one up to another one, in a direction.
+/// The values after one up to another one, in a direction.
 pub fn between(from: Value, to: Value, direction: Direction) -> Interval
     requires from { IsMoveBy from.by }
     requires to { IsMoveBy to.by }
@@ -117,7 +117,7 @@ pub fn between(from: Value, to: Value, direction: Direction) -> Interval
     }
 }
 
-/// All values behind one, in a direction.
+/// All values after one, in a direction.
 pub fn beyond(from: Value, direction: Direction) -> Interval
     requires { IsMoveBy from.by }
     ensures interval { IsInterval result }
@@ -136,7 +136,7 @@ pub fn beyond(from: Value, direction: Direction) -> Interval
     }
 }
 
-/// How far two values are apart. No contract says so: by it the next value is guessed, or by how many values a frame is begun with.
+/// How far two values are apart. No contract says so: from it are guessed the next value, and how many values the first frame has.
 pub fn distance(from: Value, to: Value) -> i64 {
     from.by
         .saturating_sub(to.by)

@@ -33,12 +33,12 @@ pub enum Tried {
     Span(SpanFound),
     /// A row breaks. The next value is this far on, if the edges behind its bounds say so.
     On(Option<i64>),
-    /// It is not worth to guess further.
+    /// It is not worth guessing further.
     Nothing,
 }
 
 /// Finds how far some numbers may be moved down and up as one before a requirement breaks. The base is what was found of the network as drawn: every requirement
-/// passes, or a row breaks. A margin is left open only where a search is, or where no requirement breaks with as many further values as the budget has cases. Of
+/// passes, or a row breaks. A margin is left open only if a search is, or if no requirement breaks with as many further values as the budget has cases. Of
 /// a design that fails as drawn some value is found with which every requirement passes, if there is one with no more picoseconds up or down than that.
 pub fn find_span(
     alloc: Global,
@@ -69,7 +69,7 @@ pub fn find_span(
     span_from(alloc, &sought, base, turns)
 }
 
-// The span of the numbers, by what was found of the network as drawn.
+// The span of the numbers, according to what was found of the network as drawn.
 fn span_from(
     alloc: Global,
     sought: &SpanSought<'_>,

@@ -24,7 +24,7 @@ pub struct SpanFrame {
     pub rows: Vec<Row>,
 }
 
-/// The frame of an interval of values of some numbers, where each event counts from so many values; or `None` where it would have a range that can't be drawn.
+/// The frame of an interval of values of some numbers, where each event counts from so many values; or `None` if it would have a range that can't be drawn.
 pub fn frame_of(
     alloc: Global,
     drawn: &DrawnNetwork,

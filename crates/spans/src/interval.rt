@@ -10,7 +10,7 @@ pub struct Interval {
     pub most: Option<i64>,
 }
 
-/// The least multiple of the values of an interval, or `None` where there is none.
+/// The least multiple of the values of an interval, or `None` if there is none.
 pub fn least_multiple(interval: Interval, times: i64) -> Option<i64>
     requires interval { IsInterval interval }
     requires times { IsCountStep times }
@@ -33,7 +33,7 @@ pub fn least_multiple(interval: Interval, times: i64) -> Option<i64>
     }
 }
 
-/// The greatest multiple of the values of an interval, or `None` where there is none.
+/// The greatest multiple of the values of an interval, or `None` if there is none.
 pub fn greatest_multiple(interval: Interval, times: i64) -> Option<i64>
     requires interval { IsInterval interval }
     requires times { IsCountStep times }

@@ -11,7 +11,7 @@ use moves::NetFound;
 use probing::SideChain;
 use std::alloc::Global;
 
-// Values that are looked at. They are guessed by the edges behind bounds, and after the first few of them, or without such an edge, the strides grow, so that no way
+// Values that are looked at. They are guessed from the edges behind bounds. After the first few of them, or without such an edge, the strides grow, so that no way
 // is too long.
 const MOST_VALUES: u32 = 64;
 
@@ -38,7 +38,7 @@ pub struct Glance {
     pub stride: i64,
 }
 
-/// What a look at a value came to.
+/// The result of a look at a value.
 #[derive(Clone, Copy)]
 pub enum Glanced {
     /// Every requirement passes, and the look goes on from here.

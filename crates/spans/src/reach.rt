@@ -164,7 +164,7 @@ fn can_be_drawn(
 
 // ---- the guess
 
-// How far some numbers can be moved up and down, by the ends of their ranges: a guess, which is tried.
+// How far some numbers can be moved up and down, according to the ends of their ranges: a guess, which is tried.
 fn guessed_reach(drawn: &DrawnNetwork, numbers: &[&DrawnNumber]) -> ShiftReach {
     let mut reach = ShiftReach {
         least: farthest(Direction::Down),

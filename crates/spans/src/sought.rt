@@ -93,7 +93,7 @@ impl SpanSought<'_> {
         Ok(value_of(aim, probed.found))
     }
 
-    /// Whether some times satisfy with a value, or `None` where that was left open.
+    /// Whether some times satisfy with a value, or `None` if that was left open.
     pub fn consistency_at(
         &self,
         alloc: Global,
@@ -194,7 +194,7 @@ impl SpanSought<'_> {
         }
     }
 
-    // What is found of a frame of an interval, where each event counts from so many values; or `None` where it can't be drawn.
+    // What is found of a frame of an interval, where each event counts from so many values; or `None` if it can't be drawn.
     fn probe_frame(
         &self,
         alloc: Global,
@@ -216,7 +216,7 @@ impl SpanSought<'_> {
         Ok(Some(probed.found))
     }
 
-    /// How far the numbers may be moved by the edges behind the bounds: a guess.
+    /// How far the numbers may be moved, according to the edges behind the bounds: a guess.
     pub fn room(&self, step: Step, sides: &[SideChain]) -> Option<i64> {
         room(self.drawn, self.numbers, step, sides)
     }
@@ -227,7 +227,7 @@ impl SpanSought<'_> {
     }
 }
 
-// What is found of a value, by what is found of the network there.
+// What is found of a value, according to what is found of the network there.
 fn value_of(aim: SpanAim, found: NetFound) -> ValueFound
     ensures { (drawn : Drawn) → IsNetFound drawn found → IsValueFound aim drawn found result }
 {
@@ -259,7 +259,7 @@ fn breaks_for(aim: SpanAim, row: u32) -> ValueFound
     }
 }
 
-// Whether some times satisfy a network, by what is found of it; or `None` where that was left open.
+// Whether some times satisfy a network, according to what is found of it; or `None` if that was left open.
 fn consistency_of(found: NetFound) -> Option<bool>
     ensures { result ≡ consistency_of found }
 {

@@ -176,7 +176,7 @@ fn is_splittable(kind: RuleKind, causes: u64) -> bool
     }
 }
 
-// The greatest number of cycles by which a source is before the target.
+// The greatest number of cycles by which a cause is before the target.
 fn last_shift(sources: &[RuleCause]) -> u32
     ensures { (cycle : ℕ) → list_all (λ source. nat_le source.shift cycle) sources.now ≡ nat_le result cycle }
 {

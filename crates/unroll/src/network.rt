@@ -135,7 +135,7 @@ fn causes_in(
     Ok(causes)
 }
 
-// A source as a cause, if the target is in this cycle.
+// A cause of a rule as a cause of its constraint, if the target is in this cycle.
 fn cause_in(marks: u32, cycle: u32, source: &RuleCause) -> Cause
     requires mark { source.now.mark < marks }
     requires exists { source.now.shift ≤ cycle }

@@ -48,7 +48,7 @@ fn push_rule(alloc: Global, origins: &mut Origins, cycle: u32, rule: &Rule) -> R
     origins.push(source_origins(alloc, rule.causes().as_slice())?)
 }
 
-// What draws each of some sources.
+// What draws each of some causes.
 fn source_origins(alloc: Global, sources: &[RuleCause]) -> Result<Listing<Origin>, NoMemory>
     ensures { IfOk result (λ origins. origins ≡ map (λ source. source.origin) sources.now) }
 {

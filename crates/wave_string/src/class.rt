@@ -1,3 +1,5 @@
+//! What bricks draw.
+
 ghost use Rattle.std.specs.Prelude.{◌≡◌, if◌then◌else◌};
 ghost use Rattle.wave_string.specs.Kinds.{class_of, continues, last_class};
 

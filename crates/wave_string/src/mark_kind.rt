@@ -1,3 +1,5 @@
+//! The kinds of marks.
+
 ghost use Rattle.std.specs.Prelude.{◌≡◌, ◌↔◌, ◌⊎◌, IsFalse};
 ghost use Rattle.wave_string.specs.Kinds.{may_join};
 

@@ -1,3 +1,5 @@
+//! The kind of a mark in a wave.
+
 ghost use Rattle.std.specs.Prelude.{◌≡◌};
 ghost use Rattle.std.specs.Str.{chars};
 ghost use Rattle.wave_string.specs.Kinds.{brick_kind, kind_of, transition};

@@ -19,7 +19,7 @@ unless_empty (byte ∷ bytes) = Some (byte ∷ bytes)
 abbrev pub lane_of : Data → LaneText
 lane_of d = record { name = option_and_then unless_empty (text_at (codes "name") d); wave = text_at (codes "wave") d; node = text_at (codes "node") d }
 
--- The lanes of an element of `signal`: an object is a lane, an array is a group of elements, and all else is passed over.
+-- The lanes of an element of `signal`: an object is a lane, an array is a group of elements, and all else is ignored.
 abbrev mutual
   pub lanes_at : Data → List LaneText
   lanes_at (array group) = lanes_in group
@@ -46,7 +46,7 @@ edge_texts (Some edge) = do
   list ← ok_or (as_array edge) EdgesNotList
   texts_of (elements list)
 
--- what a diagram holds: its lanes, its edge texts and its near keys, which are passed over and nearly are keys that are read
+-- what a diagram holds: its lanes, its edge texts and its near keys, which are ignored and nearly are keys that are read
 pub record DiagramView : Type 0 where
   pub lanes : List LaneText
   pub edges : List (List ℕ)

@@ -48,7 +48,7 @@ impl Diagram {
         &self.edges
     }
 
-    /// The near keys of the tree, which are passed over and nearly are keys that are read: its own near keys, and then
+    /// The near keys of the tree, which are ignored and nearly are keys that are read: its own near keys, and then
     /// the near keys of its lanes in order.
     pub fn near(&self) -> &Texts
         ensures near { result.now ≡ self.now.near }
@@ -61,8 +61,8 @@ impl Diagram {
 /// taken, so `NoMemory` is returned only for a tree that has a drawing. Then nothing was made.
 ///
 /// The objects in `signal` are lanes. An array there is a group, whose elements are read the same way at any depth. All else
-/// in it is passed over, and so is the title of a group. In a lane only `name`, `wave` and `node` are read, in the tree only
-/// `signal` and `edge`. Of the keys that are passed over the near ones are kept: [`near_in_sheet`] says which they are.
+/// in it is ignored, and so is the title of a group. In a lane only `name`, `wave` and `node` are read, in the tree only
+/// `signal` and `edge`. Of the keys that are ignored the near ones are kept: [`near_in_sheet`] says which they are.
 pub fn read_diagram(alloc: Global, tree: &Value) -> Result<Diagram, DiagramFault>
     ensures answer { AgreesWith is_memory (λ drawing. drawing) result (diagram_of (view tree.now)) }
     ensures memory { IsErrOf result DiagramFault.NoMemory → IsOk (diagram_of (view tree.now)) }

@@ -21,7 +21,7 @@ pub struct LaneText {
     pub node: Option<Text>,
 }
 
-/// The lane of an object. All its other keys are passed over.
+/// The lane of an object. All its other keys are ignored.
 pub(crate) fn read_lane(alloc: Global, object: &Value) -> Result<LaneText, NoMemory>
     ensures { IfOk result (λ lane. lane ≡ lane_of (view object.now)) }
 {

@@ -51,7 +51,7 @@ pub(crate) fn read_lanes(alloc: Global, signal: &[Value]) -> Result<Lanes, NoMem
     Ok(Lanes { items })
 }
 
-// Puts the lanes of a group's elements at the end. Where memory is not found, some of them may be there.
+// Puts the lanes of a group's elements at the end. If memory is not found, some of them may be there.
 fn push_lanes(alloc: Global, lanes: &mut Vec<LaneText>, group: &[Value]) -> Result<(), NoMemory>
     ensures { OnOk result (lanes.new.items ≡ lanes.old.items ++ lanes_in (items_view group.now)) }
 {

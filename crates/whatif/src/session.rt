@@ -125,7 +125,7 @@ impl Session {
         self.found
     }
 
-    /// The greatest separation of a pair by its number from 0, or `None` if and only if the finding is not consistent.
+    /// The greatest separation of a pair, given its number from 0, or `None` if and only if the finding is not consistent.
     pub fn greatest_of(&self, pair: u32) -> Option<GreatestAnswer>
         requires there { pair < length self.now.pairs }
         ensures { result ≡ option_map (λ (b : KeptBound). b.answer) (bound_at self.now.found self.now.bounds (pair + pair)) }

@@ -31,7 +31,7 @@ number_before mark read word =
 abbrev pub weight_in : ℕ → ℕ → Word → Option Edge
 weight_in from to word = long_in word >>= λ weight. Some (record { from = record { 0 = from }; to = record { 0 = to }; weight = weight })
 
--- an edge from an event, by the event that it leads to and its weight
+-- an edge from an event, read from the event that it leads to and its weight
 abbrev pub target_in : ℕ → Word → Option Edge
 target_in from word = number_before (codes ":") (weight_in from) word
 

@@ -28,7 +28,7 @@ plain_sheet_at place tree = do
 abbrev pub lone_plan : List ℕ → sheet.SheetView → PlanView
 lone_plan name sheet = record { netlist = lone_netlist name; sheets = with_sheet [] (plain_key name) sheet }
 
--- the plan of a lone sheet, by the sheet
+-- the plan of a lone sheet, made from the sheet
 abbrev pub lone_by_sheet : List ℕ → Data → FileReading PlanView
 lone_by_sheet name tree = do
   sheet ← plain_sheet_at (File 0) tree

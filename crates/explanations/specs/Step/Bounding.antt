@@ -63,7 +63,7 @@ IsGreatestShown net budget pair bounds.Unbounded = Unit {0}
 IsGreatestShown net budget pair (bounds.Within limit None) = Unit {0}
 IsGreatestShown net budget pair (bounds.Within limit (Some attained)) = (lines : List ProofLine) × IsStoppedProof net (BoundGoal pair.from pair.to attained) lines budget
 
--- a greatest bound is right after a finding, and it is open only where a search used the budget up
+-- a greatest bound is right after a finding, and it is open only if a search used the budget up
 pub record IsGreatestFoundBy (net : Net) (budget : ℕ) (word : FindingWord) (pair : Pair) (value : Bound) : Type 0 where
   pub bound : IsGreatestBy net word pair value
   pub shown : IsGreatestShown net budget pair value

@@ -8,7 +8,7 @@ use Rattle.slack_report.specs.declared.words.FindingWord.{FindingWord}
 use Rattle.drawn_networks.specs.declared.row.Row.{Row}
 use Rattle.explanations.specs.Answers.{IsApart, verdict_by}
 
--- the bounds of a row in the network apart, if its verdict rests on the order of a lane; by its bounds in the drawn network
+-- the bounds of a row in the network apart, if its verdict rests on the order of a lane; given its bounds in the drawn network
 abbrev pub AreBoundsApart : Net → ℕ → FindingWord → Row → RowKind → BothBounds → Option BothBounds → Type 0
 AreBoundsApart apart budget word row kinds.Ask both bounds = bounds ≡ None
 AreBoundsApart apart budget word row (kinds.Req range) both bounds = IsApart apart budget word row range (verdict_by range both) bounds

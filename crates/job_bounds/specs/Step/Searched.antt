@@ -38,12 +38,12 @@ abbrev pub bound_of : Which → GreatestAnswer → Bound
 bound_of sorts.Max answer = greatest_bound answer
 bound_of sorts.Min answer = reversed (greatest_bound answer)
 
--- what a finding says of a network by the lines of its search; each split of these lines was needed
+-- what a finding says of a network, given the lines of its search; each split of these lines was needed
 pub record FindsBy (net : Net) (budget : ℕ) (lines : List ProofLine) (leaves : ℕ) (known : Option (List ℤ)) (found : SearchFinding) : Type 0 where
   pub says : Finds net budget lines leaves known found
   pub needed : AtEachSplit net (IsNeededToFind net) lines
 
--- what an answer says of a pair by the lines of its search; each split of these lines was needed after a known separation
+-- what an answer says of a pair, given the lines of its search; each split of these lines was needed after a known separation
 pub record AnswersSearch (search : PairSearch) (known : ℤ) (left : Evidence) (answer : GreatestAnswer) : Type 0 where
   pub says : IsGreatestAnswer search left answer
   pub needed : AtEachSplit search.net (IsNeededToBound search.net search.from search.to known) left.lines

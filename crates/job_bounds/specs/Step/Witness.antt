@@ -24,7 +24,7 @@ searched_pair sorts.Min pair = record { from = pair.to; to = pair.from }
 abbrev pub IsNearby : ℤ → Type 0
 IsNearby value = (neg_ℤ (pos (9 * reach_limit)) ≤ℤ value) × (value ≤ℤ pos (9 * reach_limit))
 
--- each separation of two events by these times is nearby
+-- each separation of two events in these times is nearby
 abbrev pub AreNearby : List ℤ → Type 0
 AreNearby times = (from to : EventId) → from.0 < length times → to.0 < length times → IsNearby (separation times from to)
 

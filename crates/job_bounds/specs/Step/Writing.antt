@@ -26,8 +26,8 @@ pub record WroteVerdicts (claims : LineClaims) (drawn : Drawn) (here last : Repo
   pub words_are : verdicts_in lines ≡ words
   pub no_end : end_in lines ≡ None
 
--- a step that succeeds puts lines that lead to the report state `to` and have the verdicts `words`, both by its answer; a step that fails puts a
--- front of some lines
+-- a step that succeeds puts lines that lead to the report state `to` and have the verdicts `words`, both given by its answer; a step that fails puts
+-- a front of some lines
 abbrev pub WritesVerdicts : {B E : Type 0} → LineClaims → Drawn → ReportState → (B → ReportState) → (B → List Verdict) → SinkState → SinkState → Result B E → Type 0
 WritesVerdicts claims drawn here to words old new (Ok x) = WroteVerdicts claims drawn here (to x) (words x) old new
 WritesVerdicts claims drawn here to words old new (Err e) = WroteFront claims drawn here old new

@@ -64,7 +64,7 @@ abbrev pub ChecksLines : Net → ProofGoal → List ProofLine → ℕ → Result
 ChecksLines net goal lines first (Ok whole) = AreTaken net goal lines whole
 ChecksLines net goal lines first (Err number) = IsOneRefused net goal lines first number
 
--- the lines are checked for a goal; if there is none they are passed over
+-- the lines are checked for a goal; if there is none, they are ignored
 abbrev pub ChecksFor : Net → Option ProofGoal → List ProofLine → ℕ → Result Bool ℕ → Type 0
 ChecksFor net None lines first result = (whole : Bool) × (result ≡ Ok whole)
 ChecksFor net (Some goal) lines first result = ChecksLines net goal lines first result

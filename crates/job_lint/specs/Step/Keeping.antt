@@ -72,7 +72,7 @@ KeepsRange net from to range kept.All = IsMet net from to range
 KeepsRange net from to range kept.NotAll = IsNotMet net from to range
 KeepsRange net from to range kept.Open = Unit {0}
 
--- ---- by the order of lanes
+-- ---- because of the order of lanes
 
 -- a requirement that is kept in the drawn network passes because of the order of lanes alone, if it is not kept without that order
 abbrev pub order_by_kept : RangeKept → ByOrder

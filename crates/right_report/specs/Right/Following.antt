@@ -15,7 +15,7 @@ use Rattle.drawn_networks.specs.declared.row.Row.{Row}
 use Rattle.right_report.specs.Right.ReportState.{ReportState, NextBound, CurrentRow, at_heading, at_budget, at_events, at_event, at_finding, at_known, at_rows, at_row, at_bound, at_times, at_raise, at_verdict, at_past, at_slack, at_end, at_last, behind_bound, behind_finding, behind_past, behind_times, behind_verdict, bounded, tally_of, end_word, greatest, which_of}
 use Rattle.right_report.specs.declared.tally.ReportTally.{ReportTally}
 
--- What each kind of line has to say truly of the network. Several readers of a report ask for several things.
+-- What each kind of line has to say truly of the network. Each reader of a report asks for something of its own.
 pub record LineClaims : Type 1 where
   pub finding : List ProofLine → FindingWord → Type 0
   pub known : List ℤ → Type 0

@@ -74,10 +74,10 @@ right net = record {
   past = λ r range word list. AreTimes net r list × BreaksEnd r range word list;
 }
 
--- a right report: whole, and each line is right by the lines before it
+-- a right report: whole, and each line is right, given the lines before it
 abbrev pub IsRightReport : Drawn → List Entry → Type 0
 IsRightReport drawn lines = LinesLead (right drawn.net) drawn at_heading lines at_last
 
--- the lines begin a right report: each is right by the lines before it
+-- the lines begin a right report: each is right, given the lines before it
 abbrev pub BeginsRightReport : Drawn → List Entry → Type 0
 BeginsRightReport drawn lines = (at : ReportState) × LinesLead (right drawn.net) drawn at_heading lines at
