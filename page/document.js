@@ -8,7 +8,7 @@ import { demandedText, escaped, inUnit } from "./texts.js";
 const LEGEND = [
   ['<circle class="mark" cx="12" cy="8" r="2.6"/>', "a mark, at its time in this case"],
   ['<path class="wave free" d="M4 14L20 2"/>', "a transition without a mark, whose place says nothing"],
-  ['<g class="windows"><rect class="window" x="2" y="1" width="20" height="14"/></g>', "where a mark may stand by the rules that leave no choice"],
+  ['<g class="windows"><rect class="window" x="2" y="1" width="20" height="14"/></g>', "where a mark may stand according to the rules that leave no choice"],
   ['<rect class="demanded" x="2" y="1" width="20" height="14"/>', "demanded"],
   ['<rect class="spare" x="2" y="1" width="20" height="14"/>', "spare"],
   ['<rect class="missing" x="2" y="1" width="20" height="14"/>', "missing"],
@@ -110,7 +110,7 @@ function captionOf(facts, bound) {
   return `<b>${word}: the search ended too early.</b> ${limit}, ${found}.`;
 }
 
-/** The steps behind a bound of a row, as a list. */
+/** The steps that sum to a bound of a row, as a list. */
 function stepsOf(facts, row, bound) {
   const items = bound.steps.map((step) => {
     const weight = inUnit(step.weight, facts.unit);

@@ -9,7 +9,7 @@ import { escaped, escapedText, inUnit } from "./texts.js";
 const MOST_EVENTS_OF_A_TABLE = 60;
 const MOST_MARGINS = 10;
 
-/** The tabs: the job behind each, its label, and whether it is shown for an analysis. `jobs` are those of the program's help. */
+/** The tabs: the job of each, its label, and whether it is shown for an analysis. `jobs` are those of the program's help. */
 export function jobTabs(analysis, jobs) {
   const hasRows = Boolean(analysis.report && analysis.report.rows.length);
   const fails = hasRows && analysis.report.rows.some((row) => row.verdict === "fail");
@@ -124,7 +124,7 @@ function matrixPane(analysis, printed) {
     return `<tr><th scope="row">${escaped(matrix.events[number])}</th>${cells}</tr>`;
   });
   return (
-    "<p>How far the event of a column is at most behind the event of a row, by the rules that leave no choice. * is without a limit.</p>" +
+    "<p>How much later than the event of a row the event of a column is at most, according to the rules that leave no choice. * is without a limit.</p>" +
     `<div class="table-box"><table class="matrix"><thead><tr><td></td>${heads}</tr></thead><tbody>${rows.join("")}</tbody></table></div>`
   );
 }

@@ -221,7 +221,7 @@ export class Picture {
     });
   }
 
-  /** Where marks may stand by the rules without a choice. */
+  /** Where marks may stand according to the rules without a choice. */
   putWindows(lane, top) {
     const windows = this.matrix ? this.windowsOf(lane) : [];
     if (!windows.length) return;
@@ -288,7 +288,7 @@ export class Picture {
 
   // What stands under the lanes.
 
-  /** The arrow of the separation, the steps behind it, and for a requirement its range and what is spare or missing: a word and what draws it. */
+  /** The arrow of the separation, the steps that sum to it, and for a requirement its range and what is spare or missing: a word and what draws it. */
   rows() {
     const rows = [["separation", (y) => this.putSeparation(y)], ...this.bound.steps.map((step) => ["step", (y) => this.putStep(y, step)])];
     if (this.row.kind !== "req") return rows;

@@ -11,8 +11,8 @@ BY_HAND = "## Where the minutes go"
 
 HEAD = """# The cost of the gate
 
-`rt ci` from nothing proves each crate, tries its must-fail edits, and runs the tests and the programs. This page says what that costs in processor
-minutes, the user and system time of all processes. A processor minute is worth what the processor is. So what a change saves is told as a ratio of two
+`rt ci` from nothing proves each crate, tries its must-fail edits, and runs the programs. This page says what that costs in processor
+minutes, the user and system time of all processes. A processor minute is worth what the processor is. So what a change saves is given as a ratio of two
 runs. `bench/gate.py` runs the gate, keeps what it measured in `bench/gates/now.json`, and writes this page from there. Only the last section is
 written by hand.
 

@@ -1,7 +1,7 @@
 // The heap of itv.wasm. In a native program the toolchain's rattle_alloc, rattle_realloc and rattle_dealloc stand on the C library's malloc, and
 // a module for WebAssembly has no C library. Here they stand on the memory of the module alone.
 //
-// A block is a header of 16 bytes and the room behind it, both at multiples of 16 bytes. The class of a block says how much room it has. A freed
+// A block is a header of 16 bytes and the room after it, both at multiples of 16 bytes. The class of a block says how much room it has. A freed
 // block goes into the list of its class, and only an allocation of the same class gets it again. Where the list is empty, a block is cut from the
 // end of the memory in use. Nothing is ever merged or returned: the page runs each run in an instance of its own, whose memory ends with it.
 //
@@ -25,7 +25,7 @@ enum { PAGE = 65536, PAGES_AT_ONCE = 16, CLASSES = 108 };
 
 static const u64 MOST = 1UL << 32; // bytes of one block, and of the whole memory
 
-extern unsigned char __heap_base; // lld: the first byte behind the data and the stack
+extern unsigned char __heap_base; // lld: the first byte after the data and the stack
 static Header *freed[CLASSES];
 static u64 end; // the first byte that was never given out; 0 before the first block
 static u64 nowhere[2];

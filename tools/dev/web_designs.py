@@ -107,7 +107,7 @@ def sheet_with(edge, **keys):
 # Wrong labels, and a part of what is said of each.
 LABELS = {
     "a->b @lin [0, 2000]": "there may be no space within a range",
-    "a->b @lin[0,2000]": "a space is wanted in front of the range",
+    "a->b @lin[0,2000]": "a space is needed before the range",
     "a->b @lin [0,2.5]": "'2.5' is no whole number",
     "a->b @lin 0..2000": "a range begins with [",
     "a->b @linear [0,2]": "there is no kind 'linear'",
@@ -115,9 +115,9 @@ LABELS = {
     "a->b @lin [2000]": "two ends with one comma",
     "a->b @lin [0,inf]": "'inf' is neither a whole number nor *",
     "a->b @lin [0,]": "an end is missing: an open end is *",
-    "a->b @lin [2,*]ns": "a space is wanted in front of a note",
+    "a->b @lin [2,*]ns": "a space is needed before a note",
     "a->b @lin $tAA": 'a number with a name, $NAME, is read in a netlist with "itv": 2 alone',
-    "a->b @lin": "a range is wanted",
+    "a->b @lin": "a range is needed",
     "a->b @lin+65 [0,2]": "a whole number from 1 to 64",
     "a->b @lin [9,2]": "the low end is above the high end",
     "a->k @lin [0,2]": "no lane has the mark k",
