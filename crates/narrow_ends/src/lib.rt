@@ -4,8 +4,10 @@
 
 mod end;
 mod ends;
+mod found_times;
 mod narrow;
 mod search;
+mod searches;
 mod source;
 
 pub use end::{EndFound, RangeEnd};

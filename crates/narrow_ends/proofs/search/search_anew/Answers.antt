@@ -1,7 +1,7 @@
 use Rattle.std.proofs.Common.{ℤ, subst, w64}
 use Rattle.std.proofs.lemmas.Int.{to_z-of_z}
 use Rattle.narrow_ends.specs.Step.{IsSearched}
-use Rattle.narrow_ends.proofs.search.search.Goals as goal
+use Rattle.narrow_ends.proofs.search.search_anew.Goals as goal
 
 pub returns-clause-found : goal.returns-clause-found
 returns-clause-found c =
