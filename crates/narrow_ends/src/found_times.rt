@@ -1,7 +1,6 @@
 //! Satisfying times that searches found.
 
-ghost use Rattle.std.specs.Prelude.{◌≡◌, ◌≤ℤ◌, ◌↔◌, ◌-ℤ◌, Any, IsTrue, OnOk};
-ghost use Rattle.std.specs.Global.{Vec as VecSeen};
+ghost use Rattle.std.specs.Prelude.{◌≤ℤ◌, ◌↔◌, ◌-ℤ◌, Any, IsTrue, OnOk};
 ghost use Rattle.event_graph.specs.Network.{Net};
 ghost use Rattle.event_graph.specs.Satisfying.{Satisfies};
 ghost use Rattle.event_graph.specs.Times.{separation};
