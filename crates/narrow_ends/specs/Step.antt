@@ -64,9 +64,9 @@ AreEndPlaces places count = (key : EndKey) → IfSome (place_of places key) (λ 
 
 -- ---- satisfying times
 
--- times have a separation of at least this along an edge
-abbrev pub HasSeparation : Edge → ℤ → Vec ℤ → Type 0
-HasSeparation e value times = value ≤ℤ separation times.items e.from e.to
+-- times have a separation along an edge of at least its weight
+abbrev pub HasWeight : Edge → Vec ℤ → Type 0
+HasWeight e times = e.weight ≤ℤ separation times.items e.from e.to
 
 -- all kept times satisfy the network
 abbrev pub AreFoundTimes : Net → FoundTimes → Type 0

@@ -1,11 +1,10 @@
 //! Satisfying times that searches found.
 
-ghost use Rattle.std.specs.Prelude.{◌≤ℤ◌, ◌↔◌, ◌-ℤ◌, Any, IsTrue, OnOk};
+ghost use Rattle.std.specs.Prelude.{◌≤ℤ◌, ◌-ℤ◌, Any, IsTrue, OnOk};
 ghost use Rattle.event_graph.specs.Network.{Net};
 ghost use Rattle.event_graph.specs.Satisfying.{Satisfies};
-ghost use Rattle.event_graph.specs.Times.{separation};
 ghost use Rattle.narrow_ends.specs.Narrow.{IsAttainable};
-ghost use Rattle.narrow_ends.specs.Step.{AreFoundTimes, HasSeparation};
+ghost use Rattle.narrow_ends.specs.Step.{AreFoundTimes, HasWeight};
 
 use event_graph::{Edge, time_of};
 use itv_base::NoMemory;
@@ -33,11 +32,11 @@ impl FoundTimes {
         }
     }
 
-    /// Whether some of the kept times have a separation of at least so many picoseconds along an edge.
-    pub fn attain(&self, edge: Edge, weight: i64) -> bool
-        ensures attained { IsTrue result → (net : Net) → AreFoundTimes net self.now → IsAttainable net weight edge }
+    /// Whether some of the kept times have a separation along an edge of at least its weight.
+    pub fn attain(&self, edge: Edge) -> bool
+        ensures attained { IsTrue result → (net : Net) → AreFoundTimes net self.now → IsAttainable net edge.weight edge }
     {
-        some_attain(&self.kept, edge, weight)
+        some_attain(&self.kept, edge)
     }
 
     /// Keeps satisfying times, one for each event, in picoseconds. The oldest kept times make room for them. The answer is `NoMemory` where memory is not
@@ -61,23 +60,26 @@ fn place_after(place: usize) -> usize {
     if place < MOST_KEPT - 1 { place + 1 } else { 0 }
 }
 
-// Whether some times have a separation of at least so many picoseconds along an edge.
-fn some_attain(kept: &[Vec<i64>], edge: Edge, weight: i64) -> bool
-    ensures { IsTrue result ↔ Any (HasSeparation edge weight) kept.now }
+// Whether some times have a separation along an edge of at least its weight.
+fn some_attain(kept: &[Vec<i64>], edge: Edge) -> bool
+    ensures { IsTrue result → Any (HasWeight edge) kept.now }
 {
-    kept.iter().any(|times| attain(times.as_slice(), edge, weight))
+    kept.iter().any(|times| attain(times, edge))
 }
 
-// Whether times have a separation of at least so many picoseconds along an edge.
-fn attain(times: &[i64], edge: Edge, weight: i64) -> bool
-    ensures { IsTrue result ↔ (weight ≤ℤ separation times.now edge.from edge.to) }
+// Whether times have a separation along an edge of at least its weight.
+fn attain(times: &Vec<i64>, edge: Edge) -> bool
+    ensures { IsTrue result → HasWeight edge times.now }
 {
-    is_apart(time_of(times, edge.from), time_of(times, edge.to), weight)
+    is_apart(time_of(times, edge.from), time_of(times, edge.to), edge.weight)
 }
 
-// Whether a time comes at least so many picoseconds after another.
+// Whether a time comes at least so many picoseconds after another. The answer is `false` where the difference does not fit in 64 bits.
 fn is_apart(from: i64, to: i64, weight: i64) -> bool
-    ensures { IsTrue result ↔ (weight ≤ℤ (to -ℤ from)) }
+    ensures { IsTrue result → weight ≤ℤ (to -ℤ from) }
 {
-    i128::from(weight) <= i128::from(to) - i128::from(from)
+    match to.checked_sub(from) {
+        Some(apart) => weight <= apart,
+        None => false,
+    }
 }

@@ -41,7 +41,7 @@ pub fn search(
     ensures settles { IfOk result (λ found. cause_choices net.now.constraints ≤ extremes.old.budget → 1 ≤ searches.old.left → IsEndSettled found) }
     ensures left { searches.old.left ≤ searches.new.left + 1 }
 {
-    if searches.found.attain(edge, weight) {
+    if searches.found.attain(Edge { weight, ..edge }) {
         return Ok(EndFound::Wide);
     }
     search_anew(alloc, net, extremes, edge, weight, so_far, searches)

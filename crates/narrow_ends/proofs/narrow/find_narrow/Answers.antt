@@ -1,8 +1,13 @@
-use Rattle.std.proofs.Common.{◌≡◌, ◌≤◌, length, ◌∙◌, arith}
+use Rattle.std.proofs.Common.{◌≡◌, ◌≤◌, length, refl, ◌∙◌, arith, rules}
 use Rattle.narrow_ends.specs.Ends.{all_ends}
-use Rattle.narrow_ends.proofs.Along.{along_all, along_next, found_all}
+use Rattle.narrow_ends.proofs.Along.{along_all, along_next, along_start, found_all}
 use Rattle.narrow_ends.proofs.Standing.{are_places}
 use Rattle.narrow_ends.proofs.narrow.find_narrow.Goals as goal
+
+pub loop-name-init : goal.loop-name-init
+loop-name-init c =
+    along_start c.args.drawn.now c.as_slice-name-items.result.now c.args.extremes.now c.new-places.result c.new-ends.result.items _ c.requires.ready (search rules) c.new-ends.ensures.items
+    refl (c.new.ensures.none c.args.drawn.now.net)
 
 pub add_end-requires-clause-places : goal.add_end-requires-clause-places
 add_end-requires-clause-places c = are_places c.args.drawn.now _ c.loop-name.places c.loop-name.ends.items c.loop-name.invariant.stand

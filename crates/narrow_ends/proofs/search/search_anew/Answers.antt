@@ -5,5 +5,5 @@ use Rattle.narrow_ends.proofs.search.search_anew.Goals as goal
 
 pub returns-clause-found : goal.returns-clause-found
 returns-clause-found c =
-    subst (λ (z : ℤ). IsSearched c.args.net.now c.args.edge z c.args.so_far c.found_of.result) (to_z-of_z w64 c.args.weight c.ranges.weight)
-    (c.found_of.ensures.found c.args.net.now c.args.edge c.in_ok-greatest.ensures.found)
+    subst (λ (z : ℤ). IsSearched c.args.net.now c.args.edge z c.args.so_far c.found_of-found.result) (to_z-of_z w64 c.args.weight c.ranges.weight)
+    (c.found_of-found.ensures.found c.args.net.now c.args.edge c.in_ok-greatest.ensures.found)
