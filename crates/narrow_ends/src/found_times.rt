@@ -71,7 +71,11 @@ fn some_attain(kept: &[Vec<i64>], edge: Edge) -> bool
 fn attain(times: &Vec<i64>, edge: Edge) -> bool
     ensures { IsTrue result → HasWeight edge times.now }
 {
-    is_apart(time_of(times, edge.from), time_of(times, edge.to), edge.weight)
+    is_apart(
+        time_of(times, edge.from),
+        time_of(times, edge.to),
+        edge.weight,
+    )
 }
 
 // Whether a time comes at least so many picoseconds after another. The answer is `false` where the difference does not fit in 64 bits.
