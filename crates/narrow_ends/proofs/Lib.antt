@@ -3,7 +3,7 @@ mod Tables
 mod Among
 mod Standing
 mod Along
-mod Keeping
 mod Seeking
+mod Keeping
 mod Causes
 mod Loops

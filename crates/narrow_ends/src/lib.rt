@@ -4,7 +4,7 @@
 
 mod end;
 mod ends;
-mod found_times;
+mod last_found;
 mod narrow;
 mod search;
 mod searches;

@@ -1,10 +1,10 @@
 //! The searches for ends.
 
-use crate::found_times::FoundTimes;
+use crate::last_found::LastFound;
 
-/// How many searches may still be made, and the satisfying times of the last ones.
+/// How many searches may still be made, and what the last ones found.
 #[derive(Drop)]
 pub struct Searches {
     pub left: u64,
-    pub found: FoundTimes,
+    pub found: LastFound,
 }
