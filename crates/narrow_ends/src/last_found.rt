@@ -64,11 +64,7 @@ impl LastFound {
 
 // The place after a place; the first one follows the last.
 fn place_after(place: usize) -> usize {
-    if place < MOST_KEPT - 1 {
-        place + 1
-    } else {
-        0
-    }
+    if place < MOST_KEPT - 1 { place + 1 } else { 0 }
 }
 
 // Whether some of what was found shows that times attain the weight of an edge.
