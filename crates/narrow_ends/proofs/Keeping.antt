@@ -12,12 +12,12 @@ use Rattle.extremes.specs.declared.found.Greatest.{Greatest}
 use Rattle.extremes.specs.declared.found.Greatest.TheVariants.{Closed, Open, Unbounded}
 use Rattle.narrow_ends.specs.declared.last_found.LastFound.{LastFound}
 use Rattle.narrow_ends.specs.Narrow.{IsAttainable}
-use Rattle.narrow_ends.specs.Step.{AreFound, IsFound, ShowsWeight}
+use Rattle.narrow_ends.specs.Step.{AreLastFound, IsFoundOfPair, ShowsWeight}
 use Rattle.narrow_ends.proofs.Seeking.{unbounded_reached}
 
 -- nothing is kept
-pub kept_none : (net : Net) (last : LastFound) → last.kept.items ≡ [] → AreFound net last
-kept_none net last none = record { each = subst (All (IsFound net)) (sym none) (λ k d within. absurd (omega arith)) }
+pub kept_none : (net : Net) (last : LastFound) → last.kept.items ≡ [] → AreLastFound net last
+kept_none net last none = record { each = subst (All (IsFoundOfPair net)) (sym none) (λ k d within. absurd (omega arith)) }
 
 -- what a search found of one pair may show that times attain the weight of an edge
 weight_shown : (net : Net) (e : Edge) (from to : EventId) (found : Greatest) → IsGreatestFound net from to found → ShowsWeight e found → IsAttainable net e.weight e
@@ -26,22 +26,22 @@ weight_shown net e from to (Unbounded set) found shows =
     unbounded_reached net e e.weight set.items (found.0, found.1, record { count = found.2.count; holds = shows.1; lacks = shows.0; satisfies = found.2.satisfies })
 weight_shown net e from to (Open limit attained) found shows = absurd shows
 
-pub kept_shows : (net : Net) (e : Edge) (last : LastFound) → AreFound net last → Any (ShowsWeight e) last.kept.items → IsAttainable net e.weight e
+pub kept_shows : (net : Net) (e : Edge) (last : LastFound) → AreLastFound net last → Any (ShowsWeight e) last.kept.items → IsAttainable net e.weight e
 kept_shows net e last kept some =
-    let found : IsFound net some.1 = subst (IsFound net) some.3 (kept.each some.0 some.1 some.2) in
+    let found : IsFoundOfPair net some.1 = subst (IsFoundOfPair net) some.3 (kept.each some.0 some.1 some.2) in
     weight_shown net e found.from found.to some.1 found.right some.4
 
 -- a finding in the place of another
 pub kept_set : (net : Net) (from to : EventId) (before after : LastFound) (place : ℕ) (found : Greatest) → after.kept.items ≡ set before.kept.items place found → IsGreatestFound net from to found
-    → AreFound net before → AreFound net after
+    → AreLastFound net before → AreLastFound net after
 kept_set net from to before after place found is right kept =
-    record { each = subst (All (IsFound net)) (sym is) (All-set (IsFound net) before.kept.items place found (record { from = from; to = to; right = right }) kept.each) }
+    record { each = subst (All (IsFoundOfPair net)) (sym is) (All-set (IsFoundOfPair net) before.kept.items place found (record { from = from; to = to; right = right }) kept.each) }
 
 -- a finding after the others
 pub kept_push : (net : Net) (from to : EventId) (before after : LastFound) (found : Greatest) → after.kept.items ≡ before.kept.items ++ found ∷ [] → IsGreatestFound net from to found
-    → AreFound net before → AreFound net after
+    → AreLastFound net before → AreLastFound net after
 kept_push net from to before after found is right kept =
-    record { each = subst (All (IsFound net)) (sym is) (All-push (IsFound net) before.kept.items found kept.each (record { from = from; to = to; right = right })) }
+    record { each = subst (All (IsFoundOfPair net)) (sym is) (All-push (IsFoundOfPair net) before.kept.items found kept.each (record { from = from; to = to; right = right })) }
 
 -- some element of a list that has a place
 some_element : {X : Type 0} → (xs : List X) (k : ℕ) → k < length xs → X

@@ -78,14 +78,14 @@ ShowsWeight e (greatest.Unbounded set) = IsAcross set.items e.from e.to
 ShowsWeight e (greatest.Open limit attained) = ⊥
 
 -- it was found of some pair of the network
-pub record IsFound (net : Net) (found : Greatest) : Type 0 where
+pub record IsFoundOfPair (net : Net) (found : Greatest) : Type 0 where
   pub from : EventId
   pub to : EventId
   pub right : IsGreatestFound net from to found
 
 -- all that is kept was found of pairs of the network
-pub record AreFound (net : Net) (last : LastFound) : Type 0 where
-  pub each : All (IsFound net) last.kept.items
+pub record AreLastFound (net : Net) (last : LastFound) : Type 0 where
+  pub each : All (IsFoundOfPair net) last.kept.items
 
 -- ---- what is found of ends
 

@@ -6,7 +6,7 @@ ghost use Rattle.extremes.specs.Found.{IsGreatestFound};
 ghost use Rattle.event_graph.specs.Times.{separation};
 ghost use Rattle.itv_base.specs.declared.names.EventId.{EventId as EventSeen};
 ghost use Rattle.narrow_ends.specs.Narrow.{IsAttainable};
-ghost use Rattle.narrow_ends.specs.Step.{AreFound, IsAcross, ShowsWeight};
+ghost use Rattle.narrow_ends.specs.Step.{AreLastFound, IsAcross, ShowsWeight};
 
 use event_graph::{Edge, time_of};
 use extremes::Greatest;
@@ -28,7 +28,7 @@ pub struct LastFound {
 impl LastFound {
     /// Nothing yet.
     pub fn new(alloc: Global) -> LastFound
-        ensures none { (net : Net) → AreFound net result }
+        ensures none { (net : Net) → AreLastFound net result }
     {
         LastFound {
             kept: Vec::new(alloc),
@@ -38,7 +38,7 @@ impl LastFound {
 
     /// Whether it shows that some satisfying times have a separation along an edge of at least its weight.
     pub fn shows_weight(&self, edge: Edge) -> bool
-        ensures shown { IsTrue result → (net : Net) → AreFound net self.now → IsAttainable net edge.weight edge }
+        ensures shown { IsTrue result → (net : Net) → AreLastFound net self.now → IsAttainable net edge.weight edge }
     {
         some_shows(&self.kept, edge)
     }
@@ -46,7 +46,7 @@ impl LastFound {
     /// Keeps what a search found of a pair. The oldest makes room for it. What was left open is not kept. The answer is `NoMemory` where memory is not
     /// found.
     pub fn keep(&mut self, found: Greatest) -> Result<(), NoMemory>
-        ensures kept { OnOk result ((net : Net) (from to : EventSeen) → IsGreatestFound net from to found → AreFound net self.old → AreFound net self.new) }
+        ensures kept { OnOk result ((net : Net) (from to : EventSeen) → IsGreatestFound net from to found → AreLastFound net self.old → AreLastFound net self.new) }
     {
         if found.is_open() {
             return Ok(());

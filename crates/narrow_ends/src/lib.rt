@@ -3,11 +3,11 @@
 #![tactic(auto)]
 
 mod end;
+mod end_searches;
 mod ends;
 mod last_found;
 mod narrow;
 mod search;
-mod searches;
 mod source;
 
 pub use end::{EndFound, RangeEnd};

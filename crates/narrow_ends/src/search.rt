@@ -5,13 +5,13 @@ ghost use Rattle.event_graph.specs.Edges.{cause_choices};
 ghost use Rattle.extremes.specs.Found.{IsGreatestFound, is_open};
 ghost use Rattle.extremes.specs.Ready.{IsReady};
 ghost use Rattle.narrow_ends.specs.Narrow.{IsEndSettled};
-ghost use Rattle.narrow_ends.specs.Step.{AreFound, IsSearched};
+ghost use Rattle.narrow_ends.specs.Step.{AreLastFound, IsSearched};
 ghost use Rattle.event_graph.specs.Bounds.{IsGreatest};
 ghost use Rattle.event_graph.specs.Network.{Net};
 ghost use Rattle.event_graph.specs.declared.edge.Edge.{Edge as EdgeSeen};
 
 use crate::end::EndFound;
-use crate::searches::Searches;
+use crate::end_searches::EndSearches;
 use event_graph::{Edge, Network};
 use extremes::{Extremes, Greatest};
 use itv_base::NoMemory;
@@ -27,15 +27,15 @@ pub fn search(
     edge: Edge,
     weight: i64,
     so_far: Option<i64>,
-    searches: &mut Searches,
+    searches: &mut EndSearches,
 ) -> Result<EndFound, NoMemory>
     requires ready { IsReady net.now extremes.old }
     requires from { edge.from.0 < net.now.events }
     requires to { edge.to.0 < net.now.events }
-    requires kept { AreFound net.now searches.old.found }
+    requires kept { AreLastFound net.now searches.old.found }
     ensures ready { IsReady net.now extremes.new }
     ensures budget { extremes.new.budget ≡ extremes.old.budget }
-    ensures kept { OnOk result (AreFound net.now searches.new.found) }
+    ensures kept { OnOk result (AreLastFound net.now searches.new.found) }
     ensures found { IfOk result (IsSearched net.now edge weight so_far) }
     ensures settles { IfOk result (λ found. cause_choices net.now.constraints ≤ extremes.old.budget → 1 ≤ searches.old.left → IsEndSettled found) }
     ensures left { searches.old.left ≤ searches.new.left + 1 }
@@ -46,7 +46,7 @@ pub fn search(
     search_anew(alloc, net, extremes, edge, weight, so_far, searches)
 }
 
-// Searches for the greatest separation along an edge of an end, and keeps what is found.
+// EndSearches for the greatest separation along an edge of an end, and keeps what is found.
 fn search_anew(
     alloc: Global,
     net: &Network,
@@ -54,15 +54,15 @@ fn search_anew(
     edge: Edge,
     weight: i64,
     so_far: Option<i64>,
-    searches: &mut Searches,
+    searches: &mut EndSearches,
 ) -> Result<EndFound, NoMemory>
     requires ready { IsReady net.now extremes.old }
     requires from { edge.from.0 < net.now.events }
     requires to { edge.to.0 < net.now.events }
-    requires kept { AreFound net.now searches.old.found }
+    requires kept { AreLastFound net.now searches.old.found }
     ensures ready { IsReady net.now extremes.new }
     ensures budget { extremes.new.budget ≡ extremes.old.budget }
-    ensures kept { OnOk result (AreFound net.now searches.new.found) }
+    ensures kept { OnOk result (AreLastFound net.now searches.new.found) }
     ensures found { IfOk result (IsSearched net.now edge weight so_far) }
     ensures settles { IfOk result (λ found. cause_choices net.now.constraints ≤ extremes.old.budget → 1 ≤ searches.old.left → IsEndSettled found) }
     ensures left { searches.old.left ≤ searches.new.left + 1 }
