@@ -13,7 +13,7 @@ use Rattle.narrow_ends.specs.declared.end_searches.EndSearches.{EndSearches}
 use Rattle.narrow_ends.specs.declared.source.EndKey.{EndKey}
 use Rattle.narrow_ends.specs.Ends.{all_ends, ends_of, with_ends}
 use Rattle.narrow_ends.specs.Narrow.{IsEndFound}
-use Rattle.narrow_ends.specs.Step.{AreEndsSettled, AreLastFound, EndPlaces, IsEndAmong, Stand, names_of, place_of}
+use Rattle.narrow_ends.specs.Step.{AreEndsSettled, AreFoundTimes, EndPlaces, IsEndAmong, Stand, names_of, place_of}
 use Rattle.narrow_ends.proofs.Standing.{stand_none}
 
 -- the ends stand for the first names, and no more searches were made than there are such names
@@ -23,10 +23,10 @@ pub record IsAlong (drawn : Drawn) (budget : ℕ) (names : List EdgeName) (count
   pub stand : Stand drawn (take count names) places ends
   pub settled : cause_choices drawn.net.constraints ≤ budget → length names ≤ MOST_SEARCHES → AreEndsSettled ends
   pub left_over : MOST_SEARCHES ≤ searches.left + count
-  pub kept : AreLastFound drawn.net searches.found
+  pub kept : AreFoundTimes drawn.net searches.found
 
 pub along_start : (drawn : Drawn) (names : List EdgeName) (extremes : Extremes) (places : EndPlaces) (ends : List RangeEnd) (searches : EndSearches) → IsReady drawn.net extremes
-    → ((key : EndKey) → place_of places key ≡ None) → ends ≡ [] → searches.left ≡ MOST_SEARCHES → AreLastFound drawn.net searches.found
+    → ((key : EndKey) → place_of places key ≡ None) → ends ≡ [] → searches.left ≡ MOST_SEARCHES → AreFoundTimes drawn.net searches.found
     → IsAlong drawn extremes.budget names 0 extremes places ends searches
 along_start drawn names extremes places ends searches ready none empty full kept = record {
   ready = ready;
@@ -41,7 +41,7 @@ pub along_next : (drawn : Drawn) (budget : ℕ) (names : List EdgeName) (i : ℕ
     → i < length names → IsAlong drawn budget names i before places ends searches → IsReady drawn.net after → after.budget ≡ before.budget
     → ((front : List EdgeName) → Stand drawn front places ends → Stand drawn (front ++ get_or names i d ∷ []) more others)
     → (cause_choices drawn.net.constraints ≤ before.budget → 1 ≤ searches.left → AreEndsSettled ends → AreEndsSettled others) → searches.left ≤ less.left + 1
-    → AreLastFound drawn.net less.found → IsAlong drawn budget names (i + 1) after more others less
+    → AreFoundTimes drawn.net less.found → IsAlong drawn budget names (i + 1) after more others less
 along_next drawn budget names i d before after places more ends others searches less within along ready same stands settles fewer kept = record {
   ready = ready;
   budget_stays = same ∙ along.budget_stays;

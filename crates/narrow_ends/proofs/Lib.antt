@@ -3,7 +3,7 @@ mod Tables
 mod Among
 mod Standing
 mod Along
-mod Seeking
 mod Keeping
+mod Seeking
 mod Causes
 mod Loops

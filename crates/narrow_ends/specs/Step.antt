@@ -1,10 +1,10 @@
 -- Words of private contracts.
 use Rattle.std.specs.Prelude.{◌≡◌, ◌<◌, ◌⊎◌, ◌↔◌, [], ℕ, ℤ, ◌≤ℤ◌, ◌<ℤ◌, Bool, true, false, List, All, Contains, length, map, Option, Some, IfSome, IsSome, slice_get}
+use Rattle.std.specs.Global.{Vec}
 use Rattle.std.specs.HashMap.{get, HashMap}
 use Rattle.std.specs.declared.hash.FoldHasher.{FoldHasher}
 use Rattle.std.specs.declared.hash.BuildHasherDefault.{BuildHasherDefault}
 use Rattle.itv_base.specs.declared.names.EdgeName.{EdgeName}
-use Rattle.itv_base.specs.declared.names.EventId.{EventId}
 use Rattle.itv_base.specs.declared.names.Side.{Side}
 use Rattle.itv_base.specs.declared.names.Side.TheVariants.{Lower, Upper}
 use Rattle.origin.specs.declared.origin.Origin.{Origin}
@@ -12,15 +12,13 @@ use Rattle.origin.specs.declared.origin.Origin.TheVariants as origins
 use Rattle.event_graph.specs.declared.edge.Edge.{Edge}
 use Rattle.event_graph.specs.Edges.{edge}
 use Rattle.event_graph.specs.Network.{Net}
+use Rattle.event_graph.specs.Satisfying.{Satisfies}
 use Rattle.event_graph.specs.Times.{separation}
 use Rattle.drawn_networks.specs.Drawn.{Drawn}
-use Rattle.extremes.specs.Found.{IsGreatestFound}
-use Rattle.extremes.specs.declared.found.Greatest.{Greatest}
-use Rattle.extremes.specs.declared.found.Greatest.TheVariants as greatest
 use Rattle.narrow_ends.specs.declared.end.EndFound.{EndFound}
 use Rattle.narrow_ends.specs.declared.end.EndFound.TheVariants.{Narrow, Open, Wide}
 use Rattle.narrow_ends.specs.declared.end.RangeEnd.{RangeEnd}
-use Rattle.narrow_ends.specs.declared.last_found.LastFound.{LastFound}
+use Rattle.narrow_ends.specs.declared.found_times.FoundTimes.{FoundTimes}
 use Rattle.narrow_ends.specs.declared.source.EndKey.{EndKey}
 use Rattle.narrow_ends.specs.declared.source.Thing.{Thing}
 use Rattle.narrow_ends.specs.declared.source.Thing.TheVariants as things
@@ -64,28 +62,15 @@ place_of places key = get same_end_key places key
 abbrev pub AreEndPlaces : EndPlaces → ℕ → Type 0
 AreEndPlaces places count = (key : EndKey) → IfSome (place_of places key) (λ place. place < count)
 
--- ---- what the last searches found
+-- ---- satisfying times
 
--- a set of events has the to-event and not the from-event
-abbrev pub IsAcross : List Bool → EventId → EventId → Type 0
-IsAcross set from to = (slice_get set from.0 ≡ Some false) × (slice_get set to.0 ≡ Some true)
+-- times have a separation along an edge of at least its weight
+abbrev pub HasWeight : Edge → Vec ℤ → Type 0
+HasWeight e times = e.weight ≤ℤ separation times.items e.from e.to
 
--- what a search found shows that times attain the weight of an edge: its times have a separation along the edge of at least the weight, or the to-event
--- is one of the events that can be put off without end, and the from-event is not
-abbrev pub ShowsWeight : Edge → Greatest → Type 0
-ShowsWeight e (greatest.Closed value times) = e.weight ≤ℤ separation times.items e.from e.to
-ShowsWeight e (greatest.Unbounded set) = IsAcross set.items e.from e.to
-ShowsWeight e (greatest.Open limit attained) = ⊥
-
--- it was found of some pair of the network
-pub record IsFoundOfPair (net : Net) (found : Greatest) : Type 0 where
-  pub from : EventId
-  pub to : EventId
-  pub right : IsGreatestFound net from to found
-
--- all that is kept was found of pairs of the network
-pub record AreLastFound (net : Net) (last : LastFound) : Type 0 where
-  pub each : All (IsFoundOfPair net) last.kept.items
+-- all kept times satisfy the network
+abbrev pub AreFoundTimes : Net → FoundTimes → Type 0
+AreFoundTimes net found = All (λ (times : Vec ℤ). Satisfies times.items net) found.kept.items
 
 -- ---- what is found of ends
 

@@ -1,10 +1,10 @@
 //! The searches for ends.
 
-use crate::last_found::LastFound;
+use crate::found_times::FoundTimes;
 
-/// How many searches may still be made, and what the last ones found.
+/// How many searches may still be made, and the satisfying times of the last ones.
 #[derive(Drop)]
 pub struct EndSearches {
     pub left: u64,
-    pub found: LastFound,
+    pub found: FoundTimes,
 }

@@ -5,7 +5,7 @@
 mod end;
 mod end_searches;
 mod ends;
-mod last_found;
+mod found_times;
 mod narrow;
 mod search;
 mod source;

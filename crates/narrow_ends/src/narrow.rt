@@ -5,14 +5,14 @@ ghost use Rattle.event_graph.specs.Edges.{cause_choices};
 ghost use Rattle.extremes.specs.Ready.{IsReady};
 ghost use Rattle.narrow_ends.specs.Ends.{all_ends, ends_of};
 ghost use Rattle.narrow_ends.specs.Narrow.{IsEndFound, IsEndSettled};
-ghost use Rattle.narrow_ends.specs.Step.{AreEndPlaces, AreEndsSettled, AreLastFound, HasEnd, IsLookedOn, IsSearched, Stand};
+ghost use Rattle.narrow_ends.specs.Step.{AreEndPlaces, AreEndsSettled, AreFoundTimes, HasEnd, IsLookedOn, IsSearched, Stand};
 ghost use Rattle.narrow_ends.specs.declared.end.RangeEnd.{RangeEnd as EndSeen};
 ghost use Rattle.itv_base.specs.declared.names.EdgeName.{EdgeName as NameOfEdge};
 
 use crate::end::{EndFound, RangeEnd};
 use crate::end_searches::EndSearches;
 use crate::ends::{all_ends, edge_of};
-use crate::last_found::LastFound;
+use crate::found_times::FoundTimes;
 use crate::search::search;
 use crate::source::{EndPlaces, place_of, put_place, source_of};
 use drawn_networks::DrawnNetwork;
@@ -25,9 +25,9 @@ use std::alloc::Global;
 pub const MOST_SEARCHES: u64 = 4_096;
 
 /// Finds for each end of a drawn range whether satisfying times attain it, once for all cycles and places that the same thing draws: an edge of a
-/// sheet, a pin of a net or a wire. The network was found consistent. An end is searched from its first place on, until it is attained. Where what one
-/// of the last searches found shows this, no search is made. No end is left open where the budget is no less than the number of cause choices and all
-/// ends of all cycles are no more than [`MOST_SEARCHES`]. The answer is `NoMemory` where memory is not found.
+/// sheet, a pin of a net or a wire. The network was found consistent. An end is searched from its first place on, until it is attained. Where times that
+/// an earlier search found attain it, no search is made. No end is left open where the budget is no less than the number of cause choices and all ends of
+/// all cycles are no more than [`MOST_SEARCHES`]. The answer is `NoMemory` where memory is not found.
 pub fn find_narrow(
     alloc: Global,
     drawn: &DrawnNetwork,
@@ -46,7 +46,7 @@ pub fn find_narrow(
     let mut ends = Vec::new(alloc);
     let mut searches = EndSearches {
         left: MOST_SEARCHES,
-        found: LastFound::new(alloc),
+        found: FoundTimes::new(alloc),
     };
     for name in names.as_slice() {
         add_end(
@@ -75,10 +75,10 @@ fn add_end<'a>(
     requires ready { IsReady drawn.now.net extremes.old }
     requires there { HasEnd drawn.now name }
     requires places { AreEndPlaces places.old (length ends.old.items) }
-    requires kept { AreLastFound drawn.now.net searches.old.found }
+    requires kept { AreFoundTimes drawn.now.net searches.old.found }
     ensures ready { IsReady drawn.now.net extremes.new }
     ensures budget { extremes.new.budget ≡ extremes.old.budget }
-    ensures kept { OnOk result (AreLastFound drawn.now.net searches.new.found) }
+    ensures kept { OnOk result (AreFoundTimes drawn.now.net searches.new.found) }
     ensures stand { OnOk result ((names : List NameOfEdge) → Stand drawn.now names places.old ends.old.items
         → Stand drawn.now (names ++ name ∷ []) places.new ends.new.items) }
     ensures settles { OnOk result (cause_choices drawn.now.net.constraints ≤ extremes.old.budget → 1 ≤ searches.old.left → AreEndsSettled ends.old.items
@@ -114,10 +114,10 @@ fn first_end(
     requires ready { IsReady net.now extremes.old }
     requires from { edge.from.0 < net.now.events }
     requires to { edge.to.0 < net.now.events }
-    requires kept { AreLastFound net.now searches.old.found }
+    requires kept { AreFoundTimes net.now searches.old.found }
     ensures ready { IsReady net.now extremes.new }
     ensures budget { extremes.new.budget ≡ extremes.old.budget }
-    ensures kept { OnOk result (AreLastFound net.now searches.new.found) }
+    ensures kept { OnOk result (AreFoundTimes net.now searches.new.found) }
     ensures name { IfOk result (λ end. end.name ≡ name) }
     ensures edge { IfOk result (λ end. end.edge ≡ edge) }
     ensures found { IfOk result (λ end. IsSearched net.now edge edge.weight None end.found) }
@@ -141,10 +141,10 @@ fn look_on(
     requires ready { IsReady net.now extremes.old }
     requires from { edge.from.0 < net.now.events }
     requires to { edge.to.0 < net.now.events }
-    requires kept { AreLastFound net.now searches.old.found }
+    requires kept { AreFoundTimes net.now searches.old.found }
     ensures ready { IsReady net.now extremes.new }
     ensures budget { extremes.new.budget ≡ extremes.old.budget }
-    ensures kept { OnOk result (AreLastFound net.now searches.new.found) }
+    ensures kept { OnOk result (AreFoundTimes net.now searches.new.found) }
     ensures found { IfOk result (IsLookedOn net.now edge end) }
     ensures settles { IfOk result (λ next. cause_choices net.now.constraints ≤ extremes.old.budget → 1 ≤ searches.old.left → IsEndSettled end.found → IsEndSettled next.found) }
     ensures left { searches.old.left ≤ searches.new.left + 1 }

@@ -5,20 +5,21 @@ ghost use Rattle.event_graph.specs.Edges.{cause_choices};
 ghost use Rattle.extremes.specs.Found.{IsGreatestFound, is_open};
 ghost use Rattle.extremes.specs.Ready.{IsReady};
 ghost use Rattle.narrow_ends.specs.Narrow.{IsEndSettled};
-ghost use Rattle.narrow_ends.specs.Step.{AreLastFound, IsSearched};
+ghost use Rattle.narrow_ends.specs.Step.{AreFoundTimes, IsSearched};
 ghost use Rattle.event_graph.specs.Bounds.{IsGreatest};
 ghost use Rattle.event_graph.specs.Network.{Net};
 ghost use Rattle.event_graph.specs.declared.edge.Edge.{Edge as EdgeSeen};
 
 use crate::end::EndFound;
 use crate::end_searches::EndSearches;
+use crate::found_times::FoundTimes;
 use event_graph::{Edge, Network};
 use extremes::{Extremes, Greatest};
 use itv_base::NoMemory;
 use std::alloc::Global;
 
 /// Looks whether satisfying times attain an end with a weight along an edge, where some separation, or none, is the greatest so far. It searches for the
-/// greatest separation only where nothing that the last searches found shows this. The end is open where no searches are left or the search leaves it
+/// greatest separation only where no times that an earlier search found attain the end. The end is open where no searches are left or the search leaves it
 /// so.
 pub fn search(
     alloc: Global,
@@ -32,21 +33,21 @@ pub fn search(
     requires ready { IsReady net.now extremes.old }
     requires from { edge.from.0 < net.now.events }
     requires to { edge.to.0 < net.now.events }
-    requires kept { AreLastFound net.now searches.old.found }
+    requires kept { AreFoundTimes net.now searches.old.found }
     ensures ready { IsReady net.now extremes.new }
     ensures budget { extremes.new.budget ≡ extremes.old.budget }
-    ensures kept { OnOk result (AreLastFound net.now searches.new.found) }
+    ensures kept { OnOk result (AreFoundTimes net.now searches.new.found) }
     ensures found { IfOk result (IsSearched net.now edge weight so_far) }
     ensures settles { IfOk result (λ found. cause_choices net.now.constraints ≤ extremes.old.budget → 1 ≤ searches.old.left → IsEndSettled found) }
     ensures left { searches.old.left ≤ searches.new.left + 1 }
 {
-    if searches.found.shows_weight(Edge { weight, ..edge }) {
+    if searches.found.attain(Edge { weight, ..edge }) {
         return Ok(EndFound::Wide);
     }
     search_anew(alloc, net, extremes, edge, weight, so_far, searches)
 }
 
-// EndSearches for the greatest separation along an edge of an end, and keeps what is found.
+// EndSearches for the greatest separation along an edge of an end, and keeps the times that attain it.
 fn search_anew(
     alloc: Global,
     net: &Network,
@@ -59,10 +60,10 @@ fn search_anew(
     requires ready { IsReady net.now extremes.old }
     requires from { edge.from.0 < net.now.events }
     requires to { edge.to.0 < net.now.events }
-    requires kept { AreLastFound net.now searches.old.found }
+    requires kept { AreFoundTimes net.now searches.old.found }
     ensures ready { IsReady net.now extremes.new }
     ensures budget { extremes.new.budget ≡ extremes.old.budget }
-    ensures kept { OnOk result (AreLastFound net.now searches.new.found) }
+    ensures kept { OnOk result (AreFoundTimes net.now searches.new.found) }
     ensures found { IfOk result (IsSearched net.now edge weight so_far) }
     ensures settles { IfOk result (λ found. cause_choices net.now.constraints ≤ extremes.old.budget → 1 ≤ searches.old.left → IsEndSettled found) }
     ensures left { searches.old.left ≤ searches.new.left + 1 }
@@ -73,8 +74,18 @@ fn search_anew(
     searches.left -= 1;
     let greatest = extremes.greatest(alloc, net, edge.from, edge.to)?;
     let found = found_of(&greatest, weight, so_far);
-    searches.found.keep(greatest)?;
+    keep_times(greatest, &mut searches.found)?;
     Ok(found)
+}
+
+// Keeps the times that a search found, if it found some.
+fn keep_times(greatest: Greatest, found: &mut FoundTimes) -> Result<(), NoMemory>
+    ensures kept { OnOk result ((net : Net) (e : EdgeSeen) → IsGreatestFound net e.from e.to greatest → AreFoundTimes net found.old → AreFoundTimes net found.new) }
+{
+    match greatest {
+        Greatest::Closed { times, .. } => found.keep(times),
+        Greatest::Unbounded { .. } | Greatest::Open { .. } => Ok(()),
+    }
 }
 
 // What is found of an end with a weight, according to what is found of a greatest separation and the greatest one so far.
