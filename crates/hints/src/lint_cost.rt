@@ -9,7 +9,7 @@ use drawn_networks::DrawnNetwork;
 use itv_base::NoMemory;
 use std::alloc::Global;
 
-// The most edges and pins of a design whose drawing is looked at for a hint. The time of job lint grows with their square.
+// The most edges and pins of a design whose drawing is looked at for a hint.
 const MOST_DRAWN: u64 = 2_000;
 
 // The most searches for a hint.

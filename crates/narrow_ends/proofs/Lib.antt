@@ -3,6 +3,7 @@ mod Tables
 mod Among
 mod Standing
 mod Along
+mod Keeping
 mod Seeking
 mod Causes
 mod Loops

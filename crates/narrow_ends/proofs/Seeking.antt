@@ -8,6 +8,7 @@ use Rattle.itv_base.specs.declared.names.EventId.{EventId}
 use Rattle.event_graph.specs.declared.edge.Edge.{Edge}
 use Rattle.event_graph.specs.Bounds.{IsGreatest}
 use Rattle.event_graph.specs.Network.{Net}
+use Rattle.event_graph.specs.Satisfying.{Satisfies}
 use Rattle.event_graph.specs.Times.{IsTime, separation, time_of}
 use Rattle.event_graph.proofs.Rays.{ray_is_unbounded}
 use Rattle.extremes.specs.Found.{CanRise, IsAttainedBy, IsGreatestFound}
@@ -83,3 +84,7 @@ pub unbounded_found : (net : Net) (e : Edge) (weight : ℤ) (so_far : Option ℤ
 unbounded_found net e weight so_far greatest set last is same found =
     let without_end : CanRise net e.from e.to set.items = subst (IsGreatestFound net e.from e.to) is found in
     subst (IsSearched net e weight so_far) (sym same) (unbounded_reached net e weight set.items without_end)
+
+-- the times of a greatest separation satisfy the network
+pub closed_satisfies : (net : Net) (e : Edge) (greatest : Greatest) (value : ℤ) (times : Vec ℤ) → greatest ≡ Closed value times → IsGreatestFound net e.from e.to greatest → Satisfies times.items net
+closed_satisfies net e greatest value times is found = let attained : IsAttainedBy net e.from e.to value times.items = subst (IsGreatestFound net e.from e.to) is found in attained.satisfies

@@ -1,5 +1,6 @@
 -- Words of private contracts.
 use Rattle.std.specs.Prelude.{◌≡◌, ◌<◌, ◌⊎◌, ◌↔◌, [], ℕ, ℤ, ◌≤ℤ◌, ◌<ℤ◌, Bool, true, false, List, All, Contains, length, map, Option, Some, IfSome, IsSome, slice_get}
+use Rattle.std.specs.Global.{Vec}
 use Rattle.std.specs.HashMap.{get, HashMap}
 use Rattle.std.specs.declared.hash.FoldHasher.{FoldHasher}
 use Rattle.std.specs.declared.hash.BuildHasherDefault.{BuildHasherDefault}
@@ -11,10 +12,13 @@ use Rattle.origin.specs.declared.origin.Origin.TheVariants as origins
 use Rattle.event_graph.specs.declared.edge.Edge.{Edge}
 use Rattle.event_graph.specs.Edges.{edge}
 use Rattle.event_graph.specs.Network.{Net}
+use Rattle.event_graph.specs.Satisfying.{Satisfies}
+use Rattle.event_graph.specs.Times.{separation}
 use Rattle.drawn_networks.specs.Drawn.{Drawn}
 use Rattle.narrow_ends.specs.declared.end.EndFound.{EndFound}
 use Rattle.narrow_ends.specs.declared.end.EndFound.TheVariants.{Narrow, Open, Wide}
 use Rattle.narrow_ends.specs.declared.end.RangeEnd.{RangeEnd}
+use Rattle.narrow_ends.specs.declared.found_times.FoundTimes.{FoundTimes}
 use Rattle.narrow_ends.specs.declared.source.EndKey.{EndKey}
 use Rattle.narrow_ends.specs.declared.source.Thing.{Thing}
 use Rattle.narrow_ends.specs.declared.source.Thing.TheVariants as things
@@ -58,9 +62,19 @@ place_of places key = get same_end_key places key
 abbrev pub AreEndPlaces : EndPlaces → ℕ → Type 0
 AreEndPlaces places count = (key : EndKey) → IfSome (place_of places key) (λ place. place < count)
 
+-- ---- satisfying times
+
+-- times have a separation along an edge of at least its weight
+abbrev pub HasWeight : Edge → Vec ℤ → Type 0
+HasWeight e times = e.weight ≤ℤ separation times.items e.from e.to
+
+-- all kept times satisfy the network
+abbrev pub AreFoundTimes : Net → FoundTimes → Type 0
+AreFoundTimes net found = All (λ (times : Vec ℤ). Satisfies times.items net) found.kept.items
+
 -- ---- what is found of ends
 
--- What a search of one edge finds, after the greatest separation so far, if there was one: of the edges so far none goes beyond it. The numbers stay
+-- What is found along one edge, after the greatest separation so far, if there was one: of the edges so far none goes beyond it. The numbers stay
 -- below the weight.
 abbrev pub IsSearched : Net → Edge → ℤ → Option ℤ → EndFound → Type 0
 IsSearched net e weight so_far (Narrow only) =

@@ -3,7 +3,9 @@
 #![tactic(auto)]
 
 mod end;
+mod end_searches;
 mod ends;
+mod found_times;
 mod narrow;
 mod search;
 mod source;
