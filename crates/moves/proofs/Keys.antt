@@ -98,25 +98,25 @@ drawn_more (s ∷ seen) last part origin =
 
 module _ (key : NumberKey) (range : Ends) (seen : List NumberSeen) (old new : NumberKeys) (is_new : Bool) (are : AreKeysOf seen old) (is : is_new ≡ not (has_key old key)) where
   known_by : (a b n : Bool) → a ≡ b → n ≡ not a → n ≡ false → b ≡ true
-  known_by true b n same is no = sym same
-  known_by false b n same is no = absurd (cc (is, no))
+  known_by true b n same is off = sym same
+  known_by false b n same is off = absurd (cc (is, off))
 
   new_by : (a b n : Bool) → a ≡ b → n ≡ not a → n ≡ true → b ≡ false
-  new_by true b n same is yes = absurd (cc (is, yes))
-  new_by false b n same is yes = sym same
+  new_by true b n same is on = absurd (cc (is, on))
+  new_by false b n same is on = sym same
 
   -- a key that is not new adds nothing
   pub known_adds : is_new ≡ false → seen ≡ with_key seen key range
-  known_adds no =
-      sym (ap (λ b. if b then seen else seen ++ (record { number = key_number key; range = range }) ∷ []) (known_by (has_key old key) (is_seen seen key) is_new (are key) is no))
+  known_adds off =
+      sym (ap (λ b. if b then seen else seen ++ (record { number = key_number key; range = range }) ∷ []) (known_by (has_key old key) (is_seen seen key) is_new (are key) is off))
 
   pub known_keys : ((other : NumberKey) → has_key new other ≡ has_key old other) → AreKeysOf seen new
   known_keys same other = same other ∙ are other
 
   -- a new key adds its number
   pub new_adds : is_new ≡ true → seen ++ (record { number = key_number key; range = range }) ∷ [] ≡ with_key seen key range
-  new_adds yes =
-      sym (ap (λ b. if b then seen else seen ++ (record { number = key_number key; range = range }) ∷ []) (new_by (has_key old key) (is_seen seen key) is_new (are key) is yes))
+  new_adds on =
+      sym (ap (λ b. if b then seen else seen ++ (record { number = key_number key; range = range }) ∷ []) (new_by (has_key old key) (is_seen seen key) is_new (are key) is on))
 
   pub new_keys : ((other : NumberKey) → has_key new other ≡ (if same_number_key key other then true else has_key old other))
       → AreKeysOf (seen ++ (record { number = key_number key; range = range }) ∷ []) new
