@@ -12,4 +12,3 @@ pub mod OtherCauses
 pub mod Moved
 pub mod MovedRows
 pub mod Seen
-pub mod Keys
