@@ -8,8 +8,8 @@ pub loop-k-preserved : goal.loop-k-preserved
 loop-k-preserved c = record {
   numbers =
       seen_more c.args.drawn.now c.args.constraint c.loop-k.k c.part_of_target-part.result.now c.origins_of-origins.result.now c.cause_of-cause.result _ c.args.seen.now.items
-    c.loop-k.seen.items c.add_number.new.seen.items c.part_of_target-part.ensures.part c.origins_of-origins.ensures.origins c.cause_of-cause.ensures.cause
-    (slice_get-get_or c.origins_of-origins.result.now c.loop-k.k _ c.loop-k-test.true) c.loop-k.invariant.numbers c.in_ok-add_number.ensures.added;
+      c.loop-k.seen.items c.add_number.new.seen.items c.part_of_target-part.ensures.part c.origins_of-origins.ensures.origins c.cause_of-cause.ensures.cause
+      (slice_get-get_or c.origins_of-origins.result.now c.loop-k.k _ c.loop-k-test.true) c.loop-k.invariant.numbers c.in_ok-add_number.ensures.added;
   keys = c.in_ok-add_number.ensures.keys;
 }
 
