@@ -102,16 +102,16 @@ abbrev pub has_key : NumberKeys → NumberKey → Bool
 has_key table key = contains same_number_key table key
 
 -- one of the numbers that were seen is that of a key
-abbrev pub is_seen : List NumberSeen → NumberKey → Bool
-is_seen seen key = any_draws (numbers_seen seen) (key_part key) (key_origin key)
+abbrev pub is_listed : List NumberSeen → NumberKey → Bool
+is_listed seen key = any_draws (numbers_seen seen) (key_part key) (key_origin key)
 
 -- the table has the keys of the numbers that were seen, and no others
 abbrev pub AreKeysOf : List NumberSeen → NumberKeys → Type 0
-AreKeysOf seen table = (key : NumberKey) → has_key table key ≡ is_seen seen key
+AreKeysOf seen table = (key : NumberKey) → has_key table key ≡ is_listed seen key
 
 -- some numbers, with the number of a key and this range where none of them is that number
 abbrev pub with_key : List NumberSeen → NumberKey → Ends → List NumberSeen
-with_key seen key range = if is_seen seen key then seen else seen ++ (record { number = key_number key; range = range }) ∷ []
+with_key seen key range = if is_listed seen key then seen else seen ++ (record { number = key_number key; range = range }) ∷ []
 
 -- ---- networks
 
