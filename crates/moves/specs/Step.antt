@@ -1,12 +1,16 @@
 -- Words of private contracts.
-use Rattle.std.specs.Prelude.{◌≡◌, ◌<◌, ◌⊎◌, ℕ, ℤ, pos, neg_ℤ, ◌≤ℤ◌, Bool, IsTrue, if◌then◌else◌, List, [], All, map, option_map, slice_get, unwrap_or}
+use Rattle.std.specs.Prelude.{◌≡◌, ◌<◌, ◌⊎◌, ℕ, ℤ, pos, neg_ℤ, ◌≤ℤ◌, Bool, IsTrue, if◌then◌else◌, List, [], ◌∷◌, ◌++◌, All, map, option_map, slice_get, unwrap_or}
 use Rattle.std.specs.Borrow.{Bor}
+use Rattle.std.specs.HashSet.{HashSet, contains}
 use Rattle.std.specs.List.{AllZip}
+use Rattle.std.specs.declared.hash.BuildHasherDefault.{BuildHasherDefault}
+use Rattle.std.specs.declared.hash.FoldHasher.{FoldHasher}
 use Rattle.itv_base.specs.Range.{Ends, IsRange}
 use Rattle.itv_base.specs.declared.names.Side.{Side}
 use Rattle.itv_base.specs.declared.row_kind.RowKind.{RowKind}
 use Rattle.itv_base.specs.declared.row_kind.RowKind.TheVariants as kinds
 use Rattle.origin.specs.declared.origin.Origin.{Origin}
+use Rattle.origin.specs.declared.origin.Origin.TheVariants as origins
 use Rattle.event_graph.specs.declared.cause.Cause.{Cause}
 use Rattle.event_graph.specs.Network.{AreEnds, Constraint, Net}
 use Rattle.event_graph.specs.Satisfying.{Satisfies}
@@ -15,9 +19,13 @@ use Rattle.drawn_networks.specs.Drawn.{Drawn}
 use Rattle.drawn_networks.specs.declared.row.Row.{Row}
 use Rattle.drawn_numbers.specs.Numbers.{origins_of, part_of_target}
 use Rattle.drawn_numbers.specs.declared.drawn_number.DrawnNumber.{DrawnNumber}
+use Rattle.drawn_numbers.specs.declared.drawn_number.DrawnNumber.TheVariants as numbers
+use Rattle.moves.specs.contracts.number_key.NumberKeyPartialEq.TheImpl as key_eq
 use Rattle.moves.specs.declared.moving.Move.{Move}
 use Rattle.moves.specs.declared.moving.Move.TheVariants as moves
 use Rattle.moves.specs.declared.moving.TheConstants.{MOVE_LIMIT}
+use Rattle.moves.specs.declared.number_key.NumberKey.{NumberKey}
+use Rattle.moves.specs.declared.number_key.NumberKey.TheVariants as number_keys
 use Rattle.moves.specs.declared.number_seen.NumberSeen.{NumberSeen}
 use Rattle.moves.specs.Moving.{any_draws, each_by, moved_at, moved_up, opened, widened}
 use Rattle.moves.specs.Passing.{MeetsKind}
@@ -63,6 +71,47 @@ lent numbers = map (λ (number : Bor DrawnNumber). number.now) numbers
 -- the numbers of those that were seen
 abbrev pub numbers_seen : List NumberSeen → List DrawnNumber
 numbers_seen seen = map (λ (s : NumberSeen). s.number) seen
+
+-- ---- keys of numbers
+
+-- the number of a key
+abbrev pub key_number : NumberKey → DrawnNumber
+key_number (number_keys.Edge edge part) = numbers.Edge part.now edge
+key_number (number_keys.Net net) = numbers.Net net
+key_number (number_keys.Wire wire) = numbers.Wire wire
+
+-- the part of a cause that the number of a key draws, and what draws that cause
+abbrev pub key_part : NumberKey → List ℕ
+key_part (number_keys.Edge edge part) = part.now
+key_part (number_keys.Net net) = []
+key_part (number_keys.Wire wire) = []
+
+abbrev pub key_origin : NumberKey → Origin
+key_origin (number_keys.Edge edge part) = origins.Edge edge
+key_origin (number_keys.Net net) = origins.Pin net 0
+key_origin (number_keys.Wire wire) = origins.Wire wire
+
+abbrev pub same_number_key : NumberKey → NumberKey → Bool
+same_number_key = (key_eq.ghosts).eq
+
+-- a table of keys
+abbrev pub NumberKeys : Type 0
+NumberKeys = HashSet NumberKey (BuildHasherDefault FoldHasher)
+
+abbrev pub has_key : NumberKeys → NumberKey → Bool
+has_key table key = contains same_number_key table key
+
+-- one of the numbers that were seen is that of a key
+abbrev pub is_listed : List NumberSeen → NumberKey → Bool
+is_listed seen key = any_draws (numbers_seen seen) (key_part key) (key_origin key)
+
+-- the table has the keys of the numbers that were seen, and no others
+abbrev pub AreKeysOf : List NumberSeen → NumberKeys → Type 0
+AreKeysOf seen table = (key : NumberKey) → has_key table key ≡ is_listed seen key
+
+-- some numbers, with the number of a key and this range where none of them is that number
+abbrev pub with_key : List NumberSeen → NumberKey → Ends → List NumberSeen
+with_key seen key range = if is_listed seen key then seen else seen ++ (record { number = key_number key; range = range }) ∷ []
 
 -- ---- networks
 

@@ -8,6 +8,7 @@ mod listing;
 mod margin;
 mod moving;
 mod net_found;
+mod number_key;
 mod number_seen;
 mod pushing;
 mod reading;
