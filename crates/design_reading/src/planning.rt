@@ -59,11 +59,22 @@ fn read_lone(alloc: Global, name: &str, tree: &Value) -> Result<Plan, Stop>
 fn lone_plan(alloc: Global, name: &str, sheet: Sheet) -> Result<Plan, NoMemory>
     ensures { IfOk result (λ plan. plan ≡ lone_plan name.now sheet) }
 {
-    let key = plain_key(alloc, name)?;
+    let key = match plain_key(alloc, name) {
+        Ok(key) => key,
+        Err(NoMemory) => {
+            drop(sheet);
+            return Err(NoMemory);
+        }
+    };
     let mut sheets = Sheets::new(alloc);
     push_sheet(&mut sheets, key, sheet)?;
-    let netlist = Netlist::lone(alloc, name)?;
-    Plan::of(alloc, netlist, sheets)
+    match Netlist::lone(alloc, name) {
+        Ok(netlist) => Plan::of(alloc, netlist, sheets),
+        Err(NoMemory) => {
+            drop(sheets);
+            Err(NoMemory)
+        }
+    }
 }
 
 // The key of a sheet without a speed grade.
@@ -85,7 +96,14 @@ fn open_netlist<H: Shelf>(alloc: Global, tree: &Value, shelf: &mut H) -> Result<
         Ok(netlist) => netlist,
         Err(fault) => return Err(netlist_stop(RefusalPlace::File(0), fault)),
     };
-    let sheets = open_sheets(alloc, &netlist, shelf)?;
-    let plan = Plan::of(alloc, netlist, sheets)?;
-    Ok(plan)
+    match open_sheets(alloc, &netlist, shelf) {
+        Ok(sheets) => {
+            let plan = Plan::of(alloc, netlist, sheets)?;
+            Ok(plan)
+        }
+        Err(stop) => {
+            drop(netlist);
+            Err(stop)
+        }
+    }
 }

@@ -214,7 +214,9 @@ pub fn read_plain_sheet(alloc: Global, place: RefusalPlace, tree: &Value) -> Res
         Ok(diagram) => diagram,
         Err(fault) => return Err(diagram_stop(place, fault)),
     };
-    match read_sheet(alloc, &diagram) {
+    let read = read_sheet(alloc, &diagram);
+    drop(diagram);
+    match read {
         Ok(sheet) => Ok(sheet),
         Err(fault) => Err(sheet_stop(place, fault)),
     }

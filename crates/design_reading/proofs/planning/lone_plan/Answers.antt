@@ -6,12 +6,12 @@ use Rattle.design_reading.proofs.planning.lone_plan.Goals as goal
 
 pub of-requires : goal.of-requires
 of-requires c = record {
-  sheets = lone_drawn c.args.name.now c.in_ok-netlist.netlist c.push_sheet.new.sheets.entries c.args.sheet c.in_ok-netlist.ensures.lone
-      (sheet_put c.args.name.now c.in_ok-key.key c.args.sheet c.new-sheets.result.entries c.push_sheet.new.sheets.entries c.in_ok-key.ensures c.new-sheets.ensures.empty c.in_ok-push_sheet.ensures.entries);
+  sheets = lone_drawn c.args.name.now c.in-Ok-lone.netlist c.push_sheet.new.sheets.entries c.args.sheet c.in-Ok-lone.ensures.lone
+      (sheet_put c.args.name.now c.in-Ok.key c.args.sheet c.new-sheets.result.entries c.push_sheet.new.sheets.entries c.in-Ok.ensures c.new-sheets.ensures.empty c.in_ok-push_sheet.ensures.entries);
 }
 
-pub returns : goal.returns
-returns c =
+pub returns-in-Ok-lone : goal.returns-in-Ok-lone
+returns-in-Ok-lone c =
     subst (λ (p : PlanView). IfOk c.of.result (λ (plan : PlanView). plan ≡ p))
-    (lone_same c.args.name.now c.args.sheet c.in_ok-netlist.netlist c.push_sheet.new.sheets.entries c.in_ok-netlist.ensures.lone
-    (sheet_put c.args.name.now c.in_ok-key.key c.args.sheet c.new-sheets.result.entries c.push_sheet.new.sheets.entries c.in_ok-key.ensures c.new-sheets.ensures.empty c.in_ok-push_sheet.ensures.entries)) c.of.ensures.plan
+    (lone_same c.args.name.now c.args.sheet c.in-Ok-lone.netlist c.push_sheet.new.sheets.entries c.in-Ok-lone.ensures.lone
+    (sheet_put c.args.name.now c.in-Ok.key c.args.sheet c.new-sheets.result.entries c.push_sheet.new.sheets.entries c.in-Ok.ensures c.new-sheets.ensures.empty c.in_ok-push_sheet.ensures.entries)) c.of.ensures.plan
