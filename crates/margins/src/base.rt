@@ -2,6 +2,7 @@
 
 ghost use Rattle.std.specs.Prelude.{◌≡◌, ◌≤◌, IfOk, false};
 ghost use Rattle.event_graph.specs.Edges.{cause_choices};
+ghost use Rattle.extremes.specs.Ready.{AreTurnsOf};
 ghost use Rattle.moves.specs.Networks.{IsNetFound, is_net_open};
 ghost use Rattle.probing.specs.Step.{IsProbed};
 
@@ -26,6 +27,7 @@ pub fn base_of(
     ensures found { IfOk result (λ base. IsNetFound drawn.now base.found) }
     ensures settles { IfOk result (λ base. cause_choices drawn.now.net.constraints ≤ budget → is_net_open base.found ≡ false) }
     ensures fits { IfOk result (IsProbed drawn.now.net.events) }
+    ensures turns { AreTurnsOf turns.old turns.new }
 {
     probe(
         alloc,

@@ -2,6 +2,7 @@
 
 ghost use Rattle.std.specs.Prelude.{◌≡◌, ◌≤◌, ◌↔◌, pos, ◌+ℤ◌, ◌-ℤ◌, ◌≤ℤ◌, ◌<ℤ◌, IfOk, IfSome, IsSome, IsTrue};
 ghost use Rattle.event_graph.specs.Edges.{cause_choices};
+ghost use Rattle.extremes.specs.Ready.{AreTurnsOf};
 ghost use Rattle.moves.specs.Passing.{BreaksRow, Passes};
 ghost use Rattle.moves.specs.Step.{widened_at};
 ghost use Rattle.probing.specs.Step.{IsProbed};
@@ -36,7 +37,8 @@ pub fn margin_in(
 ) -> Result<Margin, NoMemory>
     requires sought { IsEndSought sought.now }
     requires bracket { IsBracket sought.now bracket }
-    ensures { IfOk result (IsFoundOf sought.now) }
+    ensures found { IfOk result (IsFoundOf sought.now) }
+    ensures turns { AreTurnsOf turns.old turns.new }
 {
     let mut bracket = bracket;
     let mut rounds: u32 = 0;
@@ -112,6 +114,7 @@ fn tighter(
     ensures bracket { IfOk result (λ next. IfSome next (IsBracket sought.now)) }
     ensures smaller { IfOk result (λ next. IfSome next (λ next. (next.breaks -ℤ next.passes) <ℤ (bracket.breaks -ℤ bracket.passes))) }
     ensures settles { IfOk result (λ next. cause_choices sought.now.drawn.now.net.constraints ≤ sought.now.budget → IsSome next) }
+    ensures turns { AreTurnsOf turns.old turns.new }
 {
     let probed = sought.probe_at(alloc, by, turns)?;
     let next = tightened(alloc, sought, bracket, by, &probed);

@@ -3,6 +3,7 @@
 ghost use Rattle.std.specs.Prelude.{◌≡◌, ◌≤◌, IfOk, IsTrue, false, length};
 ghost use Rattle.std.specs.List.{AllZip};
 ghost use Rattle.event_graph.specs.Edges.{cause_choices};
+ghost use Rattle.extremes.specs.Ready.{AreTurnsOf};
 ghost use Rattle.moves.specs.Networks.{IsNetFound, is_net_open};
 ghost use Rattle.moves.specs.Passing.{Passes};
 ghost use Rattle.moves.specs.Step.{opened_at};
@@ -45,6 +46,7 @@ pub fn find_ends(
     requires fits { IsProbed drawn.now.net.events base.now }
     requires budget { 1 ≤ budget }
     ensures ends { IfOk result (λ ends. AllZip (AreBothFound drawn.now budget) seen.now ends.items) }
+    ensures turns { AreTurnsOf turns.old turns.new }
 {
     let lows = free_or_none(alloc, drawn, seen, Side::Lower, base, budget, turns)?;
     let highs = free_or_none(alloc, drawn, seen, Side::Upper, base, budget, turns)?;
@@ -72,6 +74,7 @@ fn free_or_none(
     requires budget { 1 ≤ budget }
     ensures free { IfOk result (λ free. AreFree drawn.now side seen.now free.items) }
     ensures each { IfOk result (λ free. length free.items ≡ length seen.now) }
+    ensures turns { AreTurnsOf turns.old turns.new }
 {
     match base.found {
         NetFound::Passes => free_ends(alloc, drawn, seen, side, &base.sides, budget, turns),
@@ -94,6 +97,7 @@ fn find_both(
     requires low { IsTrue is_low_free → IsFreeAt drawn.now Side.Lower seen.now }
     requires high { IsTrue is_high_free → IsFreeAt drawn.now Side.Upper seen.now }
     ensures ends { IfOk result (AreBothFound drawn.now budget seen.now) }
+    ensures turns { AreTurnsOf turns.old turns.new }
 {
     let low = find_side(
         alloc,
@@ -132,6 +136,7 @@ fn find_side(
     requires base { IsBase drawn.now budget base.now }
     requires free { IsTrue is_free → IsFreeAt drawn.now side seen.now }
     ensures end { IfOk result (IsEndOf drawn.now budget seen.now.number side (end_on side seen.now.range)) }
+    ensures turns { AreTurnsOf turns.old turns.new }
 {
     if !has_end(seen, side) {
         return Ok(None);
@@ -159,7 +164,8 @@ fn find_end(
     requires sought { IsEndSought sought.now }
     requires base { IsBase sought.now.drawn.now sought.now.budget base.now }
     requires free { IsTrue is_free → Passes (opened_at sought.now.drawn.now sought.now.number.now sought.now.side) }
-    ensures { IfOk result (IsFoundOf sought.now) }
+    ensures found { IfOk result (IsFoundOf sought.now) }
+    ensures turns { AreTurnsOf turns.old turns.new }
 {
     if is_free {
         return Ok(Margin::Free);

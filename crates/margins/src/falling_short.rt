@@ -1,6 +1,7 @@
 //! The margin of an end of a design that fails as it is drawn: how far the end has to be moved inward.
 
 ghost use Rattle.std.specs.Prelude.{◌≡◌, pos, ◌+ℤ◌, ◌<ℤ◌, ◌↔◌, IfOk, IsTrue};
+ghost use Rattle.extremes.specs.Ready.{AreTurnsOf};
 ghost use Rattle.moves.specs.Passing.{BreaksRow};
 ghost use Rattle.probing.specs.Step.{IsProbed};
 ghost use Rattle.margins.specs.Step.{IsFoundOf, IsGapOf, IsGapAbove, IsGapSearched, IsProbedAt, IsEndSought, moved_in};
@@ -39,7 +40,8 @@ pub fn margin_from_break(
     requires sought { IsEndSought sought.now }
     requires breaks { BreaksRow sought.now.drawn.now row }
     requires fits { IsProbed sought.now.drawn.now.net.events base.now }
-    ensures { IfOk result (IsFoundOf sought.now) }
+    ensures found { IfOk result (IsFoundOf sought.now) }
+    ensures turns { AreTurnsOf turns.old turns.new }
 {
     let least = sought.reach.least;
     if 0 <= least {
@@ -103,7 +105,8 @@ fn margin_from_least(
     requires sought { IsEndSought sought.now }
     requires gap { IsGapAbove sought.now gap }
     requires least { gap.contradicts ≡ sought.now.reach.least }
-    ensures { IfOk result (IsFoundOf sought.now) }
+    ensures found { IfOk result (IsFoundOf sought.now) }
+    ensures turns { AreTurnsOf turns.old turns.new }
 {
     let probed = sought.probe_at(alloc, gap.contradicts, turns)?;
     let found = margin_by_least(alloc, sought, gap, guess, &probed, turns);
@@ -124,7 +127,8 @@ fn margin_by_least(
     requires gap { IsGapAbove sought.now gap }
     requires least { gap.contradicts ≡ sought.now.reach.least }
     requires probed { IsProbedAt sought.now gap.contradicts probed.now }
-    ensures { IfOk result (IsFoundOf sought.now) }
+    ensures found { IfOk result (IsFoundOf sought.now) }
+    ensures turns { AreTurnsOf turns.old turns.new }
 {
     match probed.found {
         NetFound::Passes => margin_in(alloc, sought, bracket_of(gap, guess), turns),
@@ -156,7 +160,8 @@ fn margin_past_contradiction(
 ) -> Result<Margin, NoMemory>
     requires sought { IsEndSought sought.now }
     requires gap { IsGapOf sought.now gap }
-    ensures { IfOk result (IsFoundOf sought.now) }
+    ensures found { IfOk result (IsFoundOf sought.now) }
+    ensures turns { AreTurnsOf turns.old turns.new }
 {
     let mut gap = gap;
     while is_wide(gap) {
@@ -199,7 +204,8 @@ fn gap_with(
     requires gap { IsGapOf sought.now gap }
     requires above { gap.contradicts <ℤ by }
     requires below { by <ℤ gap.breaks }
-    ensures { IfOk result (IsGapSearched sought.now gap) }
+    ensures found { IfOk result (IsGapSearched sought.now gap) }
+    ensures turns { AreTurnsOf turns.old turns.new }
 {
     let probed = sought.probe_at(alloc, by, turns)?;
     let next = gap_by(alloc, sought, gap, by, &probed, turns);
@@ -221,7 +227,8 @@ fn gap_by(
     requires above { gap.contradicts <ℤ by }
     requires below { by <ℤ gap.breaks }
     requires probed { IsProbedAt sought.now by probed.now }
-    ensures { IfOk result (IsGapSearched sought.now gap) }
+    ensures found { IfOk result (IsGapSearched sought.now gap) }
+    ensures turns { AreTurnsOf turns.old turns.new }
 {
     match probed.found {
         NetFound::Passes => {

@@ -1,6 +1,7 @@
 //! Ends that don't matter: many are opened together.
 
 ghost use Rattle.std.specs.Prelude.{◌≡◌, ◌<◌, ◌≤◌, ◌⊎◌, ℕ, Contains, IfOk, IfSome, IsTrue, OnOk, false, is_some, length, slice_get, slice_index_or};
+ghost use Rattle.extremes.specs.Ready.{AreTurnsOf};
 ghost use Rattle.moves.specs.Passing.{Passes};
 ghost use Rattle.moves.specs.Step.{lent};
 ghost use Rattle.moves.specs.declared.number_seen.NumberSeen.{NumberSeen as Seen};
@@ -40,6 +41,7 @@ pub fn free_ends(
     requires budget { 1 ≤ budget }
     ensures free { IfOk result (λ free. AreFree drawn.now side seen.now free.items) }
     ensures each { IfOk result (λ free. length free.items ≡ length seen.now) }
+    ensures turns { AreTurnsOf turns.old turns.new }
 {
     let unused = unused_ends(alloc, drawn, seen, side, sides)?;
     let mut free = none_free(alloc, seen)?;
@@ -107,6 +109,7 @@ fn open_between(
     requires end { end ≤ length opening.now.seen.now }
     requires free { AreFree opening.now.drawn.now opening.now.side opening.now.seen.now free.old }
     ensures free { OnOk result (AreFree opening.now.drawn.now opening.now.side opening.now.seen.now free.new) }
+    ensures turns { AreTurnsOf turns.old turns.new }
 {
     if are_free_together(alloc, opening, start, end, turns)? {
         mark(opening.unused, start, end, free);
@@ -145,6 +148,7 @@ fn are_free_together(
     requires order { start ≤ end }
     requires end { end ≤ length opening.now.seen.now }
     ensures free { IfOk result (λ are_free. IsTrue are_free → IsFreeBetween opening.now start end) }
+    ensures turns { AreTurnsOf turns.old turns.new }
 {
     let numbers = unused_numbers(alloc, opening, start, end)?;
     if numbers.len() < 2 {

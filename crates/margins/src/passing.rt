@@ -1,6 +1,7 @@
 //! The margin of an end of a design that passes as it is drawn.
 
 ghost use Rattle.std.specs.Prelude.{pos, ◌≤ℤ◌, ◌<ℤ◌, IfOk, IfSome};
+ghost use Rattle.extremes.specs.Ready.{AreTurnsOf};
 ghost use Rattle.moves.specs.Passing.{BreaksRow, Passes};
 ghost use Rattle.moves.specs.Step.{opened_at, widened_at};
 ghost use Rattle.probing.specs.Step.{IsProbed};
@@ -38,7 +39,8 @@ pub fn margin_from_pass(
 ) -> Result<Margin, NoMemory>
     requires sought { IsEndSought sought.now }
     requires passes { Passes sought.now.drawn.now }
-    ensures { IfOk result (IsFoundOf sought.now) }
+    ensures found { IfOk result (IsFoundOf sought.now) }
+    ensures turns { AreTurnsOf turns.old turns.new }
 {
     if 0 < sought.reach.least {
         // No range is empty as drawn, so this is never so.
@@ -56,7 +58,8 @@ fn margin_from_least(
     requires sought { IsEndSought sought.now }
     requires inward { pos 0 <ℤ sought.now.reach.least }
     requires passes { Passes sought.now.drawn.now }
-    ensures { IfOk result (IsFoundOf sought.now) }
+    ensures found { IfOk result (IsFoundOf sought.now) }
+    ensures turns { AreTurnsOf turns.old turns.new }
 {
     if sought.reach.most < sought.reach.least {
         return Ok(Margin::Never);
@@ -79,7 +82,8 @@ fn margin_at_least(
     requires least { sought.now.reach.least ≤ℤ sought.now.reach.most }
     requires passes { Passes sought.now.drawn.now }
     requires probed { IsProbedAt sought.now sought.now.reach.least probed.now }
-    ensures { IfOk result (IsFoundOf sought.now) }
+    ensures found { IfOk result (IsFoundOf sought.now) }
+    ensures turns { AreTurnsOf turns.old turns.new }
 {
     match probed.found {
         NetFound::Passes => margin_above(alloc, sought, sought.reach.least, &probed.sides, turns),
@@ -103,7 +107,8 @@ fn margin_above(
     requires least { sought.now.reach.least ≤ℤ passes }
     requires most { passes ≤ℤ sought.now.reach.most }
     requires passes { Passes (widened_at sought.now.drawn.now sought.now.number.now sought.now.side passes) }
-    ensures { IfOk result (IsFoundOf sought.now) }
+    ensures found { IfOk result (IsFoundOf sought.now) }
+    ensures turns { AreTurnsOf turns.old turns.new }
 {
     let mut climb = Climb {
         passes,
@@ -146,7 +151,8 @@ fn climbed_to(
     requires climb { IsClimbOf sought.now climb }
     requires above { climb.passes <ℤ by }
     requires most { by ≤ℤ sought.now.reach.most }
-    ensures { IfOk result (IsClimbFound sought.now climb) }
+    ensures found { IfOk result (IsClimbFound sought.now climb) }
+    ensures turns { AreTurnsOf turns.old turns.new }
 {
     let probed = sought.probe_at(alloc, by, turns)?;
     let next = climbed_by(alloc, sought, climb, by, &probed, turns);
@@ -168,7 +174,8 @@ fn climbed_by(
     requires above { climb.passes <ℤ by }
     requires most { by ≤ℤ sought.now.reach.most }
     requires probed { IsProbedAt sought.now by probed.now }
-    ensures { IfOk result (IsClimbFound sought.now climb) }
+    ensures found { IfOk result (IsClimbFound sought.now climb) }
+    ensures turns { AreTurnsOf turns.old turns.new }
 {
     match probed.found {
         NetFound::Passes => Ok(Climbed::Higher(Climb {
@@ -198,7 +205,8 @@ fn margin_by_opening(
     requires least { sought.now.reach.least ≤ℤ passes }
     requires most { passes ≤ℤ sought.now.reach.most }
     requires passes { Passes (widened_at sought.now.drawn.now sought.now.number.now sought.now.side passes) }
-    ensures { IfOk result (IsFoundOf sought.now) }
+    ensures found { IfOk result (IsFoundOf sought.now) }
+    ensures turns { AreTurnsOf turns.old turns.new }
 {
     let opened = sought.probe_open(alloc, turns)?;
     let found = margin_by_open(alloc, sought, passes, &opened, turns);
@@ -219,7 +227,8 @@ fn margin_by_open(
     requires most { passes ≤ℤ sought.now.reach.most }
     requires passes { Passes (widened_at sought.now.drawn.now sought.now.number.now sought.now.side passes) }
     requires opened { IsProbedOpen sought.now opened.now }
-    ensures { IfOk result (IsFoundOf sought.now) }
+    ensures found { IfOk result (IsFoundOf sought.now) }
+    ensures turns { AreTurnsOf turns.old turns.new }
 {
     match opened.found {
         NetFound::Passes => Ok(Margin::Free),
@@ -246,7 +255,8 @@ fn margin_below_open(
     requires passes { Passes (widened_at sought.now.drawn.now sought.now.number.now sought.now.side passes) }
     requires breaks { BreaksRow (opened_at sought.now.drawn.now sought.now.number.now sought.now.side) row }
     requires fits { IsProbed sought.now.drawn.now.net.events opened.now }
-    ensures { IfOk result (IsFoundOf sought.now) }
+    ensures found { IfOk result (IsFoundOf sought.now) }
+    ensures turns { AreTurnsOf turns.old turns.new }
 {
     if sought.reach.most <= passes {
         return Ok(Margin::Limit);
@@ -285,7 +295,8 @@ fn margin_to_limit(
     requires most { passes <ℤ sought.now.reach.most }
     requires passes { Passes (widened_at sought.now.drawn.now sought.now.number.now sought.now.side passes) }
     requires breaks { BreaksRow (opened_at sought.now.drawn.now sought.now.number.now sought.now.side) row }
-    ensures { IfOk result (IsFoundOf sought.now) }
+    ensures found { IfOk result (IsFoundOf sought.now) }
+    ensures turns { AreTurnsOf turns.old turns.new }
 {
     let probed = sought.probe_at(alloc, sought.reach.most, turns)?;
     let found = margin_at_limit(alloc, sought, passes, row, &probed, turns);
@@ -308,7 +319,8 @@ fn margin_at_limit(
     requires passes { Passes (widened_at sought.now.drawn.now sought.now.number.now sought.now.side passes) }
     requires breaks { BreaksRow (opened_at sought.now.drawn.now sought.now.number.now sought.now.side) row }
     requires probed { IsProbedAt sought.now sought.now.reach.most probed.now }
-    ensures { IfOk result (IsFoundOf sought.now) }
+    ensures found { IfOk result (IsFoundOf sought.now) }
+    ensures turns { AreTurnsOf turns.old turns.new }
 {
     match probed.found {
         NetFound::Passes => Ok(Margin::Limit),

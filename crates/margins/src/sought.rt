@@ -2,6 +2,7 @@
 
 ghost use Rattle.std.specs.Prelude.{◌≡◌, ◌≤◌, ◌≤ℤ◌, ◌∷◌, [], ◌↔◌, All, IfOk, IfSome, IsSome, IsSomeAnd, IsTrue, slice_get};
 ghost use Rattle.event_graph.specs.Times.{IsTime};
+ghost use Rattle.extremes.specs.Ready.{AreTurnsOf};
 ghost use Rattle.moves.specs.Found.{CanBeDrawn};
 ghost use Rattle.moves.specs.Moving.{net_moved, opened, widened};
 ghost use Rattle.moves.specs.Passing.{BreaksRow};
@@ -35,7 +36,8 @@ impl EndSought<'_> {
         requires sought { IsEndSought self.now }
         requires least { self.now.reach.least ≤ℤ by }
         requires most { by ≤ℤ self.now.reach.most }
-        ensures { IfOk result (IsProbedAt self.now by) }
+        ensures probed { IfOk result (IsProbedAt self.now by) }
+        ensures turns { AreTurnsOf turns.old turns.new }
     {
         match self.network_at(alloc, by)? {
             Some(net) => probe_net(alloc, self.drawn, &net, self.budget, turns),
@@ -59,7 +61,8 @@ impl EndSought<'_> {
     /// What is found of the network with the end open.
     pub fn probe_open(&self, alloc: Global, turns: &mut RunTurns) -> Result<Probed, NoMemory>
         requires sought { IsEndSought self.now }
-        ensures { IfOk result (IsProbedOpen self.now) }
+        ensures probed { IfOk result (IsProbedOpen self.now) }
+        ensures turns { AreTurnsOf turns.old turns.new }
     {
         probe_opened(
             alloc,
@@ -123,7 +126,8 @@ pub fn probe_opened(
     turns: &mut RunTurns,
 ) -> Result<Probed, NoMemory>
     requires budget { 1 ≤ budget }
-    ensures { IfOk result (IsProbedIn drawn.now (record drawn.now { net = net_moved (opened side) drawn.now (lent numbers.now) }) budget) }
+    ensures probed { IfOk result (IsProbedIn drawn.now (record drawn.now { net = net_moved (opened side) drawn.now (lent numbers.now) }) budget) }
+    ensures turns { AreTurnsOf turns.old turns.new }
 {
     match moved_network(alloc, drawn, numbers, Move::Open(side))? {
         Some(net) => probe_net(alloc, drawn, &net, budget, turns),
@@ -141,7 +145,8 @@ fn probe_net(
 ) -> Result<Probed, NoMemory>
     requires net { IsNetOf drawn.now net.now }
     requires budget { 1 ≤ budget }
-    ensures { IfOk result (IsProbedIn drawn.now (record drawn.now { net = net.now }) budget) }
+    ensures probed { IfOk result (IsProbedIn drawn.now (record drawn.now { net = net.now }) budget) }
+    ensures turns { AreTurnsOf turns.old turns.new }
 {
     probe(alloc, net, drawn.rows().as_slice(), budget, turns)
 }

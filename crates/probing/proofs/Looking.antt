@@ -1,5 +1,5 @@
 -- The rows that were looked at.
-use Rattle.std.proofs.Common.{◌≡◌, ◌+◌, ◌<◌, ◌≤◌, ℕ, Bool, true, false, List, All, get_or, length, take, Option, Some, slice_get, refl, sym, subst, ap, ◌∙◌}
+use Rattle.std.proofs.Common.{◌≡◌, ◌+◌, ◌<◌, ◌≤◌, ℕ, Bool, true, false, List, All, get_or, length, take, Option, Some, slice_get, refl, sym, subst, ap, arith, ◌∙◌}
 use Rattle.std.specs.Prelude.{IsSomeAnd}
 use Rattle.std.proofs.lemmas.List.{take_all}
 use Rattle.std.proofs.lemmas.List.Elements.{All-nil, All-push}
@@ -7,7 +7,7 @@ use Rattle.std.proofs.lemmas.Option.{slice_get-get_or}
 use Rattle.event_graph.specs.Edges.{cause_choices}
 use Rattle.event_graph.specs.Network.{Net}
 use Rattle.drawn_networks.specs.declared.row.Row.{Row}
-use Rattle.extremes.specs.Ready.{IsReady}
+use Rattle.extremes.specs.Ready.{AreTurnsOf, IsReady}
 use Rattle.extremes.specs.declared.extremes.Extremes.{Extremes}
 use Rattle.moves.specs.Networks.{IsNetFound, is_net_open}
 use Rattle.moves.specs.Passing.{BreaksRow, NoneBreaks}
@@ -23,39 +23,49 @@ abbrev pub IsMetRow : Net → Row → Type 0
 IsMetRow net row = IsRowLookedAt net row Meets
 
 -- What is known when some rows were looked at, and none was found to break. If no search was left open, no satisfying times break their requirements.
-pub record IsLookedTo (net : Net) (rows : List Row) (most : ℕ) (extremes : Extremes) (noted : ProbeNotes) (count : ℕ) (is_open : Bool) : Type 0 where
+pub record IsLookedTo (net : Net) (rows : List Row) (most : ℕ) (before extremes : Extremes) (noted : ProbeNotes) (count : ℕ) (is_open : Bool) : Type 0 where
   pub ready : IsReady net extremes
   pub budget : extremes.budget ≡ most
+  pub turns : AreTurnsOf before.turns extremes.turns
   pub fits : IsNotedFor net.events noted
   pub met : is_open ≡ false → All (IsMetRow net) (take count rows)
   pub settled : cause_choices net.constraints ≤ most → is_open ≡ false
 
+-- turns that are still those of a run after two searches
+turns_on : (before between after : Extremes) → AreTurnsOf before.turns between.turns → AreTurnsOf between.turns after.turns → AreTurnsOf before.turns after.turns
+turns_on before between after first second = record { each = second.each ∙ first.each; left = omega (arith, first.left, second.left) }
+
 pub none_looked : (net : Net) (rows : List Row) (extremes : Extremes) (noted : ProbeNotes) → IsReady net extremes → IsNotedFor net.events noted
-    → IsLookedTo net rows extremes.budget extremes noted 0 false
+    → IsLookedTo net rows extremes.budget extremes extremes noted 0 false
 none_looked net rows extremes noted ready fits = record {
   ready = ready;
   budget = refl;
+  turns = record { each = refl; left = omega arith };
   fits = fits;
   met = λ closed. All-nil (IsMetRow net);
   settled = λ enough. refl;
 }
 
 -- what was known, with the row at a place looked at
-module _ (net : Net) (rows : List Row) (most : ℕ) (extremes next : Extremes) (noted after : ProbeNotes) (count : ℕ) (is_open : Bool)
-    (looked : IsLookedTo net rows most extremes noted count is_open) (ready : IsReady net next) (same : next.budget ≡ extremes.budget) (fits : IsNotedFor net.events after) where
-  pub row_met : (row : Row) → slice_get rows count ≡ Some row → IsMetRow net row → IsLookedTo net rows most next after (count + 1) is_open
+module _ (net : Net) (rows : List Row) (most : ℕ) (before extremes next : Extremes) (noted after : ProbeNotes) (count : ℕ) (is_open : Bool)
+    (looked : IsLookedTo net rows most before extremes noted count is_open) (ready : IsReady net next) (same : next.budget ≡ extremes.budget)
+    (turns : AreTurnsOf extremes.turns next.turns) (fits : IsNotedFor net.events after) where
+  pub row_met : (row : Row) → slice_get rows count ≡ Some row → IsMetRow net row → IsLookedTo net rows most before next after (count + 1) is_open
   row_met row at met = record {
     ready = ready;
     budget = same ∙ looked.budget;
+    turns = turns_on before extremes next looked.turns turns;
     fits = fits;
     met = λ closed. subst (All (IsMetRow net)) (sym (take_get rows count row at)) (All-push (IsMetRow net) (take count rows) row (looked.met closed) met);
     settled = looked.settled;
   }
 
-  pub row_open : (found : SideFound) → found ≡ Open → (cause_choices net.constraints ≤ extremes.budget → found ≡ Open → ⊥) → IsLookedTo net rows most next after (count + 1) true
+  pub row_open : (found : SideFound) → found ≡ Open → (cause_choices net.constraints ≤ extremes.budget → found ≡ Open → ⊥)
+      → IsLookedTo net rows most before next after (count + 1) true
   row_open found is settles = record {
     ready = ready;
     budget = same ∙ looked.budget;
+    turns = turns_on before extremes next looked.turns turns;
     fits = fits;
     met = λ closed. absurd (cc closed);
     settled = λ enough. absurd (settles (subst (λ n. cause_choices net.constraints ≤ n) (sym looked.budget) enough) is);
@@ -80,10 +90,11 @@ row_breaks net rows count row found at is h = breaks_at net rows count row at (s
 all_met : (net : Net) (rows : List Row) (count : ℕ) → length rows ≤ count → All (IsMetRow net) (take count rows) → NoneBreaks (bare_drawn net rows)
 all_met net rows count whole met = λ times sat k d within. subst (All (IsMetRow net)) (take_all count rows whole) met k d within times sat
 
-pub looked_found : (net : Net) (rows : List Row) (most : ℕ) (extremes : Extremes) (noted : ProbeNotes) (count : ℕ) (is_open : Bool) → IsLookedTo net rows most extremes noted count is_open
+pub looked_found : (net : Net) (rows : List Row) (most : ℕ) (before extremes : Extremes) (noted : ProbeNotes) (count : ℕ) (is_open : Bool)
+    → IsLookedTo net rows most before extremes noted count is_open
     → length rows ≤ count → IsNetFound (bare_drawn net rows) (passes_unless is_open)
-looked_found net rows most extremes noted count true looked whole = looked.ready.consistent
-looked_found net rows most extremes noted count false looked whole = (looked.ready.consistent, all_met net rows count whole (looked.met refl))
+looked_found net rows most before extremes noted count true looked whole = looked.ready.consistent
+looked_found net rows most before extremes noted count false looked whole = (looked.ready.consistent, all_met net rows count whole (looked.met refl))
 
 pub looked_settles : (is_open : Bool) → is_open ≡ false → is_net_open (passes_unless is_open) ≡ false
 looked_settles is_open is = ap (λ b. is_net_open (passes_unless b)) is

@@ -5,7 +5,7 @@ ghost use Rattle.itv_base.specs.Range.{IsEnd};
 ghost use Rattle.event_graph.specs.Edges.{cause_choices};
 ghost use Rattle.event_graph.specs.Times.{IsTime};
 ghost use Rattle.extremes.specs.Found.{IsAttainedBy};
-ghost use Rattle.extremes.specs.Ready.{IsReady};
+ghost use Rattle.extremes.specs.Ready.{AreTurnsOf, IsReady};
 ghost use Rattle.probing.specs.Step.{IsLimitFound, IsNotedFor};
 
 use crate::probed::{Probed, SideChain};
@@ -113,6 +113,7 @@ pub fn look(
     ensures noted { IsNotedFor net.now.events noted.new }
     ensures found { IfOk result (IsLimitFound net.now limit.from limit.to limit.limit) }
     ensures settles { IfOk result (λ found. cause_choices net.now.constraints ≤ extremes.old.budget → found ≡ SideFound.Open → ⊥) }
+    ensures turns { AreTurnsOf extremes.old.turns extremes.new.turns }
 {
     match extremes.greatest(alloc, net, limit.from, limit.to)? {
         Greatest::Closed { value, times } => note(alloc, net, limit, value, times, noted),

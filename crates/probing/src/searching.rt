@@ -5,7 +5,7 @@ ghost use Rattle.itv_base.specs.Range.{IsEnd};
 ghost use Rattle.itv_base.specs.declared.limits.TheConstants.{MAX_ROWS};
 ghost use Rattle.event_graph.specs.Edges.{cause_choices};
 ghost use Rattle.drawn_networks.specs.Drawn.{IsRowOf};
-ghost use Rattle.extremes.specs.Ready.{IsFor, IsReady};
+ghost use Rattle.extremes.specs.Ready.{AreTurnsOf, IsFor, IsReady};
 ghost use Rattle.moves.specs.Networks.{IsNetFound, is_net_open};
 ghost use Rattle.moves.specs.Step.{bare_drawn};
 ghost use Rattle.probing.specs.Step.{IsHighFound, IsLowFound, IsNotedFor, IsProbed, IsRangeFound, IsRowLookedAt, passes_unless};
@@ -39,6 +39,7 @@ pub fn probe(
     ensures found { IfOk result (λ probed. IsNetFound (bare_drawn net.now rows.now) probed.found) }
     ensures settles { IfOk result (λ probed. cause_choices net.now.constraints ≤ budget → is_net_open probed.found ≡ false) }
     ensures fits { IfOk result (IsProbed net.now.events) }
+    ensures turns { AreTurnsOf turns.old turns.new }
 {
     let first = probe_within(alloc, net, rows, budget.min(FIRST_CASES), turns)?;
     if !is_open(first.found) {
@@ -75,6 +76,7 @@ fn probe_within(
     ensures found { IfOk result (λ probed. IsNetFound (bare_drawn net.now rows.now) probed.found) }
     ensures settles { IfOk result (λ probed. cause_choices net.now.constraints ≤ budget → is_net_open probed.found ≡ false) }
     ensures fits { IfOk result (IsProbed net.now.events) }
+    ensures turns { AreTurnsOf turns.old turns.new }
 {
     let mut extremes = Extremes::new(alloc, net, budget, *turns)?;
     let probed = probe_with(alloc, net, rows, &mut extremes);
@@ -96,6 +98,7 @@ fn probe_with(
     ensures found { IfOk result (λ probed. IsNetFound (bare_drawn net.now rows.now) probed.found) }
     ensures settles { IfOk result (λ probed. cause_choices net.now.constraints ≤ extremes.old.budget → is_net_open probed.found ≡ false) }
     ensures fits { IfOk result (IsProbed net.now.events) }
+    ensures turns { AreTurnsOf extremes.old.turns extremes.new.turns }
 {
     match extremes.find(alloc, net)? {
         Consistency::Consistent => probe_rows(alloc, net, rows, extremes),
@@ -129,6 +132,7 @@ fn probe_rows(
     ensures found { IfOk result (λ probed. IsNetFound (bare_drawn net.now rows.now) probed.found) }
     ensures settles { IfOk result (λ probed. cause_choices net.now.constraints ≤ extremes.old.budget → is_net_open probed.found ≡ false) }
     ensures fits { IfOk result (IsProbed net.now.events) }
+    ensures turns { AreTurnsOf extremes.old.turns extremes.new.turns }
 {
     let mut noted = ProbeNotes::new(alloc, net)?;
     let found = look_at_rows(alloc, net, rows, extremes, &mut noted);
@@ -150,6 +154,7 @@ fn look_at_rows(
     ensures noted { IsNotedFor net.now.events noted.new }
     ensures found { IfOk result (IsNetFound (bare_drawn net.now rows.now)) }
     ensures settles { IfOk result (λ found. cause_choices net.now.constraints ≤ extremes.old.budget → is_net_open found ≡ false) }
+    ensures turns { AreTurnsOf extremes.old.turns extremes.new.turns }
 {
     let mut is_open = false;
     for number in 0..rows.len() {
@@ -190,6 +195,7 @@ fn look_at_row(
     ensures noted { IsNotedFor net.now.events noted.new }
     ensures found { IfOk result (IsRowLookedAt net.now row.now) }
     ensures settles { IfOk result (λ found. cause_choices net.now.constraints ≤ extremes.old.budget → found ≡ SideFound.Open → ⊥) }
+    ensures turns { AreTurnsOf extremes.old.turns extremes.new.turns }
 {
     match row.kind {
         RowKind::Ask => Ok(SideFound::Meets),
@@ -215,6 +221,7 @@ fn look_at_range(
     ensures noted { IsNotedFor net.now.events noted.new }
     ensures found { IfOk result (IsRangeFound net.now row.now.from row.now.to range) }
     ensures settles { IfOk result (λ found. cause_choices net.now.constraints ≤ extremes.old.budget → found ≡ SideFound.Open → ⊥) }
+    ensures turns { AreTurnsOf extremes.old.turns extremes.new.turns }
 {
     let high = look_high(alloc, net, number, row, range.high(), extremes, noted)?;
     if is_exceeded(high) {
@@ -254,6 +261,7 @@ fn look_high(
     ensures noted { IsNotedFor net.now.events noted.new }
     ensures found { IfOk result (IsHighFound net.now row.now.from row.now.to end) }
     ensures settles { IfOk result (λ found. cause_choices net.now.constraints ≤ extremes.old.budget → found ≡ SideFound.Open → ⊥) }
+    ensures turns { AreTurnsOf extremes.old.turns extremes.new.turns }
 {
     match end {
         None => Ok(SideFound::Meets),
@@ -280,6 +288,7 @@ fn look_low(
     ensures noted { IsNotedFor net.now.events noted.new }
     ensures found { IfOk result (IsLowFound net.now row.now.from row.now.to end) }
     ensures settles { IfOk result (λ found. cause_choices net.now.constraints ≤ extremes.old.budget → found ≡ SideFound.Open → ⊥) }
+    ensures turns { AreTurnsOf extremes.old.turns extremes.new.turns }
 {
     match end {
         None => Ok(SideFound::Meets),

@@ -1,6 +1,7 @@
 //! Going on from value to value by frames.
 
 ghost use Rattle.std.specs.Prelude.{IfOk};
+ghost use Rattle.extremes.specs.Ready.{AreTurnsOf};
 ghost use Rattle.spans.specs.Step.{IsAdvance, IsOn, IsPast, IsWithinReach, IsSought, IsStretched};
 
 use crate::direction::{Direction, Value, between, distance, is_same, next_of, value_on};
@@ -67,6 +68,7 @@ pub fn show_to(
     requires goal { IsWithinReach sought.now goal.by }
     requires ahead { IsOn direction from.by goal.by }
     ensures advance { IfOk result (IsAdvance sought.now aim direction from.by goal.by) }
+    ensures turns { AreTurnsOf turns.old turns.new }
 {
     let mut stretch = ShownStretch {
         done: from,
@@ -105,7 +107,8 @@ fn stretch_on(
     requires done { IsWithinReach sought.now stretch.done.by }
     requires goal { IsWithinReach sought.now goal.by }
     requires past { IsPast direction stretch.done.by goal.by }
-    ensures { IfOk result (IsStretched sought.now aim direction stretch.done.by goal.by) }
+    ensures found { IfOk result (IsStretched sought.now aim direction stretch.done.by goal.by) }
+    ensures turns { AreTurnsOf turns.old turns.new }
 {
     let first = next_of(stretch.done, direction);
     let mut more = stretch.size.saturating_sub(1).min(distance(first, goal));
@@ -139,7 +142,8 @@ fn one_more(
     requires done { IsWithinReach sought.now done.by }
     requires goal { IsWithinReach sought.now goal.by }
     requires past { IsPast direction done.by goal.by }
-    ensures { IfOk result (IsStretched sought.now aim direction done.by goal.by) }
+    ensures found { IfOk result (IsStretched sought.now aim direction done.by goal.by) }
+    ensures turns { AreTurnsOf turns.old turns.new }
 {
     let next = next_of(done, direction);
     match sought.value_at(alloc, aim, next, turns)? {

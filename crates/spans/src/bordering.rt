@@ -2,6 +2,7 @@
 
 ghost use Rattle.std.specs.Prelude.{◌≡◌, ◌+ℤ◌, IfOk, IfSome, IsSome, Some};
 ghost use Rattle.event_graph.specs.Bounds.{IsInconsistent};
+ghost use Rattle.extremes.specs.Ready.{AreTurnsOf};
 ghost use Rattle.moves.specs.Passing.{BreaksRow, Passes};
 ghost use Rattle.moves.specs.Step.{IsMoveBy};
 ghost use Rattle.spans.specs.Step.{IsBorderFrom, IsEnough, IsGapIn, IsNarrowerGap, IsOn, IsPast, IsWithinReach, IsShort, IsShown, IsSought, IsSpanStart, IsStop, at_value, limit_of, on_of};
@@ -41,6 +42,7 @@ pub fn border_of(
     requires start { IsSpanStart from.by }
     requires passes { Passes (at_value sought.now from.by) }
     ensures border { IfOk result (IsBorderFrom sought.now direction from.by) }
+    ensures turns { AreTurnsOf turns.old turns.new }
 {
     let is_free = sought.room(step_of(direction), sides).is_none();
     if is_free && sought.is_shown(alloc, SpanAim::Passing, beyond(from, direction), turns)? {
@@ -72,6 +74,7 @@ fn border_before(
     requires past { IsPast direction from.by at.by }
     requires breaks { BreaksRow (at_value sought.now at.by) row }
     ensures border { IfOk result (IsBorderFrom sought.now direction from.by) }
+    ensures turns { AreTurnsOf turns.old turns.new }
 {
     let last = last_before(at, direction);
     match show_to(
@@ -104,6 +107,7 @@ fn border_in(
     requires past { IsPast direction from.by at.by }
     requires contradicts { IsInconsistent (at_value sought.now at.by).net }
     ensures border { IfOk result (IsBorderFrom sought.now direction from.by) }
+    ensures turns { AreTurnsOf turns.old turns.new }
 {
     match show_to(alloc, sought, SpanAim::Passing, from, at, direction, turns)? {
         Advance::Reached => border_by_contradiction(alloc, sought, from, at, direction, turns),
@@ -126,6 +130,7 @@ fn border_at_limit(
     requires passes { Passes (at_value sought.now from.by) }
     requires at { at ≡ limit_of direction sought.now.reach }
     ensures border { IfOk result (IsBorderFrom sought.now direction from.by) }
+    ensures turns { AreTurnsOf turns.old turns.new }
 {
     match show_to(alloc, sought, SpanAim::Passing, from, at, direction, turns)? {
         Advance::Reached => border_beyond(alloc, sought, from, at, direction, turns),
@@ -147,6 +152,7 @@ fn border_short(
     requires passes { Passes (at_value sought.now from.by) }
     requires short { IsShort sought.now SpanAim.Passing direction from.by short }
     ensures border { IfOk result (IsBorderFrom sought.now direction from.by) }
+    ensures turns { AreTurnsOf turns.old turns.new }
 {
     match short {
         Shortfall::Stops { last, found } => {
@@ -186,6 +192,7 @@ fn border_beyond(
     requires at { at ≡ limit_of direction sought.now.reach }
     requires shown { IsShown sought.now direction from.by (Some at.by) }
     ensures border { IfOk result (IsBorderFrom sought.now direction from.by) }
+    ensures turns { AreTurnsOf turns.old turns.new }
 {
     if sought.is_shown(alloc, SpanAim::Passing, beyond(at, direction), turns)? {
         return Ok(Border::Endless);
@@ -218,6 +225,7 @@ fn border_by_row(
     requires shown { IsShown sought.now direction from.by (Some last.by) }
     requires breaks { BreaksRow (at_value sought.now (last.by +ℤ on_of direction)) row }
     ensures border { IfOk result (IsBorderFrom sought.now direction from.by) }
+    ensures turns { AreTurnsOf turns.old turns.new }
 {
     match sought.consistency_at(alloc, last, turns)? {
         None => Ok(left(from)),
@@ -243,6 +251,7 @@ fn border_by_contradiction(
     requires shown { IsShown sought.now direction from.by (Some at.by) }
     requires contradicts { IsInconsistent (at_value sought.now at.by).net }
     ensures border { IfOk result (IsBorderFrom sought.now direction from.by) }
+    ensures turns { AreTurnsOf turns.old turns.new }
 {
     let mut gap = ValueGap {
         has: from,
@@ -273,6 +282,7 @@ fn halved(
     ensures half { IfOk result (λ half. IfSome half (IsGapIn sought.now direction gap.has.by gap.lacks.by)) }
     ensures narrower { IfOk result (λ half. IfSome half (IsNarrowerGap gap)) }
     ensures settles { IfOk result (λ half. IsEnough sought.now → IsSome half) }
+    ensures turns { AreTurnsOf turns.old turns.new }
 {
     let first = next_of(gap.has, direction);
     let last = last_before(gap.lacks, direction);

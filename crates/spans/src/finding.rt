@@ -2,6 +2,7 @@
 
 ghost use Rattle.std.specs.Prelude.{◌≡◌, ◌≤◌, pos, false, IfOk, IfSome};
 ghost use Rattle.itv_base.specs.declared.limits.TheConstants.{MAX_BUDGET};
+ghost use Rattle.extremes.specs.Ready.{AreTurnsOf};
 ghost use Rattle.moves.specs.Found.{IsSpanFound};
 ghost use Rattle.moves.specs.Networks.{IsNetFound, is_net_open};
 ghost use Rattle.moves.specs.Passing.{BreaksRow, Passes};
@@ -54,6 +55,7 @@ pub fn find_span(
     requires least { 1 ≤ budget }
     requires most { budget ≤ MAX_BUDGET }
     ensures found { IfOk result (λ span. IsSpanFound drawn.now (lent numbers.now) budget span.down span.up) }
+    ensures turns { AreTurnsOf turns.old turns.new }
 {
     let counts = counts_of(alloc, drawn, numbers)?;
     let zeros = no_counts(alloc, drawn)?;
@@ -81,6 +83,7 @@ fn span_from(
     requires consistent { base.now.found ≡ NetFound.Inconsistent → ⊥ }
     requires decided { is_net_open base.now.found ≡ false }
     ensures found { IfOk result (IsSpanOf sought.now) }
+    ensures turns { AreTurnsOf turns.old turns.new }
 {
     match base.found {
         NetFound::Passes => span_around(alloc, sought, drawn_value(), &base.sides, turns),
@@ -107,6 +110,7 @@ fn span_around(
     requires passes { Passes (at_value sought.now from.by) }
     requires own { Passes sought.now.drawn.now → from.by ≡ pos 0 }
     ensures found { IfOk result (IsSpanOf sought.now) }
+    ensures turns { AreTurnsOf turns.old turns.new }
 {
     let low = border_of(alloc, sought, from, sides, Direction::Down, turns)?;
     let high = border_of(alloc, sought, from, sides, Direction::Up, turns)?;
@@ -129,6 +133,7 @@ fn span_elsewhere(
     requires sought { IsSought sought.now }
     requires breaks { BreaksRow sought.now.drawn.now row }
     ensures found { IfOk result (IsSpanOf sought.now) }
+    ensures turns { AreTurnsOf turns.old turns.new }
 {
     if let Some(above) = span_towards(alloc, sought, row, sides, Direction::Up, turns)? {
         return Ok(above);
@@ -149,6 +154,7 @@ fn span_near(
     requires sought { IsSought sought.now }
     requires breaks { BreaksRow sought.now.drawn.now row }
     ensures found { IfOk result (IsSpanOf sought.now) }
+    ensures turns { AreTurnsOf turns.old turns.new }
 {
     match near_in(alloc, sought, Direction::Up, turns)? {
         Nearby::Passes(at) => span_at(alloc, sought, row, at, turns),
@@ -168,6 +174,7 @@ fn span_below(
     requires breaks { BreaksRow sought.now.drawn.now row }
     requires above { IsNearFound sought.now Direction.Up Nearby.Fails }
     ensures found { IfOk result (IsSpanOf sought.now) }
+    ensures turns { AreTurnsOf turns.old turns.new }
 {
     match near_in(alloc, sought, Direction::Down, turns)? {
         Nearby::Passes(at) => span_at(alloc, sought, row, at, turns),
@@ -200,6 +207,7 @@ fn span_at(
     requires start { IsSpanStart at.by }
     requires passes { Passes (at_value sought.now at.by) }
     ensures found { IfOk result (IsSpanOf sought.now) }
+    ensures turns { AreTurnsOf turns.old turns.new }
 {
     let probed = sought.probe_at(alloc, at, turns)?;
     span_around(alloc, sought, at, &probed.sides, turns)
@@ -217,6 +225,7 @@ fn span_towards(
     requires sought { IsSought sought.now }
     requires breaks { BreaksRow sought.now.drawn.now row }
     ensures found { IfOk result (λ found. IfSome found (IsSpanOf sought.now)) }
+    ensures turns { AreTurnsOf turns.old turns.new }
 {
     let goal = last_start(sought, direction);
     let mut at: Value = drawn_value();
@@ -256,7 +265,8 @@ fn try_value(
     requires breaks { BreaksRow sought.now.drawn.now row }
     requires at { IsWithinReach sought.now at.by }
     requires start { IsSpanStart at.by }
-    ensures { IfOk result (IsTriedValue sought.now) }
+    ensures found { IfOk result (IsTriedValue sought.now) }
+    ensures turns { AreTurnsOf turns.old turns.new }
 {
     let probed = sought.probe_at(alloc, at, turns)?;
     match probed.found {

@@ -1,6 +1,7 @@
 //! Looking ahead for what ends a span: a guess, which frames have to show.
 
 ghost use Rattle.std.specs.Prelude.{IfOk};
+ghost use Rattle.extremes.specs.Ready.{AreTurnsOf};
 ghost use Rattle.spans.specs.Step.{IsAhead, IsGlanced, IsOn, IsPast, IsWithinReach, IsSought};
 
 use crate::direction::{Direction, Value, is_same, step_of, value_on};
@@ -62,6 +63,7 @@ pub fn look_ahead(
     requires goal { IsWithinReach sought.now goal.by }
     requires ahead { IsOn direction from.by goal.by }
     ensures ahead { IfOk result (IsAhead sought.now direction from.by) }
+    ensures turns { AreTurnsOf turns.old turns.new }
 {
     let mut look = Glance {
         at: from,
@@ -94,7 +96,8 @@ fn looked_at(
     requires sought { IsSought sought.now }
     requires reached { IsWithinReach sought.now next.by }
     requires past { IsPast direction from.by next.by }
-    ensures { IfOk result (IsGlanced sought.now direction from.by next.by) }
+    ensures found { IfOk result (IsGlanced sought.now direction from.by next.by) }
+    ensures turns { AreTurnsOf turns.old turns.new }
 {
     let probed = sought.probe_at(alloc, next, turns)?;
     match probed.found {

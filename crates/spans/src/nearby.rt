@@ -1,6 +1,7 @@
 //! Values near the drawn one, of a design that fails as drawn.
 
 ghost use Rattle.std.specs.Prelude.{◌≤ℤ◌, ℤ, IfOk, pos};
+ghost use Rattle.extremes.specs.Ready.{AreTurnsOf};
 ghost use Rattle.spans.specs.Step.{IsNearGoal, IsNearFound, IsOn, IsWithinReach, IsSought, IsSpanStart, outward};
 
 use crate::advance::{Advance, Shortfall, show_to};
@@ -31,6 +32,7 @@ pub fn near_in(
 ) -> Result<Nearby, NoMemory>
     requires sought { IsSought sought.now }
     ensures nearby { IfOk result (IsNearFound sought.now direction) }
+    ensures turns { AreTurnsOf turns.old turns.new }
 {
     let goal = near_goal(sought, direction);
     match show_to(

@@ -2,6 +2,7 @@
 
 ghost use Rattle.std.specs.Prelude.{◌≡◌, ◌≤◌, ℤ, IfOk, IfSome, IsTrue};
 ghost use Rattle.drawn_networks.specs.Drawn.{Drawn};
+ghost use Rattle.extremes.specs.Ready.{AreTurnsOf};
 ghost use Rattle.moves.specs.Networks.{IsNetFound};
 ghost use Rattle.moves.specs.Passing.{NoneBreaks, Passes};
 ghost use Rattle.spans.specs.Step.{AreEventCounts, IsFrameFound, IsInside, IsInterval, IsProbeOf, IsWithinReach, IsSought, IsValueFound, IsValueFoundAt, MeetsAim, TellsConsistency, at_value, breaks_for, consistency_of, passes_for};
@@ -62,6 +63,7 @@ impl SpanSought<'_> {
         requires sought { IsSought self.now }
         requires reached { IsWithinReach self.now at.by }
         ensures probed { IfOk result (IsProbeOf self.now at.by) }
+        ensures turns { AreTurnsOf turns.old turns.new }
     {
         if is_same(at, drawn_value()) {
             let rows = self.drawn.rows().as_slice();
@@ -88,6 +90,7 @@ impl SpanSought<'_> {
         requires sought { IsSought self.now }
         requires reached { IsWithinReach self.now at.by }
         ensures found { IfOk result (IsValueFoundAt self.now aim at.by) }
+        ensures turns { AreTurnsOf turns.old turns.new }
     {
         let probed = self.probe_at(alloc, at, turns)?;
         Ok(value_of(aim, probed.found))
@@ -103,6 +106,7 @@ impl SpanSought<'_> {
         requires sought { IsSought self.now }
         requires reached { IsWithinReach self.now at.by }
         ensures consistency { IfOk result (TellsConsistency self.now at.by) }
+        ensures turns { AreTurnsOf turns.old turns.new }
     {
         let probed = self.probe_at(alloc, at, turns)?;
         Ok(consistency_of(probed.found))
@@ -119,6 +123,7 @@ impl SpanSought<'_> {
         requires sought { IsSought self.now }
         requires interval { IsInterval interval }
         ensures shown { IfOk result (λ shown. IsTrue shown → (value : ℤ) → IsInside interval value → MeetsAim aim (at_value self.now value)) }
+        ensures turns { AreTurnsOf turns.old turns.new }
     {
         if self.is_shown_by(alloc, self.counts, aim, interval, turns)? {
             return Ok(true);
@@ -139,6 +144,7 @@ impl SpanSought<'_> {
         requires interval { IsInterval interval }
         requires budget { 1 ≤ self.now.budget }
         ensures shown { IfOk result (λ shown. IsTrue shown → (value : ℤ) → IsInside interval value → MeetsAim aim (at_value self.now value)) }
+        ensures turns { AreTurnsOf turns.old turns.new }
     {
         match aim {
             SpanAim::Passing => self.is_covered_by(alloc, counts, interval, turns),
@@ -158,6 +164,7 @@ impl SpanSought<'_> {
         requires interval { IsInterval interval }
         requires budget { 1 ≤ self.now.budget }
         ensures covered { IfOk result (λ covered. IsTrue covered → (value : ℤ) → IsInside interval value → NoneBreaks (at_value self.now value)) }
+        ensures turns { AreTurnsOf turns.old turns.new }
     {
         match self.probe_frame(alloc, counts, interval, FrameKind::Cover, turns)? {
             Some(NetFound::Passes) => Ok(true),
@@ -178,6 +185,7 @@ impl SpanSought<'_> {
         requires interval { IsInterval interval }
         requires budget { 1 ≤ self.now.budget }
         ensures fails { IfOk result (λ fails. IsTrue fails → (value : ℤ) → IsInside interval value → Passes (at_value self.now value) → ⊥) }
+        ensures turns { AreTurnsOf turns.old turns.new }
     {
         if let Some(NetFound::Breaks(_)) = self.probe_frame(
             alloc,
@@ -207,6 +215,7 @@ impl SpanSought<'_> {
         requires interval { IsInterval interval }
         requires budget { 1 ≤ self.now.budget }
         ensures found { IfOk result (λ found. IfSome found (IsFrameFound self.now interval kind)) }
+        ensures turns { AreTurnsOf turns.old turns.new }
     {
         let framed = frame_of(alloc, self.drawn, self.numbers, counts, interval, kind)?;
         let Some(frame) = framed else {

@@ -19,8 +19,8 @@ broken_at-requires-clause-breaks c =
     let kept : to_z w64 (of_z w64 c.args.by) ≡ c.args.by = to_z-of_z w64 c.args.by c.ranges.by in
     rw kept (breaks_at c.args.sought.now c.args.by _ c.args.probed.now c.requires.probed c.in-Breaks.is)
 
-pub returns-in_ok-breaks-in-Breaks : goal.returns-in_ok-breaks-in-Breaks
-returns-in_ok-breaks-in-Breaks c =
+pub returns-in_ok-breaks-in-Breaks-clause-found : goal.returns-in_ok-breaks-in-Breaks-clause-found
+returns-in_ok-breaks-in-Breaks-clause-found c =
     let breaks = c.in_ok-breaks-in-Breaks.breaks in
     let fits : SFits w64 c.args.gap.contradicts = search rules in
     let others : SFits w64 c.in_ok-breaks-in-Breaks.breaks = search rules in
@@ -29,8 +29,8 @@ returns-in_ok-breaks-in-Breaks c =
     gap_made c.args.sought.now c.args.gap c.args.gap.contradicts breaks _ _ c.in-Breaks.row (to_z-of_z w64 c.args.gap.contradicts fits) (to_z-of_z w64 c.in_ok-breaks-in-Breaks.breaks others) more
     c.requires.gap.0.least (omega (arith, ints, most, c.requires.below, c.requires.gap.0.most)) c.requires.gap.1 c.in_ok-breaks-in-Breaks.ensures.breaks (omega (arith, ints, most, c.requires.below))
 
-pub returns-in-Inconsistent : goal.returns-in-Inconsistent
-returns-in-Inconsistent c =
+pub returns-in-Inconsistent-clause-found : goal.returns-in-Inconsistent-clause-found
+returns-in-Inconsistent-clause-found c =
     let fits : SFits w64 c.args.gap.breaks = search rules in
     let least : c.args.sought.now.reach.least ≤ℤ c.args.by = omega (arith, ints, c.requires.above, c.requires.gap.0.least) in
     gap_made c.args.sought.now c.args.gap c.args.by c.args.gap.breaks _ _ c.args.gap.row (to_z-of_z w64 c.args.by c.ranges.by) (to_z-of_z w64 c.args.gap.breaks fits) c.requires.below least

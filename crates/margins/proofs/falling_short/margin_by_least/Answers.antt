@@ -8,7 +8,7 @@ margin_in-requires-clause-bracket c =
     bracket_is c.args.sought.now c.bracket_of.result c.args.gap _ c.bracket_of.ensures c.requires.gap
     (passes_at c.args.sought.now c.args.gap.contradicts c.args.probed.now c.requires.probed c.in-Passes.is)
 
-pub returns-in-Breaks : goal.returns-in-Breaks
-returns-in-Breaks c =
+pub returns-in-Breaks-clause-found : goal.returns-in-Breaks-clause-found
+returns-in-Breaks-clause-found c =
     let le : c.args.gap.contradicts ≤ℤ c.args.sought.now.reach.least = omega (arith, ints, c.requires.least) in
     found_never c.args.sought.now _ c.args.gap.contradicts c.requires.sought le (breaks_at c.args.sought.now c.args.gap.contradicts _ c.args.probed.now c.requires.probed c.in-Breaks.is)

@@ -7,4 +7,4 @@ pub margin_by_least-found-requires-clause-probed : goal.margin_by_least-found-re
 margin_by_least-found-requires-clause-probed c =
     let fits : SFits w64 c.args.gap.contradicts = search rules in
     let kept : to_z w64 (of_z w64 c.args.gap.contradicts) ≡ c.args.gap.contradicts = to_z-of_z w64 c.args.gap.contradicts fits in
-    rw kept at c.in_ok-probed.ensures
+    rw kept at c.in_ok-probed.ensures.probed

@@ -13,8 +13,8 @@ unreachable-requires c =
     let le : c.args.climb.passes ≤ℤ c.args.by = omega (arith, ints, c.requires.above) in
     not_contradicts c.args.sought.now c.args.climb.passes c.args.by c.args.probed.now c.requires.climb.passes.0 le c.requires.probed c.in-Inconsistent.is
 
-pub returns-in-Passes : goal.returns-in-Passes
-returns-in-Passes c =
+pub returns-in-Passes-clause-found : goal.returns-in-Passes-clause-found
+returns-in-Passes-clause-found c =
     let least : c.args.sought.now.reach.least ≤ℤ c.args.by = omega (arith, ints, c.requires.above, c.requires.climb.least) in
     climb_made c.args.sought.now c.args.climb c.args.by _ _ _ (to_z-of_z w64 c.args.by c.ranges.by) c.requires.above least c.requires.most
     (passes_at c.args.sought.now c.args.by c.args.probed.now c.requires.probed c.in-Passes.is)

@@ -16,8 +16,8 @@ unreachable-requires c =
     let own = own_passes c.args.sought.now c.requires.passes in
     not_contradicts c.args.sought.now (pos 0) c.args.sought.now.reach.least c.args.probed.now own.0 le c.requires.probed c.in-Inconsistent.is
 
-pub returns-in-Breaks : goal.returns-in-Breaks
-returns-in-Breaks c =
+pub returns-in-Breaks-clause-found : goal.returns-in-Breaks-clause-found
+returns-in-Breaks-clause-found c =
     let le : c.args.sought.now.reach.least ≤ℤ c.args.sought.now.reach.least = omega (arith, ints) in
     found_never c.args.sought.now _ c.args.sought.now.reach.least c.requires.sought le
     (breaks_at c.args.sought.now c.args.sought.now.reach.least _ c.args.probed.now c.requires.probed c.in-Breaks.is)

@@ -15,8 +15,8 @@ unreachable-requires c =
     let le : c.args.passes ≤ℤ c.args.sought.now.reach.most = omega (arith, ints, c.requires.most) in
     not_contradicts c.args.sought.now c.args.passes c.args.sought.now.reach.most c.args.probed.now c.requires.passes.0 le c.requires.probed c.in-Inconsistent.is
 
-pub returns-in-Passes : goal.returns-in-Passes
-returns-in-Passes c =
+pub returns-in-Passes-clause-found : goal.returns-in-Passes-clause-found
+returns-in-Passes-clause-found c =
     let least : c.args.sought.now.reach.least ≤ℤ c.args.sought.now.reach.most = omega (arith, ints, c.requires.least, c.requires.most) in
     found_limit c.args.sought.now c.args.row c.args.sought.now.reach.most c.requires.sought least refl
     (passes_at c.args.sought.now c.args.sought.now.reach.most c.args.probed.now c.requires.probed c.in-Passes.is) c.requires.breaks

@@ -10,7 +10,8 @@ pub returns-in-Exceeds-clause-found : goal.returns-in-Exceeds-clause-found
 returns-in-Exceeds-clause-found c =
     let within : c.loop-number.number < length c.args.rows.now = omega arith in
     let row = c.index-rows-number.result in
-    row_breaks c.args.net.now c.args.rows.now c.loop-number.number row c.in_ok-look_at_row.field-0 (read_row c.args.rows.now c.loop-number.number row within c.index-rows-number.is) c.in-Exceeds.is
+    row_breaks c.args.net.now c.args.rows.now c.loop-number.number row c.in_ok-look_at_row.field-0 (read_row c.args.rows.now c.loop-number.number row within c.index-rows-number.is)
+    c.in-Exceeds.is
     c.in_ok-look_at_row.ensures.found
 
 pub loop-number-preserved : goal.loop-number-preserved
@@ -18,22 +19,27 @@ loop-number-preserved c =
     let within : c.loop-number.number < length c.args.rows.now = omega arith in
     let row = c.index-rows-number.result in
     let at : slice_get c.args.rows.now c.loop-number.number ≡ Some row = read_row c.args.rows.now c.loop-number.number row within c.index-rows-number.is in
-    let L = λ (is_open : Bool). IsLookedTo c.args.net.now c.args.rows.now c.args.extremes.now.budget c.look_at_row.new.extremes c.look_at_row.new.noted (c.loop-number.number + 1) is_open in
+    let L = λ (is_open : Bool). IsLookedTo c.args.net.now c.args.rows.now c.args.extremes.now.budget c.args.extremes.now c.look_at_row.new.extremes c.look_at_row.new.noted
+    (c.loop-number.number + 1) is_open in
     elim c.match-branch-2.branch [
       | in-Meets w ↦
           subst L (sym w.is_open-is)
-          (row_met c.args.net.now c.args.rows.now c.args.extremes.now.budget c.loop-number.extremes c.look_at_row.new.extremes c.loop-number.noted c.look_at_row.new.noted c.loop-number.number
-          c.loop-number.is_open c.loop-number.invariant c.look_at_row.ensures.ready c.look_at_row.ensures.budget c.look_at_row.ensures.noted row at
+          (row_met c.args.net.now c.args.rows.now c.args.extremes.now.budget c.args.extremes.now c.loop-number.extremes c.look_at_row.new.extremes c.loop-number.noted
+          c.look_at_row.new.noted c.loop-number.number
+          c.loop-number.is_open c.loop-number.invariant c.look_at_row.ensures.ready c.look_at_row.ensures.budget c.look_at_row.ensures.turns c.look_at_row.ensures.noted row at
           (subst (IsRowLookedAt c.args.net.now row) w.in-Meets.is c.in_ok-look_at_row.ensures.found))
       | in-Open w ↦
           subst L (sym w.is_open-is)
-          (row_open c.args.net.now c.args.rows.now c.args.extremes.now.budget c.loop-number.extremes c.look_at_row.new.extremes c.loop-number.noted c.look_at_row.new.noted c.loop-number.number
-          c.loop-number.is_open c.loop-number.invariant c.look_at_row.ensures.ready c.look_at_row.ensures.budget c.look_at_row.ensures.noted c.in_ok-look_at_row.field-0 w.in-Open.is
+          (row_open c.args.net.now c.args.rows.now c.args.extremes.now.budget c.args.extremes.now c.loop-number.extremes c.look_at_row.new.extremes c.loop-number.noted
+          c.look_at_row.new.noted c.loop-number.number
+          c.loop-number.is_open c.loop-number.invariant c.look_at_row.ensures.ready c.look_at_row.ensures.budget c.look_at_row.ensures.turns c.look_at_row.ensures.noted
+          c.in_ok-look_at_row.field-0 w.in-Open.is
           c.in_ok-look_at_row.ensures.settles)
     ]
 
 pub returns-clause-found : goal.returns-clause-found
 returns-clause-found c =
     subst (IsNetFound (bare_drawn c.args.net.now c.args.rows.now)) (sym c.passes_unless.ensures)
-    (looked_found c.args.net.now c.args.rows.now c.args.extremes.now.budget c.loop-number.extremes c.loop-number.noted c.loop-number.number c.loop-number.is_open c.loop-number.invariant
+    (looked_found c.args.net.now c.args.rows.now c.args.extremes.now.budget c.args.extremes.now c.loop-number.extremes c.loop-number.noted c.loop-number.number c.loop-number.is_open
+    c.loop-number.invariant
     (omega arith))

@@ -12,12 +12,12 @@ value_at-requires-clause-reached c =
     (reached_between c.args.sought.now c.args.direction c.args.done.by _ c.args.goal.by c.requires.done c.requires.goal (on_next c.args.direction c.args.done.by)
     (next_on c.args.direction c.args.done.by c.args.goal.by c.requires.past))
 
-pub returns-in-Shown : goal.returns-in-Shown
-returns-in-Shown c =
+pub returns-in-Shown-clause-found : goal.returns-in-Shown-clause-found
+returns-in-Shown-clause-found c =
     stretched_next c.args.sought.now c.args.aim c.args.direction c.args.done.by c.args.goal.by c.next_of-next.result.by c.next_of-next.ensures.next c.requires.past
     (rw c.in-Shown.is at c.in_ok-value_at.ensures.found)
 
-pub returns-in-Stops : goal.returns-in-Stops
-returns-in-Stops c =
+pub returns-in-Stops-clause-found : goal.returns-in-Stops-clause-found
+returns-in-Stops-clause-found c =
     let h = rw c.in-Stops.is at c.in_ok-value_at.ensures.found in
     (subst (λ (v : ℤ). IsNetFound (at_value c.args.sought.now v) c.in-Stops.found) c.next_of-next.ensures.next h.0, h.1)

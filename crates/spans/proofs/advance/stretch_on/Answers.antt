@@ -15,8 +15,8 @@ pub value_on-end-requires-clause-on : goal.value_on-end-requires-clause-on
 value_on-end-requires-clause-on c =
     subst (λ (v : ℤ). IsOn c.args.direction v c.args.goal.by) (sym c.next_of-first.ensures.next) (next_on c.args.direction c.args.stretch.done.by c.args.goal.by c.requires.past)
 
-pub returns-then-branch : goal.returns-then-branch
-returns-then-branch c = (
+pub returns-then-branch-clause-found : goal.returns-then-branch-clause-found
+returns-then-branch-clause-found c = (
   past_to c.args.direction c.args.stretch.done.by c.next_of-first.result.by c.value_on-end.result.by
       (past_by_next c.args.direction c.args.stretch.done.by c.next_of-first.result.by c.next_of-first.ensures.next) c.value_on-end.ensures.before,
   c.value_on-end.ensures.within,

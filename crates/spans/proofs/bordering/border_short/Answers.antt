@@ -26,17 +26,15 @@ border_by_row-requires-clause-breaks c =
     let way = rw c.in-Stops.is at c.requires.short in
     found_as (at_value c.args.sought.now (c.in-Stops.last.by +ℤ on_of c.args.direction)) c.in-Stops.found (nets.Breaks c.row_of.result) c.row_of.ensures way.1
 
-pub returns-in-Spent : goal.returns-in-Spent
-returns-in-Spent c =
+pub returns-in-Spent-clause-border : goal.returns-in-Spent-clause-border
+returns-in-Spent-clause-border c =
     let way = rw c.in-Spent.is at c.requires.short in
-    record {
-      border = spent_at c.args.sought.now c.args.direction c.args.from.by c.in-Spent.last.by c.spent.result c.spent.ensures way.0.before
-          (reached_move c.args.sought.now c.requires.sought c.in-Spent.last.by way.0.reached)
-          (shown_from c.args.sought.now c.args.direction c.args.from.by c.in-Spent.last.by c.requires.passes.1 way.0) way.1;
-    }
+    spent_at c.args.sought.now c.args.direction c.args.from.by c.in-Spent.last.by c.spent.result c.spent.ensures way.0.before
+    (reached_move c.args.sought.now c.requires.sought c.in-Spent.last.by way.0.reached)
+    (shown_from c.args.sought.now c.args.direction c.args.from.by c.in-Spent.last.by c.requires.passes.1 way.0) way.1
 
-pub returns-in-Left : goal.returns-in-Left
-returns-in-Left c = record {
-  border = left_at c.args.sought.now c.args.direction c.args.from.by c.left.result c.left.ensures (reached_move c.args.sought.now c.requires.sought c.args.from.by c.requires.from) c.requires.passes.1
-      (rw c.in-Left.is at c.requires.short);
-}
+pub returns-in-Left-clause-border : goal.returns-in-Left-clause-border
+returns-in-Left-clause-border c =
+    left_at c.args.sought.now c.args.direction c.args.from.by c.left.result c.left.ensures (reached_move c.args.sought.now c.requires.sought c.args.from.by c.requires.from)
+    c.requires.passes.1
+    (rw c.in-Left.is at c.requires.short)

@@ -5,8 +5,8 @@ use Rattle.spans.proofs.Borders.{nothing_found}
 use Rattle.spans.proofs.Near.{fails_near}
 use Rattle.spans.proofs.finding.span_below.Goals as goal
 
-pub returns-in-Fails : goal.returns-in-Fails
-returns-in-Fails c =
+pub returns-in-Fails-clause-found : goal.returns-in-Fails-clause-found
+returns-in-Fails-clause-found c =
     let own = nothing_found c.args.sought.now c.args.row c.requires.breaks in
     let below = rw c.in-Fails.is at c.in_ok-at.ensures.nearby in
-    record { found = subst (λ (s : SpanFound). IsSpanOf c.args.sought.now s) (sym c.both-in-Fails.ensures) (own, fails_near c.args.sought.now own c.requires.above below) }
+    subst (λ (s : SpanFound). IsSpanOf c.args.sought.now s) (sym c.both-in-Fails.ensures) (own, fails_near c.args.sought.now own c.requires.above below)

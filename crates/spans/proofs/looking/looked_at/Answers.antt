@@ -2,15 +2,15 @@ use Rattle.spans.specs.Step.{at_value}
 use Rattle.spans.proofs.Found.{found_as}
 use Rattle.spans.proofs.looking.looked_at.Goals as goal
 
-pub returns-in-Breaks : goal.returns-in-Breaks
-returns-in-Breaks c = (
+pub returns-in-Breaks-clause-found : goal.returns-in-Breaks-clause-found
+returns-in-Breaks-clause-found c = (
   c.requires.reached,
   c.requires.past,
   found_as (at_value c.args.sought.now c.args.next.by) _ _ c.in-Breaks.is c.in_ok-probed.ensures.probed.found,
 )
 
-pub returns-in-Inconsistent : goal.returns-in-Inconsistent
-returns-in-Inconsistent c = (
+pub returns-in-Inconsistent-clause-found : goal.returns-in-Inconsistent-clause-found
+returns-in-Inconsistent-clause-found c = (
   c.requires.reached,
   c.requires.past,
   found_as (at_value c.args.sought.now c.args.next.by) _ _ c.in-Inconsistent.is c.in_ok-probed.ensures.probed.found,

@@ -1,7 +1,7 @@
 use Rattle.spans.proofs.sought.SpanSought.is_shown_by.Goals as goal
 
-pub returns-in-Passing : goal.returns-in-Passing
-returns-in-Passing c = record { shown = rw c.in-Passing.is c.is_covered_by.ensures.covered }
+pub returns-in-Passing-clause-shown : goal.returns-in-Passing-clause-shown
+returns-in-Passing-clause-shown c = rw c.in-Passing.is c.is_covered_by.ensures.covered
 
-pub returns-in-Failing : goal.returns-in-Failing
-returns-in-Failing c = record { shown = rw c.in-Failing.is c.fails_by.ensures.fails }
+pub returns-in-Failing-clause-shown : goal.returns-in-Failing-clause-shown
+returns-in-Failing-clause-shown c = rw c.in-Failing.is c.fails_by.ensures.fails

@@ -9,11 +9,11 @@ use mir.Syntax.{w64}
 use mir.Val.{of_z, to_z}
 use Rattle.spans.proofs.sought.SpanSought.probe_at.Goals as goal
 
-pub returns-then-is_same : goal.returns-then-is_same
-returns-then-is_same c = record {
-  probed = probed_own c.args.self.now c.args.at.by c.network.result.now c.as_slice-rows.result.now c.probe.result (c.is_same.ensures.0 c.if-is_same.true ∙ c.drawn_value.ensures) c.network.ensures.network
-      (c.as_slice-rows.ensures.items ∙ c.rows.ensures.rows) c.probe.ensures.found c.probe.ensures.settles;
-}
+pub returns-then-is_same-clause-probed : goal.returns-then-is_same-clause-probed
+returns-then-is_same-clause-probed c =
+    probed_own c.args.self.now c.args.at.by c.network.result.now c.as_slice-rows.result.now c.probe.result (c.is_same.ensures.0 c.if-is_same.true ∙ c.drawn_value.ensures)
+    c.network.ensures.network
+    (c.as_slice-rows.ensures.items ∙ c.rows.ensures.rows) c.probe.ensures.found c.probe.ensures.settles
 
 pub unreachable-requires : goal.unreachable-requires
 unreachable-requires c =
@@ -29,13 +29,11 @@ unreachable-requires-in-None-2 c =
     not_there _ c.in-None-2.is
     (c.in_ok-moved_rows-in-Some.ensures.ranges.1 (to_passed (λ b. HasDrawableRows (at_value c.args.self.now b) (lent c.args.self.now.numbers.now)) c.args.at.by fits can.1))
 
-pub returns : goal.returns
-returns c =
+pub returns-clause-probed : goal.returns-clause-probed
+returns-clause-probed c =
     let by = c.args.at.by in
     let choices = rw c.in-Some.is at c.in_ok-moved_network.ensures.choices in
-    record {
-      probed = as_passed (λ b. IfOk c.probe-in-Some-2.result (IsProbeOf c.args.self.now b)) by (move_fits by (reached_move c.args.self.now c.requires.sought by c.requires.reached))
-          (probed_at c.args.self.now (to_z w64 (of_z w64 by)) c.in-Some.net c.deref.result.now c.probe-in-Some-2.result (rw c.in-Some.is at c.in_ok-moved_network.ensures.net)
-          (c.deref.ensures.value ∙ (rw c.in-Some-2.is at c.in_ok-moved_rows-in-Some.ensures.rows)) (λ enough. subst (λ n. n ≤ c.args.self.now.budget) (sym choices) enough)
-          c.probe-in-Some-2.ensures.found c.probe-in-Some-2.ensures.settles);
-    }
+    as_passed (λ b. IfOk c.probe-in-Some-2.result (IsProbeOf c.args.self.now b)) by (move_fits by (reached_move c.args.self.now c.requires.sought by c.requires.reached))
+    (probed_at c.args.self.now (to_z w64 (of_z w64 by)) c.in-Some.net c.deref.result.now c.probe-in-Some-2.result (rw c.in-Some.is at c.in_ok-moved_network.ensures.net)
+    (c.deref.ensures.value ∙ (rw c.in-Some-2.is at c.in_ok-moved_rows-in-Some.ensures.rows)) (λ enough. subst (λ n. n ≤ c.args.self.now.budget) (sym choices) enough)
+    c.probe-in-Some-2.ensures.found c.probe-in-Some-2.ensures.settles)
