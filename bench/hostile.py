@@ -7,9 +7,8 @@
 
 Prints for each network the processor seconds, the megabytes, what the program says of the pair, and whether the network holds. For job settle it does
 where both bounds are settled, or the network is inconsistent or refused, within these limits. For another job it does where the run ends by itself,
-with an answer. With --quiet the program says nothing on standard error. What it says there after a run counts the warnings of job lint, and may take
-longer than the run itself: so a search is compared with another program with --quiet. With --z3 it also prints the seconds of z3 for both sides, which
-has 20 seconds and 4 GB. With --job=all it prints the seconds of each job, `late` where a run was ended and `memory` where it found none, the megabytes
+with an answer. With --quiet the program says nothing on standard error, so that a search is compared with another program. With --z3 it also prints the
+seconds of z3 for both sides, which has 20 seconds and 4 GB. With --job=all it prints the seconds of each job, `late` where a run was ended and `memory` where it found none, the megabytes
 of the greatest run, and in brackets a run that left something open. The last line says how many hold."""
 import functools
 import os
@@ -17,7 +16,10 @@ import random
 import sys
 import tempfile
 
+sys.path.insert(0, os.path.join(os.path.dirname(os.path.realpath(__file__)), os.pardir, "tools", "dev"))
+
 from families import formula, ring
+from job_list import jobs_of
 from limited import SECONDS, run
 from networks import Network, layered
 from solvers import both_of, smt_of_both
@@ -202,14 +204,25 @@ def network(name):
 # The drawings of a network: its rows are questions, requirements that pass wherever they are bounded, or requirements that fail.
 DRAWINGS = {"main.json": "@ask", "passes.json": f"@req [{-WIDE},{WIDE}]", "fails.json": f"@req [*,{-WIDE}]"}
 
-# The words of each job. `check` and `confirm` read what the runs with proofs printed.
-JOBS = {
-    "bounds": "main.json", "bounds --cert": "--cert main.json", "check": "--job=check --report=bounds main.json",
-    "settle": "--job=settle main.json", "settle --cert": "--job=settle --cert main.json", "confirm": "--job=confirm --report=settle main.json",
-    "fall": "--job=fall main.json", "matrix": "--job=matrix main.json", "why": "--job=why main.json", "brief": "--job=brief passes.json",
-    "lint": "--job=lint main.json", "whatif": "--job=whatif --edits=edits main.json", "redraw": "--job=redraw fails.json",
-    "margin": "--job=margin passes.json", "margin, fails": "--job=margin fails.json",
+# The runs of a job, with their words, if it has others than `--job=NAME main.json`. `check` and `confirm` read what the runs with proofs printed.
+# Job self makes its design.
+RUNS = {
+    "bounds": {"bounds": "main.json", "bounds --cert": "--cert main.json"}, "check": {"check": "--job=check --report=bounds main.json"},
+    "settle": {"settle": "--job=settle main.json", "settle --cert": "--job=settle --cert main.json"},
+    "confirm": {"confirm": "--job=confirm --report=settle main.json"}, "brief": {"brief": "--job=brief passes.json"},
+    "whatif": {"whatif": "--job=whatif --edits=edits main.json"}, "redraw": {"redraw": "--job=redraw fails.json"},
+    "margin": {"margin": "--job=margin passes.json", "margin, fails": "--job=margin fails.json"}, "self": {},
 }
+
+
+@functools.cache
+def words_of_runs(program):
+    """The words of each run of each job of a program."""
+    found = {}
+    for job in jobs_of(program):
+        found.update(RUNS.get(job.name, {job.name: f"--job={job.name} main.json"}))
+    return found
+
 
 # The greatest status of a run that ends by itself: lack of memory and a text that is not accepted are greater.
 REFUSED = 4
@@ -230,7 +243,7 @@ def runs_of(program, net, is_quiet=False):
     """Each job with its run on a network. A job that checks a text is left out if there is none."""
     with tempfile.TemporaryDirectory() as folder:
         draw(net, folder)
-        for job, words in JOBS.items():
+        for job, words in words_of_runs(program).items():
             report = next((word.removeprefix("--report=") for word in words.split() if word.startswith("--report=")), None)
             if report and not os.path.exists(os.path.join(folder, report)):
                 continue
@@ -259,12 +272,13 @@ def cell(done):
 
 def measure_all(program, names, is_quiet):
     """A line for each network with the seconds of every job. How many runs there were, and how many of them ended by themselves."""
-    row(["network", "MB", *JOBS])
+    jobs = words_of_runs(program)
+    row(["network", "MB", *jobs])
     ended = []
     for name in names:
         done = dict(runs_of(program, network(name), is_quiet))
         ended += map(has_ended, done.values())
-        row([name, f"{max(one.room for one in done.values()):.0f}", *(cell(done[job]) if job in done else "" for job in JOBS)])
+        row([name, f"{max(one.room for one in done.values()):.0f}", *(cell(done[job]) if job in done else "" for job in jobs)])
     return len(ended), sum(ended)
 
 
@@ -276,7 +290,7 @@ def measure_one(program, job, names, by_lines, with_z3, is_quiet):
         net = network(name)
         with tempfile.TemporaryDirectory() as folder:
             draw(net, folder)
-            command, given = ([program], net.lines().encode()) if by_lines else ([program, *JOBS[job].split()], b"")
+            command, given = ([program], net.lines().encode()) if by_lines else ([program, *words_of_runs(program)[job].split()], b"")
             done = run(command, folder, given, is_quiet=is_quiet)
             says = bound_lines(done.printed)[:2] or done.printed.decode().splitlines()[:1] * has_ended(done)
             says = ", ".join(f"`{line}`" for line in says)
@@ -298,9 +312,9 @@ def main():
     words = [word for word in sys.argv[1:] if not word.startswith("--")]
     job = next((word.removeprefix("--job=") for word in sys.argv[1:] if word.startswith("--job=")), "settle")
     names = words[1:] or list(MADE)
-    if not words or not set(names) <= set(MADE) or job not in ("all", *JOBS):
+    program = os.path.abspath(words[0]) if words else None
+    if not words or not set(names) <= set(MADE) or (job not in ("settle", "all") and job not in words_of_runs(program)):
         sys.exit(__doc__)
-    program = os.path.abspath(words[0])
     if job == "all":
         count, held = measure_all(program, names, "--quiet" in sys.argv)
         print(f"{held} of {count} runs end by themselves within {SECONDS} seconds and 500 MB")

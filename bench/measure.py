@@ -1,7 +1,7 @@
 #!/usr/bin/env python3
 """Measures `itv` beside an unproved Rust program of the same rule, and beside z3, cbc and glpsol where they are installed.
 
-    bench/measure.py PATH_OF_THE_BUILT_PROGRAM [searches|falls|settles|proofs|bounds|readings|edits|margins|all]
+    bench/measure.py PATH_OF_THE_BUILT_PROGRAM [searches|falls|settles|proofs|bounds|readings|edits|margins|said|all]
 
 Builds bench/peer with the machine's cargo. Each time is the least of three runs of the whole program, in seconds; a run of more
 than 5 seconds is made once. The line of a network is a row of a table of docs/speed.md: its name, the seconds of `itv`, those of the
@@ -12,10 +12,12 @@ reads and draws it and then refuses it for its number of events, and those of a 
 whatif from scratch on the network that 100 edits lead to, and with these edits, of one edit beyond reading and the first state, the ratio of that
 to the run from scratch, and how many bounds the edits kept and searched anew. For margins it has the ends of the numbers of a design,
 the seconds of job margin, how many ends were bisected, the runs of job brief (or of job settle, where job brief leaves the design open) that this
-took, their seconds, these scaled to all ends, and the seconds of z3 for all ends."""
+took, their seconds, these scaled to all ends, and the seconds of z3 for all ends. For what is said after a run it has the processor seconds of quiet runs
+and of runs that say it, each the least of 15 that take turns, their difference in ms, and whether this is at most a fifth of the run or 10 ms."""
 import importlib.machinery
 import importlib.util
 import json
+import math
 import os
 import re
 import shutil
@@ -52,6 +54,39 @@ def seconds(command, folder, stdin=None, runs=3, limit=BOTH):
         if took > 5:
             break
     return best, out
+
+
+def processor_seconds(command, folder, quiet):
+    """The seconds of the processor that a run takes, which say something on a busy machine too."""
+    process = subprocess.Popen(command, cwd=folder, stdin=subprocess.DEVNULL, stdout=subprocess.DEVNULL, stderr=subprocess.DEVNULL,
+                               env=dict(os.environ, ITV_QUIET=quiet))
+    _, status, used = os.wait4(process.pid, 0)
+    process.returncode = os.waitstatus_to_exitcode(status)
+    return used.ru_utime + used.ru_stime
+
+
+# What is said after a run may take this part of the run, or this many seconds.
+SAID_PART, SAID_LEAST = 0.2, 0.010
+
+
+def measure_said(program, name, files, words=("main.json",)):
+    with tempfile.TemporaryDirectory() as folder:
+        lay_out(files, folder)
+        least = {"1": math.inf, "0": math.inf}
+        for _ in range(15):
+            for quiet in least:
+                least[quiet] = min(least[quiet], processor_seconds([program, *words], folder, quiet))
+        run, whole = least["1"], least["0"]
+        row([name, show(run), show(whole), f"{1000 * (whole - run):.1f}", "yes" if whole - run <= max(SAID_LEAST, SAID_PART * run) else "NO"])
+
+
+def said_designs():
+    """Designs small and large, with a label that is refused and a requirement that fails: a name and the files of each."""
+    linear, refused, failed = networks.dense_linear(300, 1200, 2, 3).files(), networks.bus(64), networks.bus(64)
+    refused["slave.json"] = refused["slave.json"].replace("[3000,7000]", "[3000, 7000]")
+    failed["merge.json"] = failed["merge.json"].replace("[5000,*]", "[90000,*]")
+    return [("linear, 300 events", linear), ("bus, size 64", networks.bus(64)), ("bus, size 64, fails", failed), ("bus, size 64, refused", refused),
+            *networks.readings()]
 
 
 def there(solvers):
@@ -287,6 +322,12 @@ def margin_designs(folder):
 def main():
     program = os.path.abspath(sys.argv[1])
     which = sys.argv[2] if len(sys.argv) > 2 else "all"
+    if which in ("said", "all"):
+        row(["design", "quiet", "with what is said", "ms", "within the limits"])
+        for name, files in said_designs():
+            measure_said(program, name, files)
+    if which == "said":
+        return
     subprocess.run(["cargo", "build", "--release", "--offline", "--quiet"], cwd=os.path.join(HERE, "peer"), check=True)
     peer = os.path.join(HERE, "peer", "target", "release", "peer")
     if which in ("searches", "all"):

@@ -87,8 +87,11 @@ def both_of(printed):
     return tuple(f"{side} {'unbounded' if 'oo' in end else end}" for side, end in zip(("max", "min"), ends))
 
 
+# glpsol deletes the file that it is to write, if it may, and then writes a new one. So it never gets the name of a device.
+GLPSOL = 'glpsol --lp "$1" -o "$1.out" >"$1.log" && cat "$1.out"'
+
 SOLVERS = (
     ("z3", "smt2", smt, lambda path: ["z3", path], r"\(objectives\s+\(.* (\(- \d+\)|\d+)\)\s*\)"),
     ("cbc", "lp", lp, lambda path: ["cbc", path, "solve"], r"Objective value:\s+(\S+)"),
-    ("glpsol", "lp", lp, lambda path: ["glpsol", "--lp", path, "-o", "/dev/stdout"], r"Objective:\s+obj = (\S+)"),
+    ("glpsol", "lp", lp, lambda path: ["sh", "-c", GLPSOL, "glpsol", path], r"Objective:\s+obj = (\S+)"),
 )

@@ -6,6 +6,12 @@ import subprocess
 
 FOLDERS = ("src", "specs", "proofs")
 
+# What a program is compiled for and linked with: every x86-64 processor, and each glibc from this one on.
+TARGET, CPU, GLIBC = "x86_64-unknown-linux-gnu", "x86-64", (2, 28)
+START = pathlib.Path(__file__).resolve().parent / "start.c"
+C_FLAGS = [f"--target={TARGET}", f"-march={CPU}", "--no-default-config", "-fintegrated-cc1", "-ffreestanding", "-nostdinc", "-fPIE", "-O2", "-Wall", "-Wextra",
+           "-Werror", "-c", "-x", "c"]
+
 
 class Unfit(Exception):
     """The toolchain is not there, or not as these tools know it."""
@@ -34,6 +40,16 @@ class Kit:
         lacking = [flag for flag in ("--logic-built", "--jobs", "--links", "--antt-project", *flags) if flag not in words]
         if lacking:
             raise Unfit(f"rattle {verb} has no " + ", ".join(lacking))
+
+    def links(self, program_object, program, log):
+        """Links an object file to a program that starts with each glibc from GLIBC on. Whether that was done. The log is an open file."""
+        start = program_object.parent / "start.o"
+        for words in ([self.folder / "toolchain/bin/clang", *C_FLAGS, START, "-o", start],
+                      [self.link, "--target", TARGET, "--toolchain", self.folder / "toolchain", "-o", program, program_object, start,
+                       self.folder / "c/libos_c.a", self.folder / "c/liblibc_c.a"]):
+            if subprocess.run(words, stdin=subprocess.DEVNULL, stdout=log, stderr=log, check=False).returncode != 0:
+                return False
+        return True
 
     def has(self, library):
         return (self.folder / "rlibs" / f"{library}.rlib").exists()
@@ -77,6 +93,11 @@ def read_crates(top, is_library):
             for name, words in lines.items()}
 
 
+def glibc_needed(data):
+    """The newest version of glibc that a linked program asks for: its names stand among the names of functions. Nothing where there is none."""
+    return max((tuple(map(int, found.split(b"."))) for found in re.findall(rb"\bGLIBC_(\d+(?:\.\d+)+)\0", data)), default=None)
+
+
 def closure(crates, names):
     """The crates of these names and all below them, a crate after those that it stands on."""
     order = []
@@ -94,10 +115,11 @@ def closure(crates, names):
 
 
 def give_stamps(crates, order, kit):
-    """Gives each crate its stamp: a sum of the toolchain's line, of the crate's files and line, and of the stamps below."""
+    """Gives each crate its stamp: a sum of the toolchain's line, of the crate's files and line, of the stamps below, and of how a program is linked."""
+    linked = f"{CPU} {hashlib.sha256(START.read_bytes()).hexdigest()}\n"
     for name in order:
         crate = crates[name]
-        below = "".join(f"{other} {crates[other].stamp}\n" for other in crate.below)
+        below = "".join(f"{other} {crates[other].stamp}\n" for other in crate.below) + (linked if crate.is_program else "")
         crate.stamp = hashlib.sha256(f"{kit.line}\n{crate.sum_of_files()}\n{crate.libraries}\n{below}".encode()).hexdigest()
 
 

@@ -5,7 +5,7 @@ import re
 
 import kit as kits
 
-PAGE_TOOLS = ("pack-page", "web", "web-heap.c")
+PAGE_TOOLS = ("designs.py", "lower32", "pack-page", "web", "web-heap.c")
 
 
 def lines_of(top, names):
@@ -37,8 +37,10 @@ def sum_of(top, name, folders=kits.FOLDERS):
 
 
 def sum_of_page(top):
-    """The sum of what the page is made of: the crate `web` and all below it, the folder page/, the designs of examples/, and the tools."""
-    files = [*(top / "page").rglob("*"), *(top / "examples").rglob("*.json"), *(top / "tools/dev" / name for name in PAGE_TOOLS)]
+    """The sum of what the page is made of: the crate `web` and all below it, the folder page/ without its tests, the designs of examples/, the version, and the
+    tools."""
+    page = [path for path in (top / "page").rglob("*") if path.parent.name != "test"]
+    files = [top / "VERSION", *page, *(top / "examples").rglob("*.json"), *(top / "tools/dev" / name for name in PAGE_TOOLS)]
     total = hashlib.sha256(f"{sum_of(top, 'web')}\n".encode())
     for path in sorted(files):
         if path.is_file():

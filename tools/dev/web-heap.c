@@ -23,7 +23,7 @@ typedef struct {
 
 enum { PAGE = 65536, PAGES_AT_ONCE = 16, CLASSES = 108 };
 
-static const u64 MOST = 1UL << 32; // bytes of one block, and of the whole memory
+static const u64 MOST = 1UL << 32; // bytes of one block; the whole memory has at most 3 GiB
 
 extern unsigned char __heap_base; // lld: the first byte after the data and the stack
 static Header *freed[CLASSES];
@@ -51,7 +51,10 @@ static _Bool reaches(u64 address) {
         return 1;
     }
     u64 more = want - have;
-    return (more < PAGES_AT_ONCE && __builtin_wasm_memory_grow(0, PAGES_AT_ONCE) != -1UL) || __builtin_wasm_memory_grow(0, more) != -1UL;
+    if (more >= PAGES_AT_ONCE || __builtin_wasm_memory_grow(0, PAGES_AT_ONCE) == -1UL) {
+        __builtin_wasm_memory_grow(0, more);
+    }
+    return __builtin_wasm_memory_size(0) >= want;
 }
 
 // A block with room for so many bytes, or null.

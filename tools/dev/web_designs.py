@@ -3,6 +3,8 @@ import glob
 import json
 import os
 
+from designs import text_from_top
+
 TOP = os.path.dirname(os.path.dirname(os.path.dirname(os.path.abspath(__file__))))
 
 
@@ -14,7 +16,7 @@ def text_of(name):
 def examples_text():
     """All files of the examples by their names."""
     paths = glob.glob(os.path.join(TOP, "examples", "**", "*"), recursive=True)
-    return {os.path.relpath(path, TOP): text_of(path) for path in sorted(paths) if os.path.isfile(path)}
+    return {name: text_from_top(name) for name in sorted(os.path.relpath(path, TOP) for path in paths if os.path.isfile(path))}
 
 
 def drawn_designs():
@@ -104,33 +106,34 @@ def sheet_with(edge, **keys):
     return {"signal": [{"name": "A", "wave": "01", "node": ".a"}, {"name": "B", "wave": "01", "node": ".b"}], "edge": ["a->b @lin [0,5]", edge], **keys}
 
 
-# Wrong labels, and a part of what is said of each.
+# Wrong labels, and a part of what the program says of each.
 LABELS = {
-    "a->b @lin [0, 2000]": "there may be no space within a range",
-    "a->b @lin[0,2000]": "a space is needed before the range",
-    "a->b @lin [0,2.5]": "'2.5' is no whole number",
-    "a->b @lin 0..2000": "a range begins with [",
+    "a->b @lin [0, 2000]": "remove the space after the comma",
+    "a->b @lin[0,2000]": "expected a space here",
+    "a->b @lin [0,2.5]": "'2.5' is not a whole number",
+    "a->b @lin 0..2000": "a range is in brackets",
     "a->b @linear [0,2]": "there is no kind 'linear'",
     "a->b @LIN [0,2]": "there is no kind 'LIN'",
-    "a->b @lin [2000]": "two ends with one comma",
-    "a->b @lin [0,inf]": "'inf' is neither a whole number nor *",
+    "a->b @lin [2000]": "a range has two ends",
+    "a->b @lin [0,inf]": "'inf' is not a whole number: an open end is *",
     "a->b @lin [0,]": "an end is missing: an open end is *",
-    "a->b @lin [2,*]ns": "a space is needed before a note",
-    "a->b @lin $tAA": 'a number with a name, $NAME, is read in a netlist with "itv": 2 alone',
-    "a->b @lin": "a range is needed",
+    "a->b @lin [2,*]ns": "expected a space between the range and the note",
+    "a->b @lin $tAA": '$ needs a netlist with "itv": 2',
+    "a->b @lin": "expected a range here",
     "a->b @lin+65 [0,2]": "a whole number from 1 to 64",
     "a->b @lin [9,2]": "the low end is above the high end",
     "a->k @lin [0,2]": "no lane has the mark k",
 }
 
 
+# Wrong nets, and a part of what the program says of each.
 NETS = {
-    '{ "pins": ["A.X", "B.Y"] }': "No part has this name",
-    '{ "pins": ["CPU.ADDR", "RAM.NO"] }': "no lane of this name with a mark",
-    '{ "pins": ["CPU.ADDR", "RAM.ADDR"], "delay": 300 }': "a list of two",
-    '{ "pins": ["CPU.ADDR", "RAM.ADDR"], "delay": [0, "*"] }': "null for an open end",
-    '{ "pins": ["CPU.ADDR", "ADDR"] }': 'The pin "ADDR" is no text PART.LANE',
-    '{ "pins": ["CPU.ADDR", "RAM.ADDR"], "delay": [300, 100] }': "The low end is above the high end",
+    '{ "pins": ["A.X", "B.Y"] }': "there is no part 'A'",
+    '{ "pins": ["CPU.ADDR", "RAM.NO"] }': "part RAM has no lane 'NO' with a mark",
+    '{ "pins": ["CPU.ADDR", "RAM.ADDR"], "delay": 300 }': "expected a list of two ends",
+    '{ "pins": ["CPU.ADDR", "RAM.ADDR"], "delay": [0, "*"] }': "an open end of a list is null",
+    '{ "pins": ["CPU.ADDR", "ADDR"] }': "expected a text PART.LANE",
+    '{ "pins": ["CPU.ADDR", "RAM.ADDR"], "delay": [300, 100] }': "the low end is above the high end",
 }
 
 

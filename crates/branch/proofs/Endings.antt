@@ -9,7 +9,7 @@ use Rattle.event_graph.specs.Satisfying.{Satisfies}
 use Rattle.event_graph.specs.Limits.{IsReach}
 use Rattle.event_graph.proofs.SoundProofs.{proof_bounds, proof_of_nothing}
 use Rattle.event_graph.proofs.ProofCounts.{proof_is_within_choices, stopped_proof_is_below_choices}
-use Rattle.branch.specs.Answers.{IsClosedAt, IsCounted, IsEnclosedBy, IsFoundConsistent, IsFoundInconsistent, IsFoundUnsettled, IsShownUnbounded}
+use Rattle.branch.specs.Answers.{IsClosedAt, IsCounted, IsEnclosedBy, IsFoundConsistent, IsFoundInconsistent, IsFoundOpen, IsShownUnbounded}
 use Rattle.event_graph.specs.Cases.{open_cases, siblings}
 use Rattle.branch.specs.Step.Searched.{IsBestSoFar, AreRays, IsBoundSearched, IsClosing, IsFindSearched, IsSearchedSoFar, aimed}
 use Rattle.branch.specs.declared.best.Aim.{Aim}
@@ -108,7 +108,7 @@ found_inconsistent net lines leaves searched = record {
 }
 
 pub found_unsettled : (net : Net) (budget : ℕ) (lines : List ProofLine) (leaves : ℕ) (chosen : Case) → IsNet net → (times : List ℤ) × MeetsAlways times net → leaves ≡ budget
-    → IsFindSearched net lines (open_cases net chosen) leaves → IsFoundUnsettled net budget lines leaves
+    → IsFindSearched net lines (open_cases net chosen) leaves → IsFoundOpen net budget lines leaves
 found_unsettled net budget lines leaves chosen is_net always used searched =
     let stopped = is_stopped net Nothing _ lines chosen leaves searched in
     record {

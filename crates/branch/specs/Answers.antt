@@ -11,12 +11,12 @@ use Rattle.event_graph.specs.RootBound.{HasNoRoot, IsRootBound, MeetsAlways}
 use Rattle.event_graph.specs.Satisfying.{Satisfies}
 use Rattle.event_graph.specs.Times.{separation}
 use Rattle.branch.specs.Work.{WorkView}
-use Rattle.branch.specs.declared.answer.GreatestAnswer.{GreatestAnswer}
-use Rattle.branch.specs.declared.answer.GreatestAnswer.TheVariants.{Closed, Unbounded, Enclosed}
-use Rattle.branch.specs.declared.answer.SearchFinding.{SearchFinding}
-use Rattle.branch.specs.declared.answer.SearchFinding.TheVariants.{Consistent, Inconsistent, Unsettled}
+use Rattle.requirements.specs.declared.bound.Bound.{Bound}
+use Rattle.requirements.specs.declared.bound.Bound.TheVariants.{Closed, Unbounded, Within}
+use Rattle.requirements.specs.declared.consistency.Consistency.{Consistency}
+use Rattle.requirements.specs.declared.consistency.Consistency.TheVariants.{Consistent, Inconsistent, Open}
 use Rattle.branch.specs.declared.answer.Root.{Root}
-use Rattle.branch.specs.declared.answer.Root.TheVariants.{NoTimes, Bound}
+use Rattle.branch.specs.declared.answer.Root.TheVariants as roots
 
 -- the cases that a search closed are no more than its budget and no more than the cause choices
 pub record IsCounted (net : Net) (budget leaves : ℕ) : Type 0 where
@@ -64,11 +64,11 @@ pub record IsEnclosedBy (search : PairSearch) (upper : Option ℤ) (attained : �
   pub used : left.leaves ≡ search.budget
   pub below_choices : search.budget < cause_choices search.net.constraints
 
--- what an answer says of the greatest separation, with the evidence that the search leaves
-abbrev pub IsGreatestAnswer : PairSearch → Evidence → GreatestAnswer → Type 0
+-- what an answer says of the greatest separation, with the evidence that the search leaves; where it is open, some separation was attained
+abbrev pub IsGreatestAnswer : PairSearch → Evidence → Bound → Type 0
 IsGreatestAnswer search left (Closed value) = IsClosedAt search value left
 IsGreatestAnswer search left Unbounded = IsShownUnbounded search left
-IsGreatestAnswer search left (Enclosed upper attained) = IsEnclosedBy search upper attained left
+IsGreatestAnswer search left (Within limit attained) = IsSomeAnd attained (λ value. IsEnclosedBy search limit value left)
 
 -- There are known times, and they satisfy. The lines are a stopped proof that no times satisfy. They close every counted case but the last; the
 -- last case gave the known times.
@@ -84,24 +84,24 @@ pub record IsFoundInconsistent (net : Net) (lines : List ProofLine) (leaves : �
 
 -- The budget ended the search, and the always-edges allow times. The lines are a stopped proof. They close as many cases as the budget, which is
 -- less than the cause choices.
-pub record IsFoundUnsettled (net : Net) (budget : ℕ) (lines : List ProofLine) (leaves : ℕ) : Type 0 where
+pub record IsFoundOpen (net : Net) (budget : ℕ) (lines : List ProofLine) (leaves : ℕ) : Type 0 where
   pub always : (times : List ℤ) × MeetsAlways times net
   pub stopped : IsStoppedProof net Nothing lines leaves
   pub used : leaves ≡ budget
   pub below_choices : budget < cause_choices net.constraints
 
 -- what a finding says of a network, with the lines of the search and the known times
-abbrev pub Finds : Net → ℕ → List ProofLine → ℕ → Option (List ℤ) → SearchFinding → Type 0
+abbrev pub Finds : Net → ℕ → List ProofLine → ℕ → Option (List ℤ) → Consistency → Type 0
 Finds net budget lines leaves known Consistent = IsFoundConsistent net lines leaves known
 Finds net budget lines leaves known Inconsistent = IsFoundInconsistent net lines leaves
-Finds net budget lines leaves known Unsettled = IsFoundUnsettled net budget lines leaves
+Finds net budget lines leaves known Open = IsFoundOpen net budget lines leaves
 
 -- the number of a root bound is within the reach of a path
 abbrev pub IsRootReach : Root → Type 0
-IsRootReach NoTimes = Unit {0}
-IsRootReach (Bound upper) = IfSome upper IsReach
+IsRootReach roots.NoTimes = Unit {0}
+IsRootReach (roots.Bound upper) = IfSome upper IsReach
 
 -- the root bound of a pair, or no bound where no times meet the always-edges
 abbrev pub IsRoot : Net → EventId → EventId → Root → Type 0
-IsRoot net from to NoTimes = HasNoRoot net
-IsRoot net from to (Bound upper) = IsRootBound net from to upper
+IsRoot net from to roots.NoTimes = HasNoRoot net
+IsRoot net from to (roots.Bound upper) = IsRootBound net from to upper

@@ -2,7 +2,6 @@
 pub mod Lines
 pub mod Needed
 pub mod Answers
-pub mod AnswerBound
 pub mod ChoiceEdges
 pub mod Splits
 pub mod Work

@@ -3,7 +3,7 @@
 ghost use Rattle.std.specs.Prelude.{◌≡◌, ◌<◌, ◌≤◌, ◌≤ℤ◌, ℤ, List, [], IfOk, IfSome, OnOk, OnErr, Some, All, length};
 ghost use Rattle.itv_base.specs.Outside.{FaultCounted};
 ghost use Rattle.event_graph.specs.Network.{IsNet};
-ghost use Rattle.event_graph.specs.Proof.{Bound, ProofLine};
+ghost use Rattle.event_graph.specs.Proof.{Bound as BoundGoal, ProofLine};
 ghost use Rattle.event_graph.specs.Satisfying.{Satisfies};
 ghost use Rattle.event_graph.specs.Times.{separation};
 ghost use Rattle.diff_bounds.specs.Standing.{IsMadeFor};
@@ -16,7 +16,7 @@ ghost use Rattle.branch.specs.Step.Cases.{work_left};
 ghost use Rattle.branch.specs.Step.Raising.{IsNearSeparation};
 ghost use Rattle.branch.specs.Step.Searched.{Advances, IsBestSoFar, EndsAs, SearchEnds, IsAtCase, IsBoundCut, IsCutAfter, IsTrialFor, Keeps, aimed};
 
-use crate::answer::{GreatestAnswer, Root};
+use crate::answer::Root;
 use crate::best::{Aim, Best};
 use crate::levels::{start, upper_in};
 use crate::look::{Look, look_at_case};
@@ -25,6 +25,7 @@ use crate::trial::Trial;
 use diff_bounds::Fit;
 use event_graph::{Network, Scribe, ScribeFailed};
 use itv_base::EventId;
+use requirements::Bound;
 
 /// Finds the greatest separation of the pair of an aim. The search starts from the times in `best`, and closes at most `budget`
 /// cases. The scribe writes the lines of a proof, or of a stopped one.
@@ -36,7 +37,7 @@ pub fn bound_pair<S: Scribe>(
     aim: Aim,
     budget: u64,
     scribe: &mut S,
-) -> Result<GreatestAnswer, ScribeFailed>
+) -> Result<Bound, ScribeFailed>
     requires made { IsMadeFor net.now search.old.bounds }
     requires net { IsNet net.now }
     requires room { length net.now.constraints ≤ search.old.cases.room }
@@ -60,7 +61,7 @@ pub fn bound_pair<S: Scribe>(
     ensures close { OnOk result (All IsClose best.new.times.items) }
     ensures least { OnOk result (aim.known ≤ℤ separation best.new.times.items aim.from aim.to) }
     ensures cut { OnErr result ((lines : List ProofLine) × S.WasCut scribe.old lines scribe.new
-        × ((value : ℤ) × IsAccepted net.now (Bound aim.from aim.to value) lines)
+        × ((value : ℤ) × IsAccepted net.now (BoundGoal aim.from aim.to value) lines)
         × AtEachSplit net.now (IsNeededToBound net.now aim.from aim.to aim.known) lines) }
     ensures rose { OnErr result (FaultCounted (S.faults scribe.old) (S.faults scribe.new)) }
 {
@@ -70,11 +71,11 @@ pub fn bound_pair<S: Scribe>(
     }
     let upper = upper_in(net, search, aim.to);
     match search_bound(net, search, trial, best, aim, scribe)? {
-        Ending::Shown => Ok(GreatestAnswer::Closed(best.value)),
-        Ending::Raised => Ok(GreatestAnswer::Unbounded),
-        Ending::Ended => Ok(GreatestAnswer::Enclosed {
-            upper,
-            attained: best.value,
+        Ending::Shown => Ok(Bound::Closed(best.value)),
+        Ending::Raised => Ok(Bound::Unbounded),
+        Ending::Ended => Ok(Bound::Within {
+            limit: upper,
+            attained: Some(best.value),
         }),
     }
 }

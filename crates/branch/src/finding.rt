@@ -15,13 +15,13 @@ ghost use Rattle.branch.specs.Step.Cases.{work_left};
 ghost use Rattle.diff_bounds.specs.Limits.{IsTimely};
 ghost use Rattle.branch.specs.Step.Searched.{EndsAs, FindAdvances, IsAtCase, IsFindCutAfter, IsTrialFor, Keeps};
 
-use crate::answer::SearchFinding;
 use crate::choose::first_broken;
 use crate::distances::Distances;
 use crate::levels::{start, times_in};
 use crate::search::{NextCase, Search, split_case};
 use diff_bounds::Fit;
 use event_graph::{Network, Scribe, ScribeFailed};
+use requirements::Consistency;
 
 /// Looks for times that satisfy a network. The search closes at most `budget` cases. The scribe writes the lines of a proof that
 /// there are no such times, or of a stopped one. If there are such times, `candidate` has them.
@@ -32,7 +32,7 @@ pub fn find_times<S: Scribe>(
     distances: &Distances,
     budget: u64,
     scribe: &mut S,
-) -> Result<SearchFinding, ScribeFailed>
+) -> Result<Consistency, ScribeFailed>
     requires made { IsMadeFor net.now search.old.bounds }
     requires net { IsNet net.now }
     requires room { length net.now.constraints ≤ search.old.cases.room }
@@ -41,7 +41,7 @@ pub fn find_times<S: Scribe>(
     requires budget { 0 < budget }
     ensures made { IsMadeFor net.now search.new.bounds }
     ensures room { search.new.cases.room ≡ search.old.cases.room }
-    ensures near { result ≡ Ok SearchFinding.Consistent → All IsTimely candidate.new }
+    ensures near { result ≡ Ok Consistency.Consistent → All IsTimely candidate.new }
     ensures lines { IfOk result (λ found. (lines : List ProofLine) × S.Grew scribe.old lines scribe.new
         × Finds net.now budget lines search.new.leaves (Some candidate.new) found
         × AtEachSplit net.now (IsNeededToFind net.now) lines) }
@@ -53,13 +53,13 @@ pub fn find_times<S: Scribe>(
     if start(net, search, None, budget) == Fit::Loop {
         search.leaves = 1;
         scribe.cut_loop(search.bounds.walk())?;
-        return Ok(SearchFinding::Inconsistent);
+        return Ok(Consistency::Inconsistent);
     }
     'cases: loop {
         match try_times(net, search, candidate, distances, scribe)? {
-            None => return Ok(SearchFinding::Consistent),
-            Some(NextCase::AllClosed) => return Ok(SearchFinding::Inconsistent),
-            Some(NextCase::Stopped) => return Ok(SearchFinding::Unsettled),
+            None => return Ok(Consistency::Consistent),
+            Some(NextCase::AllClosed) => return Ok(Consistency::Inconsistent),
+            Some(NextCase::Stopped) => return Ok(Consistency::Open),
             Some(NextCase::Entered) => {}
         }
     }

@@ -18,6 +18,6 @@ mod splittable;
 mod trial;
 mod work;
 
-pub use answer::{GreatestAnswer, Root, SearchFinding};
+pub use answer::Root;
 pub use event_graph::{Quiet, Scribe, ScribeFailed};
 pub use work::{MAX_START, Work, find, greatest, greatest_from, root_bound};

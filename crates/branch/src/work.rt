@@ -2,7 +2,7 @@
 
 ghost use Rattle.std.specs.Prelude.{◌≡◌, ◌<◌, ◌≤ℤ◌, ◌↔◌, ℤ, List, All, IsTrue, IsSome, IsSomeAnd, IfOk, IfSome, OnOk, OnErr, Ok, Some, None, length};
 ghost use Rattle.itv_base.specs.Outside.{FaultCounted};
-ghost use Rattle.event_graph.specs.Proof.{Bound, Nothing, ProofLine};
+ghost use Rattle.event_graph.specs.Proof.{Bound as BoundGoal, Nothing, ProofLine};
 ghost use Rattle.event_graph.specs.Satisfying.{Satisfies};
 ghost use Rattle.event_graph.specs.Times.{separation};
 ghost use Rattle.branch.specs.Answers.{IsGreatestAnswer, Finds, IsCounted, IsRoot, IsRootReach, evidence};
@@ -11,7 +11,7 @@ ghost use Rattle.branch.specs.Lines.{IsAccepted};
 ghost use Rattle.branch.specs.Needed.{IsNeededToBound, IsNeededToFind};
 ghost use Rattle.branch.specs.Work.{IsClose, IsMadeFor, IsKnownReach, IsStart, known_separation};
 
-use crate::answer::{GreatestAnswer, Root, SearchFinding};
+use crate::answer::Root;
 use crate::best::{Aim, Best};
 use crate::bounding::{bound_pair, root_of};
 use crate::distances::Distances;
@@ -21,6 +21,7 @@ use crate::trial::Trial;
 use diff_bounds::Bounds;
 use event_graph::{Decisions, Network, Scribe, ScribeFailed, separation};
 use itv_base::{END_LIMIT, EventId, MAX_EVENTS, NoMemory};
+use requirements::{Bound, Consistency};
 use std::alloc::Global;
 use std::marker::Model;
 
@@ -112,7 +113,7 @@ impl Work {
     }
 
     /// For each event whether it can be raised from the times, if the last search for a bound answered
-    /// [`GreatestAnswer::Unbounded`].
+    /// [`Bound::Unbounded`].
     pub fn ray(&self) -> &[bool]
         ensures { result.now ≡ self.now.ray }
     {
@@ -131,11 +132,11 @@ pub fn find<S: Scribe>(
     net: &Network,
     budget: u64,
     scribe: &mut S,
-) -> Result<SearchFinding, ScribeFailed>
+) -> Result<Consistency, ScribeFailed>
     requires made { IsMadeFor net.now work.old }
     requires budget { 0 < budget }
     ensures made { IsMadeFor net.now work.new }
-    ensures known { IsSome work.new.known ↔ (result ≡ Ok SearchFinding.Consistent) }
+    ensures known { IsSome work.new.known ↔ (result ≡ Ok Consistency.Consistent) }
     ensures lines { IfOk result (λ found. (lines : List ProofLine) × S.Grew scribe.old lines scribe.new
         × Finds net.now budget lines work.new.leaves work.new.known found
         × AtEachSplit net.now (IsNeededToFind net.now) lines) }
@@ -154,7 +155,7 @@ pub fn find<S: Scribe>(
         budget,
         scribe,
     )?;
-    if found == SearchFinding::Consistent {
+    if found == Consistency::Consistent {
         work.known.copy_from_slice(&work.trial.candidate);
         work.has_known = true;
     }
@@ -171,7 +172,7 @@ pub fn greatest<S: Scribe>(
     to: EventId,
     budget: u64,
     scribe: &mut S,
-) -> Result<GreatestAnswer, ScribeFailed>
+) -> Result<Bound, ScribeFailed>
     requires made { IsMadeFor net.now work.old }
     requires known { IsSomeAnd work.old.known (λ times. Satisfies times net.now) }
     requires from { from.0 < net.now.events }
@@ -188,7 +189,7 @@ pub fn greatest<S: Scribe>(
     ensures reached { OnOk result (IsKnownReach (separation work.new.times from to)) }
     ensures least { OnOk result (known_separation work.old from to ≤ℤ separation work.new.times from to) }
     ensures cut { OnErr result ((lines : List ProofLine) × S.WasCut scribe.old lines scribe.new
-        × ((value : ℤ) × IsAccepted net.now (Bound from to value) lines)
+        × ((value : ℤ) × IsAccepted net.now (BoundGoal from to value) lines)
         × AtEachSplit net.now (IsNeededToBound net.now from to (known_separation work.old from to)) lines) }
     ensures rose { OnErr result (FaultCounted (S.faults scribe.old) (S.faults scribe.new)) }
 {
@@ -215,7 +216,7 @@ pub fn greatest_from<S: Scribe>(
     times: &[i64],
     budget: u64,
     scribe: &mut S,
-) -> Result<GreatestAnswer, ScribeFailed>
+) -> Result<Bound, ScribeFailed>
     requires made { IsMadeFor net.now work.old }
     requires times { Satisfies times.now net.now }
     requires close { All IsClose times.now }
@@ -234,7 +235,7 @@ pub fn greatest_from<S: Scribe>(
     ensures reached { OnOk result (IsKnownReach (separation work.new.times from to)) }
     ensures least { OnOk result (separation times.now from to ≤ℤ separation work.new.times from to) }
     ensures cut { OnErr result ((lines : List ProofLine) × S.WasCut scribe.old lines scribe.new
-        × ((value : ℤ) × IsAccepted net.now (Bound from to value) lines)
+        × ((value : ℤ) × IsAccepted net.now (BoundGoal from to value) lines)
         × AtEachSplit net.now (IsNeededToBound net.now from to (separation times.now from to)) lines) }
     ensures rose { OnErr result (FaultCounted (S.faults scribe.old) (S.faults scribe.new)) }
 {

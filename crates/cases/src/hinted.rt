@@ -10,7 +10,7 @@ use std::alloc::Global;
 // Room in bytes for what these runs write.
 const ROOM: u32 = 4_000_000;
 
-// What stands under a name, as the name says.
+// What is under a name, as the name says. Nobody reads the output.
 #[derive(Clone, Copy)]
 struct ByName;
 
@@ -18,11 +18,18 @@ impl NameLook for ByName {
     fn look(&self, name: &str) -> Looked {
         match name {
             "folder" => Looked::Folder,
-            "secret" => Looked::Denied,
-            "pipe" | "/dev/stdout" => Looked::Pipe,
+            "pipe" => Looked::Pipe,
             _ if name.is_empty() || name.starts_with("absent") => Looked::Absent,
             _ => Looked::File,
         }
+    }
+
+    fn is_denied(&self, name: &str) -> bool {
+        name == "secret"
+    }
+
+    fn is_output_closed(&self) -> bool {
+        true
     }
 }
 

@@ -16,7 +16,7 @@ use Rattle.command_words.specs.declared.job.PlanJob.{PlanJob}
 use Rattle.command_words.specs.declared.job.PlanJob.TheVariants.{Why, Brief, Lint}
 use Rattle.command_words.specs.declared.job.CheckJob.{CheckJob}
 use Rattle.command_words.specs.declared.job.CheckJob.TheVariants.{Check, Confirm}
-use Rattle.command_words.specs.Task.{IsBudget, IsSize, IsWithinLimits, KeepsLimits, Task, answer_by, answer_for, budget_of, checked, checked_of, fall, fall_of, generated, generated_of, has_flag, margin, margin_of, matrix, matrix_of, number_in, planned, planned_of, refusal_for, searched, searched_of, size_of, taken, task_named, task_of, whatif, whatif_of}
+use Rattle.command_words.specs.Task.{IsBudget, IsSize, IsWithinLimits, KeepsLimits, Task, answer_by, answer_for, budget_of, checked, checked_of, fall, fall_of, files, files_of, generated, generated_of, has_flag, margin, margin_of, matrix, matrix_of, number_in, planned, planned_of, refusal_for, searched, searched_of, size_of, taken, task_named, task_of, whatif, whatif_of}
 use Rattle.command_words.proofs.Numbers.{number_limits}
 
 budget_limits : (given : Option Text) → IfSome (option_map_or (number_in MAX_BUDGET) given (Some DEFAULT_BUDGET)) IsBudget
@@ -53,6 +53,10 @@ fall_limits rows within = searching_limits (λ d b. fall d b (has_flag (codes "c
 
 margin_limits : (rows : List Row) → IfSome (budget_of rows) IsBudget → IfSome (margin_of rows) IsWithinLimits
 margin_limits rows within = searching_limits (λ d b. margin d (first_of (codes "together") rows) b) (first_of (codes "design") rows) (budget_of rows) (λ d b one. one) within
+
+files_limits : (design : Option Text) → IfSome (option_map files design) IsWithinLimits
+files_limits None = tt
+files_limits (Some d) = tt
 
 matrix_limits : (design : Option Text) → IfSome (option_map matrix design) IsWithinLimits
 matrix_limits None = tt
@@ -99,7 +103,8 @@ named_limits rows (Some name) =
     (by_name (bytes_eq name (codes "why")) (planned_of Why rows) _ (planned_limits Why rows budgets)
     (by_name (bytes_eq name (codes "brief")) (planned_of (Brief is_csv) rows) _ (planned_limits (Brief is_csv) rows budgets)
     (by_name (bytes_eq name (codes "lint")) (planned_of Lint rows) _ (planned_limits Lint rows budgets)
-    (by_name (bytes_eq name (codes "margin")) (margin_of rows) None (margin_limits rows budgets) tt))))))))))))
+    (by_name (bytes_eq name (codes "margin")) (margin_of rows) _ (margin_limits rows budgets)
+    (by_name (bytes_eq name (codes "files")) (files_of rows) None (files_limits design) tt)))))))))))))
 
 task_limits : (task : Option Task) → IfSome task IsWithinLimits → KeepsLimits (answer_for task)
 task_limits None within = tt

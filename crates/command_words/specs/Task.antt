@@ -31,6 +31,7 @@ pub data Task : Type 0 where
   generated : ℕ → ℕ → Task
   whatif : Text → Text → ℕ → Task
   margin : Text → Option Text → ℕ → Task
+  files : Text → Task
 
 -- a task, a wish for help, or words that are neither
 pub data Invocation : Type 0 where
@@ -84,6 +85,9 @@ whatif_of rows =
 abbrev pub margin_of : List Row → Option Task
 margin_of rows = searching (λ design budget. margin design (first_of (codes "together") rows) budget) rows
 
+abbrev pub files_of : List Row → Option Task
+files_of rows = option_map files (first_of (codes "design") rows)
+
 -- the task of a job with this name, if all that it needs is there; what it does not need is ignored
 abbrev pub task_named : List Row → Text → Option Task
 task_named rows name =
@@ -100,7 +104,8 @@ task_named rows name =
     else (if bytes_eq name (codes "brief") then planned_of (Brief (has_flag (codes "csv") rows)) rows
     else (if bytes_eq name (codes "lint") then planned_of Lint rows
     else (if bytes_eq name (codes "margin") then margin_of rows
-    else None))))))))))))
+    else (if bytes_eq name (codes "files") then files_of rows
+    else None)))))))))))))
 
 abbrev pub task_of : List Row → Option Task
 task_of rows = option_and_then (task_named rows) (first_of (codes "job") rows)
@@ -146,6 +151,7 @@ IsWithinLimits (matrix design) = Unit {0}
 IsWithinLimits (generated size budget) = IsSize size × IsBudget budget
 IsWithinLimits (whatif design edits budget) = IsBudget budget
 IsWithinLimits (margin design list budget) = IsBudget budget
+IsWithinLimits (files design) = Unit {0}
 
 abbrev pub KeepsLimits : Invocation → Type 0
 KeepsLimits (task t) = IsWithinLimits t

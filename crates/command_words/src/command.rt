@@ -13,40 +13,6 @@ use std::alloc::{AllocError, Global};
 // What the program does, at the head of its help.
 const ABOUT: &str = "Verifies the interface timing of timing diagrams.";
 
-// What the help says after the options.
-const DETAILS: &str = "\
-Jobs:
-  bounds  Bounds the separation of each row of DESIGN, with a verdict and the slack of each requirement
-  matrix  Prints the bounds of all pairs of events that the constraints without a choice give
-  check   Checks each claim of the report FILE against DESIGN
-  self    Bounds the rows of a generated design of size N, and sums up
-  fall    Bounds the separation of each row of DESIGN without cases, where all choices are latest or all are earliest
-  settle  Bounds the separation of each row of DESIGN exactly, whatever its choices
-  confirm Checks each claim of the text FILE of job settle against DESIGN
-  redraw  Draws the first requirement of DESIGN that fails, with times that break it, as a timing diagram
-  whatif  Bounds the separation of each row of DESIGN, and again after each edit of FILE
-  why     Prints which edges of DESIGN hold each bound of each row, or which of its rules contradict each other
-  brief   Prints each row of DESIGN on one line, the worst first
-  lint    Prints what of DESIGN may say something else than was meant
-  margin  Prints how far each number of DESIGN may be moved before a requirement breaks, or the numbers of LIST as one
-
-Exit statuses:
-  0  All is well: every requirement passes, the matrix is printed, the report is accepted
-  1  A requirement fails, or job lint has a warning
-  2  No times satisfy the design
-  3  The budget was too small to decide
-  4  The design, the report or the edits are refused, for the reason that is printed
-  5  A file cannot be read
-  6  The output cannot be written
-  7  There is not enough memory
-  8  The command line is not understood
-  9  A claim of the report does not hold
-  10 An argument is not UTF-8, or there are no arguments
-
-Example:
-  itv --cert bus.json > bus.report
-  itv --job check --report bus.report bus.json";
-
 // An option with a text.
 fn text_option<'a>(alloc: Global, name: &'a str, value: &'a str, help: &'a str) -> Arg<'a>
     ensures rule { rule_of result ≡ text_rule name.entry.now }
@@ -71,13 +37,7 @@ fn job_option<'a>(alloc: Global) -> Arg<'a>
     ensures rule { rule_of result ≡ job_rule }
     ensures own { result.global ≡ false }
 {
-    text_option(
-        alloc,
-        "job",
-        "JOB",
-        "What to do: bounds, matrix, check, self, fall, settle, confirm, redraw, whatif, why, brief, lint or margin",
-    )
-    .default_value("bounds")
+    text_option(alloc, "job", "JOB", "What to do: one of the jobs below").default_value("bounds")
 }
 
 // An option without a value.
@@ -104,10 +64,7 @@ fn design_argument<'a>(alloc: Global) -> Arg<'a>
 fn bare_command<'a>(alloc: Global) -> Command<'a>
     ensures { app_of result ≡ bare_command }
 {
-    Command::new(alloc, "itv")
-        .no_binary_name(true)
-        .about(ABOUT)
-        .after_help(DETAILS)
+    Command::new(alloc, "itv").no_binary_name(true).about(ABOUT)
 }
 
 /// The command line of the program.

@@ -12,6 +12,17 @@ pub enum SearchJob {
     Redraw,
 }
 
+impl SearchJob {
+    /// The name of the job.
+    pub fn name(self) -> &'static str {
+        match self {
+            SearchJob::Bounds { .. } => "bounds",
+            SearchJob::Settle { .. } => "settle",
+            SearchJob::Redraw => "redraw",
+        }
+    }
+}
+
 /// What is done with a plan and the network that it draws. The budget is the cases that each search may close.
 #[derive(Clone, Copy)]
 pub enum PlanJob {
@@ -23,6 +34,17 @@ pub enum PlanJob {
     Lint,
 }
 
+impl PlanJob {
+    /// The name of the job.
+    pub fn name(self) -> &'static str {
+        match self {
+            PlanJob::Why => "why",
+            PlanJob::Brief { .. } => "brief",
+            PlanJob::Lint => "lint",
+        }
+    }
+}
+
 /// What is done with a drawn network and the bytes of a report.
 #[derive(Clone, Copy)]
 pub enum CheckJob {
@@ -30,4 +52,14 @@ pub enum CheckJob {
     Check,
     /// Job confirm: to check a text of job settle.
     Confirm,
+}
+
+impl CheckJob {
+    /// The name of the job.
+    pub fn name(self) -> &'static str {
+        match self {
+            CheckJob::Check => "check",
+            CheckJob::Confirm => "confirm",
+        }
+    }
 }

@@ -4,10 +4,13 @@
 #![tactic(auto)]
 
 mod command;
+mod help;
 mod job;
+mod job_word;
 mod read;
 mod task;
 
 pub use job::{CheckJob, PlanJob, SearchJob};
+pub use job_word::{JOBS, JobNeeds, JobWord, job_named};
 pub use read::read_words;
 pub use task::{Invocation, Task};

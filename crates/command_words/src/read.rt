@@ -5,16 +5,17 @@ ghost use Rattle.clap.specs.Matches.{found_of};
 ghost use Rattle.clap.specs.Values.{kind_of};
 ghost use Rattle.clap.specs.Walk.{first_of, rows_of};
 ghost use Rattle.clap.specs.declared.error.kind.ErrorKind.{ErrorKind};
-ghost use Rattle.command_words.specs.Task.{KeepsLimits, answer_for, budget_of, checked_of, fall_of, generated_of, has_flag, margin_of, matrix_of, number_in, planned_of, refusal_for, searched_of, size_of, taken, task_named, task_of, whatif_of};
+ghost use Rattle.command_words.specs.Task.{KeepsLimits, answer_for, budget_of, checked_of, fall_of, files_of, generated_of, has_flag, margin_of, matrix_of, number_in, planned_of, refusal_for, searched_of, size_of, taken, task_named, task_of, whatif_of};
 ghost use Rattle.command_words.specs.View.{answer_view, task_view};
 
 use crate::command::command;
+use crate::help::help_text;
 use crate::job::{CheckJob, PlanJob, SearchJob};
 use crate::task::{Invocation, Task};
 use clap::error::ErrorKind;
 use clap::{ArgMatches, Error};
 use itv_base::{DEFAULT_BUDGET, MAX_BUDGET, MAX_SELF_SIZE, NoMemory, Texts};
-use std::alloc::Global;
+use std::alloc::{AllocError, Global};
 
 /// Reads the words after the program's name. The text of help is made whole here, so that it takes no memory later.
 /// Reading any words may run out of memory, since `clap` takes some for all of them.
@@ -45,9 +46,15 @@ fn refusal<'a>(alloc: Global, error: &Error) -> Result<Invocation<'a>, NoMemory>
 {
     match error.kind() {
         ErrorKind::OutOfMemory => Err(NoMemory),
-        ErrorKind::DisplayHelp => Ok(Invocation::Help(format!(in alloc; "{error}")?)),
+        ErrorKind::DisplayHelp => Ok(Invocation::Help(help_of(alloc, error)?)),
         _ => Ok(Invocation::BadWords),
     }
+}
+
+// The text of help.
+fn help_of(alloc: Global, error: &Error) -> Result<String, AllocError> {
+    let options = format!(in alloc; "{error}")?;
+    help_text(alloc, options.as_str())
 }
 
 fn task_of<'a>(matches: &ArgMatches<'a>) -> Option<Task<'a>>
@@ -89,6 +96,8 @@ fn task_named<'a>(matches: &ArgMatches<'a>, name: &str) -> Option<Task<'a>>
         planned_task(matches, PlanJob::Lint)
     } else if name == "margin" {
         margin_task(matches)
+    } else if name == "files" {
+        files_task(matches)
     } else {
         None
     }
@@ -180,6 +189,13 @@ fn margin_task<'a>(matches: &ArgMatches<'a>) -> Option<Task<'a>>
         list: text_of(matches, "together"),
         budget,
     })
+}
+
+fn files_task<'a>(matches: &ArgMatches<'a>) -> Option<Task<'a>>
+    ensures { option_map task_view result ≡ files_of (rows_of (found_of matches.now)) }
+{
+    let design = text_of(matches, "design")?;
+    Some(Task::Files { design })
 }
 
 fn budget_of(matches: &ArgMatches<'_>) -> Option<u64>

@@ -35,6 +35,10 @@ pub enum Task<'a> {
     Matrix {
         design: &'a str,
     },
+    /// To print the files that a design is made of: the name of its file.
+    Files {
+        design: &'a str,
+    },
     /// To bound the rows of the generated design of a size, and sum up: the size, and the cases that each
     /// search may close.
     Generated {

@@ -1,7 +1,8 @@
 -- What the ends of runs of one job say over known files.
-use Rattle.std.proofs.Common.{◌≡◌, ◌∙◌, ◌+◌, ◌≤◌, ℕ, Bool, true, false, List, length, take, Option, Some, None, ◌⊎◌, inl, inr, refl, sym, ap, subst, arith, nat_lt, codes, if◌then◌else◌, Result, Ok}
+use Rattle.std.proofs.Common.{◌≡◌, ◌∙◌, ◌+◌, ◌≤◌, ℕ, Bool, true, false, List, ◌∷◌, length, take, Option, Some, None, ◌⊎◌, inl, inr, refl, sym, ap, subst, arith, nat_lt, codes, if◌then◌else◌, Result, Ok, slice_get}
 use Rattle.std.proofs.lemmas.Bool.{ltb-false}
 use Rattle.std.proofs.lemmas.List.{length-take, take_all}
+use Rattle.std.proofs.lemmas.List.Elements.{All-head, All-tail}
 use Rattle.std.proofs.lemmas.Option.{same_Some}
 use Rattle.std.specs.Option.{option_map_or}
 use Rattle.event_graph.specs.Bounds.{IsInconsistent}
@@ -12,18 +13,27 @@ use Rattle.design_gen.specs.Files.{design_files}
 use Rattle.job_base.specs.Ending.{answer_of}
 use Rattle.job_base.specs.declared.answer.Answer.{Answer}
 use Rattle.job_base.specs.declared.answer.Answer.TheVariants as answers
+use Rattle.requirements.specs.declared.verdict.Verdict.{Verdict}
+use Rattle.requirements.specs.declared.verdict.Verdict.TheVariants as verdicts
+use Rattle.slack_report.specs.Entry.{Entry}
+use Rattle.slack_report.specs.Text.{report_text}
 use Rattle.slack_report.specs.declared.words.EndWord.{EndWord}
 use Rattle.slack_report.specs.declared.words.EndWord.TheVariants as endings
 use Rattle.right_report.specs.Laws.{AllMet, SomeBroken, SomeSatisfy}
 use Rattle.right_report.specs.Right.ReportState.{at_last}
-use Rattle.right_report.specs.Right.LineClaims.{BeginsRightReport}
+use Rattle.right_report.specs.Right.LineClaims.{BeginsRightReport, IsRightReport}
+use Rattle.right_report.specs.ReportContents.{verdict_on}
 use Rattle.right_report.specs.Texts.{IsAcceptedText, IsRefusedText}
 use Rattle.right_report.proofs.Ending.{fail_end_is_so, inconsistent_end_is_so, pass_end_is_so}
+use Rattle.right_report.proofs.RowBounds.{greatest_is_right, least_is_right}
+use Rattle.right_report.proofs.RowVerdicts.{fail_high_is_broken, fail_low_is_broken, pass_is_met}
 use Rattle.right_report.proofs.Refusing.{accepted_text_is_right, one_refused_line}
 use Rattle.drawn_networks.specs.Drawn.{Drawn}
+use Rattle.drawn_networks.specs.declared.row.Row.{Row}
 use Rattle.drawn_laws.proofs.Designs.{drawn_names_have_form, drawn_ranges_have_form}
 use Rattle.design_reading.specs.declared.refusal_place.RefusalPlace.{RefusalPlace}
 use Rattle.design_reading.specs.declared.refusal_place.RefusalPlace.TheVariants.{Edits, Report}
+use Rattle.design_reading.specs.AskedFor.{asked_by, files_at}
 use Rattle.design_reading.specs.Design.{design_at}
 use Rattle.design_reading.specs.declared.refusal.Refusal.{Refusal}
 use Rattle.design_reading.specs.declared.refusal.Refusal.TheVariants.{TooLong}
@@ -45,6 +55,7 @@ use Rattle.job_whatif.specs.Whatif.{AnswersWhatif}
 use Rattle.job_whatif.proofs.Passing.{passed_edits_are_met}
 use Rattle.command_words.specs.declared.job.SearchJob.TheVariants.{Bounds, Settle}
 use Rattle.command_words.specs.declared.job.CheckJob.TheVariants.{Check, Confirm}
+use Rattle.command_words.specs.Task as said
 use Rattle.itv_cli.specs.Task.{checked, generated, matrix, searched, taken, task, whatif}
 use Rattle.itv_cli.specs.Job.{Answers, edits_at, edits_in, made_for, matrix_at, opening, turns_for, whatif_at}
 use Rattle.itv_cli.specs.Run.{Call, HasRead, ReadsOver, HasAnswered, OutcomeMeans, outcome_of}
@@ -52,7 +63,9 @@ use Rattle.itv_cli.specs.declared.outcome.Outcome.{Outcome}
 use Rattle.itv_cli.specs.declared.outcome.Outcome.TheVariants as ends
 use Rattle.itv_cli.specs.declared.ready.Ready.{Ready}
 use Rattle.itv_cli.specs.declared.ready.Ready.TheVariants as given
-use Rattle.conformance.specs.Clients.{AsksBounds, AsksCheck, AsksConfirm, AsksMatrix, AsksSettle, AsksWhatif, IsReportEnd, IsRightFile, IsSettledFile, IsSummaryOf, IsWrongFile}
+use Rattle.conformance.specs.Clients.{AsksBounds, AsksCheck, AsksConfirm, AsksFiles, AsksMatrix, AsksSettle, AsksWhatif, IsReportEnd, IsRightFile, IsSettledFile, IsSummaryOf, IsWrongFile, AreAlike}
+use Rattle.conformance.specs.Said.{IsSoText, IsSoVerdict}
+use Rattle.job_files.specs.Files.{files_text}
 use Rattle.conformance.proofs.KnownFiles.{answer_over, few_by, never_refused, reported_over, same_asked, same_ready, told_behind, told_then}
 
 -- ---- what was answered
@@ -69,7 +82,7 @@ pub answered_by : (call : Call) (result : Outcome) (answer : Answer) → (answer
 answered_by call result answer other means e = means_answered call answer other (subst (λ end. OutcomeMeans call end) e means)
 
 -- if the end over known files is a value, a reading comes to it
-told_shelf : Files → ShelfState
+pub told_shelf : Files → ShelfState
 told_shelf files = record { files = Some files; faults = 0; last = codes ""; is_faithful = true }
 
 comes_by : {A : Type 0} (files : Files) (next : List ℕ → FileReading A) (most : ℕ) (place : RefusalPlace) (name : List ℕ) (x : A) (file : Option (List ℕ)) → file_of files name ≡ file
@@ -79,7 +92,7 @@ unfolding told_shelf
 comes_by files next most place name x None is more e = absurd (cc e)
 comes_by files next most place name x (Some bytes) is more e = inr (take most bytes, rw is refl, more (take most bytes) e)
 
-told_comes : {A : Type 0} (files : Files) (o : FileReading A) (x : A) → end_over files o ≡ ready x → RunsTo (told_shelf files) o (ready x)
+pub told_comes : {A : Type 0} (files : Files) (o : FileReading A) (x : A) → end_over files o ≡ ready x → RunsTo (told_shelf files) o (ready x)
 told_comes files (gives y) x e = sym e
 told_comes files (refuses place why) x e = absurd (cc e)
 told_comes files (fetches place name most next) x e = comes_by files next most place name x (file_of files name) refl (λ bytes h. told_comes files (next bytes) x h) e
@@ -103,6 +116,23 @@ none_word endings.Pass e = absurd (cc e)
 none_word endings.Fail e = absurd (cc e)
 none_word endings.Inconsistent e = refl
 none_word endings.Undecided e = absurd (cc e)
+
+-- each verdict of a right report is so
+so_verdict : (drawn : Drawn) (lines : List Entry) → IsRightReport drawn lines → (number : ℕ) (r : Row) (word : Verdict) → slice_get drawn.rows number ≡ Some r
+    → verdict_on lines number ≡ Some word → IsSoVerdict drawn.net r word
+so_verdict drawn lines is number r verdicts.Pass there said = pass_is_met drawn lines number r (at_last, is) there said
+so_verdict drawn lines is number r verdicts.FailHigh there said = fail_high_is_broken drawn lines number r (at_last, is) there said
+so_verdict drawn lines is number r verdicts.FailLow there said = fail_low_is_broken drawn lines number r (at_last, is) there said
+so_verdict drawn lines is number r verdicts.Undecided there said = tt
+
+so_text : (drawn : Drawn) (lines : List Entry) (bytes : List ℕ) → bytes ≡ report_text lines → IsRightReport drawn lines → IsSoText drawn bytes
+so_text drawn lines bytes text is = record {
+  lines = lines;
+  is_text = text;
+  greatest = λ number r value there said. greatest_is_right drawn lines number r value is there said;
+  least = λ number r value there said. least_is_right drawn lines number r value is there said;
+  verdict = so_verdict drawn lines is;
+}
 
 module _ (call : Call) (files : Files) (budget : ℕ) (cert : Bool) (drawn : Drawn) (known : call.shelf_before.files ≡ Some files) (asks : AsksBounds call.words files budget cert drawn) where
   bounds_said : (answer : Answer) (m : HasAnswered call answer) → AnswersBounds drawn budget cert answer m.text
@@ -130,6 +160,15 @@ module _ (call : Call) (files : Files) (budget : ℕ) (cert : Bool) (drawn : Dra
       let m = answered_by call result answers.Inconsistent (λ same. cc same) means e in
       let a = bounds_said answers.Inconsistent m in
       inconsistent_end_is_so drawn a.reports.lines (begins answers.Inconsistent m.text a) (a.reports.sums.ends ∙ ap (λ word. Some word) (none_word a.summary.end a.is_answer))
+
+  pub bounds_printed : (result : Outcome) → OutcomeMeans call result → IsReportEnd result
+      → (text : List ℕ) × IsSoText drawn text × (call.sink_after ≡ grown call.sink_before text)
+  bounds_printed result means end =
+      let answer = answer_of end.0 in
+      let m = answered_by call result answer (λ same. never_refused end.0 (sym same)) means end.1 in
+      let a = bounds_said answer m in
+      let is = written_is_right drawn budget cert a.reports.lines a.reports.is_written in
+      (m.text, so_text drawn a.reports.lines m.text a.reports.is_text is, m.wrote)
 
 -- with the lines of proofs the text is accepted
 pub bounds_accepted : (call : Call) (files : Files) (budget : ℕ) (drawn : Drawn) (result : Outcome) → call.shelf_before.files ≡ Some files → AsksBounds call.words files budget true drawn → OutcomeMeans call result → IsReportEnd result
@@ -302,6 +341,36 @@ module _ (call : Call) (files : Files) (drawn : Drawn) (known : call.shelf_befor
 
   pub matrix_none : (result : Outcome) → OutcomeMeans call result → result ≡ ends.Inconsistent → HasNoRoot drawn.net
   matrix_none result means e = let m = answered_by call result answers.Inconsistent (λ same. cc same) means e in (matrix_said answers.Inconsistent m).0
+
+-- ---- job files
+
+module _ (call : Call) (files : Files) (design : List ℕ) (names : List (List ℕ)) (known : call.shelf_before.files ≡ Some files) (asks : AsksFiles call.words files design names) where
+  pub files_wrote : (result : Outcome) → OutcomeMeans call result → result ≡ ends.AllPass → call.sink_after ≡ grown call.sink_before (files_text names)
+  files_wrote result means e =
+      let m = answered_by call result answers.AllPass (λ same. cc same) means e in
+      let a = answer_over call files (said.files design) answers.AllPass m.text known m refl (record { words = asks.words; own = refl }) in
+      let (others, asked, is) = told_then files (files_at design) (λ ns. given.Files ns) a.given a.reads in
+      let answered : Answers (given.Files others) answers.AllPass m.text = subst (λ g. Answers g answers.AllPass m.text) (sym is) a.answers in
+      let same : others ≡ names = same_ready others names (sym asked ∙ asks.asked) in
+      subst (λ text. call.sink_after ≡ grown call.sink_before text) (answered.1 ∙ ap files_text same) m.wrote
+
+-- a reading reads the same over other files that are the same where it asks for them
+same_fetch : {A : Type 0} (files others : Files) (next : List ℕ → FileReading A) (place : RefusalPlace) (name : List ℕ) (most : ℕ) (names : List (List ℕ)) (had got : Option (List ℕ)) → had ≡ file_of files name → got ≡ file_of others name
+    → ((bytes : List ℕ) (rest : List (List ℕ)) → end_over files (asked_by (next bytes)) ≡ ready rest → AreAlike others files rest → end_over others (next bytes) ≡ end_over files (next bytes))
+    → option_map_or (λ file. end_over files (asked_by (next (take most file)) >>= (λ ns. gives (name ∷ ns)))) had (unread place name) ≡ ready names → AreAlike others files names
+    → option_map_or (λ file. end_over others (next (take most file))) got (unread place name) ≡ option_map_or (λ file. end_over files (next (take most file))) had (unread place name)
+same_fetch files others next place name most names None got is_had is_got more e alike = absurd (cc e)
+same_fetch files others next place name most names (Some file) got is_had is_got more e alike =
+    let (rest, asked, all) = told_then files (asked_by (next (take most file))) (λ ns. name ∷ ns) names e in
+    let left : AreAlike others files (name ∷ rest) = subst (λ ns. AreAlike others files ns) (sym all) alike in
+    let same : got ≡ Some file = is_got ∙ All-head (λ n. file_of others n ≡ file_of files n) name rest left ∙ sym is_had in
+    rw same (more (take most file) rest asked (All-tail (λ n. file_of others n ≡ file_of files n) name rest left))
+
+pub same_over : {A : Type 0} (files others : Files) (o : FileReading A) (names : List (List ℕ)) → end_over files (asked_by o) ≡ ready names → AreAlike others files names → end_over others o ≡ end_over files o
+same_over files others (gives x) names asked alike = refl
+same_over files others (refuses place why) names asked alike = refl
+same_over files others (fetches place name most next) names asked alike =
+    same_fetch files others next place name most names (file_of files name) (file_of others name) refl refl (λ bytes rest e same. same_over files others (next bytes) rest e same) asked alike
 
 -- ---- job self
 

@@ -47,6 +47,7 @@ use Rattle.job_whatif.specs.Text.{ending_of, last_note}
 use Rattle.right_report.specs.RowTally.{kinds_of}
 use Rattle.job_whatif.specs.Whatif.{AnswersFrom}
 use Rattle.design_reading.specs.declared.refusal.Refusal.{Refusal}
+use Rattle.design_reading.specs.AskedFor.{files_at}
 use Rattle.design_reading.specs.Design.{design_at}
 use Rattle.design_reading.specs.FileReading.{FileReading, gives, refuses, fetches, at, file_at, ◌>>=◌, End, RunsToEnd, ready, refused, unread, end_over}
 use Rattle.design_reading.specs.Refusal.{refusal_text}
@@ -56,6 +57,7 @@ use Rattle.command_words.specs.declared.job.SearchJob.TheVariants.{Bounds, Settl
 use Rattle.command_words.specs.declared.job.PlanJob.TheVariants.{Why, Brief, Lint}
 use Rattle.command_words.specs.declared.job.CheckJob.{CheckJob}
 use Rattle.command_words.specs.declared.job.CheckJob.TheVariants.{Check, Confirm}
+use Rattle.command_words.specs.Task as said
 use Rattle.command_words.specs.Task.{Task, checked, fall, generated, margin, matrix, planned, searched, taken, task, whatif}
 use Rattle.job_bounds.proofs.WrittenLaws.{written_is_right}
 use Rattle.moves.specs.Listed.{numbers_of}
@@ -63,7 +65,6 @@ use Rattle.design_plan.specs.Plan.{PlanView}
 use Rattle.itv_cli.specs.Bounds.{AnswersBounds}
 use Rattle.job_lint.specs.Lint.{answer_by}
 use Rattle.job_lint.specs.Lines.{is_clean, lines_of}
-use Rattle.lint.specs.Warnings.{warnings_of}
 use Rattle.job_margin.specs.Text.{are_left_open, end_of}
 use Rattle.job_why.specs.Text.{ending_of as explained_ending}
 use Rattle.itv_cli.specs.Job.{Answers, edits_at, edits_in, fall_at, fall_in, list_at, made_for, matrix_at, opening, planned_at, whatif_at}
@@ -269,13 +270,17 @@ refused_redraws files (planned design (Brief csv) budget) bytes own h =
 refused_redraws files (planned design Lint budget) bytes own h =
     let (both, draws, is) = told_then files (planned_at design) (λ p. given.Planned p.0 p.1 Lint budget) h.given h.reads in
     let answered : Answers (given.Planned both.0 both.1 Lint budget) answers.DesignRefused bytes = subst (λ g. Answers g answers.DesignRefused bytes) (sym is) h.answers in
-    absurd (never_warned (is_clean both.0 answered.design both.1 (lines_of answered.design both.1 (warnings_of both.0 answered.design) answered.found)) answered.is_answer)
+    absurd (never_warned (is_clean both.0 answered.design both.1 (lines_of answered.design both.1 answered.warnings answered.found)) answered.is_answer)
 refused_redraws files (fall design budget cert) bytes own h =
     let r = fallen_over files design budget cert answers.DesignRefused bytes h in
     absurd (never_refused r.answers.word r.answers.is_answer)
 refused_redraws files (matrix design) bytes own h =
     let (drawn, draws, comes) = told_behind files (design_at design) matrix_at h.given h.reads in
     absurd (subst (λ g. Answers g answers.DesignRefused bytes) (sym (small_by files (nat_lt MAX_MATRIX_EVENTS drawn.net.events) drawn _ h.given comes)) h.answers)
+refused_redraws files (said.files design) bytes own h =
+    let (names, asked, is) = told_then files (files_at design) (λ ns. given.Files ns) h.given h.reads in
+    let answered : Answers (given.Files names) answers.DesignRefused bytes = subst (λ g. Answers g answers.DesignRefused bytes) (sym is) h.answers in
+    absurd (cc answered.0)
 refused_redraws files (checked design job report) bytes own h =
     let (drawn, draws, comes) = told_behind files (design_at design) (λ drawn. file_at Report report REPORT_LIMIT >>= (λ bytes. gives (given.Checked drawn job bytes))) h.given h.reads in
     let (read, fetched, is) = told_then files (file_at Report report REPORT_LIMIT) (λ bytes. given.Checked drawn job bytes) h.given comes in

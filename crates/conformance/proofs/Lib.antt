@@ -1,6 +1,7 @@
 mod KnownFiles
 mod Faults
 mod JobEnds
+mod LongerEnds
 mod PlannedEnds
 mod MarginEnds
 mod Fitting

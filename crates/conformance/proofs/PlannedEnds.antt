@@ -14,8 +14,8 @@ use Rattle.job_base.specs.Ending.{answer_of}
 use Rattle.job_base.specs.declared.answer.Answer.{Answer}
 use Rattle.job_base.specs.declared.answer.Answer.TheVariants as answers
 use Rattle.slack_report.specs.declared.words.EndWord.TheVariants as endings
-use Rattle.slack_report.specs.declared.words.FindingWord.{FindingWord}
-use Rattle.slack_report.specs.declared.words.FindingWord.TheVariants as findings
+use Rattle.requirements.specs.declared.consistency.Consistency.{Consistency}
+use Rattle.requirements.specs.declared.consistency.Consistency.TheVariants as findings
 use Rattle.requirements.specs.declared.bound.BothBounds.{BothBounds}
 use Rattle.requirements.specs.declared.bound.Bound.{Bound}
 use Rattle.requirements.specs.declared.bound.Bound.TheVariants as bounds
@@ -25,14 +25,14 @@ use Rattle.right_report.specs.declared.tally.ReportTally.{ReportTally}
 use Rattle.design_plan.specs.Notes.{plan_notes}
 use Rattle.design_plan.specs.Plan.{PlanView}
 use Rattle.explanations.specs.declared.finding.Finding.{Finding}
-use Rattle.explanations.specs.declared.finding.Finding.TheVariants.{Consistent, Inconsistent, Unsettled}
+use Rattle.explanations.specs.declared.finding.Finding.TheVariants.{Consistent, Inconsistent, Open}
 use Rattle.explanations.specs.declared.row.RowFound.{RowFound}
-use Rattle.explanations.specs.Answers.{IsBoundSettled, IsFindingFound, IsRowSettled, both_of, bound_of}
+use Rattle.requirements.specs.Separations.{bound_of}
+use Rattle.explanations.specs.Answers.{IsBoundSettled, IsFindingFound, IsRowSettled, both_of}
 use Rattle.explanations.proofs.Standing.{contradiction_is_inconsistent}
 use Rattle.job_why.specs.Text.{ending_of}
 use Rattle.job_why.specs.Why.{AnswersWhy}
 use Rattle.job_brief.specs.Brief.{AnswersBrief}
-use Rattle.lint.specs.Warnings.{warnings_of}
 use Rattle.job_lint.specs.Lint.{AnswersLint, answer_by}
 use Rattle.job_lint.specs.Lines.{is_clean, lines_of}
 use Rattle.job_lint.proofs.Cleaning.{clean_has_searched_all}
@@ -78,18 +78,18 @@ rows_keep tally (kind ∷ rows) [] = refl
 rows_keep tally (kind ∷ rows) (both ∷ found) = rows_keep (with_row tally kind both) rows found ∙ row_keeps tally kind both
 
 -- the tally of rows after a finding
-abbrev rows_tally : FindingWord → List Row → List RowFound → ReportTally
+abbrev rows_tally : Consistency → List Row → List RowFound → ReportTally
 rows_tally word rows found = with_rows (tally_of word) (kinds_of rows) (map both_of found)
 
-never_none : (fails : Bool) (found : FindingWord) (within : Bool) → (found ≡ findings.Inconsistent → ⊥)
+never_none : (fails : Bool) (found : Consistency) (within : Bool) → (found ≡ findings.Inconsistent → ⊥)
     → answers.Inconsistent ≡ answer_of (if fails then endings.Fail else undecided_or_pass found within) → ⊥
 never_none true found within other e = cc e
 never_none false findings.Consistent true other e = cc e
 never_none false findings.Consistent false other e = cc e
 never_none false findings.Inconsistent within other e = other refl
-never_none false findings.Unsettled within other e = cc e
+never_none false findings.Open within other e = cc e
 
-no_end : (word : FindingWord) (rows : List Row) (found : List RowFound) → (word ≡ findings.Inconsistent → ⊥)
+no_end : (word : Consistency) (rows : List Row) (found : List RowFound) → (word ≡ findings.Inconsistent → ⊥)
     → answers.Inconsistent ≡ answer_of (end_word (rows_tally word rows found)) → ⊥
 no_end word rows found other e =
     let tally : ReportTally = rows_tally word rows found in
@@ -100,7 +100,7 @@ none_found : (net : Net) (budget : ℕ) (rows : List Row) (finding : Finding) (f
     → IsInconsistent net
 none_found net budget rows Consistent found is e = absurd (no_end findings.Consistent rows found (λ same. cc same) e)
 none_found net budget rows (Inconsistent set) found is e = contradiction_is_inconsistent net budget set.items is
-none_found net budget rows Unsettled found is e = absurd (no_end findings.Unsettled rows found (λ same. cc same) e)
+none_found net budget rows Open found is e = absurd (no_end findings.Open rows found (λ same. cc same) e)
 
 -- where the bounds of rows are settled, none is within
 within_none : (least most : Bound) → IsBoundSettled least → IsBoundSettled most → (is_within least || is_within most) ≡ false
@@ -132,14 +132,14 @@ consistent_end : (rows : List Row) (found : List RowFound) → All IsRowSettled 
 consistent_end rows found all e =
     let tally : ReportTally = rows_tally findings.Consistent rows found in
     never_open tally.fails tally.within (rows_within (tally_of findings.Consistent) rows found all refl)
-    (subst (λ (w : FindingWord). answers.Undecided ≡ answer_of (if tally.fails then endings.Fail else undecided_or_pass w tally.within))
+    (subst (λ (w : Consistency). answers.Undecided ≡ answer_of (if tally.fails then endings.Fail else undecided_or_pass w tally.within))
     (rows_keep (tally_of findings.Consistent) (kinds_of rows) (map both_of found)) e)
 
 -- if all is settled, the answer is not that something is undecided
-settled_end : (rows : List Row) (finding : Finding) (found : List RowFound) → (finding ≡ Unsettled → ⊥) → All IsRowSettled found → answers.Undecided ≡ answer_of (ending_of rows finding found) → ⊥
+settled_end : (rows : List Row) (finding : Finding) (found : List RowFound) → (finding ≡ Open → ⊥) → All IsRowSettled found → answers.Undecided ≡ answer_of (ending_of rows finding found) → ⊥
 settled_end rows Consistent found settled all e = consistent_end rows found all e
 settled_end rows (Inconsistent set) found settled all e = cc e
-settled_end rows Unsettled found settled all e = settled refl
+settled_end rows Open found settled all e = settled refl
 
 below_choices : (choices budget : ℕ) → (choices ≤ budget → ⊥) → budget < choices
 below_choices choices budget past = omega (arith, past)
@@ -201,13 +201,14 @@ module _ (call : Call) (files : Files) (budget : ℕ) (plan : PlanView) (drawn :
   lint_clean result means e =
       let m = answered_by call result answers.AllPass (λ same. cc same) means e in
       let a = lint_said answers.AllPass m in
-      let clean : is_clean plan a.design drawn (lines_of a.design drawn (warnings_of plan a.design) a.found) ≡ true =
-      none_clean (is_clean plan a.design drawn (lines_of a.design drawn (warnings_of plan a.design) a.found)) a.is_answer in
+      let clean : is_clean plan a.design drawn (lines_of a.design drawn a.warnings a.found) ≡ true =
+      none_clean (is_clean plan a.design drawn (lines_of a.design drawn a.warnings a.found)) a.is_answer in
       record {
         design = a.design;
         is_design = a.is_design;
+        warnings = a.warnings;
         found = a.found;
         is_found = a.is_found;
         silenced = clean;
-        ended = clean_has_searched_all plan a.design drawn (warnings_of plan a.design) a.found a.is_found clean;
+        ended = clean_has_searched_all plan a.design drawn a.warnings a.found a.is_found clean;
       }

@@ -1,5 +1,5 @@
 -- What callers of `run` know of files and a sink in memory, from its clauses alone.
-use Rattle.std.specs.Prelude.{◌≡◌, ℕ, ℤ, ◌≤ℤ◌, Bool, true, List, [], ◌++◌, Some, None, Ok, codes}
+use Rattle.std.specs.Prelude.{◌≡◌, ℕ, ℤ, ◌≤ℤ◌, Bool, true, List, [], ◌++◌, All, Some, None, Ok, codes}
 use Rattle.std.specs.List.{AllZip}
 use Rattle.itv_base.specs.declared.names.Side.TheVariants.{Upper}
 use Rattle.itv_base.specs.Memory.{SinkMemView}
@@ -20,7 +20,8 @@ use Rattle.range_edits.specs.EditsFile.{edits_of}
 use Rattle.range_edits.specs.declared.edit.RangeEdit.{RangeEdit}
 use Rattle.design_reading.specs.declared.refusal_place.RefusalPlace.{RefusalPlace}
 use Rattle.design_reading.specs.declared.refusal.Refusal.{Refusal}
-use Rattle.design_reading.specs.Design.{design_at}
+use Rattle.design_reading.specs.Design.{design_at, plan_at}
+use Rattle.design_reading.specs.AskedFor.{files_at}
 use Rattle.moves.specs.Listed.{numbers_of}
 use Rattle.moves.specs.Moving.{moved_at, widened}
 use Rattle.moves.specs.Passing.{NoneBreaks}
@@ -37,8 +38,9 @@ use Rattle.command_words.specs.declared.job.SearchJob.TheVariants.{Bounds, Settl
 use Rattle.command_words.specs.declared.job.PlanJob.{PlanJob}
 use Rattle.command_words.specs.declared.job.PlanJob.TheVariants.{Why, Brief, Lint}
 use Rattle.command_words.specs.declared.job.CheckJob.TheVariants.{Check, Confirm}
+use Rattle.command_words.specs.Task as said
 use Rattle.command_words.specs.Task.{Task, checked, margin, matrix, planned, searched, taken, task, whatif}
-use Rattle.lint.specs.Warnings.{warnings_of}
+use Rattle.lint.specs.declared.warning.Warning.{Warning}
 use Rattle.job_lint.specs.declared.lint_found.LintFound.{LintFound}
 use Rattle.job_lint.specs.Clean.{HasSearchedAll}
 use Rattle.job_lint.specs.Found.{IsLintFound}
@@ -114,6 +116,12 @@ WroteOne old new Is = (text : List ℕ) × Is text × (new.bytes ≡ old.bytes +
 abbrev pub IsReportEnd : Outcome → Type 0
 IsReportEnd outcome = (word : EndWord) × (outcome ≡ outcome_of (answer_of word))
 
+-- the files of a design make it: its plan is composed to this design
+pub record Makes (files : Files) (name : List ℕ) (design : DesignView) : Type 0 where
+  pub plan : PlanView
+  pub plans : end_over files (plan_at name) ≡ ready plan
+  pub composes : composed_on plan.netlist (sheets_on plan.sheets plan.netlist.parts) ≡ Ok design
+
 -- the words ask for the bounds of a design, and the files of the design draw a network
 pub record AsksBounds (given : List (List ℕ)) (files : Files) (budget : ℕ) (cert : Bool) (drawn : Drawn) : Type 0 where
   pub design : List ℕ
@@ -153,6 +161,15 @@ pub record AsksMatrix (given : List (List ℕ)) (files : Files) (drawn : Drawn) 
   pub design : List ℕ
   pub words : taken given ≡ task (matrix design)
   pub draws : Draws files design drawn
+
+-- the words ask for the files of a design, and its reading asks for files of these names
+pub record AsksFiles (given : List (List ℕ)) (files : Files) (design : List ℕ) (names : List (List ℕ)) : Type 0 where
+  pub words : taken given ≡ task (said.files design)
+  pub asked : end_over files (files_at design) ≡ ready names
+
+-- under these names other files are what the files are
+abbrev pub AreAlike : Files → Files → List (List ℕ) → Type 0
+AreAlike others files names = All (λ name. file_of others name ≡ file_of files name) names
 
 -- the words ask for a job of a design, and its files give a plan and the network that the plan draws
 pub record AsksPlanned (job : PlanJob) (given : List (List ℕ)) (files : Files) (budget : ℕ) (plan : PlanView) (drawn : Drawn) : Type 0 where
@@ -195,9 +212,10 @@ pub record HasSafeHighs (noted : NotesKept) (drawn : Drawn) (text : List ℕ) : 
 pub record IsLintClean (plan : PlanView) (drawn : Drawn) : Type 0 where
   pub design : DesignView
   pub is_design : composed_on plan.netlist (sheets_on plan.sheets plan.netlist.parts) ≡ Ok design
+  pub warnings : List Warning
   pub found : LintFound
   pub is_found : IsLintFound drawn found
-  pub silenced : is_clean plan design drawn (lines_of design drawn (warnings_of plan design) found) ≡ true
+  pub silenced : is_clean plan design drawn (lines_of design drawn warnings found) ≡ true
   pub ended : HasSearchedAll drawn found
 
 -- the file with a name is there, and is the text of a right report

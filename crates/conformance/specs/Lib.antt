@@ -1,3 +1,4 @@
 -- The definitions of this crate: what callers of `run` know, and laws on what the jobs write.
 pub mod Clients
 pub mod Laws
+pub mod Said

@@ -1,6 +1,6 @@
 //! Callers of `run` for one job each, over files and a sink in memory, proved from the clauses of `run` alone.
 
-ghost use Rattle.std.specs.Prelude.{◌≡◌, ◌<◌, ◌⊎◌, ◌++◌, ℕ, Bool, List, IfOk, IfSome, None, true};
+ghost use Rattle.std.specs.Prelude.{◌≡◌, ◌<◌, ◌⊎◌, ◌+◌, ◌++◌, ℕ, Bool, List, IfOk, IfSome, None, true};
 ghost use Rattle.event_graph.specs.Bounds.{IsInconsistent};
 ghost use Rattle.event_graph.specs.Edges.{cause_choices};
 ghost use Rattle.event_graph.specs.RootBound.{HasNoRoot};
@@ -9,6 +9,10 @@ ghost use Rattle.job_check.specs.Check.{refused_text};
 ghost use Rattle.right_report.specs.Laws.{AllMet, SomeBroken, SomeSatisfy};
 ghost use Rattle.right_report.specs.Texts.{IsAcceptedText};
 ghost use Rattle.drawn_networks.specs.Drawn.{Drawn};
+ghost use Rattle.compose.specs.Design.{DesignView};
+ghost use Rattle.unroll.specs.Drawn.{drawn_of};
+ghost use Rattle.unroll.specs.Reach.{ReachesNoFurther};
+ghost use Rattle.longer_runs.specs.Windows.{net_over, over};
 ghost use Rattle.design_reading.specs.declared.refusal.Refusal.{Refusal};
 ghost use Rattle.design_reading.specs.declared.refusal_place.RefusalPlace.{RefusalPlace};
 ghost use Rattle.design_reading.specs.Refusal.{refusal_text};
@@ -26,29 +30,62 @@ ghost use Rattle.range_edits.specs.declared.edit.RangeEdit.{RangeEdit};
 ghost use Rattle.job_whatif.specs.Laws.{with_edits};
 ghost use Rattle.itv_cli.specs.Job.{turns_for};
 ghost use Rattle.job_base.specs.Ending.{answer_of};
-ghost use Rattle.conformance.specs.Clients.{AsksBounds, AsksBrief, AsksCheck, AsksConfirm, AsksLint, AsksMargin, AsksMatrix, AsksSettle, AsksWhatif, AsksWhy, HasNoWrong, HasSafeHighs, IsLintClean, IsReportEnd, IsRightFile, IsSettledFile, IsSummaryOf, IsWritten, IsWrongFile, WroteOne};
+ghost use Rattle.conformance.specs.Clients.{AsksBounds, AsksBrief, AsksCheck, AsksConfirm, AsksFiles, AsksLint, AsksMargin, AsksMatrix, AsksSettle, AsksWhatif, AsksWhy, HasNoWrong, HasSafeHighs, IsLintClean, IsReportEnd, IsRightFile, IsSettledFile, IsSummaryOf, IsWritten, IsWrongFile, Makes, WroteOne, AreAlike};
+ghost use Rattle.conformance.specs.Said.{IsSoText};
+ghost use Rattle.itv_base.specs.Outside.{Files};
+ghost use Rattle.design_reading.specs.Design.{design_at};
+ghost use Rattle.design_reading.specs.FileReading.{end_over};
+ghost use Rattle.job_files.specs.Files.{files_text};
 
 use itv_base::{NoMemory, ShelfMem, SinkMem, Texts};
 use itv_cli::{Outcome, run};
 use std::alloc::Global;
 
-/// A run of job bounds. If it passes, some times satisfy the network, and all satisfying times meet every requirement.
-/// If it fails, satisfying times break a requirement. If it ends inconsistent, no times satisfy. With the lines of
-/// proofs it writes a text that job check accepts, whatever the end of the report.
-pub fn report_said(
-    alloc: Global,
-    words: &Texts,
-    shelf: &mut ShelfMem,
-    sink: &mut SinkMem,
-) -> Outcome
+/// A run of job bounds: the claim of `itv FILE`. If it passes, some times satisfy the network, and all satisfying times meet every requirement.
+/// If it fails, satisfying times break a requirement. If it ends inconsistent, no times satisfy. With any of these ends it writes a report, and each
+/// bound and each verdict in it is so.
+pub fn said_of(alloc: Global, words: &Texts, shelf: &mut ShelfMem, sink: &mut SinkMem) -> Outcome
     ensures met { (budget : ℕ) (cert : Bool) (drawn : Drawn) → AsksBounds words.now shelf.old.files budget cert drawn
         → result ≡ Outcome.AllPass → SomeSatisfy drawn.net × AllMet drawn }
     ensures broken { (budget : ℕ) (cert : Bool) (drawn : Drawn) → AsksBounds words.now shelf.old.files budget cert drawn
         → result ≡ Outcome.SomeFail → SomeBroken drawn }
     ensures none { (budget : ℕ) (cert : Bool) (drawn : Drawn) → AsksBounds words.now shelf.old.files budget cert drawn
         → result ≡ Outcome.Inconsistent → IsInconsistent drawn.net }
+    ensures printed { (budget : ℕ) (cert : Bool) (drawn : Drawn) → AsksBounds words.now shelf.old.files budget cert drawn
+        → IsReportEnd result → WroteOne sink.old sink.new (IsSoText drawn) }
+{
+    run(alloc, words, shelf, sink)
+}
+
+/// A run of job bounds with the lines of proofs. It writes a text that job check accepts, whatever the end of the report.
+pub fn proofs_accepted(
+    alloc: Global,
+    words: &Texts,
+    shelf: &mut ShelfMem,
+    sink: &mut SinkMem,
+) -> Outcome
     ensures accepted { (budget : ℕ) (drawn : Drawn) → AsksBounds words.now shelf.old.files budget true drawn
         → IsReportEnd result → WroteOne sink.old sink.new (IsAcceptedText drawn) }
+{
+    run(alloc, words, shelf, sink)
+}
+
+/// A run of job bounds, and every greater number of cycles. If it passes and each row exists in one of the drawn cycles,
+/// every requirement is met over every greater number of cycles, or no times satisfy the rules over so many. If it ends
+/// inconsistent, no times satisfy over any greater number.
+pub fn longer_said(
+    alloc: Global,
+    words: &Texts,
+    shelf: &mut ShelfMem,
+    sink: &mut SinkMem,
+) -> Outcome
+    ensures met { (budget : ℕ) (cert : Bool) (drawn : Drawn) (design : DesignView)
+        → (asks : AsksBounds words.now shelf.old.files budget cert drawn) → Makes shelf.old.files asks.design design
+        → result ≡ Outcome.AllPass → ReachesNoFurther design.cycles design
+        → (more : ℕ) → AllMet (drawn_of (over (design.cycles + more) design)) }
+    ensures none { (budget : ℕ) (cert : Bool) (drawn : Drawn) (design : DesignView)
+        → (asks : AsksBounds words.now shelf.old.files budget cert drawn) → Makes shelf.old.files asks.design design
+        → result ≡ Outcome.Inconsistent → (more : ℕ) → IsInconsistent (net_over (design.cycles + more) design) }
 {
     run(alloc, words, shelf, sink)
 }
@@ -186,6 +223,17 @@ pub fn matrix_of(alloc: Global, words: &Texts, shelf: &mut ShelfMem, sink: &mut 
         → result ≡ Outcome.AllPass → WroteOne sink.old sink.new (IsMatrixText drawn) }
     ensures none { (drawn : Drawn) → AsksMatrix words.now shelf.old.files drawn
         → result ≡ Outcome.Inconsistent → HasNoRoot drawn.net }
+{
+    run(alloc, words, shelf, sink)
+}
+
+/// A run of job files. If it passes, it writes a line for each file that the reading of the design asks for, in the order of the
+/// reading. No other file matters: where these files are the same, the design reads the same.
+pub fn listed_of(alloc: Global, words: &Texts, shelf: &mut ShelfMem, sink: &mut SinkMem) -> Outcome
+    ensures wrote { (design : List ℕ) (names : List (List ℕ)) → AsksFiles words.now shelf.old.files design names
+        → result ≡ Outcome.AllPass → sink.new.bytes ≡ sink.old.bytes ++ files_text names }
+    ensures enough { (design : List ℕ) (names : List (List ℕ)) → AsksFiles words.now shelf.old.files design names
+        → (others : Files) → AreAlike others shelf.old.files names → end_over others (design_at design) ≡ end_over shelf.old.files (design_at design) }
 {
     run(alloc, words, shelf, sink)
 }

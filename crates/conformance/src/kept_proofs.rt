@@ -4,10 +4,11 @@ ghost use Rattle.std.specs.Prelude.{◌<◌, IfOk, IfSome};
 ghost use Rattle.event_graph.specs.Network.{IsNet};
 ghost use Rattle.event_graph.specs.Proof.{IsProof, Nothing};
 
-use branch::{SearchFinding, Work, find};
+use branch::{Work, find};
 use certificate::TreeScribe;
 use event_graph::Network;
 use itv_base::NoMemory;
+use requirements::Consistency;
 use std::alloc::Global;
 
 /// The lines of a proof that no times satisfy a network, kept in room for so many lines and edges. `None` if some times
@@ -25,7 +26,7 @@ pub fn kept_proof(
     let mut work = Work::new(alloc, net)?;
     let mut kept = TreeScribe::new(alloc, lines, edges)?;
     match find(&mut work, net, budget, &mut kept) {
-        Ok(SearchFinding::Inconsistent) => Ok(Some(kept)),
+        Ok(Consistency::Inconsistent) => Ok(Some(kept)),
         _ => Ok(None),
     }
 }

@@ -6,3 +6,4 @@ pub mod Drawing
 pub mod WideNumbers
 pub mod Lines
 pub mod LoneSheets
+pub mod Asking

@@ -22,13 +22,13 @@ comes_then shelf (refuses place why) f x end c h = absurd (cc c)
 comes_then shelf (fetches place name most next) f x end (inl e) h = absurd (cc e)
 comes_then shelf (fetches place name most next) f x end (inr (bytes, front, c)) h = inr (bytes, front, comes_then shelf (next bytes) f x end c h)
 
-comes_refused : {A B : Type 0} (shelf : ShelfState) (o : FileReading A) (f : A → FileReading B) (place : RefusalPlace) (why : Refusal) → RunsTo shelf o (refused place why) → RunsTo shelf (o >>= f) (refused place why)
+pub comes_refused : {A B : Type 0} (shelf : ShelfState) (o : FileReading A) (f : A → FileReading B) (place : RefusalPlace) (why : Refusal) → RunsTo shelf o (refused place why) → RunsTo shelf (o >>= f) (refused place why)
 comes_refused shelf (gives y) f place why c = absurd (cc c)
 comes_refused shelf (refuses other reason) f place why c = let p : place ≡ other = cc c in let w : why ≡ reason = cc c in rw (p, w) refl
 comes_refused shelf (fetches other name most next) f place why (inl e) = absurd (cc e)
 comes_refused shelf (fetches other name most next) f place why (inr (bytes, front, c)) = inr (bytes, front, comes_refused shelf (next bytes) f place why c)
 
-comes_unread : {A B : Type 0} (shelf : ShelfState) (o : FileReading A) (f : A → FileReading B) (place : RefusalPlace) (name : List ℕ) → RunsTo shelf o (unread place name) → RunsTo shelf (o >>= f) (unread place name)
+pub comes_unread : {A B : Type 0} (shelf : ShelfState) (o : FileReading A) (f : A → FileReading B) (place : RefusalPlace) (name : List ℕ) → RunsTo shelf o (unread place name) → RunsTo shelf (o >>= f) (unread place name)
 comes_unread shelf (gives y) f place name c = absurd (cc c)
 comes_unread shelf (refuses other why) f place name c = absurd (cc c)
 comes_unread shelf (fetches other asked most next) f place name (inl e) = let p : place ≡ other = cc e in let n : name ≡ asked = cc e in inl (rw (p, n) refl)

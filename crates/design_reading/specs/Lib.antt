@@ -5,4 +5,5 @@ pub mod RefusalPlace
 pub mod Refusal
 pub mod FileReading
 pub mod Design
+pub mod AskedFor
 pub mod Step

@@ -6,6 +6,7 @@ use Rattle.design_reading.specs.declared.refusal.Refusal.{Refusal}
 use Rattle.design_reading.specs.declared.stop.Stop.{Stop}
 use Rattle.design_reading.specs.declared.stop.Stop.TheVariants.{Refused, ReadFault, NoMemory}
 use Rattle.design_reading.specs.FileReading.{FileReading, ready, refused, unread, RunsToEnd}
+pub mod Gave
 pub mod Lone
 pub mod Word
 

@@ -6,6 +6,7 @@
 
 mod design;
 mod file;
+mod files;
 mod planning;
 mod put;
 mod refusal;
@@ -15,6 +16,7 @@ mod stop;
 
 pub use design::{draw_plan, open_design};
 pub use file::fetch_file;
+pub use files::open_files;
 pub use planning::open_plan;
 pub use put::{put_refusal, put_unread};
 pub use refusal::Refusal;

@@ -5,6 +5,7 @@ ghost use Rattle.serde_json.specs.Find.{get, as_object};
 ghost use Rattle.serde_json.specs.View.{view};
 ghost use Rattle.design_reading.specs.Design.{lone_at, netlist_at, plan_at};
 ghost use Rattle.design_reading.specs.Step.{Opens, ReadsAs};
+ghost use Rattle.design_reading.specs.Step.Gave.{GaveAfter, files_of};
 ghost use Rattle.design_reading.specs.Step.Lone.{lone_plan, plain_key};
 
 use crate::file::open_tree;
@@ -31,11 +32,39 @@ pub fn open_plan<H: Shelf>(alloc: Global, name: &str, shelf: &mut H) -> Result<P
     ensures opens { Opens (λ plan. plan) (H.state shelf.old) (H.state shelf.new)
         (plan_at name.now) result }
 {
+    match open_read_plan(alloc, name, shelf) {
+        Ok(ReadPlan { plan, is_lone: _ }) => Ok(plan),
+        Err(stop) => Err(stop),
+    }
+}
+
+/// A plan, and whether it is the plan of a lone sheet.
+#[derive(Drop)]
+pub struct ReadPlan {
+    pub plan: Plan,
+    pub is_lone: bool,
+}
+
+/// The same with whether the file is a lone sheet, which says what files were read.
+pub fn open_read_plan<H: Shelf>(alloc: Global, name: &str, shelf: &mut H) -> Result<ReadPlan, Stop>
+    ensures opens { Opens (λ read. read.plan) (H.state shelf.old) (H.state shelf.new)
+        (plan_at name.now) result }
+    ensures asked { IfOk result (λ read. GaveAfter (H.state shelf.old) (plan_at name.now) read.plan
+        (files_of name.now read.is_lone read.plan.netlist.parts)) }
+{
     let tree = open_tree(alloc, RefusalPlace::File(0), name, shelf)?;
     if is_lone(&tree) {
-        read_lone(alloc, name, &tree)
+        let plan = read_lone(alloc, name, &tree)?;
+        Ok(ReadPlan {
+            plan,
+            is_lone: true,
+        })
     } else {
-        open_netlist(alloc, &tree, shelf)
+        let plan = open_netlist(alloc, &tree, shelf)?;
+        Ok(ReadPlan {
+            plan,
+            is_lone: false,
+        })
     }
 }
 

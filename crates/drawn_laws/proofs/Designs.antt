@@ -1,5 +1,6 @@
 -- The names of the events of designs.
-use Rattle.std.proofs.Common.{◌≡◌, ◌<◌, ◌≤◌, ℕ, Bool, true, false, if◌then◌else◌, List, [], ◌∷◌, map, All, Option, Some, None, Result, Ok, refl, ap, subst, arith}
+use Rattle.std.proofs.Common.{◌≡◌, ◌<◌, ◌≤◌, ℕ, suc, Bool, true, false, if◌then◌else◌, List, [], ◌∷◌, length, map, All, Option, Some, None, IsSome, Result, Ok, refl, ap, subst, arith}
+use Rattle.std.specs.List.{cons_option}
 use Rattle.std.specs.Prelude.{IfSome, IsTrue, ◌==◌, ◌&&◌, is_some, is_none, codes}
 use Rattle.std.proofs.lemmas.Result.{IfOk-at_ok}
 use Rattle.std.proofs.lemmas.List.Elements.{All-append, All-head, All-map, All-nil, All-tail, All-weaker}
@@ -16,7 +17,9 @@ use Rattle.itv_base.specs.declared.limits.TheConstants.{MAX_CYCLES}
 use Rattle.sheet.specs.SheetContents as sheet
 use Rattle.sheet.specs.declared.mark.Mark.{Mark}
 use Rattle.netlist.specs.NetlistContents.{NetlistView}
-use Rattle.netlist.specs.Netlist.{netlist_of, sheet_names}
+use Rattle.netlist.specs.Netlist.{lone_netlist, netlist_of, sheet_names}
+use Rattle.netlist.specs.Whole.{IsNetlist}
+use Rattle.netlist.proofs.WholeNetlists.{netlist_whole}
 use Rattle.compose.specs.declared.fault.JoinFault.{JoinFault}
 use Rattle.netlist.specs.declared.part.Part.{Part}
 use Rattle.compose.specs.Sheets.{key_of}
@@ -28,7 +31,8 @@ use Rattle.sheet.specs.Links.{link_rows}
 use Rattle.sheet.specs.Sheet.{sheet_by}
 use Rattle.sheet.specs.Whole.{IsWhole}
 use Rattle.sheet.proofs.WholeSheets.{sheet_by_whole}
-use Rattle.compose.specs.Design.{DesignView}
+use Rattle.compose.specs.Design.{DesignView, IsDesign}
+use Rattle.compose.proofs.WholeDesigns.{composed_whole}
 use Rattle.drawn_networks.specs.Drawn.{Drawn, nameless}
 use Rattle.unroll.specs.Drawn.{drawn_of, names_in}
 use Rattle.unroll.specs.Limits.{counts_of, first_passed, unrolled, within}
@@ -40,17 +44,18 @@ use Rattle.design_reading.specs.declared.refusal_place.RefusalPlace.TheVariants.
 use Rattle.design_reading.specs.declared.refusal.Refusal.TheVariants.{Diagram, Grades, Joins, Limits, Netlist, Sheet}
 use Rattle.design_reading.specs.FileReading.{RunsTo, at, each, gives, ready}
 use Rattle.design_reading.specs.FileReading as openings
-use Rattle.design_plan.specs.Plan.{NamedSheets, PlanView, sheets_on}
+use Rattle.design_plan.specs.Plan.{IsPlan, NamedSheets, PlanView, sheet_among, sheets_on}
 use Rattle.design_reading.specs.Design.{design_at, drawn_at, grades_in, is_unread, lone_at, netlist_at, plan_at, sheets_at, sheets_in, sheets_of_files, tree_in, with_part, with_sheet}
 use Rattle.design_reading.specs.Step.Lone.{lone_plan, plain_key, plain_sheet_at}
 use Rattle.design_reading.proofs.LoneSheets.{lone_is}
 use Rattle.design_reading.proofs.Opens.{at_gave, each_keeps, gave, opening_then}
-use Rattle.drawn_laws.specs.Law.{DrawnNamesDiffer, DrawnNamesHaveForm, DrawnRangesHaveForm}
+use Rattle.design_reading.proofs.PartSheets.{lone_drawn, parts_drawn}
+use Rattle.drawn_laws.specs.Law.{DrawnNamesDiffer, DrawnNamesHaveForm, DrawnRangesHaveForm, ReadIsDesign}
 use Rattle.drawn_laws.proofs.Apart.{AreApart, Every, MarksApart, apart_at, cycles_apart}
 use Rattle.drawn_laws.proofs.Rows.{Demands, DemandsDrawn, link_rows_hold, rows_hold, wires_hold}
 use Rattle.drawn_laws.proofs.Steps.{result_then}
 use Rattle.drawn_laws.proofs.Sheets.{AreMarked, HasMarks, HoldsMarks, IsFormed, IsMarked, sheet_by_holds, sheets_hold, with_sheet_holds}
-use Rattle.drawn_laws.proofs.Netlists.{IsNamedNetlist, lone_holds, netlist_holds}
+use Rattle.drawn_laws.proofs.Netlists.{IsNamedNetlist, lone_holds, lone_whole, netlist_holds}
 
 -- ---- names in cycles
 
@@ -84,7 +89,8 @@ drawn_holds d named =
 
 -- ---- designs
 
-within_holds : (d : Drawn) (o : Option Counted) (drawn : Drawn) → within d o ≡ Ok drawn → (d ≡ drawn) × (o ≡ None)
+-- if the limits let a network pass, it is what was drawn
+pub within_holds : (d : Drawn) (o : Option Counted) (drawn : Drawn) → within d o ≡ Ok drawn → (d ≡ drawn) × (o ≡ None)
 within_holds d None drawn is = (cc is, refl)
 within_holds d (Some passed) drawn is = absurd (cc is)
 
@@ -169,16 +175,23 @@ sheets_in_hold shelf netlist number sheets more name marked comes =
     let (grades, shown, last) = opening_then shelf (grades_in netlist.version (File number) tree) (λ grades. each (with_part (File number) name grades drawing) 0 sheets netlist.parts) more rest in
     each_keeps AreMarked shelf (with_part (File number) name grades drawing) (with_part_holds shelf (File number) name grades drawing (grades_in_hold shelf netlist.version (File number) tree grades shown)) 0 sheets more netlist.parts marked last
 
--- the netlist is named, and its sheets have marks
+-- the netlist is whole and named, its sheets have marks, and each part has its sheet
 record IsNamedPlan (plan : PlanView) : Type 0 where
   netlist : IsNamedNetlist plan.netlist
+  whole : IsNetlist plan.netlist
   sheets : AreMarked plan.sheets
+  parts : IsPlan plan
 
 lone_at_holds : (shelf : ShelfState) (name : List ℕ) (tree : Data) (plan : PlanView) → RunsTo shelf (lone_at name tree) (ready plan) → IsNamedPlan plan
 lone_at_holds shelf name tree plan comes =
     let (found, first, rest) = opening_then shelf (plain_sheet_at (File 0) tree) _ plan (subst (λ reading. RunsTo shelf reading (ready plan)) (lone_is name tree) comes) in
     subst IsNamedPlan (gave shelf (lone_plan name found) plan rest)
-    (record { netlist = lone_holds name; sheets = with_sheet_holds [] (plain_key name) found (All-nil HoldsMarks) (plain_sheet_holds shelf (File 0) tree found first) })
+    (record {
+      netlist = lone_holds name;
+      whole = lone_whole name;
+      sheets = with_sheet_holds [] (plain_key name) found (All-nil HoldsMarks) (plain_sheet_holds shelf (File 0) tree found first);
+      parts = lone_drawn name (lone_netlist name) (with_sheet [] (plain_key name) found) found refl refl;
+    })
 
 netlist_at_holds : (shelf : ShelfState) (tree : Data) (plan : PlanView) → RunsTo shelf (netlist_at tree) (ready plan) → IsNamedPlan plan
 netlist_at_holds shelf tree plan comes =
@@ -186,7 +199,12 @@ netlist_at_holds shelf tree plan comes =
     let (sheets, fetched, last) = opening_then shelf (sheets_of_files netlist (sheet_names netlist.parts)) _ plan rest in
     let read : netlist_of tree ≡ Ok netlist = at_gave shelf (File 0) (λ why. Netlist why) _ netlist first in
     subst IsNamedPlan (gave shelf (record { netlist = netlist; sheets = sheets }) plan last)
-    (record { netlist = netlist_holds tree netlist read; sheets = each_keeps AreMarked shelf (sheets_in netlist) (sheets_in_hold shelf netlist) 1 [] sheets (sheet_names netlist.parts) (All-nil HoldsMarks) fetched })
+    (record {
+      netlist = netlist_holds tree netlist read;
+      whole = netlist_whole tree netlist read;
+      sheets = each_keeps AreMarked shelf (sheets_in netlist) (sheets_in_hold shelf netlist) 1 [] sheets (sheet_names netlist.parts) (All-nil HoldsMarks) fetched;
+      parts = parts_drawn shelf netlist sheets fetched;
+    })
 
 either_holds : (shelf : ShelfState) (b : Bool) (name : List ℕ) (tree : Data) (plan : PlanView) → RunsTo shelf (if b then lone_at name tree else netlist_at tree) (ready plan) → IsNamedPlan plan
 either_holds shelf true name tree plan comes = lone_at_holds shelf name tree plan comes
@@ -207,7 +225,26 @@ each_apart : (sheets : List sheet.SheetView) → All HasMarks sheets → Every M
 each_apart [] all = tt
 each_apart (first ∷ sheets) all = ((All-head HasMarks first sheets all).1, each_apart sheets (All-tail HasMarks first sheets all))
 
+-- ---- the design of a plan
+
+-- each part has one sheet
+sheets_count : (sheets : NamedSheets) (parts : List Part) → All (λ (part : Part). IsSome (sheet_among sheets (key_of part))) parts → length (sheets_on sheets parts) ≡ length parts
+sheets_count sheets [] there = refl
+sheets_count sheets (part ∷ parts) there =
+    let Has : Part → Type 0 = λ part. IsSome (sheet_among sheets (key_of part)) in
+    one_more (sheet_among sheets (key_of part)) (sheets_on sheets parts) (length parts) (All-head Has part parts there) (sheets_count sheets parts (All-tail Has part parts there)) where
+      one_more : (o : Option sheet.SheetView) (rest : List sheet.SheetView) (count : ℕ) → IsSome o → length rest ≡ count → length (cons_option o rest) ≡ suc count
+      one_more None rest count is same = absurd (cc is)
+      one_more (Some found) rest count is same = omega (arith, same)
+
 -- ---- the laws
+
+-- what is composed from a plan that was read is a design
+pub read_is_design : ReadIsDesign
+read_is_design shelf name plan d comes is =
+    let named = plan_from shelf name plan comes in
+    let sheets : List sheet.SheetView = sheets_on plan.sheets plan.netlist.parts in
+    IfOk-at_ok IsDesign is (composed_whole plan.netlist sheets named.whole (sheets_hold plan.sheets plan.netlist.parts named.sheets).1 (sheets_count plan.sheets plan.netlist.parts named.parts))
 
 -- each event of a drawn network has a name of its form
 pub drawn_names_have_form : DrawnNamesHaveForm

@@ -1,6 +1,6 @@
 -- The parts and the cycles of netlists.
 use Rattle.std.proofs.Common.{◌≡◌, ◌≤◌, ℕ, Bool, true, false, nat_le, if◌then◌else◌, List, [], ◌∷◌, ◌++◌, length, All, Option, Some, None, Ok, Err, ok_or, refl, sym, subst, arith, map}
-use Rattle.std.specs.Prelude.{IsTrue, codes}
+use Rattle.std.specs.Prelude.{IfSome, IsTrue, codes}
 use Rattle.std.specs.Str.{bytes_eq}
 use Rattle.std.proofs.lemmas.List.{map-append}
 use Rattle.std.proofs.lemmas.Slice.Eq.{bytes_eq-Decides}
@@ -17,6 +17,7 @@ use Rattle.netlist.specs.declared.fault.NetlistFault.TheVariants.{Part as PartFa
 use Rattle.json_tree.specs.Words.{list_at, text_at}
 use Rattle.json_tree.specs.StrayKeys.{stray_in_netlist}
 use Rattle.netlist.specs.Netlist.{cycles_of, demand, edges_of, grade_of, is_part, netlist_of, nets_of, part_by, part_of, parts_of, sheet_names, version_of, wires_of, with_part, lone_netlist}
+use Rattle.netlist.specs.Whole.{IsNetlist, IsWholeNet, IsWholeWire}
 use Rattle.netlist.proofs.WholeNetlists.{netlist_whole}
 use Rattle.drawn_laws.proofs.Apart.{AllOther, AreApart, apart_append, none_met}
 use Rattle.drawn_laws.proofs.Rows.{IsWholeIf}
@@ -115,3 +116,7 @@ netlist_holds tree netlist is =
 -- the netlist of a lone sheet is named
 pub lone_holds : (name : List ℕ) → IsNamedNetlist (lone_netlist name)
 lone_holds name = record { cycles = omega arith; parts = record { named = All-cons IsNamed _ [] refl (All-nil IsNamed); apart = (tt, tt) }; wires = All-nil IsWholeIf }
+
+-- and it is whole
+pub lone_whole : (name : List ℕ) → IsNetlist (lone_netlist name)
+lone_whole name = record { some = omega arith; few = omega arith; few_parts = omega arith; few_sheets = omega arith; whole_nets = All-nil IsWholeNet; whole_wires = All-nil (λ wire. IfSome wire IsWholeWire) }

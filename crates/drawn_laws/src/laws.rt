@@ -1,6 +1,6 @@
 //! The laws.
 
-ghost use Rattle.drawn_laws.specs.Law.{DrawnNamesDiffer, DrawnNamesHaveForm, DrawnRangesHaveForm};
+ghost use Rattle.drawn_laws.specs.Law.{DrawnNamesDiffer, DrawnNamesHaveForm, DrawnRangesHaveForm, ReadIsDesign};
 
 /// Each event of a drawn network has a name of its form. The function does nothing. Its clause holds of all designs.
 pub fn drawn_names_have_form()
@@ -15,4 +15,9 @@ pub fn drawn_names_differ()
 /// The ends of each requirement of a drawn network are a range.
 pub fn drawn_ranges_have_form()
     ensures law { DrawnRangesHaveForm }
+{}
+
+/// What is composed from the plan that the files of a design give is a design.
+pub fn read_is_design()
+    ensures law { ReadIsDesign }
 {}

@@ -6,30 +6,32 @@ use Rattle.itv_base.specs.declared.row_kind.RowKind.{RowKind}
 use Rattle.itv_base.specs.declared.row_kind.RowKind.TheVariants as kinds
 use Rattle.event_graph.specs.Network.{Net}
 use Rattle.requirements.specs.declared.bound.BothBounds.{BothBounds}
-use Rattle.slack_report.specs.declared.words.FindingWord.{FindingWord}
+use Rattle.requirements.specs.declared.consistency.Consistency.{Consistency}
 use Rattle.right_report.specs.Right.ReportState.{greatest, least_by}
 use Rattle.drawn_networks.specs.Drawn.{Drawn}
 use Rattle.drawn_networks.specs.declared.row.Row.{Row}
-use Rattle.explanations.specs.Answers.{AreRowBounds, AreRowsFound, HasRowTimes, IsApartOf, IsBoundFound, IsRowFound, bound_of}
+use Rattle.requirements.specs.Separations.{bound_of}
+use Rattle.explanations.specs.Answers.{AreRowBounds, AreRowsFound, HasRowTimes, IsApartOf, IsBoundFound, IsRowFound}
 use Rattle.explanations.specs.Apart.{net_apart}
-use Rattle.explanations.specs.declared.bound.BoundFound.{BoundFound}
+use Rattle.explanations.specs.Answers.{BoundFound}
 use Rattle.explanations.specs.declared.desk.Desk.{Desk}
 use Rattle.event_graph.specs.declared.pair.Pair.{Pair}
 use Rattle.explanations.specs.declared.row.RowFound.{RowFound}
-use Rattle.explanations.specs.Step.Bounding.{IsExplained, reversed_found}
+use Rattle.requirements.specs.Separations.{reversed_found}
+use Rattle.explanations.specs.Step.Bounding.{IsExplained}
 use Rattle.explanations.specs.declared.searches.Searches.{Searches}
 use Rattle.explanations.specs.Step.Standing.{IsReady, KeepsFinding, KeepsFindings, word_apart, word_in}
 use Rattle.explanations.specs.Step.Resting.{AreBoundsApart}
 use Rattle.explanations.proofs.Behind.{both_explained, greatest_found, least_found}
 
 -- the bounds apart that are found by both bounds of a row are found with it
-told_of : (apart : Net) (budget : ℕ) (word : FindingWord) (row : Row) (kind : RowKind) (found : RowFound)
+told_of : (apart : Net) (budget : ℕ) (word : Consistency) (row : Row) (kind : RowKind) (found : RowFound)
     → AreBoundsApart apart budget word row kind (record { least = bound_of found.least; greatest = bound_of found.greatest }) found.apart → IsApartOf apart budget word row kind found
 told_of apart budget word row kinds.Ask found rests = rests
 told_of apart budget word row (kinds.Req range) found rests = rests
 
 -- what is found of a row: by the searches of its pair and of the reversed one, and by its bounds in the network apart
-pub row_found : (drawn : Drawn) (net apart : Net) (budget : ℕ) (word there : FindingWord) (row : Row) (turned : Pair) (most searched fewest : BoundFound) (both : BothBounds) (rests : Option BothBounds)
+pub row_found : (drawn : Drawn) (net apart : Net) (budget : ℕ) (word there : Consistency) (row : Row) (turned : Pair) (most searched fewest : BoundFound) (both : BothBounds) (rests : Option BothBounds)
     → net ≡ drawn.net → apart ≡ net_apart drawn → turned ≡ record { from = row.to; to = row.from } → fewest ≡ reversed_found searched
     → both ≡ record { least = bound_of fewest; greatest = bound_of most }
     → IsExplained net budget word (record { from = row.from; to = row.to }) most → IsExplained net budget word turned searched
@@ -55,7 +57,7 @@ row_found drawn net apart budget word there row turned most searched fewest both
     record { greatest = one; least = two; apart = told_of (net_apart drawn) budget there row row.kind (record { greatest = most; least = fewest; apart = rests }) is_told }
 
 -- one row more
-rows_more : (drawn : Drawn) (budget : ℕ) (word there : FindingWord) (rows : List Row) (found : List RowFound) (row : Row) (last : RowFound) → AreRowsFound drawn budget word there rows found
+rows_more : (drawn : Drawn) (budget : ℕ) (word there : Consistency) (rows : List Row) (found : List RowFound) (row : Row) (last : RowFound) → AreRowsFound drawn budget word there rows found
     → IsRowFound drawn budget word there row last → AreRowsFound drawn budget word there (rows ++ row ∷ []) (found ++ last ∷ [])
 rows_more drawn budget word there [] [] row last before is = (is, tt)
 rows_more drawn budget word there [] (f ∷ found) row last before is = absurd before
@@ -80,8 +82,8 @@ pub record AreSoFar (drawn : Drawn) (first : Desk) (count : ℕ) (rows : List Ro
 by_first : (drawn : Drawn) (first desk : Desk) (row : Row) (last : RowFound) → KeepsFindings first desk → FindsRow drawn desk row last → FindsRow drawn first row last
 by_first drawn first desk row last kept is =
     subst (λ b. IsRowFound drawn b first.searches.word (word_apart first) row last) kept.whole.budget
-    (subst (λ (w : FindingWord). IsRowFound drawn desk.searches.extremes.budget w (word_apart first) row last) kept.whole.word
-    (subst (λ (w : FindingWord). IsRowFound drawn desk.searches.extremes.budget desk.searches.word w row last) kept.apart is))
+    (subst (λ (w : Consistency). IsRowFound drawn desk.searches.extremes.budget w (word_apart first) row last) kept.whole.word
+    (subst (λ (w : Consistency). IsRowFound drawn desk.searches.extremes.budget desk.searches.word w row last) kept.apart is))
 
 kept_twice : (first desk after : Desk) → KeepsFindings first desk → KeepsFindings desk after → KeepsFindings first after
 kept_twice first desk after one two = record {
@@ -106,10 +108,10 @@ one_more drawn first count rows found more desk after row last within at so_far 
 
 -- the searches of a row keep the findings and the budget
 pub row_kept : (old new : Desk) (between : Searches) → KeepsFinding old.searches between → KeepsFinding between new.searches
-    → ((word : FindingWord) → word_in word new.apart ≡ word_in word old.apart) → KeepsFindings old new
+    → ((word : Consistency) → word_in word new.apart ≡ word_in word old.apart) → KeepsFindings old new
 row_kept old new between one two same =
     let word : new.searches.word ≡ old.searches.word = two.word ∙ one.word in
-    record { whole = record { word = word; budget = two.budget ∙ one.budget }; apart = same new.searches.word ∙ ap (λ (w : FindingWord). word_in w old.apart) word }
+    record { whole = record { word = word; budget = two.budget ∙ one.budget }; apart = same new.searches.word ∙ ap (λ (w : Consistency). word_in w old.apart) word }
 
 pub none_yet : (drawn : Drawn) (rows : List Row) (found : List RowFound) (desk : Desk) → IsReady drawn desk → found ≡ [] → AreSoFar drawn desk 0 rows found desk
 none_yet drawn rows found desk ready none = record {

@@ -16,8 +16,8 @@ use Rattle.requirements.specs.declared.bound.Bound.{Bound}
 use Rattle.requirements.specs.declared.bound.Bound.TheVariants as bounds
 use Rattle.requirements.specs.declared.verdict.Verdict.{Verdict}
 use Rattle.requirements.specs.declared.verdict.Verdict.TheVariants as verdicts
-use Rattle.slack_report.specs.declared.words.FindingWord.{FindingWord}
-use Rattle.slack_report.specs.declared.words.FindingWord.TheVariants as findings
+use Rattle.requirements.specs.declared.consistency.Consistency.{Consistency}
+use Rattle.requirements.specs.declared.consistency.Consistency.TheVariants as findings
 use Rattle.right_report.specs.Right.ReportState.{NextBound, greatest, least_by}
 use Rattle.right_report.specs.Right.LineClaims.{HasAttained, IsBoundOf}
 use Rattle.right_report.specs.Shown.{goal_of}
@@ -25,9 +25,10 @@ use Rattle.extremes.specs.Found.{IsFindingOpen}
 use Rattle.origin.specs.declared.origin.Origin.{Origin}
 use Rattle.drawn_networks.specs.Drawn.{Drawn}
 use Rattle.drawn_networks.specs.declared.row.Row.{Row}
-use Rattle.explanations.specs.Answers.{AreFound, AreRowsFound, AreSettledApart, FoundSettles, IsApart, IsApartOf, IsBoundSettled, IsBoundShown, IsFindingApart, IsFindingFound, IsRowFound, IsRowSettled, RestsOnOrder, SettlesWithin, bound_of, verdict_in}
+use Rattle.requirements.specs.Separations.{bound_of}
+use Rattle.explanations.specs.Answers.{AreFound, AreRowsFound, AreSettledApart, FoundSettles, IsApart, IsApartOf, IsBoundSettled, IsBoundShown, IsFindingApart, IsFindingFound, IsRowFound, IsRowSettled, RestsOnOrder, SettlesWithin, verdict_in}
 use Rattle.explanations.specs.Apart.{constraints_apart, keeps_order, net_apart}
-use Rattle.explanations.specs.declared.finding.Finding.TheVariants.{Consistent, Inconsistent, Unsettled}
+use Rattle.explanations.specs.declared.finding.Finding.TheVariants.{Consistent, Inconsistent, Open}
 use Rattle.explanations.specs.declared.network.NetworkFound.{NetworkFound}
 use Rattle.explanations.specs.declared.row.RowFound.{RowFound}
 use Rattle.explanations.proofs.Wider.{is_net_apart}
@@ -39,14 +40,14 @@ unsettled_below : (net : Net) (budget : ℕ) → IsNet net → IsFindingOpen net
 unsettled_below net budget is_net found = stopped_proof_is_below_choices net Nothing found.stopped.0 budget is_net found.stopped.1
 
 -- a bound without an attained number stands only after an unsettled finding
-unsettled_by : (word : FindingWord) → HasAttained word None → word ≡ findings.Unsettled
+unsettled_by : (word : Consistency) → HasAttained word None → word ≡ findings.Open
 unsettled_by findings.Consistent attained = absurd (cc attained)
 unsettled_by findings.Inconsistent attained = absurd attained
-unsettled_by findings.Unsettled attained = refl
+unsettled_by findings.Open attained = refl
 
 -- a budget that suffices settles a bound after a finding that is settled
-bound_settles : (net : Net) (budget : ℕ) (word : FindingWord) (row : Row) (side : NextBound) (bound : Bound) → IsNet net → cause_choices net.constraints ≤ budget
-    → (word ≡ findings.Unsettled → ⊥) → IsBoundOf net word row side bound → IsBoundShown net budget row side bound → IsBoundSettled bound
+bound_settles : (net : Net) (budget : ℕ) (word : Consistency) (row : Row) (side : NextBound) (bound : Bound) → IsNet net → cause_choices net.constraints ≤ budget
+    → (word ≡ findings.Open → ⊥) → IsBoundOf net word row side bound → IsBoundShown net budget row side bound → IsBoundSettled bound
 bound_settles net budget word row side (bounds.Closed value) is_net enough settled right shown = tt
 bound_settles net budget word row side bounds.Unbounded is_net enough settled right shown = tt
 bound_settles net budget word row side (bounds.Within limit None) is_net enough settled right shown = settled (unsettled_by word right.1)
@@ -81,15 +82,15 @@ suffices_apart drawn budget is_net enough =
     omega (arith, fewer, enough)
 
 -- so a finding that is searched there is settled
-apart_settles : (drawn : Drawn) (budget : ℕ) (word : FindingWord) → IsNet drawn.net → cause_choices drawn.net.constraints ≤ budget
-    → IsFindingApart (net_apart drawn) budget findings.Consistent word → word ≡ findings.Unsettled → ⊥
+apart_settles : (drawn : Drawn) (budget : ℕ) (word : Consistency) → IsNet drawn.net → cause_choices drawn.net.constraints ≤ budget
+    → IsFindingApart (net_apart drawn) budget findings.Consistent word → word ≡ findings.Open → ⊥
 apart_settles drawn budget word is_net enough found unsettled =
     let left : IsFindingOpen (net_apart drawn) budget = subst (IsFindingApart (net_apart drawn) budget findings.Consistent) unsettled found refl in
     let below : budget < cause_choices (net_apart drawn).constraints = unsettled_below (net_apart drawn) budget (is_net_apart drawn is_net) left in
     let fewer = suffices_apart drawn budget is_net enough in
     omega (arith, below, fewer)
 
-module _ (net : Net) (budget : ℕ) (word : FindingWord) (row : Row) (is_net : IsNet net) (enough : cause_choices net.constraints ≤ budget) (settled : word ≡ findings.Unsettled → ⊥) where
+module _ (net : Net) (budget : ℕ) (word : Consistency) (row : Row) (is_net : IsNet net) (enough : cause_choices net.constraints ≤ budget) (settled : word ≡ findings.Open → ⊥) where
   rests_settled : (range : Ends) (rests : Option BothBounds) → RestsOnOrder net budget word row range rests → AreSettledApart rests
   rests_settled range None is = tt
   rests_settled range (Some both) is = (
@@ -112,8 +113,8 @@ module _ (net : Net) (budget : ℕ) (word : FindingWord) (row : Row) (is_net : I
 
 -- ---- rows
 
-module _ (drawn : Drawn) (budget : ℕ) (word word_apart : FindingWord) (is_net : IsNet drawn.net) (enough : cause_choices drawn.net.constraints ≤ budget)
-    (settled : word ≡ findings.Unsettled → ⊥) (settled_apart : word_apart ≡ findings.Unsettled → ⊥) where
+module _ (drawn : Drawn) (budget : ℕ) (word word_apart : Consistency) (is_net : IsNet drawn.net) (enough : cause_choices drawn.net.constraints ≤ budget)
+    (settled : word ≡ findings.Open → ⊥) (settled_apart : word_apart ≡ findings.Open → ⊥) where
   row_settled : (row : Row) (found : RowFound) → IsRowFound drawn budget word word_apart row found → IsRowSettled found
   row_settled row found is = record {
     greatest = bound_settles drawn.net budget word row greatest (bound_of found.greatest) is_net enough settled is.greatest.right is.greatest.shown;
@@ -132,10 +133,10 @@ module _ (drawn : Drawn) (budget : ℕ) (word word_apart : FindingWord) (is_net 
 
 pub found_settles : FoundSettles
 found_settles drawn budget Consistent found is_net finding are enough =
-    let settled_apart : are.word_apart ≡ findings.Unsettled → ⊥ = apart_settles drawn budget are.word_apart is_net enough are.finding_apart in
+    let settled_apart : are.word_apart ≡ findings.Open → ⊥ = apart_settles drawn budget are.word_apart is_net enough are.finding_apart in
     ((λ e. cc e), rows_settled drawn budget findings.Consistent are.word_apart is_net enough (λ e. cc e) settled_apart drawn.rows found are.rows)
 found_settles drawn budget (Inconsistent set) found is_net finding are enough = ((λ e. cc e), subst (All IsRowSettled) (sym are) (λ k d within. absurd (omega arith)))
-found_settles drawn budget Unsettled found is_net finding are enough =
+found_settles drawn budget Open found is_net finding are enough =
     let below : budget < cause_choices drawn.net.constraints = unsettled_below drawn.net budget is_net finding in
     absurd (omega (arith, below, enough))
 

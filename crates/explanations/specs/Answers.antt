@@ -1,5 +1,6 @@
 -- What is found of a network and of its rows, with the reasons.
-use Rattle.std.specs.Prelude.{◌≡◌, ◌≤◌, ℕ, ℤ, neg_ℤ, true, List, [], ◌∷◌, All, Option, Some, None, IfSome}
+use Rattle.std.specs.Prelude.{◌≡◌, ◌≤◌, ℕ, ℤ, neg_ℤ, true, Bool, List, [], ◌∷◌, All, Option, Some, None, IfSome}
+use Rattle.std.specs.Global.{Vec}
 use Rattle.itv_base.specs.Range.{Ends}
 use Rattle.itv_base.specs.declared.names.EdgeName.{EdgeName}
 use Rattle.itv_base.specs.declared.names.EventId.{EventId}
@@ -13,14 +14,17 @@ use Rattle.event_graph.specs.Times.{separation}
 use Rattle.chains.specs.Chain.{IsChain}
 use Rattle.extremes.specs.Found.{CanRise, IsContradictionFound, IsFindingOpen}
 use Rattle.requirements.specs.Bounds.{HasTimes, IsAttained, IsGreatestBound, IsLeastBound}
+use Rattle.requirements.specs.Separations.{bound_of}
 use Rattle.requirements.specs.Verdicts.{verdict_of}
 use Rattle.requirements.specs.declared.bound.BothBounds.{BothBounds}
 use Rattle.requirements.specs.declared.bound.Bound.{Bound}
 use Rattle.requirements.specs.declared.bound.Bound.TheVariants as bounds
+use Rattle.requirements.specs.declared.separation.Separation.{Separation}
+use Rattle.requirements.specs.declared.separation.Separation.TheVariants as separations
 use Rattle.requirements.specs.declared.verdict.Verdict.{Verdict}
 use Rattle.requirements.specs.declared.verdict.Verdict.TheVariants as verdicts
-use Rattle.slack_report.specs.declared.words.FindingWord.{FindingWord}
-use Rattle.slack_report.specs.declared.words.FindingWord.TheVariants as findings
+use Rattle.requirements.specs.declared.consistency.Consistency.{Consistency}
+use Rattle.requirements.specs.declared.consistency.Consistency.TheVariants as findings
 use Rattle.right_report.specs.Right.ReportState.{NextBound, greatest, is_within, least_by}
 use Rattle.right_report.specs.Right.LineClaims.{IsBoundOf}
 use Rattle.right_report.specs.Shown.{ShowsBound}
@@ -28,24 +32,23 @@ use Rattle.drawn_networks.specs.Drawn.{Drawn}
 use Rattle.drawn_networks.specs.declared.row.Row.{Row}
 use Rattle.explanations.specs.Apart.{net_apart}
 use Rattle.explanations.specs.declared.finding.Finding.{Finding}
-use Rattle.explanations.specs.declared.finding.Finding.TheVariants.{Consistent, Inconsistent, Unsettled}
-use Rattle.explanations.specs.declared.bound.BoundFound.{BoundFound}
-use Rattle.explanations.specs.declared.bound.BoundFound.TheVariants.{Closed, Unbounded, Within}
+use Rattle.explanations.specs.declared.finding.Finding.TheVariants.{Consistent, Inconsistent, Open}
 use Rattle.explanations.specs.declared.row.RowFound.{RowFound}
 
 -- ---- the finding
 
-abbrev pub word_of : Finding → FindingWord
-word_of Consistent = findings.Consistent
-word_of (Inconsistent set) = findings.Inconsistent
-word_of Unsettled = findings.Unsettled
+-- the finding alone
+abbrev pub consistency_of : Finding → Consistency
+consistency_of Consistent = findings.Consistent
+consistency_of (Inconsistent set) = findings.Inconsistent
+consistency_of Open = findings.Open
 
 -- A finding is right. Some times satisfy; or the constraints of the set contradict each other by themselves; or it was left open, and some times meet all
 -- always-edges. It is open only if a stopped proof used the budget up.
 abbrev pub IsFindingFound : Net → ℕ → Finding → Type 0
 IsFindingFound net budget Consistent = (times : List ℤ) × Satisfies times net
 IsFindingFound net budget (Inconsistent set) = IsContradictionFound net budget set.items
-IsFindingFound net budget Unsettled = IsFindingOpen net budget
+IsFindingFound net budget Open = IsFindingOpen net budget
 
 -- ---- a bound
 
@@ -57,27 +60,25 @@ pub record Explains (net : Net) (from to : EventId) (value : ℤ) (names : List 
   pub attained : separation times from to ≡ value
   pub chain : IsChain net times from to names
 
+-- the bound of a row with its reason: a chain behind a number, and a set of events where there is none
+abbrev pub BoundFound : Type 0
+BoundFound = Separation (Vec EdgeName) (Vec Bool)
+
 -- What stands behind a bound; for a least separation this is what stands behind the greatest one of the reversed pair, which is minus it. Behind a bound
 -- that was left open stand times that attain the attained number, if there is one.
 abbrev pub IsBehind : Net → Row → NextBound → BoundFound → Type 0
-IsBehind net row greatest (Closed value chain) = Explains net row.from row.to value chain.items
-IsBehind net row (least_by most) (Closed value chain) = Explains net row.to row.from (neg_ℤ value) chain.items
-IsBehind net row greatest (Unbounded set) = CanRise net row.from row.to set.items
-IsBehind net row (least_by most) (Unbounded set) = CanRise net row.to row.from set.items
-IsBehind net row side (Within limit attained) = IfSome attained (IsAttained net row.from row.to)
-
--- the bound alone, without its reason
-abbrev pub bound_of : BoundFound → Bound
-bound_of (Closed value chain) = bounds.Closed value
-bound_of (Unbounded set) = bounds.Unbounded
-bound_of (Within limit attained) = bounds.Within limit attained
+IsBehind net row greatest (separations.Closed value chain) = Explains net row.from row.to value chain.items
+IsBehind net row (least_by most) (separations.Closed value chain) = Explains net row.to row.from (neg_ℤ value) chain.items
+IsBehind net row greatest (separations.Unbounded set) = CanRise net row.from row.to set.items
+IsBehind net row (least_by most) (separations.Unbounded set) = CanRise net row.to row.from set.items
+IsBehind net row side (separations.Open limit attained) = IfSome attained (IsAttained net row.from row.to)
 
 -- the lines of some search show a bound of a row that was left open: a stopped proof of the attained number used the budget up
 abbrev pub IsBoundShown : Net → ℕ → Row → NextBound → Bound → Type 0
 IsBoundShown net budget row side bound = is_within bound ≡ true → (lines : List ProofLine) × ShowsBound net budget lines row side bound
 
 -- a bound is right after a finding, what stands behind it is so too, and it is open only if a search used the budget up
-pub record IsBoundFound (net : Net) (budget : ℕ) (word : FindingWord) (row : Row) (side : NextBound) (found : BoundFound) : Type 0 where
+pub record IsBoundFound (net : Net) (budget : ℕ) (word : Consistency) (row : Row) (side : NextBound) (found : BoundFound) : Type 0 where
   pub right : IsBoundOf net word row side (bound_of found)
   pub behind : IsBehind net row side found
   pub shown : IsBoundShown net budget row side (bound_of found)
@@ -96,13 +97,13 @@ verdict_by range both = verdict_of range both.least both.greatest
 
 -- The one finding of the network apart after a finding of the drawn network. After a consistent one a search of its own makes it, and it is open only
 -- where that search used the budget up. After an unsettled one nothing is searched, and the network apart is unsettled too.
-abbrev pub IsFindingApart : Net → ℕ → FindingWord → FindingWord → Type 0
+abbrev pub IsFindingApart : Net → ℕ → Consistency → Consistency → Type 0
 IsFindingApart apart budget word findings.Consistent = word ≡ findings.Consistent
 IsFindingApart apart budget word findings.Inconsistent = ⊥
-IsFindingApart apart budget word findings.Unsettled = word ≡ findings.Consistent → IsFindingOpen apart budget
+IsFindingApart apart budget word findings.Open = word ≡ findings.Consistent → IsFindingOpen apart budget
 
 -- both bounds of a row are right in a network, by themselves and after a finding, and they are open only if searches used the budget up
-pub record AreRowBounds (net : Net) (budget : ℕ) (word : FindingWord) (row : Row) (both : BothBounds) : Type 0 where
+pub record AreRowBounds (net : Net) (budget : ℕ) (word : Consistency) (row : Row) (both : BothBounds) : Type 0 where
   pub holds : IsGreatestBound net row.from row.to both.greatest × IsLeastBound net row.from row.to both.least
   pub greatest_shown : IsBoundShown net budget row greatest both.greatest
   pub least_shown : IsBoundShown net budget row (least_by both.greatest) both.least
@@ -111,30 +112,30 @@ pub record AreRowBounds (net : Net) (budget : ℕ) (word : FindingWord) (row : R
 
 -- a requirement that passes in the drawn network passes in the network apart too, with bounds that are found there; or the bounds that are given are
 -- found there, and it does not pass with them
-abbrev pub RestsOnOrder : Net → ℕ → FindingWord → Row → Ends → Option BothBounds → Type 0
+abbrev pub RestsOnOrder : Net → ℕ → Consistency → Row → Ends → Option BothBounds → Type 0
 RestsOnOrder apart budget word row range None = (both : BothBounds) × AreRowBounds apart budget word row both × (verdict_by range both ≡ verdicts.Pass)
 RestsOnOrder apart budget word row range (Some both) = AreRowBounds apart budget word row both × (verdict_by range both ≡ verdicts.Pass → ⊥)
 
-abbrev pub IsApart : Net → ℕ → FindingWord → Row → Ends → Verdict → Option BothBounds → Type 0
+abbrev pub IsApart : Net → ℕ → Consistency → Row → Ends → Verdict → Option BothBounds → Type 0
 IsApart apart budget word row range verdicts.Pass rests = RestsOnOrder apart budget word row range rests
 IsApart apart budget word row range verdicts.FailHigh rests = rests ≡ None
 IsApart apart budget word row range verdicts.FailLow rests = rests ≡ None
 IsApart apart budget word row range verdicts.Undecided rests = rests ≡ None
 
 -- a row that only asks has no bounds apart
-abbrev pub IsApartOf : Net → ℕ → FindingWord → Row → RowKind → RowFound → Type 0
+abbrev pub IsApartOf : Net → ℕ → Consistency → Row → RowKind → RowFound → Type 0
 IsApartOf apart budget word row kinds.Ask found = found.apart ≡ None
 IsApartOf apart budget word row (kinds.Req range) found = IsApart apart budget word row range (verdict_in range found) found.apart
 
 -- what is found of a row: both of its bounds, with what stands behind them, and, if its verdict rests on the order of a lane, both bounds without
 -- this order
-pub record IsRowFound (drawn : Drawn) (budget : ℕ) (word word_apart : FindingWord) (row : Row) (found : RowFound) : Type 0 where
+pub record IsRowFound (drawn : Drawn) (budget : ℕ) (word word_apart : Consistency) (row : Row) (found : RowFound) : Type 0 where
   pub greatest : IsBoundFound drawn.net budget word row greatest found.greatest
   pub least : IsBoundFound drawn.net budget word row (least_by (bound_of found.greatest)) found.least
   pub apart : IsApartOf (net_apart drawn) budget word_apart row row.kind found
 
 -- what is found of each row, in order
-abbrev pub AreRowsFound : Drawn → ℕ → FindingWord → FindingWord → List Row → List RowFound → Type 0
+abbrev pub AreRowsFound : Drawn → ℕ → Consistency → Consistency → List Row → List RowFound → Type 0
 AreRowsFound drawn budget word word_apart [] [] = Unit {0}
 AreRowsFound drawn budget word word_apart [] (found ∷ others) = ⊥
 AreRowsFound drawn budget word word_apart (row ∷ rows) [] = ⊥
@@ -142,8 +143,8 @@ AreRowsFound drawn budget word word_apart (row ∷ rows) (found ∷ others) =
     IsRowFound drawn budget word word_apart row found × AreRowsFound drawn budget word word_apart rows others
 
 -- what is found of each row after a finding of the drawn network and the one finding of the network apart
-pub record AreFoundBehind (drawn : Drawn) (budget : ℕ) (word : FindingWord) (found : List RowFound) : Type 0 where
-  pub word_apart : FindingWord
+pub record AreFoundBehind (drawn : Drawn) (budget : ℕ) (word : Consistency) (found : List RowFound) : Type 0 where
+  pub word_apart : Consistency
   pub finding_apart : IsFindingApart (net_apart drawn) budget word word_apart
   pub rows : AreRowsFound drawn budget word word_apart drawn.rows found
 
@@ -151,7 +152,7 @@ pub record AreFoundBehind (drawn : Drawn) (budget : ℕ) (word : FindingWord) (f
 abbrev pub AreFound : Drawn → ℕ → Finding → List RowFound → Type 0
 AreFound drawn budget Consistent found = AreFoundBehind drawn budget findings.Consistent found
 AreFound drawn budget (Inconsistent set) found = found ≡ []
-AreFound drawn budget Unsettled found = AreFoundBehind drawn budget findings.Unsettled found
+AreFound drawn budget Open found = AreFoundBehind drawn budget findings.Open found
 
 -- ---- what a budget is enough for
 
@@ -174,7 +175,7 @@ pub record IsRowSettled (found : RowFound) : Type 0 where
 
 -- a budget that is no less than the number of cause choices leaves neither the finding nor a bound open
 abbrev pub SettlesWithin : Net → ℕ → Finding → List RowFound → Type 0
-SettlesWithin net budget finding found = cause_choices net.constraints ≤ budget → (finding ≡ Unsettled → ⊥) × All IsRowSettled found
+SettlesWithin net budget finding found = cause_choices net.constraints ≤ budget → (finding ≡ Open → ⊥) × All IsRowSettled found
 
 -- so it is wherever a finding and rows are found within the budget, since a stopped proof that used the budget up closes fewer cases than there are
 abbrev pub FoundSettles : Type 0

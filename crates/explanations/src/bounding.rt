@@ -7,22 +7,21 @@ ghost use Rattle.explanations.specs.Answers.{AreRowBounds};
 ghost use Rattle.explanations.specs.Step.Bounding.{IsPairFound};
 ghost use Rattle.explanations.specs.Step.Standing.{IsSearchable, KeepsFinding};
 
-use crate::pair_found::PairFound;
 use crate::searches::Searches;
 use event_graph::{Network, Pair};
+use extremes::Greatest;
 use itv_base::NoMemory;
-use requirements::BothBounds;
-use slack_report::FindingWord;
+use requirements::{BothBounds, Consistency, Separation};
 use std::alloc::Global;
 
 /// What is found of the greatest separation of a pair of events of a network that is not inconsistent. After a consistent finding it is searched for.
-/// After an unsettled one only the root bound is found.
+/// After an open one nothing is searched, and the root bound is the limit.
 pub fn search_pair(
     alloc: Global,
     net: &Network,
     pair: Pair,
     searches: &mut Searches,
-) -> Result<PairFound, NoMemory>
+) -> Result<Greatest, NoMemory>
     requires ready { IsSearchable net.now searches.old }
     requires from { pair.from.0 < net.now.events }
     requires to { pair.to.0 < net.now.events }
@@ -31,15 +30,18 @@ pub fn search_pair(
     ensures found { IfOk result (IsPairFound net.now searches.old.extremes.budget searches.old.word pair) }
 {
     match searches.word {
-        FindingWord::Consistent => {
+        Consistency::Consistent => {
             let found = searches.extremes.greatest(alloc, net, pair.from, pair.to)?;
-            Ok(PairFound::Searched(found))
+            Ok(found)
         }
-        FindingWord::Unsettled => {
+        Consistency::Open => {
             let limit = searches.extremes.limit(net, pair.from, pair.to);
-            Ok(PairFound::Limited(limit))
+            Ok(Separation::Open {
+                limit,
+                attained: None,
+            })
         }
-        FindingWord::Inconsistent => unreachable!(),
+        Consistency::Inconsistent => unreachable!(),
     }
 }
 

@@ -13,7 +13,7 @@ use chains::Chains;
 use drawn_networks::DrawnNetwork;
 use event_graph::Network;
 use itv_base::NoMemory;
-use slack_report::FindingWord;
+use requirements::Consistency;
 use std::alloc::Global;
 
 /// The network apart from the order of lanes, and the memory for its searches.
@@ -79,7 +79,7 @@ fn new_apart(alloc: Global, drawn: &DrawnNetwork, budget: u64) -> Result<Option<
 /// network apart stays unsettled.
 pub fn settle_apart(
     alloc: Global,
-    word: FindingWord,
+    word: Consistency,
     apart: &mut Option<Apart>,
 ) -> Result<(), NoMemory>
     requires fresh { IfSome apart.old (λ a. IsFresh a.net a.searches) }
@@ -96,7 +96,7 @@ pub fn settle_apart(
 }
 
 // Makes the finding of a network apart that is another network than the drawn one.
-fn settle_in(alloc: Global, word: FindingWord, apart: &mut Apart) -> Result<(), NoMemory>
+fn settle_in(alloc: Global, word: Consistency, apart: &mut Apart) -> Result<(), NoMemory>
     requires fresh { IsFresh apart.old.net apart.old.searches }
     requires allows { FindingAllows apart.old.net word }
     ensures ready { IfOk result (λ _. IsSearchable apart.new.net apart.new.searches) }
@@ -105,7 +105,7 @@ fn settle_in(alloc: Global, word: FindingWord, apart: &mut Apart) -> Result<(), 
     ensures same { apart.new.net ≡ apart.old.net }
 {
     match word {
-        FindingWord::Consistent => apart.searches.find(alloc, &apart.net),
-        FindingWord::Inconsistent | FindingWord::Unsettled => Ok(()),
+        Consistency::Consistent => apart.searches.find(alloc, &apart.net),
+        Consistency::Inconsistent | Consistency::Open => Ok(()),
     }
 }

@@ -2,20 +2,19 @@
 
 ghost use Rattle.std.specs.Prelude.{◌≡◌, ◌<◌, ℕ, IfOk};
 ghost use Rattle.requirements.specs.Bounds.{HasTimes};
-ghost use Rattle.extremes.specs.Found.{IsAttainedBy, IsGreatestFound, IsOpenShown};
-ghost use Rattle.explanations.specs.Answers.{bound_of};
+ghost use Rattle.extremes.specs.Found.{IsAttainedBy};
+ghost use Rattle.requirements.specs.Separations.{bound_of};
+ghost use Rattle.requirements.specs.declared.consistency.Consistency.{Consistency};
 ghost use Rattle.explanations.specs.Step.Bounding.{IsExplained};
 ghost use Rattle.explanations.specs.Step.Standing.{IsSearchable, KeepsFinding};
 
 use crate::bound::BoundFound;
 use crate::bounding::search_pair;
-use crate::pair_found::PairFound;
 use crate::searches::Searches;
 use chains::Chains;
 use event_graph::{Network, Pair};
-use extremes::Greatest;
 use itv_base::NoMemory;
-use slack_report::FindingWord;
+use requirements::Separation;
 use std::alloc::Global;
 
 /// The greatest bound of a pair of events of a network that is not inconsistent, with its reason.
@@ -37,40 +36,11 @@ pub fn explain_greatest(
     ensures times { IfOk result (λ found. HasTimes (bound_of found)) }
 {
     match search_pair(alloc, net, pair, searches)? {
-        PairFound::Searched(greatest) => explain_searched(alloc, net, pair, greatest, chains),
-        PairFound::Limited(limit) => Ok(BoundFound::Within {
-            limit,
-            attained: None,
-        }),
-    }
-}
-
-// The bound that a search found, with its reason.
-fn explain_searched(
-    alloc: Global,
-    net: &Network,
-    pair: Pair,
-    greatest: Greatest,
-    chains: &mut Chains,
-) -> Result<BoundFound, NoMemory>
-    requires found { IsGreatestFound net.now pair.from pair.to greatest }
-    requires chains { chains.old.events ≡ net.now.events }
-    requires from { pair.from.0 < net.now.events }
-    requires to { pair.to.0 < net.now.events }
-    ensures chains { chains.new.events ≡ net.now.events }
-    ensures found { IfOk result (λ found. (budget : ℕ) → IsOpenShown net.now budget pair.from pair.to greatest
-        → IsExplained net.now budget FindingWord.Consistent pair found) }
-    ensures times { IfOk result (λ found. (budget : ℕ) → IsOpenShown net.now budget pair.from pair.to greatest → HasTimes (bound_of found)) }
-{
-    match greatest {
-        Greatest::Closed { value, times } => {
-            explain_closed(alloc, net, pair, value, &times, chains)
+        Separation::Closed { value, shown } => {
+            explain_closed(alloc, net, pair, value, &shown, chains)
         }
-        Greatest::Unbounded { set } => Ok(BoundFound::Unbounded { set }),
-        Greatest::Open { limit, attained } => Ok(BoundFound::Within {
-            limit,
-            attained: Some(attained),
-        }),
+        Separation::Unbounded { shown } => Ok(Separation::Unbounded { shown }),
+        Separation::Open { limit, attained } => Ok(Separation::Open { limit, attained }),
     }
 }
 
@@ -88,7 +58,7 @@ fn explain_closed(
     requires from { pair.from.0 < net.now.events }
     requires to { pair.to.0 < net.now.events }
     ensures chains { chains.new.events ≡ net.now.events }
-    ensures found { IfOk result (λ found. (budget : ℕ) → IsExplained net.now budget FindingWord.Consistent pair found) }
+    ensures found { IfOk result (λ found. (budget : ℕ) → IsExplained net.now budget Consistency.Consistent pair found) }
     ensures times { IfOk result (λ found. HasTimes (bound_of found)) }
 {
     if !chains.find(net, times, pair.from, pair.to) {
@@ -96,5 +66,8 @@ fn explain_closed(
         unreachable!()
     }
     let chain = Vec::from_slice(alloc, chains.names())?;
-    Ok(BoundFound::Closed { value, chain })
+    Ok(Separation::Closed {
+        value,
+        shown: chain,
+    })
 }

@@ -11,7 +11,6 @@ mod explaining;
 mod finding;
 pub mod laws;
 mod network;
-mod pair_found;
 mod resting;
 mod row;
 mod rows;

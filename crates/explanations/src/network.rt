@@ -11,7 +11,7 @@ use crate::row::RowFound;
 use crate::rows::explain_rows;
 use drawn_networks::DrawnNetwork;
 use itv_base::NoMemory;
-use slack_report::FindingWord;
+use requirements::Consistency;
 use std::alloc::Global;
 
 /// What is found of a network and of each of its rows, in order. After an inconsistent finding `rows` is empty.
@@ -72,14 +72,14 @@ fn found_behind(
     ensures times { IfOk result (λ found. All HasRowTimes found.rows.items) }
 {
     match desk.searches.word {
-        FindingWord::Consistent => {
+        Consistency::Consistent => {
             let rows = explain_rows(alloc, drawn, desk)?;
             Ok(NetworkFound {
                 finding: Finding::Consistent,
                 rows,
             })
         }
-        FindingWord::Inconsistent => {
+        Consistency::Inconsistent => {
             let set = desk
                 .searches
                 .extremes
@@ -89,10 +89,10 @@ fn found_behind(
                 rows: Vec::new(alloc),
             })
         }
-        FindingWord::Unsettled => {
+        Consistency::Open => {
             let rows = explain_rows(alloc, drawn, desk)?;
             Ok(NetworkFound {
-                finding: Finding::Unsettled,
+                finding: Finding::Open,
                 rows,
             })
         }

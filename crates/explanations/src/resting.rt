@@ -3,7 +3,7 @@
 ghost use Rattle.std.specs.Prelude.{◌≡◌, ℕ, IfOk, IfSome};
 ghost use Rattle.event_graph.specs.Network.{Net};
 ghost use Rattle.drawn_networks.specs.Drawn.{IsRowOf};
-ghost use Rattle.slack_report.specs.declared.words.FindingWord.{FindingWord};
+ghost use Rattle.requirements.specs.declared.consistency.Consistency.{Consistency};
 ghost use Rattle.explanations.specs.Answers.{AreRowBounds, HasTimesApart, RestsOnOrder};
 ghost use Rattle.explanations.specs.Step.Standing.{HasSameBudget, IsSearchable, KeepsFinding, net_in, word_in};
 ghost use Rattle.explanations.specs.Step.Resting.{AreBoundsApart};
@@ -28,9 +28,9 @@ pub fn bounds_apart(
     requires row { IfSome apart.old (λ a. IsRowOf a.net row.now) }
     ensures ready { IfSome apart.new (λ a. IsSearchable a.net a.searches) }
     ensures same { (net : Net) → net_in net apart.new ≡ net_in net apart.old }
-    ensures word { (word : FindingWord) → word_in word apart.new ≡ word_in word apart.old }
+    ensures word { (word : Consistency) → word_in word apart.new ≡ word_in word apart.old }
     ensures budget { (budget : ℕ) → HasSameBudget budget apart.old → HasSameBudget budget apart.new }
-    ensures rests { IfOk result (λ rests. (net : Net) (budget : ℕ) (word : FindingWord) → HasSameBudget budget apart.old
+    ensures rests { IfOk result (λ rests. (net : Net) (budget : ℕ) (word : Consistency) → HasSameBudget budget apart.old
         → AreRowBounds net budget word row.now both.now
         → AreBoundsApart (net_in net apart.old) budget (word_in word apart.old) row.now row.now.kind both.now rests) }
     ensures times { IfOk result HasTimesApart }

@@ -12,8 +12,7 @@ use crate::row::RowFound;
 use drawn_networks::{DrawnNetwork, Row};
 use event_graph::Pair;
 use itv_base::NoMemory;
-use requirements::BothBounds;
-use slack_report::FindingWord;
+use requirements::{BothBounds, Consistency};
 use std::alloc::Global;
 
 /// Finds both bounds of each row of a drawn network that is not inconsistent.
@@ -23,7 +22,7 @@ pub fn explain_rows(
     desk: &mut Desk,
 ) -> Result<Vec<RowFound>, NoMemory>
     requires found { HasFound drawn.now.net desk.old.searches.word desk.old.searches.extremes }
-    requires settled { desk.old.searches.word ≡ FindingWord.Inconsistent → ⊥ }
+    requires settled { desk.old.searches.word ≡ Consistency.Inconsistent → ⊥ }
     requires desk { IsDeskFor drawn.now desk.old }
     ensures rows { IfOk result (λ found. AreFoundBehind drawn.now desk.old.searches.extremes.budget desk.old.searches.word found.items) }
     ensures times { IfOk result (λ found. All HasRowTimes found.items) }

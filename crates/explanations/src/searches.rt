@@ -3,19 +3,19 @@
 ghost use Rattle.std.specs.Prelude.{◌≡◌, ◌≤◌, IfOk};
 ghost use Rattle.itv_base.specs.declared.limits.TheConstants.{MAX_BUDGET};
 ghost use Rattle.extremes.specs.Ready.{IsFor};
-ghost use Rattle.explanations.specs.Step.Standing.{HasFound, IsFresh, word_by};
+ghost use Rattle.explanations.specs.Step.Standing.{HasFound, IsFresh};
 
 use event_graph::Network;
-use extremes::{Consistency, Extremes, RunTurns, turns_of};
+use extremes::{Extremes, run_turns};
 use itv_base::NoMemory;
-use slack_report::FindingWord;
+use requirements::Consistency;
 use std::alloc::Global;
 
 /// The memory for the searches of a network, how long they may go on, and what was found of the network.
 #[derive(Drop)]
 pub struct Searches {
     pub extremes: Extremes,
-    pub word: FindingWord,
+    pub word: Consistency,
 }
 
 impl Searches {
@@ -27,10 +27,10 @@ impl Searches {
         ensures fresh { IfOk result (IsFresh net.now) }
         ensures budget { IfOk result (λ searches. searches.extremes.budget ≡ budget) }
     {
-        let turns = RunTurns::of(turns_of(budget));
+        let turns = run_turns(budget);
         Ok(Searches {
             extremes: Extremes::new(alloc, net, budget, turns)?,
-            word: FindingWord::Unsettled,
+            word: Consistency::Open,
         })
     }
 
@@ -40,18 +40,7 @@ impl Searches {
         ensures found { IfOk result (λ _. HasFound net.now self.new.word self.new.extremes) }
         ensures budget { self.new.extremes.budget ≡ self.old.extremes.budget }
     {
-        self.word = word_of(self.extremes.find(alloc, net)?);
+        self.word = self.extremes.find(alloc, net)?;
         Ok(())
-    }
-}
-
-// The word of a finding.
-fn word_of(found: Consistency) -> FindingWord
-    ensures { result ≡ word_by found }
-{
-    match found {
-        Consistency::Consistent => FindingWord::Consistent,
-        Consistency::Inconsistent => FindingWord::Inconsistent,
-        Consistency::Open => FindingWord::Unsettled,
     }
 }

@@ -9,13 +9,11 @@ use Rattle.event_graph.specs.Proof.{IsStoppedProof, Nothing, ProofLine}
 use Rattle.event_graph.specs.Satisfying.{Satisfies}
 use Rattle.event_graph.specs.declared.scribe.ScribeFailed.{ScribeFailed}
 use Rattle.branch.specs.Answers.{Finds}
-use Rattle.branch.specs.declared.answer.SearchFinding.{SearchFinding}
-use Rattle.branch.specs.declared.answer.SearchFinding.TheVariants as founds
+use Rattle.requirements.specs.declared.consistency.Consistency.{Consistency}
 use Rattle.chains.specs.Named.{HasMarked, IsIn, IsRefuting}
 use Rattle.chains.proofs.Naming.{named_contradict}
 use Rattle.extremes.specs.Found.{IsConsistency, IsContradictionFound, IsFindingOpen}
-use Rattle.extremes.specs.Step.{consistency_of}
-use Rattle.extremes.specs.declared.found.Consistency.TheVariants.{Consistent, Inconsistent, Open}
+use Rattle.requirements.specs.declared.consistency.Consistency.TheVariants.{Consistent, Inconsistent, Open}
 
 known_times : (net : Net) (known : Option (List ℤ)) → IsSomeAnd known (λ times. Satisfies times net) → (times : List ℤ) × Satisfies times net
 known_times net None sat = absurd sat
@@ -30,40 +28,40 @@ times_known net (Some times) sat some = sat
 pub times_there : (net : Net) (known : Option (List ℤ)) → IfSome known (λ times. Satisfies times net) → IsSome known → (times : List ℤ) × Satisfies times net
 times_there net known sat some = known_times net known (times_known net known sat some)
 
-pub finding_right : (net : Net) (budget leaves : ℕ) (lines : List ProofLine) (known : Option (List ℤ)) (found : SearchFinding) → Finds net budget lines leaves known found
-    → IsConsistency net (consistency_of found)
-finding_right net budget leaves lines known founds.Consistent f = known_times net known f.satisfies
-finding_right net budget leaves lines known founds.Inconsistent f = f.none
-finding_right net budget leaves lines known founds.Unsettled f = tt
+pub finding_right : (net : Net) (budget leaves : ℕ) (lines : List ProofLine) (known : Option (List ℤ)) (found : Consistency) → Finds net budget lines leaves known found
+    → IsConsistency net found
+finding_right net budget leaves lines known Consistent f = known_times net known f.satisfies
+finding_right net budget leaves lines known Inconsistent f = f.none
+finding_right net budget leaves lines known Open f = tt
 
 -- after a consistent finding there are known times
-pub finding_known : (found : SearchFinding) (known : Option (List ℤ)) (result : Result SearchFinding ScribeFailed) → result ≡ Ok found → (IsSome known ↔ (result ≡ Ok founds.Consistent))
-    → consistency_of found ≡ Consistent → IsSome known
-finding_known founds.Consistent known result is knows same = knows.1 is
-finding_known founds.Inconsistent known result is knows same = absurd (cc same)
-finding_known founds.Unsettled known result is knows same = absurd (cc same)
+pub finding_known : (found : Consistency) (known : Option (List ℤ)) (result : Result Consistency ScribeFailed) → result ≡ Ok found → (IsSome known ↔ (result ≡ Ok Consistent))
+    → found ≡ Consistent → IsSome known
+finding_known Consistent known result is knows same = knows.1 is
+finding_known Inconsistent known result is knows same = absurd (cc same)
+finding_known Open known result is knows same = absurd (cc same)
 
 -- known times satisfy
-pub known_right : (net : Net) (budget leaves : ℕ) (lines : List ProofLine) (known : Option (List ℤ)) (found : SearchFinding) (result : Result SearchFinding ScribeFailed) → result ≡ Ok found
-    → (IsSome known ↔ (result ≡ Ok founds.Consistent)) → Finds net budget lines leaves known found → IfSome known (λ times. Satisfies times net)
+pub known_right : (net : Net) (budget leaves : ℕ) (lines : List ProofLine) (known : Option (List ℤ)) (found : Consistency) (result : Result Consistency ScribeFailed) → result ≡ Ok found
+    → (IsSome known ↔ (result ≡ Ok Consistent)) → Finds net budget lines leaves known found → IfSome known (λ times. Satisfies times net)
 known_right net budget leaves lines None found result is knows f = tt
-known_right net budget leaves lines (Some times) founds.Consistent result is knows f = f.satisfies
-known_right net budget leaves lines (Some times) founds.Inconsistent result is knows f = let there : result ≡ Ok founds.Consistent = knows.0 refl in absurd (cc (is, there))
-known_right net budget leaves lines (Some times) founds.Unsettled result is knows f = let there : result ≡ Ok founds.Consistent = knows.0 refl in absurd (cc (is, there))
+known_right net budget leaves lines (Some times) Consistent result is knows f = f.satisfies
+known_right net budget leaves lines (Some times) Inconsistent result is knows f = let there : result ≡ Ok Consistent = knows.0 refl in absurd (cc (is, there))
+known_right net budget leaves lines (Some times) Open result is knows f = let there : result ≡ Ok Consistent = knows.0 refl in absurd (cc (is, there))
 
 -- a budget of as many cases as there are choices leaves nothing open
-pub finding_settles : (net : Net) (budget leaves : ℕ) (lines : List ProofLine) (known : Option (List ℤ)) (found : SearchFinding) → Finds net budget lines leaves known found
-    → cause_choices net.constraints ≤ budget → consistency_of found ≡ Open → ⊥
-finding_settles net budget leaves lines known founds.Consistent f enough open_ = cc open_
-finding_settles net budget leaves lines known founds.Inconsistent f enough open_ = cc open_
-finding_settles net budget leaves lines known founds.Unsettled f enough open_ = omega (arith, f.below_choices, enough)
+pub finding_settles : (net : Net) (budget leaves : ℕ) (lines : List ProofLine) (known : Option (List ℤ)) (found : Consistency) → Finds net budget lines leaves known found
+    → cause_choices net.constraints ≤ budget → found ≡ Open → ⊥
+finding_settles net budget leaves lines known Consistent f enough open_ = cc open_
+finding_settles net budget leaves lines known Inconsistent f enough open_ = cc open_
+finding_settles net budget leaves lines known Open f enough open_ = omega (arith, f.below_choices, enough)
 
 -- an open finding used the budget up
-pub finding_open : (net : Net) (budget leaves : ℕ) (lines : List ProofLine) (known : Option (List ℤ)) (found : SearchFinding) → Finds net budget lines leaves known found
-    → consistency_of found ≡ Open → IsFindingOpen net budget
-finding_open net budget leaves lines known founds.Consistent f is = absurd (cc is)
-finding_open net budget leaves lines known founds.Inconsistent f is = absurd (cc is)
-finding_open net budget leaves lines known founds.Unsettled f is =
+pub finding_open : (net : Net) (budget leaves : ℕ) (lines : List ProofLine) (known : Option (List ℤ)) (found : Consistency) → Finds net budget lines leaves known found
+    → found ≡ Open → IsFindingOpen net budget
+finding_open net budget leaves lines known Consistent f is = absurd (cc is)
+finding_open net budget leaves lines known Inconsistent f is = absurd (cc is)
+finding_open net budget leaves lines known Open f is =
     record { always = f.always; stopped = (lines, subst (λ n. IsStoppedProof net Nothing lines n) f.used f.stopped) }
 
 -- ---- constraints that contradict each other
@@ -76,11 +74,11 @@ none_in count number is_in = elim (cases_lt number count) [
 ]
 
 -- where a search by cases found no times, the constraints that its lines name refute the network
-pub finding_refutes : (net : Net) (budget leaves : ℕ) (lines : List ProofLine) (known : Option (List ℤ)) (found : SearchFinding) (count : ℕ) (old new : List Bool)
-    → Finds net budget lines leaves known found → old ≡ replicate count false → HasMarked old lines new → consistency_of found ≡ Inconsistent → IsRefuting net new
-finding_refutes net budget leaves lines known founds.Consistent count old new f fresh marked is = absurd (cc is)
-finding_refutes net budget leaves lines known founds.Unsettled count old new f fresh marked is = absurd (cc is)
-finding_refutes net budget leaves lines known founds.Inconsistent count old new f fresh marked is =
+pub finding_refutes : (net : Net) (budget leaves : ℕ) (lines : List ProofLine) (known : Option (List ℤ)) (found : Consistency) (count : ℕ) (old new : List Bool)
+    → Finds net budget lines leaves known found → old ≡ replicate count false → HasMarked old lines new → found ≡ Inconsistent → IsRefuting net new
+finding_refutes net budget leaves lines known Consistent count old new f fresh marked is = absurd (cc is)
+finding_refutes net budget leaves lines known Open count old new f fresh marked is = absurd (cc is)
+finding_refutes net budget leaves lines known Inconsistent count old new f fresh marked is =
     let before : (number : ℕ) → IsIn old number → ⊥ = λ number is_in. none_in count number (subst (λ set. IsIn set number) fresh is_in) in
     record {
       lines = lines;

@@ -1,5 +1,6 @@
 -- What the searches for greatest separations find.
-use Rattle.std.proofs.Common.{◌≡◌, ◌^◌, ◌≤ℤ◌, ◌-ℤ◌, ℕ, zero, suc, ℤ, pos, neg_ℤ, Bool, List, [], ◌∷◌, All, get_or, Option, refl, sym, subst, arith, rules, to_z, of_z, w64}
+use Rattle.std.proofs.Common.{◌≡◌, ◌^◌, ◌≤ℤ◌, ◌-ℤ◌, ℕ, zero, suc, ℤ, pos, neg_ℤ, Bool, List, [], ◌∷◌, All, get_or, Option, Some, None, refl, sym, subst, arith, rules, to_z, of_z, w64}
+use Rattle.std.specs.Prelude.{IsSomeAnd}
 use Rattle.std.specs.Global.{Vec}
 use Rattle.std.proofs.lemmas.Int.{ints, to_z-of_z}
 use mir.Val.{SFits}
@@ -18,9 +19,8 @@ use Rattle.branch.specs.Work.{IsClose}
 use Rattle.branch.proofs.Close.{separation_time, time_close}
 use Rattle.settle.specs.ShownAnswer.{IsSettledAt, IsSettledUnbounded}
 use Rattle.edge_clauses.specs.declared.line.StoredLine.{StoredLine}
-use Rattle.extremes.specs.Found.{CanRise, IsAttainedBy, IsLeftOpen}
-use Rattle.extremes.specs.declared.found.Greatest.{Greatest}
-use Rattle.extremes.specs.declared.found.Greatest.TheVariants.{Closed, Unbounded, Open}
+use Rattle.requirements.specs.declared.separation.Separation.TheVariants.{Closed, Unbounded, Open}
+use Rattle.extremes.specs.Found.{CanRise, Greatest, IsAttainedBy, IsLeftOpen}
 use Rattle.extremes.specs.Step.{IsFoundBy, IsSettledBy}
 
 -- ---- numbers
@@ -72,9 +72,10 @@ unbounded_found search left set same shown sat = record {
   settles = λ enough. refl;
 }
 
-pub open_found : (search : PairSearch) (limit : Option ℤ) (attained : ℤ) (left : Evidence) → IsEnclosedBy search limit attained left → Satisfies left.times search.net → All IsClose left.times
-    → IsFoundBy search.net search.budget search.from search.to (Open limit (to_z w64 (of_z w64 attained)))
-open_found search limit attained left enclosed sat close =
+pub open_found : (search : PairSearch) (limit attained : Option ℤ) (left : Evidence) → IsSomeAnd attained (λ value. IsEnclosedBy search limit value left)
+    → Satisfies left.times search.net → All IsClose left.times → IsFoundBy search.net search.budget search.from search.to (Open limit attained)
+open_found search limit None left enclosed sat close = absurd enclosed
+open_found search limit (Some attained) left enclosed sat close =
     let within : IsTime attained = subst IsTime enclosed.attains (separation_time left.times search.from search.to close) in
     let stopped = subst (λ n. IsStoppedProof search.net (BoundGoal search.from search.to attained) left.lines n) enclosed.used enclosed.stopped in
     let shown : IsLeftOpen search.net search.budget search.from search.to limit attained = record {
@@ -84,8 +85,7 @@ open_found search limit attained left enclosed sat close =
       limit_within = limit_time limit enclosed.within;
       within = within;
     } in
-    subst (λ (z : ℤ). IsFoundBy search.net search.budget search.from search.to (Open limit z)) (time_kept attained within)
-    (record { right = tt; open_shown = shown; settles = λ enough. absurd (omega (arith, enough, enclosed.below_choices)) })
+    record { right = tt; open_shown = shown; settles = λ enough. absurd (omega (arith, enough, enclosed.below_choices)) }
 
 -- ---- by clauses
 

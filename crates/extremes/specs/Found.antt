@@ -1,5 +1,6 @@
 -- Whether times satisfy a network, and what is found of the greatest separation of a pair.
-use Rattle.std.specs.Prelude.{◌≡◌, ◌⊎◌, ℕ, ℤ, Bool, true, false, List, Option, All, IfSome, length}
+use Rattle.std.specs.Prelude.{◌≡◌, ◌⊎◌, ℕ, ℤ, Bool, List, Option, All, IfSome, IsSomeAnd, length}
+use Rattle.std.specs.Global.{Vec}
 use Rattle.itv_base.specs.declared.names.EventId.{EventId}
 use Rattle.event_graph.specs.Bounds.{IsGreatest, IsInconsistent, IsRay}
 use Rattle.event_graph.specs.Network.{Net}
@@ -9,10 +10,10 @@ use Rattle.event_graph.specs.RootBound.{IsRootBound, MeetsAlways}
 use Rattle.event_graph.specs.Satisfying.{Satisfies}
 use Rattle.event_graph.specs.Times.{IsTime, separation}
 use Rattle.chains.specs.Named.{IsContradiction, IsRefuting}
-use Rattle.extremes.specs.declared.found.Consistency.{Consistency}
-use Rattle.extremes.specs.declared.found.Consistency.TheVariants.{Consistent, Inconsistent, Open}
-use Rattle.extremes.specs.declared.found.Greatest.{Greatest}
-use Rattle.extremes.specs.declared.found.Greatest.TheVariants as greatest
+use Rattle.requirements.specs.declared.consistency.Consistency.{Consistency}
+use Rattle.requirements.specs.declared.consistency.Consistency.TheVariants.{Consistent, Inconsistent, Open}
+use Rattle.requirements.specs.declared.separation.Separation.{Separation}
+use Rattle.requirements.specs.declared.separation.Separation.TheVariants as greatest
 
 -- ---- the finding
 
@@ -49,6 +50,10 @@ pub record IsAttainedBy (net : Net) (from to : EventId) (value : ℤ) (times : L
 abbrev pub CanRise : Net → EventId → EventId → List Bool → Type 0
 CanRise net from to set = (times : List ℤ) × Satisfies times net × IsRay net from to times set
 
+-- what is found of a greatest separation: times attain a number, and a set of events can be raised where there is none
+abbrev pub Greatest : Type 0
+Greatest = Separation (Vec ℤ) (Vec Bool)
+
 -- what is found of the greatest separation of a pair; where it was left open this says nothing
 abbrev pub IsGreatestFound : Net → EventId → EventId → Greatest → Type 0
 IsGreatestFound net from to (greatest.Closed value times) = IsAttainedBy net from to value times.items
@@ -64,14 +69,8 @@ pub record IsLeftOpen (net : Net) (budget : ℕ) (from to : EventId) (limit : Op
   pub limit_within : IfSome limit IsTime
   pub within : IsTime attained
 
--- where the greatest separation was left open, a search by cases left it so; of other answers this says nothing
+-- where the greatest separation was left open, some separation was attained, and a search by cases left it so; of other answers this says nothing
 abbrev pub IsOpenShown : Net → ℕ → EventId → EventId → Greatest → Type 0
 IsOpenShown net budget from to (greatest.Closed value times) = Unit {0}
 IsOpenShown net budget from to (greatest.Unbounded set) = Unit {0}
-IsOpenShown net budget from to (greatest.Open limit attained) = IsLeftOpen net budget from to limit attained
-
--- the greatest separation was left open
-abbrev pub is_open : Greatest → Bool
-is_open (greatest.Closed value times) = false
-is_open (greatest.Unbounded set) = false
-is_open (greatest.Open limit attained) = true
+IsOpenShown net budget from to (greatest.Open limit attained) = IsSomeAnd attained (IsLeftOpen net budget from to limit)

@@ -5,22 +5,12 @@ use Rattle.event_graph.specs.Bounds.{IsInconsistent}
 use Rattle.event_graph.specs.Edges.{cause_choices}
 use Rattle.event_graph.specs.Network.{Net}
 use Rattle.event_graph.specs.Satisfying.{Satisfies}
-use Rattle.branch.specs.declared.answer.SearchFinding.{SearchFinding}
-use Rattle.branch.specs.declared.answer.SearchFinding.TheVariants as founds
 use Rattle.chains.specs.Named.{SatisfiesOf}
-use Rattle.extremes.specs.Found.{IsGreatestFound, IsOpenShown, is_open}
+use Rattle.requirements.specs.Separations.{is_open}
+use Rattle.extremes.specs.Found.{Greatest, IsGreatestFound, IsOpenShown}
 use Rattle.extremes.specs.Ready.{AreStart}
 use Rattle.extremes.specs.declared.by_clauses.ClauseFinding.{ClauseFinding}
 use Rattle.extremes.specs.declared.by_clauses.ClauseFinding.TheVariants as clauses
-use Rattle.extremes.specs.declared.found.Consistency.{Consistency}
-use Rattle.extremes.specs.declared.found.Consistency.TheVariants.{Consistent, Inconsistent, Open}
-use Rattle.extremes.specs.declared.found.Greatest.{Greatest}
-
--- the consistency that a search by cases finds
-abbrev pub consistency_of : SearchFinding → Consistency
-consistency_of founds.Consistent = Consistent
-consistency_of founds.Inconsistent = Inconsistent
-consistency_of founds.Unsettled = Open
 
 -- what a search by clauses finds of a network
 abbrev pub IsClauseFinding : Net → ClauseFinding → Type 0

@@ -9,9 +9,10 @@ ghost use Rattle.extremes.specs.Ready.{AreStart};
 ghost use Rattle.extremes.specs.Step.{IsFoundBy};
 
 use crate::found::Greatest;
-use branch::{GreatestAnswer, Quiet, ScribeFailed, Work, greatest, greatest_from};
+use branch::{Quiet, ScribeFailed, Work, greatest, greatest_from};
 use event_graph::Network;
 use itv_base::{EventId, NoMemory};
+use requirements::{Bound, Separation};
 use std::alloc::Global;
 
 /// Finds the greatest separation of a pair of events by cases, from the known times.
@@ -64,22 +65,22 @@ pub fn greatest_from_start(
 }
 
 // What a search by cases has found, with the times or the events to raise that it left.
-fn found_of(alloc: Global, work: &Work, answer: GreatestAnswer) -> Result<Greatest, NoMemory>
+fn found_of(alloc: Global, work: &Work, answer: Bound) -> Result<Greatest, NoMemory>
     ensures found { (search : PairSearch) (lines : List ProofLine) → IsGreatestAnswer search (evidence lines work.now) answer
         → Satisfies work.now.times search.net → All IsClose work.now.times → IfOk result (IsFoundBy search.net search.budget search.from search.to) }
 {
     match answer {
-        GreatestAnswer::Closed(value) => {
+        Bound::Closed(value) => {
             let times = Vec::from_slice(alloc, work.times())?;
-            Ok(Greatest::Closed { value, times })
+            Ok(Separation::Closed {
+                value,
+                shown: times,
+            })
         }
-        GreatestAnswer::Unbounded => {
+        Bound::Unbounded => {
             let set = Vec::from_slice(alloc, work.ray())?;
-            Ok(Greatest::Unbounded { set })
+            Ok(Separation::Unbounded { shown: set })
         }
-        GreatestAnswer::Enclosed { upper, attained } => Ok(Greatest::Open {
-            limit: upper,
-            attained,
-        }),
+        Bound::Within { limit, attained } => Ok(Separation::Open { limit, attained }),
     }
 }

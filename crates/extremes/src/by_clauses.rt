@@ -13,6 +13,7 @@ use crate::naming::named_by;
 use crate::starting::start_of;
 use event_graph::Network;
 use itv_base::{EventId, NoMemory};
+use requirements::Separation;
 use settle::{RunTurns, Settled, Settler, ShownAnswer};
 use std::alloc::Global;
 
@@ -94,8 +95,11 @@ pub fn greatest_by_clauses(
         ..
     } = found;
     match answer {
-        Settled::Closed(value) => Ok(Some(Greatest::Closed { value, times })),
-        Settled::Unbounded => Ok(Some(Greatest::Unbounded { set: ray })),
+        Settled::Closed(value) => Ok(Some(Separation::Closed {
+            value,
+            shown: times,
+        })),
+        Settled::Unbounded => Ok(Some(Separation::Unbounded { shown: ray })),
         Settled::Inconsistent => unreachable!(),
         Settled::Spent => Ok(None),
     }

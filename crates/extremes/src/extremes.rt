@@ -5,24 +5,26 @@ ghost use Rattle.event_graph.specs.Bounds.{IsInconsistent};
 ghost use Rattle.event_graph.specs.Edges.{cause_choices};
 ghost use Rattle.event_graph.specs.RootBound.{IsRootBound, MeetsAlways};
 ghost use Rattle.event_graph.specs.Times.{IsTime};
-ghost use Rattle.extremes.specs.Found.{IsConsistency, IsContradictionFound, IsFindingOpen, IsGreatestFound, IsOpenShown, is_open};
+ghost use Rattle.requirements.specs.Separations.{is_open};
+ghost use Rattle.extremes.specs.Found.{IsConsistency, IsContradictionFound, IsFindingOpen, IsGreatestFound, IsOpenShown};
 ghost use Rattle.extremes.specs.Ready.{AreTurnsOf, IsContradicted, IsFor, IsReady};
-ghost use Rattle.extremes.specs.Step.{IsFoundBy, consistency_of};
+ghost use Rattle.extremes.specs.Step.{IsFoundBy};
 ghost use Rattle.chains.specs.Named.{IsRefuting};
 
 use crate::by_cases::{greatest_from_known, greatest_from_start};
 use crate::by_clauses::{ClauseFinding, find_by_clauses, greatest_by_clauses};
 use crate::confirming::confirmed;
-use crate::found::{Consistency, Greatest};
-use branch::{Quiet, Root, ScribeFailed, SearchFinding, Work, find, root_bound};
+use crate::found::Greatest;
+use branch::{Quiet, Root, ScribeFailed, Work, find, root_bound};
 use chains::Marking;
 use event_graph::Network;
 use itv_base::{EventId, NoMemory};
+use requirements::Consistency;
 use settle::{RunTurns, Settler};
 use std::alloc::Global;
 
-// The cases of a first search. Where few cases are not enough, a search by clauses mostly is, and takes less time than many cases.
-const FIRST_CASES: u64 = 8;
+/// The cases of a first search. Where few cases are not enough, a search by clauses mostly is, and takes less time than many cases.
+pub const FIRST_CASES: u64 = 8;
 
 /// The memory for both searches of a network, how many cases a search may close, and how many turns searches by clauses may take. Every call needs the
 /// network that it was made for.
@@ -131,7 +133,7 @@ impl Extremes {
     {
         self.marking.begin();
         match find(&mut self.work, net, cases, &mut self.marking) {
-            Ok(found) => consistency_of(found),
+            Ok(found) => found,
             Err(ScribeFailed) => unreachable!(),
         }
     }
@@ -402,16 +404,5 @@ impl Extremes {
             Root::Bound(limit) => limit,
             Root::NoTimes => unreachable!(),
         }
-    }
-}
-
-// The consistency that a search by cases finds.
-fn consistency_of(found: SearchFinding) -> Consistency
-    ensures { result ≡ consistency_of found }
-{
-    match found {
-        SearchFinding::Consistent => Consistency::Consistent,
-        SearchFinding::Inconsistent => Consistency::Inconsistent,
-        SearchFinding::Unsettled => Consistency::Open,
     }
 }

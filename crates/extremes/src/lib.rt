@@ -12,7 +12,7 @@ mod naming;
 mod starting;
 mod turns;
 
-pub use extremes::Extremes;
-pub use found::{Consistency, Greatest};
+pub use extremes::{Extremes, FIRST_CASES};
+pub use found::Greatest;
 pub use settle::RunTurns;
-pub use turns::turns_of;
+pub use turns::{run_turns, turns_of};

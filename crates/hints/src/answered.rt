@@ -2,36 +2,32 @@
 
 use crate::counted::put_warnings;
 use crate::unbounded::put_unbounded;
+use crate::unruled::put_unruled;
 use design_plan::Plan;
 use design_reading::{draw_plan, open_plan};
-use drawn_networks::DrawnNetwork;
 use itv_base::Shelf;
 use refusal_hints::Hint;
 
-// The status of a run where some requirement is broken.
+// The status of a run that found a requirement broken.
 const SOME_FAIL: u8 = 1;
 
-/// Puts what is said of a design whose run ended with this status: an event that nothing bounds, if some requirement is broken, and how many warnings
-/// job lint has.
+/// Puts what is said of a design whose run ended with this status: an event that nothing bounds, if some requirement is broken, sheets without a
+/// rule, and how many warnings the drawing has. Nothing is searched.
 pub fn put_answered<H: Shelf>(hint: &mut Hint, design: &str, status: u8, shelf: &mut H) {
     if let Ok(plan) = open_plan(hint.alloc(), design, shelf) {
-        put_plan(hint, design, status, &plan);
+        if status == SOME_FAIL {
+            put_drawn(hint, &plan, shelf);
+        }
+        put_unruled(hint, &plan, shelf);
+        put_warnings(hint, design, &plan);
         drop(plan);
     }
 }
 
-// Puts what is said of a plan that was read.
-fn put_plan(hint: &mut Hint, design: &str, status: u8, plan: &Plan) {
+// Puts which event of the network of a plan nothing bounds.
+fn put_drawn<H: Shelf>(hint: &mut Hint, plan: &Plan, shelf: &mut H) {
     if let Ok(drawn) = draw_plan(hint.alloc(), plan) {
-        put_drawn(hint, design, status, plan, &drawn);
+        put_unbounded(hint, plan, &drawn, shelf);
         drop(drawn);
     }
-}
-
-// Puts what is said of a plan and of the network that it draws.
-fn put_drawn(hint: &mut Hint, design: &str, status: u8, plan: &Plan, drawn: &DrawnNetwork) {
-    if status == SOME_FAIL {
-        put_unbounded(hint, drawn);
-    }
-    put_warnings(hint, design, plan, drawn);
 }

@@ -5,6 +5,7 @@ use refusal_hints::Hint;
 
 /// Puts that the budget left an answer open, to a question or to a requirement, and what may settle the answer.
 pub fn put_open(hint: &mut Hint, task: Task<'_>) {
+    hint.begin();
     hint.put("the budget left an answer open: ");
     hint.put(settles(task));
 }

@@ -1,6 +1,6 @@
-//! What is said to a person after a run: why the words, a file or the design was refused, which event nothing bounds, or that job lint warns of the
-//! design. There is no contract on what is said: a hint is not proved, and no answer of a run rests on one. Each takes time and memory in proportion
-//! to the files.
+//! What is said to a person after a run: why the words, a file or the design was refused, which event nothing bounds, which sheet has no rule, or that
+//! the drawing has warnings. There is no contract on what is said: a hint is not proved, and no answer of a run rests on one. Nothing is searched: each
+//! hint takes time and memory in proportion to the files and to what they draw.
 #![tactic(auto)]
 
 mod after_run;
@@ -8,10 +8,9 @@ mod answered;
 mod budget;
 mod counted;
 mod held;
-mod lint_cost;
-mod lint_count;
 mod margin_fault;
 mod unbounded;
+mod unruled;
 
 pub use after_run::said_after;
 pub use refusal_hints::{Looked, NameLook};

@@ -9,7 +9,7 @@ use moves::numbers_of;
 use refusal_hints::{Hint, put_too_many};
 use unroll::{Limit, MAX_NUMBERS};
 
-/// Why job margin refuses the design that is read once more, or its list. Nothing is put where the reading does not show it.
+/// Why job margin refuses the design that is read once more, or its list. Nothing is put if the reading does not show it.
 pub fn put_margin_refusal<H: Shelf>(
     hint: &mut Hint,
     list: Option<&str>,
@@ -32,6 +32,7 @@ fn put_plan_refusal(hint: &mut Hint, list: Option<&str>, plan: &Plan) {
 fn put_drawn_refusal(hint: &mut Hint, list: Option<&str>, drawn: &DrawnNetwork) {
     match count_numbers(hint, drawn) {
         Some(count) if count > u64::from(MAX_NUMBERS) => {
+            hint.begin();
             put_too_many(hint, Limit::Numbers, u128::from(count))
         }
         Some(_) => {
@@ -66,12 +67,13 @@ fn put_list_refusal(hint: &mut Hint, list: &str, drawn: &DrawnNetwork) {
 // Why the text at a place of a list is refused.
 fn put_name_refusal(hint: &mut Hint, list: &str, place: u64) {
     let name = name_at(list, place);
+    hint.begin();
     hint.put("--together: ");
     hint.put_quoted(name);
-    hint.put(if stands_before(list, place, name) {
-        " stands twice"
+    hint.put(if is_before(list, place, name) {
+        " is listed twice"
     } else {
-        " is no number of the design: the lines of job margin say what each is called"
+        " is not a number of the design: the lines of job margin name them"
     });
 }
 
@@ -87,8 +89,8 @@ fn name_at(list: &str, place: u64) -> &str {
     ""
 }
 
-// Whether a text stands in a list before a place.
-fn stands_before(list: &str, place: u64, text: &str) -> bool {
+// Whether a text is in a list before a place.
+fn is_before(list: &str, place: u64, text: &str) -> bool {
     let mut number = 0u64;
     for name in list.split(',') {
         if number < place && name == text {

@@ -18,3 +18,9 @@ module _ {A B : Type 0} (Answers : A → List ℕ → Type 0) (Others : B → Li
   -- each answer is also an answer of the other kind
   pub works_as : (old new : SinkState) (y : B) (x : A) → ((text : List ℕ) → Answers x text → Others y text) → JobWrote Answers Begins old new (Ok x) → JobWrote Others Begins old new (Ok y)
   works_as old new y x more h = (h.0, more h.0 h.1, h.2)
+
+-- what goes with an answer also goes with it in the other way
+pub works_also : {A : Type 0} (Answers Others : A → List ℕ → Type 0) (Begins : List ℕ → Type 0) (old new : SinkState) (r : Result A Unanswered) → ((x : A) (text : List ℕ) → Answers x text → Others x text)
+    → JobWrote Answers Begins old new r → JobWrote Others Begins old new r
+works_also Answers Others Begins old new (Ok x) more h = works_as Answers Others Begins old new x x (more x) h
+works_also Answers Others Begins old new (Err e) more h = stop_as Answers Others Begins old new e h

@@ -14,14 +14,16 @@ use Rattle.design_reading.specs.declared.refusal.Refusal.TheVariants as refusals
 use Rattle.design_plan.specs.Notes.{plan_notes}
 use Rattle.design_plan.specs.Plan.{PlanView}
 use Rattle.design_reading.specs.Design.{design_at, drawn_at, plan_at}
+use Rattle.design_reading.specs.AskedFor.{files_at}
 use Rattle.design_reading.specs.FileReading.{FileReading, gives, refuses, ◌>>=◌, at, file_at}
 use Rattle.command_words.specs.declared.job.SearchJob.TheVariants.{Bounds, Settle, Redraw}
 use Rattle.command_words.specs.declared.job.PlanJob.TheVariants.{Why, Brief, Lint}
 use Rattle.command_words.specs.declared.job.CheckJob.TheVariants.{Check, Confirm}
-use Rattle.command_words.specs.Task.{Task, searched, planned, checked, fall, matrix, generated, whatif, margin}
+use Rattle.command_words.specs.Task.{Task, searched, planned, checked, fall, files, matrix, generated, whatif, margin}
 use Rattle.job_bounds.specs.Reports.{MayHaveBegun}
 use Rattle.job_brief.specs.Brief.{AnswersBrief}
 use Rattle.job_fall.specs.Fall.{AnswersFall, BeginsFall}
+use Rattle.job_files.specs.Files.{AnswersFiles}
 use Rattle.falling.specs.View.{view_of}
 use Rattle.falling.specs.declared.fault.Mixed.{Mixed}
 use Rattle.falling.specs.declared.view.View.{View}
@@ -105,6 +107,7 @@ opening (fall design budget cert) = do
 opening (matrix design) = do
   drawn ← design_at design
   matrix_at drawn
+opening (files design) = files_at design >>= λ names. gives (ready.Files names)
 opening (generated size budget) = do
   drawn ← design_at (codes "bus.json")
   gives (ready.Generated drawn size budget)
@@ -135,6 +138,7 @@ Answers (ready.Checked drawn Check report) answer text = AnswersCheck drawn repo
 Answers (ready.Checked drawn Confirm report) answer text = AnswersConfirm drawn report answer text
 Answers (ready.Fall drawn view budget cert) answer text = AnswersFall drawn budget cert answer text
 Answers (ready.Matrix drawn) answer text = AnswersMatrix drawn answer text
+Answers (ready.Files names) answer text = AnswersFiles names answer text
 Answers (ready.Generated drawn size budget) answer text = AnswersSummary drawn size budget answer text × DecidesWithin drawn budget answer
 Answers (ready.Whatif drawn edits budget) answer text = AnswersWhatif drawn budget edits answer text
 Answers (ready.Margin plan drawn numbers budget) answer text = AnswersMargin (plan_notes plan) drawn numbers budget answer text

@@ -50,6 +50,7 @@ IsAllowed (given.Planned plan drawn job budget) = IsBudget budget × IsOk (compo
 IsAllowed (given.Checked drawn job report) = Unit {0}
 IsAllowed (given.Fall drawn view budget cert) = IsViewOf drawn.net view
 IsAllowed (given.Matrix drawn) = drawn.net.events ≤ MAX_MATRIX_EVENTS
+IsAllowed (given.Files names) = Unit {0}
 IsAllowed (given.Generated drawn size budget) = IsBudget budget
 IsAllowed (given.Margin plan drawn numbers budget) = IsBudget budget
 IsAllowed (given.Whatif drawn edits budget) = (length drawn.rows ≤ MAX_SESSION_ROWS) × IsBudget budget × All (IsThere drawn) edits

@@ -20,6 +20,7 @@ use job_brief::write_brief;
 use job_check::write_check;
 use job_confirm::write_confirm;
 use job_fall::write_fall;
+use job_files::write_files;
 use job_lint::write_lint;
 use job_margin::write_margin;
 use job_matrix::write_matrix;
@@ -55,6 +56,7 @@ pub fn answer<K: Sink>(alloc: Global, given: &Ready, sink: &mut K) -> Result<Ans
             cert,
         } => write_fall(alloc, drawn, *view, *budget, *cert, sink),
         Ready::Matrix { drawn } => write_matrix(alloc, drawn, sink),
+        Ready::Files { names } => write_files(alloc, names, sink),
         Ready::Generated {
             drawn,
             size,
@@ -171,8 +173,7 @@ fn answer_redraw<K: Sink>(
         (MayHaveWritten (ready.Searched drawn.now SearchJob.Redraw budget)) (K.state sink.old) (K.state sink.new) result }
 {
     drawn.network().is_whole();
-    let answer = write_redraw(alloc, drawn, budget, sink)?;
-    Ok(answer)
+    write_redraw(alloc, drawn, budget, sink)
 }
 
 // Job self: the summary of the report.
@@ -188,6 +189,5 @@ fn answer_generated<K: Sink>(
         (K.state sink.old) (K.state sink.new) result }
 {
     drawn.network().is_whole();
-    let answer = write_summary(alloc, drawn, size, budget, sink)?;
-    Ok(answer)
+    write_summary(alloc, drawn, size, budget, sink)
 }

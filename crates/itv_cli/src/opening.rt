@@ -16,7 +16,9 @@ use crate::ready::Ready;
 use command_words::{CheckJob, PlanJob, SearchJob, Task};
 use design_gen::{GenFault, make};
 use design_plan::Plan;
-use design_reading::{Refusal, RefusalPlace, Stop, edits_stop, fetch_file, open_design};
+use design_reading::{
+    Refusal, RefusalPlace, Stop, edits_stop, fetch_file, open_design, open_files,
+};
 use drawn_networks::DrawnNetwork;
 use falling::{Mixed, View};
 use itv_base::{Listing, MAX_MATRIX_EVENTS, NoMemory, REPORT_LIMIT, Shelf};
@@ -54,6 +56,7 @@ pub fn open<H: Shelf>(alloc: Global, task: Task<'_>, shelf: &mut H) -> Result<Re
             cert,
         } => open_fall(alloc, design, budget, cert, shelf),
         Task::Matrix { design } => open_matrix(alloc, design, shelf),
+        Task::Files { design } => open_names(alloc, design, shelf),
         Task::Generated { size, budget } => open_generated(alloc, size, budget),
         Task::Whatif {
             design,
@@ -167,6 +170,16 @@ fn open_matrix<H: Shelf>(alloc: Global, design: &str, shelf: &mut H) -> Result<R
 {
     let drawn = open_design(alloc, design, shelf)?;
     for_matrix(drawn)
+}
+
+// What job files reads.
+fn open_names<H: Shelf>(alloc: Global, design: &str, shelf: &mut H) -> Result<Ready, Stop>
+    ensures opens { Opens (λ given. given) (H.state shelf.old) (H.state shelf.new)
+        (opening (said.files design.now)) result }
+    ensures allowed { IfOk result IsAllowed }
+{
+    let names = open_files(alloc, design, shelf)?;
+    Ok(Ready::Files { names })
 }
 
 // A drawn network for a matrix, or the refusal of a network with too many events.

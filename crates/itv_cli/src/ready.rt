@@ -4,7 +4,7 @@ use command_words::{CheckJob, PlanJob, SearchJob};
 use design_plan::Plan;
 use drawn_networks::DrawnNetwork;
 use falling::View;
-use itv_base::Listing;
+use itv_base::{Listing, Texts};
 use moves::NumberSeen;
 use range_edits::Edits;
 
@@ -41,6 +41,10 @@ pub enum Ready {
     /// To print the matrix of a drawn network.
     Matrix {
         drawn: DrawnNetwork,
+    },
+    /// To print the names of the files that a design is made of.
+    Files {
+        names: Texts,
     },
     /// To bound the rows of the generated design of a size, and sum up: what it draws, the size, and the cases that each search
     /// may close.

@@ -2,4 +2,3 @@
 pub mod JobWrote
 pub mod Ending
 pub mod Events
-pub mod Found

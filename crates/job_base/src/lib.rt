@@ -1,15 +1,13 @@
-//! What all jobs share: how a job ends, or why it has no answer, which the program reports by its exit status; the word for what a search
-//! finds; and the lines of events and rows. Each job states with `JobWrote` what it answers and writes.
+//! What all jobs share: how a job ends, or why it has no answer, which the program reports by its exit status; and the lines of events and
+//! rows. Each job states with `JobWrote` what it answers and writes.
 #![tactic(auto)]
 
 mod answer;
 mod events;
-mod found;
 mod rows;
 mod unanswered;
 
 pub use answer::{Answer, answer_of};
 pub use events::put_events;
-pub use found::found_word;
 pub use rows::{put_row, row_at};
 pub use unanswered::Unanswered;

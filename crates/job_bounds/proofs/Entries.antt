@@ -12,8 +12,8 @@ use Rattle.event_graph.specs.Network.{Constraint, IsConstraint, IsNet, Net}
 use Rattle.event_graph.specs.Proof.{Bound, Case, HasChoice, IsWalk, Loop, Nothing, Path, ProofGoal, ProofLine, Split}
 use Rattle.event_graph.specs.Proof.{ProofLeaves as ReadsProof}
 use Rattle.event_graph.proofs.Causes.{few_causes}
-use Rattle.slack_report.specs.declared.words.FindingWord.{FindingWord}
-use Rattle.slack_report.specs.declared.words.FindingWord.TheVariants as findings
+use Rattle.requirements.specs.declared.consistency.Consistency.{Consistency}
+use Rattle.requirements.specs.declared.consistency.Consistency.TheVariants as findings
 use Rattle.requirements.specs.declared.bound.Bound.{Bound as RowBound}
 use Rattle.requirements.specs.declared.bound.Bound.TheVariants as bounds
 use Rattle.right_report.specs.Right.ReportState.{NextBound}
@@ -80,10 +80,10 @@ proof_lines net Nothing (chosen ∷ cases) (Path names ∷ lines) left is_net re
 proof_lines net goal (chosen ∷ cases) (Loop names ∷ lines) left is_net reads =
     all_cons IsProofLine (Loop names) lines (walk_named net reads.0.0.0 names reads.0.0.0 is_net reads.0.0.1) (proof_lines net goal cases lines left is_net reads.1)
 
-pub finding_lines : (net : Net) (most : ℕ) (lines : List ProofLine) (word : FindingWord) → IsNet net → ShowsFinding net most lines word → All IsProofLine lines
+pub finding_lines : (net : Net) (most : ℕ) (lines : List ProofLine) (word : Consistency) → IsNet net → ShowsFinding net most lines word → All IsProofLine lines
 finding_lines net most lines findings.Consistent is_net s = proof_lines net Nothing _ lines _ is_net s.2.open_case.2
 finding_lines net most lines findings.Inconsistent is_net s = proof_lines net Nothing _ lines _ is_net s.0
-finding_lines net most lines findings.Unsettled is_net s = proof_lines net Nothing _ lines _ is_net s.open_case.2
+finding_lines net most lines findings.Open is_net s = proof_lines net Nothing _ lines _ is_net s.open_case.2
 
 pub bound_lines : (net : Net) (most : ℕ) (lines : List ProofLine) (r : Row) (coming : NextBound) (value : RowBound) → IsNet net → ShowsBound net most lines r coming value → All IsProofLine lines
 bound_lines net most lines r coming (bounds.Closed value) is_net s = proof_lines net (goal_of r coming value) _ lines _ is_net s.0

@@ -3,8 +3,7 @@ use Rattle.std.proofs.Common.{◌≡◌, ◌<◌, ◌≤◌, ℕ, ℤ, pos, neg_
 use Rattle.branch.specs.Answers.{Finds}
 use Rattle.branch.specs.Needed.{IsNeededToFind}
 use Rattle.branch.specs.Work.{IsClose}
-use Rattle.branch.specs.declared.answer.SearchFinding.{SearchFinding}
-use Rattle.branch.specs.declared.answer.SearchFinding.TheVariants as founds
+use Rattle.requirements.specs.declared.consistency.Consistency.{Consistency}
 use Rattle.event_graph.specs.Network.{IsNet, Net}
 use Rattle.event_graph.specs.Proof.{IsStoppedProof, Nothing, ProofLine}
 use Rattle.event_graph.specs.Reading.{AtEachSplit}
@@ -12,8 +11,7 @@ use Rattle.event_graph.specs.Satisfying.{Satisfies}
 use Rattle.event_graph.specs.Times.{separation, time_of}
 use Rattle.event_graph.proofs.Shifting.{length-shifted}
 use Rattle.itv_base.specs.declared.names.EventId.{EventId}
-use Rattle.slack_report.specs.declared.words.FindingWord.{FindingWord}
-use Rattle.slack_report.specs.declared.words.FindingWord.TheVariants as findings
+use Rattle.requirements.specs.declared.consistency.Consistency.TheVariants as findings
 use Rattle.slack_report.specs.Entry.{finding, times as times_line}
 use Rattle.right_report.specs.Right.ReportState.{behind_finding}
 use Rattle.drawn_networks.specs.Drawn.{Drawn}
@@ -22,39 +20,35 @@ use Rattle.right_report.specs.Right.Following.{MayFollow}
 use Rattle.right_report.specs.Shown.{ShowsFinding}
 use Rattle.right_report.proofs.Leading.{behind_proof}
 use Rattle.job_bounds.specs.Step.Witness.{AreNearby, IsShiftedTo}
-use Rattle.job_base.specs.Found.{found_word}
 use Rattle.job_bounds.specs.Step.Ready.{AreKnown, HasFound, behind_known}
 use Rattle.job_bounds.specs.Step.Searched.{printed_known, sized}
 use Rattle.job_bounds.specs.Written.{printed}
 use Rattle.job_bounds.proofs.Shifted.{at_zero, nearby-shifted, nearby_close, satisfies-shifted, separation-shifted, times_nearby}
 
 -- what the search shows
-shows : (net : Net) (most : ℕ) (lines : List ProofLine) (leaves : ℕ) (known : Option (List ℤ)) (found : SearchFinding) → Finds net most lines leaves known found → leaves ≤ most
-    → IsFinding net (found_word found) × ShowsFinding net most lines (found_word found)
-shows net most lines leaves known founds.Consistent f count = let s = f.stopped in (tt, (s.0, omega (arith, s.2, count), s.1))
-shows net most lines leaves known founds.Inconsistent f count = (f.none, (f.proof, omega (arith, f.count, count)))
-shows net most lines leaves known founds.Unsettled f count = (f.always, subst (λ n. IsStoppedProof net Nothing lines n) f.used f.stopped)
+shows : (net : Net) (most : ℕ) (lines : List ProofLine) (leaves : ℕ) (known : Option (List ℤ)) (found : Consistency) → Finds net most lines leaves known found → leaves ≤ most
+    → IsFinding net found × ShowsFinding net most lines found
+shows net most lines leaves known findings.Consistent f count = let s = f.stopped in (tt, (s.0, omega (arith, s.2, count), s.1))
+shows net most lines leaves known findings.Inconsistent f count = (f.none, (f.proof, omega (arith, f.count, count)))
+shows net most lines leaves known findings.Open f count = (f.always, subst (λ n. IsStoppedProof net Nothing lines n) f.used f.stopped)
 
-pub finding_fact : (net : Net) (most : ℕ) (cert : Bool) (basis : List ℤ) (lines : List ProofLine) (leaves : ℕ) (known : Option (List ℤ)) (found : SearchFinding) (word : FindingWord) → word ≡ found_word found
-    → Finds net most lines leaves known found → AtEachSplit net (IsNeededToFind net) lines → leaves ≤ most → (sized net most cert basis).finding (printed cert lines) word
-finding_fact net most cert basis lines leaves known found word e f needed count =
-    let s : IsFinding net (found_word found) × ShowsFinding net most lines (found_word found) = shows net most lines leaves known found f count in
-    subst (λ (w : FindingWord). (sized net most cert basis).finding (printed cert lines) w) (sym e) (s.0, (lines, refl, (s.1, needed)))
+pub finding_fact : (net : Net) (most : ℕ) (cert : Bool) (basis : List ℤ) (lines : List ProofLine) (leaves : ℕ) (known : Option (List ℤ)) (found : Consistency)
+    → Finds net most lines leaves known found → AtEachSplit net (IsNeededToFind net) lines → leaves ≤ most → (sized net most cert basis).finding (printed cert lines) found
+finding_fact net most cert basis lines leaves known found f needed count =
+    let s : IsFinding net found × ShowsFinding net most lines found = shows net most lines leaves known found f count in
+    (s.0, (lines, refl, (s.1, needed)))
 
-pub finding_may : (net : Net) (most : ℕ) (cert : Bool) (basis : List ℤ) (drawn : Drawn) (number : ℕ) (lines : List ProofLine) (word : FindingWord) → (sized net most cert basis).finding lines word
+pub finding_may : (net : Net) (most : ℕ) (cert : Bool) (basis : List ℤ) (drawn : Drawn) (number : ℕ) (lines : List ProofLine) (word : Consistency) → (sized net most cert basis).finding lines word
     → MayFollow (sized net most cert basis) drawn (behind_proof number lines) (finding word) (behind_finding word)
 finding_may net most cert basis drawn number [] word fact = inr (word, refl, fact, refl)
 finding_may net most cert basis drawn number (line ∷ lines) word fact = inr (word, refl, fact, refl)
 
 -- what it leaves
-pub found_is : (net : Net) (most : ℕ) (lines : List ProofLine) (leaves : ℕ) (known : Option (List ℤ)) (found : SearchFinding) (word : FindingWord) → word ≡ found_word found
-    → Finds net most lines leaves known found → HasFound net word known
-found_is net most lines leaves known found word e f = subst (λ (w : FindingWord). HasFound net w known) (sym e) (leaves_known found f)
-  where
-    leaves_known : (found : SearchFinding) → Finds net most lines leaves known found → HasFound net (found_word found) known
-    leaves_known founds.Consistent f = f.satisfies
-    leaves_known founds.Inconsistent f = tt
-    leaves_known founds.Unsettled f = f.always
+pub found_is : (net : Net) (most : ℕ) (lines : List ProofLine) (leaves : ℕ) (known : Option (List ℤ)) (found : Consistency) → Finds net most lines leaves known found
+    → HasFound net found known
+found_is net most lines leaves known findings.Consistent f = f.satisfies
+found_is net most lines leaves known findings.Inconsistent f = tt
+found_is net most lines leaves known findings.Open f = f.always
 
 -- ---- the known times
 
@@ -96,11 +90,11 @@ known_none net known list sat none count =
     let b : known ≡ [] = none_is known (sat.count ∙ empty) in
     subst (λ (ts : List ℤ). AreKnown net ts) (sym a) ((λ k d h. absurd (omega arith)), subst (λ ts. Satisfies ts net) b sat, refl)
 
-pub known_may : (net : Net) (most : ℕ) (cert : Bool) (basis : List ℤ) (drawn : Drawn) (word : FindingWord) (list : List ℤ) → word ≡ findings.Consistent → list ≡ basis → AreKnown net list
+pub known_may : (net : Net) (most : ℕ) (cert : Bool) (basis : List ℤ) (drawn : Drawn) (word : Consistency) (list : List ℤ) → word ≡ findings.Consistent → list ≡ basis → AreKnown net list
     → MayFollow (sized net most cert basis) drawn (behind_finding word) (times_line list) (behind_known word)
 known_may net most cert basis drawn word list e is known =
-    subst (λ (w : FindingWord). MayFollow (sized net most cert basis) drawn (behind_finding w) (times_line list) (behind_known w)) (sym e) (list, refl, (is, known.0, (known.1, known.2)), refl)
+    subst (λ (w : Consistency). MayFollow (sized net most cert basis) drawn (behind_finding w) (times_line list) (behind_known w)) (sym e) (list, refl, (is, known.0, (known.1, known.2)), refl)
 
-pub same_place : (word : FindingWord) → (word ≡ findings.Inconsistent) ⊎ (word ≡ findings.Unsettled) → behind_finding word ≡ behind_known word
+pub same_place : (word : Consistency) → (word ≡ findings.Inconsistent) ⊎ (word ≡ findings.Open) → behind_finding word ≡ behind_known word
 same_place word (inl e) = rw e refl
 same_place word (inr e) = rw e refl

@@ -4,7 +4,7 @@ use Rattle.itv_base.specs.declared.names.EventId.{EventId}
 use Rattle.branch.specs.Answers.{IsGreatestAnswer, Evidence}
 use Rattle.branch.specs.Needed.{IsNeededToBound}
 use Rattle.branch.specs.Work.{IsClose}
-use Rattle.branch.specs.declared.answer.GreatestAnswer.{GreatestAnswer}
+use Rattle.requirements.specs.declared.bound.Bound.{Bound}
 use Rattle.branch.proofs.SearchedLines.{no_line}
 use Rattle.event_graph.specs.Bounds.{IsRay}
 use Rattle.event_graph.specs.Limits.{IsPrintedTime}
@@ -12,11 +12,10 @@ use Rattle.event_graph.specs.Network.{Net}
 use Rattle.event_graph.specs.Proof.{ProofLine, Split}
 use Rattle.event_graph.specs.Reading.{AtEachSplit}
 use Rattle.event_graph.specs.Times.{separation, time_of}
-use Rattle.requirements.specs.declared.bound.Bound.{Bound}
 use Rattle.requirements.specs.declared.bound.Bound.TheVariants as bounds
 use Rattle.right_report.specs.Shown.{ShowsBound}
-use Rattle.slack_report.specs.declared.words.FindingWord.{FindingWord}
-use Rattle.slack_report.specs.declared.words.FindingWord.TheVariants as findings
+use Rattle.requirements.specs.declared.consistency.Consistency.{Consistency}
+use Rattle.requirements.specs.declared.consistency.Consistency.TheVariants as findings
 use Rattle.slack_report.specs.declared.words.Which.{Which}
 use Rattle.job_bounds.specs.Written.{ArePrinted, HasPrintedTimes, IsEachNeeded, printed}
 use Rattle.slack_report.specs.Entry.{bound, raise, times}
@@ -125,11 +124,11 @@ bound_fact : (net : Net) (most : ℕ) (cert : Bool) (basis : List ℤ) (current 
 bound_fact net most cert basis current coming pair which searched value found of shows needed h =
     let s : IsBoundOf net findings.Consistent current.row coming value × ShowsBound net most searched current.row coming value = shows current.row coming of.from of.to of.sort in
     let each : AreNeededFor net basis (searched_pair (which_of coming) (record { from = current.row.from; to = current.row.to })) searched = rw (of.sort, of.from, of.to) needed in
-    ((h, subst (λ (word : FindingWord). IsBoundOf net word current.row coming value) (sym found) s.0, (searched, refl, (s.1, needed_is net basis current.row coming searched each))), bound_times value h)
+    ((h, subst (λ (word : Consistency). IsBoundOf net word current.row coming value) (sym found) s.0, (searched, refl, (s.1, needed_is net basis current.row coming searched each))), bound_times value h)
 
 -- a bound after a search, from the answer on the searched pair
 pub answer_fact : (net : Net) (most : ℕ) (cert : Bool) (basis : List ℤ) (current : CurrentRow) (coming : NextBound) (pair : Pair) (which : Which) (left : Evidence)
-    (answer : GreatestAnswer) (value : Bound) (searched : Pair) → current.tally.found ≡ findings.Consistent → IsOf current coming pair which → searched ≡ searched_pair which pair
+    (answer : Bound) (value : Bound) (searched : Pair) → current.tally.found ≡ findings.Consistent → IsOf current coming pair which → searched ≡ searched_pair which pair
     → IsGreatestAnswer (search_of net searched most) left answer → AreNeededFor net basis searched left.lines → left.leaves ≤ most → value ≡ bound_of which answer → All IsClose left.times
     → (sized net most cert basis).bound current.tally.found current.row coming (printed cert left.lines) value
 answer_fact net most cert basis current coming pair which left answer value searched found of same a needed count is close =
@@ -146,14 +145,14 @@ limit_is : (net : Net) (r : Row) (coming : NextBound) (limit : Option ℤ) → I
 limit_is net r greatest limit h = h
 limit_is net r (least_by first) limit h = h
 
-open_bound : (net : Net) (current : CurrentRow) (coming : NextBound) (pair : Pair) (which : Which) (limit : Option ℤ) → current.tally.found ≡ findings.Unsettled → IsOf current coming pair which
+open_bound : (net : Net) (current : CurrentRow) (coming : NextBound) (pair : Pair) (which : Which) (limit : Option ℤ) → current.tally.found ≡ findings.Open → IsOf current coming pair which
     → IsLimitOf net pair which limit → IsBoundOf net current.tally.found current.row coming (bounds.Within limit None)
 open_bound net current coming pair which limit found of is =
     let h : IsLimitOf net (record { from = current.row.from; to = current.row.to }) (which_of coming) limit = rw (of.sort, of.from, of.to) is in
     (limit_is net current.row coming limit h, rw found refl)
 
 -- a bound without a search
-pub limit_fact : (net : Net) (most : ℕ) (cert : Bool) (basis : List ℤ) (current : CurrentRow) (coming : NextBound) (pair : Pair) (which : Which) (value : Bound) → current.tally.found ≡ findings.Unsettled
+pub limit_fact : (net : Net) (most : ℕ) (cert : Bool) (basis : List ℤ) (current : CurrentRow) (coming : NextBound) (pair : Pair) (which : Which) (value : Bound) → current.tally.found ≡ findings.Open
     → IsOf current coming pair which → IsOpenBound net pair which value → (sized net most cert basis).bound current.tally.found current.row coming [] value
 limit_fact net most cert basis current coming pair which value found of is =
     let h : HasPrintedTimes value = subst HasPrintedTimes (sym is.is_open) (is.within, tt) in

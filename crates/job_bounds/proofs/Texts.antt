@@ -22,8 +22,8 @@ use Rattle.requirements.specs.declared.verdict.Verdict.{Verdict}
 use Rattle.requirements.specs.declared.verdict.Verdict.TheVariants as verdicts
 use Rattle.itv_base.specs.declared.row_kind.RowKind.{RowKind}
 use Rattle.itv_base.specs.declared.row_kind.RowKind.TheVariants as kinds
-use Rattle.slack_report.specs.declared.words.FindingWord.{FindingWord}
-use Rattle.slack_report.specs.declared.words.FindingWord.TheVariants as findings
+use Rattle.requirements.specs.declared.consistency.Consistency.{Consistency}
+use Rattle.requirements.specs.declared.consistency.Consistency.TheVariants as findings
 use Rattle.slack_report.specs.Entry.{Entry, HasBoundForm, IsReportEntry, IsKind, IsName, heading, budget}
 use Rattle.right_report.specs.Right.ReportState.{ReportState, NextBound, CurrentRow, at_heading, at_budget, at_events, at_event, at_finding, at_known, at_rows, at_row, at_bound, at_times, at_raise, at_verdict, at_past, at_slack, at_end, at_last, behind_bound, behind_finding, behind_times, behind_verdict, bounded, greatest, judged, least_by}
 use Rattle.drawn_networks.specs.Drawn.{Drawn, name_of, nameless, IsRowOf}
@@ -148,10 +148,10 @@ held_times net current coming (bounds.Closed value) list fine before h = held_bo
 held_times net current coming bounds.Unbounded list fine before h = (fine, before)
 held_times net current coming (bounds.Within limit attained) list fine before h = held_bounded net current coming (bounds.Within limit attained) fine before h
 
-held_finding : (net : Net) (word : FindingWord) → Held net (behind_finding word)
+held_finding : (net : Net) (word : Consistency) → Held net (behind_finding word)
 held_finding net findings.Consistent = tt
 held_finding net findings.Inconsistent = tt
-held_finding net findings.Unsettled = tt
+held_finding net findings.Open = tt
 
 held_verdict : (net : Net) (current : CurrentRow) (range : Ends) (least first : Bound) (word : Verdict) → Held net (at_past current range least first) → Held net (behind_verdict current range least first word)
 held_verdict net current range least first verdicts.Pass h = (h.0.1, h.1, h.2, h.3)
@@ -168,12 +168,12 @@ module _ (drawn : Drawn) (most : ℕ) (cert : Bool) (basis : List ℤ) (is_net :
   name_at : (e : EventId) → e.0 < drawn.net.events → IsName (name_of drawn e)
   name_at e h = named drawn.names e.0 names (subst (λ n. e.0 < n) (sym count) h)
 
-  finding_due : (lines : List ProofLine) (word : FindingWord) → (sized drawn.net most cert basis).finding lines word → All IsProofLine lines
+  finding_due : (lines : List ProofLine) (word : Consistency) → (sized drawn.net most cert basis).finding lines word → All IsProofLine lines
   finding_due lines word fact =
       let p = fact.1 in
       subst (λ (ls : List ProofLine). All IsProofLine ls) (sym p.1) (printed_lines cert p.0 (finding_lines drawn.net most p.0 word is_net p.2.0))
 
-  bound_due : (found : FindingWord) (r : Row) (coming : NextBound) (lines : List ProofLine) (value : Bound) → (sized drawn.net most cert basis).bound found r coming lines value → All IsProofLine lines
+  bound_due : (found : Consistency) (r : Row) (coming : NextBound) (lines : List ProofLine) (value : Bound) → (sized drawn.net most cert basis).bound found r coming lines value → All IsProofLine lines
   bound_due found r coming lines value fact =
       let p = fact.0.2 in
       subst (λ (ls : List ProofLine). All IsProofLine ls) (sym p.1) (printed_lines cert p.0 (bound_lines drawn.net most p.0 r coming value is_net p.2.0))

@@ -8,8 +8,8 @@ use Rattle.itv_base.proofs.Written.{cut_then, grown-append}
 use Rattle.event_graph.specs.Network.{Net}
 use Rattle.requirements.specs.declared.verdict.Verdict.{Verdict}
 use Rattle.slack_report.specs.declared.words.EndWord.{EndWord}
-use Rattle.slack_report.specs.declared.words.FindingWord.{FindingWord}
-use Rattle.slack_report.specs.declared.words.FindingWord.TheVariants as findings
+use Rattle.requirements.specs.declared.consistency.Consistency.{Consistency}
+use Rattle.requirements.specs.declared.consistency.Consistency.TheVariants as findings
 use Rattle.slack_report.specs.Entry.{Entry, IsReportEntry, IsName, heading, budget, events, event, proof, finding, times, rows, row, bound, raise, verdict, slack, ending}
 use Rattle.slack_report.specs.Text.{entry_text, report_text}
 use Rattle.right_report.specs.Right.ReportState.{ReportState, at_budget, at_event, at_events, at_heading, at_last, end_word, is_fail}
@@ -91,17 +91,17 @@ begins_rest drawn most cert basis old now new put s = (
 
 -- ---- the end
 
-pub end_may : (claims : LineClaims) (drawn : Drawn) (found : FindingWord) (tally : Tally) (count : ℕ) (word : EndWord) → word ≡ end_word tally.report
+pub end_may : (claims : LineClaims) (drawn : Drawn) (found : Consistency) (tally : Tally) (count : ℕ) (word : EndWord) → word ≡ end_word tally.report
     → MayFollow claims drawn (behind_rows found tally count) (ending word) at_last
 end_may claims drawn findings.Consistent tally count word e = (ap ending e, refl)
 end_may claims drawn findings.Inconsistent tally count word e = (ap ending e, refl)
-end_may claims drawn findings.Unsettled tally count word e = (ap ending e, refl)
+end_may claims drawn findings.Open tally count word e = (ap ending e, refl)
 
 -- the summary of a word and of counts
 abbrev summary_by : EndWord → Tally → Summary
 summary_by word tally = record { end = word; passes = tally.passes; fails = tally.fails; undecided = tally.undecided }
 
-module _ (drawn : Drawn) (most : ℕ) (cert : Bool) (basis : List ℤ) (old now mid new : SinkState) (found : FindingWord) (tally : Tally) (count : ℕ) (words : List Verdict) (word : EndWord)
+module _ (drawn : Drawn) (most : ℕ) (cert : Bool) (basis : List ℤ) (old now mid new : SinkState) (found : Consistency) (tally : Tally) (count : ℕ) (words : List Verdict) (word : EndWord)
     (put : now ≡ grown old (report_text (front most))) (t : WroteVerdicts (sized drawn.net most cert basis) drawn at_events (behind_rows found tally count) words now mid)
     (end : new ≡ grown mid (entry_text (ending word))) (word_is : word ≡ end_word tally.report) (counted : IsTally tally words)
     (entries : (lines : List Entry) → LinesLead (sized drawn.net most cert basis) drawn at_events lines at_last → All IsName drawn.names → HasRowRanges drawn → All (IsReportEntry (length drawn.names)) (front most ++ lines)) where

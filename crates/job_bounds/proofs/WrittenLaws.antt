@@ -7,8 +7,8 @@ use Rattle.event_graph.specs.Reading.{AtEachSplit}
 use Rattle.event_graph.proofs.Sizes.{printed_times}
 use Rattle.requirements.specs.declared.bound.Bound.{Bound}
 use Rattle.requirements.specs.declared.bound.Bound.TheVariants as bounds
-use Rattle.slack_report.specs.declared.words.FindingWord.{FindingWord}
-use Rattle.slack_report.specs.declared.words.FindingWord.TheVariants as findings
+use Rattle.requirements.specs.declared.consistency.Consistency.{Consistency}
+use Rattle.requirements.specs.declared.consistency.Consistency.TheVariants as findings
 use Rattle.right_report.specs.Right.ReportState.{NextBound, at_heading, at_last}
 use Rattle.slack_report.specs.Entry.{Entry}
 use Rattle.drawn_networks.specs.Drawn.{Drawn}
@@ -58,12 +58,12 @@ right_of net most cert known = record {
   past = λ r range word list h. h.1;
 }
 
-proves_finding : (net : Net) (most : ℕ) (lines : List ProofLine) (word : FindingWord) → IsFinding net word → ShowsFinding net most lines word → ProvesFinding net lines word
+proves_finding : (net : Net) (most : ℕ) (lines : List ProofLine) (word : Consistency) → IsFinding net word → ShowsFinding net most lines word → ProvesFinding net lines word
 proves_finding net most lines findings.Consistent f s = tt
 proves_finding net most lines findings.Inconsistent f s = s.0
-proves_finding net most lines findings.Unsettled f s = f
+proves_finding net most lines findings.Open f s = f
 
-proves_bound : (net : Net) (most : ℕ) (found : FindingWord) (r : Row) (coming : NextBound) (lines : List ProofLine) (value : Bound) → IsBoundOf net found r coming value → ShowsBound net most lines r coming value
+proves_bound : (net : Net) (most : ℕ) (found : Consistency) (r : Row) (coming : NextBound) (lines : List ProofLine) (value : Bound) → IsBoundOf net found r coming value → ShowsBound net most lines r coming value
     → ProvesBound net found r coming lines value
 proves_bound net most found r coming lines (bounds.Closed value) b s = (b.0, s.0)
 proves_bound net most found r coming lines bounds.Unbounded b s = b

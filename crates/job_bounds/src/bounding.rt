@@ -1,7 +1,6 @@
 //! Writing one bound of a row.
 
 ghost use Rattle.std.specs.Prelude.{◌≡◌, ◌<◌, ℕ, ℤ, Bool, [], List, All, IfOk, IsSomeAnd, OnOk};
-ghost use Rattle.branch.specs.AnswerBound.{greatest_bound};
 ghost use Rattle.branch.specs.Answers.{IsGreatestAnswer, evidence};
 ghost use Rattle.branch.specs.Work.{IsClose, IsMadeFor, IsKnownReach};
 ghost use Rattle.event_graph.specs.Network.{Net};
@@ -11,7 +10,7 @@ ghost use Rattle.event_graph.specs.Times.{separation};
 ghost use Rattle.requirements.specs.Bounds.{HasTimes};
 ghost use Rattle.right_report.specs.Right.ReportState.{NextBound, CurrentRow, at_bound, bounded};
 ghost use Rattle.drawn_networks.specs.Drawn.{Drawn};
-ghost use Rattle.slack_report.specs.declared.words.FindingWord.{FindingWord};
+ghost use Rattle.requirements.specs.declared.consistency.Consistency.{Consistency};
 ghost use Rattle.job_bounds.specs.Step.Witness.{IsWitness, IsRoomFor, searched_pair};
 ghost use Rattle.job_bounds.specs.Step.Searched.{bound_of, printed_known, search_of, sized};
 ghost use Rattle.job_bounds.specs.Step.Writing.{WritesVerdicts, IsOf};
@@ -20,7 +19,7 @@ use crate::bound_witness::{BoundWitness, take_times};
 use crate::pair::{Extreme, searched_pair};
 use crate::search::greatest_of;
 use crate::wanted::Wanted;
-use branch::{GreatestAnswer, Work};
+use branch::Work;
 use event_graph::{Network, Pair};
 use itv_base::{PutFailed, Sink};
 use line_words::LineBuffer;
@@ -50,7 +49,7 @@ pub fn print_bound<K: Sink>(
     ensures times { IfOk result HasTimes }
     ensures kept { IfOk result (λ value. IsWitness net.now extreme.pair extreme.which value kept.new.times.items kept.new.set.items) }
     ensures goes { (times : List ℤ) (drawn : Drawn) (current : CurrentRow) (coming : NextBound) → times ≡ printed_known work.old.known
-        → current.tally.found ≡ FindingWord.Consistent → IsOf current coming extreme.pair extreme.which
+        → current.tally.found ≡ Consistency.Consistent → IsOf current coming extreme.pair extreme.which
         → WritesVerdicts (sized net.now wanted.budget wanted.cert times) drawn (at_bound current coming []) (λ value. bounded current coming value) (λ _. [])
         (K.state sink.old) (K.state sink.new) result }
 {
@@ -68,7 +67,7 @@ fn keep(
     net: &Network,
     pair: Pair,
     which: Which,
-    answer: GreatestAnswer,
+    answer: Bound,
     work: &Work,
     kept: &mut BoundWitness,
 )
@@ -86,21 +85,20 @@ fn keep(
     net.is_whole();
     take_times(&mut kept.times, work.times(), pair.from);
     match answer {
-        GreatestAnswer::Unbounded => kept.set.copy_from_slice(work.ray()),
-        GreatestAnswer::Closed(_) | GreatestAnswer::Enclosed { .. } => {}
+        Bound::Unbounded => kept.set.copy_from_slice(work.ray()),
+        Bound::Closed(_) | Bound::Within { .. } => {}
     }
 }
 
 // The bound of a pair from the answer of the search on its searched pair.
-fn bound_of(which: Which, answer: GreatestAnswer) -> Bound
-    requires times { HasTimes (greatest_bound answer) }
+fn bound_of(which: Which, answer: Bound) -> Bound
+    requires times { HasTimes answer }
     ensures bound { result ≡ bound_of which answer }
     ensures times { HasTimes result }
 {
-    let greatest = answer.bound();
     match which {
-        Which::Max => greatest,
-        Which::Min => greatest.reversed(),
+        Which::Max => answer,
+        Which::Min => answer.reversed(),
     }
 }
 

@@ -17,8 +17,8 @@ use crate::wanted::Wanted;
 use branch::Work;
 use event_graph::Network;
 use itv_base::{EventId, PutFailed, Sink};
-use job_base::found_word;
-use slack_report::{FindingWord, Item, write_item};
+use requirements::Consistency;
+use slack_report::{Item, write_item};
 
 /// Looks for times that satisfy a network. Writes the finding and the times, if there are any.
 pub fn print_finding<K: Sink>(
@@ -26,7 +26,7 @@ pub fn print_finding<K: Sink>(
     wanted: Wanted,
     desk: &mut Desk,
     sink: &mut K,
-) -> Result<FindingWord, PutFailed>
+) -> Result<Consistency, PutFailed>
     requires budget { 0 < wanted.budget }
     requires set { IsSet net.now desk.old }
     ensures ready { IfOk result (λ word. IsReady net.now word desk.new) }
@@ -35,15 +35,14 @@ pub fn print_finding<K: Sink>(
         (K.state sink.old) (K.state sink.new) result }
 {
     let found = find_times(&mut desk.work, net, wanted, &mut desk.buffer, sink)?;
-    let word = found_word(found);
-    write_item(&Item::Finding(word), &mut desk.buffer, sink)?;
-    print_times(word, net, desk, sink)?;
-    Ok(word)
+    write_item(&Item::Finding(found), &mut desk.buffer, sink)?;
+    print_times(found, net, desk, sink)?;
+    Ok(found)
 }
 
 // Writes the known times after a consistent finding.
 fn print_times<K: Sink>(
-    word: FindingWord,
+    word: Consistency,
     net: &Network,
     desk: &mut Desk,
     sink: &mut K,
@@ -57,11 +56,11 @@ fn print_times<K: Sink>(
         (K.state sink.old) (K.state sink.new) result }
 {
     match word {
-        FindingWord::Consistent => {
+        Consistency::Consistent => {
             take_known(net, &desk.work, &mut desk.greatest);
             write_item(&Item::Times(&desk.greatest.times), &mut desk.buffer, sink)
         }
-        FindingWord::Inconsistent | FindingWord::Unsettled => Ok(()),
+        Consistency::Inconsistent | Consistency::Open => Ok(()),
     }
 }
 

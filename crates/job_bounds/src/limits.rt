@@ -7,7 +7,7 @@ ghost use Rattle.event_graph.specs.RootBound.{MeetsAlways};
 ghost use Rattle.requirements.specs.Bounds.{HasTimes};
 ghost use Rattle.right_report.specs.Right.ReportState.{NextBound, CurrentRow, at_bound, bounded, greatest, least_by};
 ghost use Rattle.drawn_networks.specs.Drawn.{Drawn};
-ghost use Rattle.slack_report.specs.declared.words.FindingWord.{FindingWord};
+ghost use Rattle.requirements.specs.declared.consistency.Consistency.{Consistency};
 ghost use Rattle.job_bounds.specs.Step.Witness.{HasFoundValue, IsOpenBound};
 ghost use Rattle.job_bounds.specs.Step.Searched.{sized};
 ghost use Rattle.job_bounds.specs.Step.Writing.{WritesVerdicts, IsOf};
@@ -36,7 +36,7 @@ pub fn print_limits<K: Sink>(
     ensures known { OnOk result (work.new.known ≡ work.old.known) }
     ensures greatest { IfOk result (λ both. HasTimes both.greatest × (HasFoundValue both.greatest → ⊥)) }
     ensures least { IfOk result (λ both. HasTimes both.least × (HasFoundValue both.least → ⊥)) }
-    ensures goes { (most : ℕ) (cert : Bool) (times : List ℤ) (drawn : Drawn) (current : CurrentRow) → current.tally.found ≡ FindingWord.Unsettled
+    ensures goes { (most : ℕ) (cert : Bool) (times : List ℤ) (drawn : Drawn) (current : CurrentRow) → current.tally.found ≡ Consistency.Open
         → current.row.from ≡ pair.from → current.row.to ≡ pair.to
         → WritesVerdicts (sized net.now most cert times) drawn (at_bound current greatest []) (λ both. bounded current (least_by both.greatest) both.least) (λ _. [])
         (K.state sink.old) (K.state sink.new) result }
@@ -82,7 +82,7 @@ fn put_limit<K: Sink>(
     sink: &mut K,
 ) -> Result<(), PutFailed>
     ensures goes { (net : Net) (most : ℕ) (cert : Bool) (times : List ℤ) (drawn : Drawn) (current : CurrentRow) (coming : NextBound) (pair : Pair)
-        → current.tally.found ≡ FindingWord.Unsettled → IsOf current coming pair which → IsOpenBound net pair which value
+        → current.tally.found ≡ Consistency.Open → IsOf current coming pair which → IsOpenBound net pair which value
         → WritesVerdicts (sized net most cert times) drawn (at_bound current coming []) (λ _. bounded current coming value) (λ _. [])
         (K.state sink.old) (K.state sink.new) result }
 {

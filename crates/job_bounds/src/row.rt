@@ -24,21 +24,21 @@ use drawn_networks::{DrawnNetwork, Row};
 use event_graph::{Network, Pair};
 use itv_base::{PutFailed, RowKind, Sink};
 use job_base::put_row;
-use requirements::{BothBounds, Verdict};
-use slack_report::{FindingWord, Which};
+use requirements::{BothBounds, Consistency, Verdict};
+use slack_report::Which;
 
 /// Writes a row: its own line, both bounds, and for a requirement the verdict.
 pub fn print_row<K: Sink>(
     number: u32,
     row: &Row,
-    found: FindingWord,
+    found: Consistency,
     drawn: &DrawnNetwork,
     wanted: Wanted,
     desk: &mut Desk,
     sink: &mut K,
 ) -> Result<RowEnd, PutFailed>
     requires budget { 0 < wanted.budget }
-    requires found { found ≡ FindingWord.Inconsistent → ⊥ }
+    requires found { found ≡ Consistency.Inconsistent → ⊥ }
     requires ready { IsReady drawn.now.net found desk.old }
     requires row { IsRowOf drawn.now.net row.now }
     ensures ready { OnOk result (IsReady drawn.now.net found desk.new) }
@@ -92,7 +92,7 @@ fn print_demand<K: Sink>(
 
 // Writes both bounds of a pair.
 fn print_bounds<K: Sink>(
-    found: FindingWord,
+    found: Consistency,
     pair: Pair,
     net: &Network,
     wanted: Wanted,
@@ -100,7 +100,7 @@ fn print_bounds<K: Sink>(
     sink: &mut K,
 ) -> Result<BothBounds, PutFailed>
     requires budget { 0 < wanted.budget }
-    requires found { found ≡ FindingWord.Inconsistent → ⊥ }
+    requires found { found ≡ Consistency.Inconsistent → ⊥ }
     requires ready { IsReady net.now found desk.old }
     requires from { pair.from.0 < net.now.events }
     requires to { pair.to.0 < net.now.events }
@@ -119,9 +119,9 @@ fn print_bounds<K: Sink>(
         (K.state sink.old) (K.state sink.new) result }
 {
     match found {
-        FindingWord::Consistent => print_searched(pair, net, wanted, desk, sink),
-        FindingWord::Unsettled => print_limits(pair, net, &mut desk.work, &mut desk.buffer, sink),
-        FindingWord::Inconsistent => unreachable!(),
+        Consistency::Consistent => print_searched(pair, net, wanted, desk, sink),
+        Consistency::Open => print_limits(pair, net, &mut desk.work, &mut desk.buffer, sink),
+        Consistency::Inconsistent => unreachable!(),
     }
 }
 
@@ -147,7 +147,7 @@ fn print_searched<K: Sink>(
     ensures least { IfOk result (λ both. HasFoundValue both.least
         → IsWitness net.now pair Which.Min both.least desk.new.least.times.items desk.new.least.set.items) }
     ensures goes { (times : List ℤ) (drawn : Drawn) (current : CurrentRow) → times ≡ printed_known desk.old.work.known
-        → current.tally.found ≡ FindingWord.Consistent → current.row.from ≡ pair.from → current.row.to ≡ pair.to
+        → current.tally.found ≡ Consistency.Consistent → current.row.from ≡ pair.from → current.row.to ≡ pair.to
         → WritesVerdicts (sized net.now wanted.budget wanted.cert times) drawn (at_bound current greatest [])
         (λ both. bounded current (least_by both.greatest) both.least) (λ _. [])
         (K.state sink.old) (K.state sink.new) result }

@@ -15,11 +15,12 @@ use crate::wanted::Wanted;
 use drawn_networks::DrawnNetwork;
 use itv_base::{PutFailed, Sink};
 use job_base::row_at;
-use slack_report::{FindingWord, Item, write_item};
+use requirements::Consistency;
+use slack_report::{Item, write_item};
 
 /// Writes how many rows there are, and each row. After an inconsistent finding writes nothing.
 pub fn print_rows<K: Sink>(
-    found: FindingWord,
+    found: Consistency,
     drawn: &DrawnNetwork,
     wanted: Wanted,
     desk: &mut Desk,
@@ -34,8 +35,8 @@ pub fn print_rows<K: Sink>(
         (K.state sink.old) (K.state sink.new)) }
 {
     match found {
-        FindingWord::Inconsistent => Ok(Tally::start(found)),
-        FindingWord::Consistent | FindingWord::Unsettled => {
+        Consistency::Inconsistent => Ok(Tally::start(found)),
+        Consistency::Consistent | Consistency::Open => {
             print_each(found, drawn, wanted, desk, sink)
         }
     }
@@ -43,14 +44,14 @@ pub fn print_rows<K: Sink>(
 
 // Writes how many rows there are, and each row.
 fn print_each<K: Sink>(
-    found: FindingWord,
+    found: Consistency,
     drawn: &DrawnNetwork,
     wanted: Wanted,
     desk: &mut Desk,
     sink: &mut K,
 ) -> Result<Tally, PutFailed>
     requires budget { 0 < wanted.budget }
-    requires found { found ≡ FindingWord.Inconsistent → ⊥ }
+    requires found { found ≡ Consistency.Inconsistent → ⊥ }
     requires ready { IsReady drawn.now.net found desk.old }
     ensures counts { IfOk result (λ tally. (words : List Verdict) × IsTally tally words
         × WroteVerdicts (sized drawn.now.net wanted.budget wanted.cert (printed_known desk.old.work.known)) drawn.now (at_rows found)

@@ -9,11 +9,12 @@ ghost use Rattle.event_graph.specs.Times.{separation};
 ghost use Rattle.job_bounds.specs.Step.Searched.{AnswersSearch, FindsBy, WroteProof, WasCut, search_of};
 
 use crate::wanted::Wanted;
-use branch::{GreatestAnswer, Quiet, SearchFinding, Work, find, greatest};
+use branch::{Quiet, Work, find, greatest};
 use certificate::SinkScribe;
 use event_graph::{Network, Pair, ScribeFailed};
 use itv_base::{PutFailed, Sink};
 use line_words::LineBuffer;
+use requirements::{Bound, Consistency};
 
 /// Looks for times that satisfy a network, and prints the lines of the proof if `wanted` asks for them.
 pub fn find_times<K: Sink>(
@@ -22,11 +23,11 @@ pub fn find_times<K: Sink>(
     wanted: Wanted,
     buffer: &mut LineBuffer,
     sink: &mut K,
-) -> Result<SearchFinding, PutFailed>
+) -> Result<Consistency, PutFailed>
     requires made { IsMadeFor net.now work.old }
     requires budget { 0 < wanted.budget }
     ensures made { IsMadeFor net.now work.new }
-    ensures known { IsSome work.new.known ↔ (result ≡ Ok SearchFinding.Consistent) }
+    ensures known { IsSome work.new.known ↔ (result ≡ Ok Consistency.Consistent) }
     ensures close { IfSome work.new.known (All IsClose) }
     ensures finds { IfOk result (λ found. WroteProof wanted.cert (K.state sink.old) (K.state sink.new)
         (λ lines. FindsBy net.now wanted.budget lines work.new.leaves work.new.known found)) }
@@ -48,7 +49,7 @@ pub fn greatest_of<K: Sink>(
     wanted: Wanted,
     buffer: &mut LineBuffer,
     sink: &mut K,
-) -> Result<GreatestAnswer, PutFailed>
+) -> Result<Bound, PutFailed>
     requires made { IsMadeFor net.now work.old }
     requires known { IsSomeAnd work.old.known (λ times. Satisfies times net.now) }
     requires from { pair.from.0 < net.now.events }
@@ -79,11 +80,11 @@ fn find_printing<K: Sink>(
     budget: u64,
     buffer: &mut LineBuffer,
     sink: &mut K,
-) -> Result<SearchFinding, PutFailed>
+) -> Result<Consistency, PutFailed>
     requires made { IsMadeFor net.now work.old }
     requires budget { 0 < budget }
     ensures made { IsMadeFor net.now work.new }
-    ensures known { IsSome work.new.known ↔ (result ≡ Ok SearchFinding.Consistent) }
+    ensures known { IsSome work.new.known ↔ (result ≡ Ok Consistency.Consistent) }
     ensures close { IfSome work.new.known (All IsClose) }
     ensures finds { IfOk result (λ found. WroteProof true (K.state sink.old) (K.state sink.new)
         (λ lines. FindsBy net.now budget lines work.new.leaves work.new.known found)) }
@@ -104,7 +105,7 @@ fn greatest_printing<K: Sink>(
     budget: u64,
     buffer: &mut LineBuffer,
     sink: &mut K,
-) -> Result<GreatestAnswer, PutFailed>
+) -> Result<Bound, PutFailed>
     requires made { IsMadeFor net.now work.old }
     requires known { IsSomeAnd work.old.known (λ times. Satisfies times net.now) }
     requires from { pair.from.0 < net.now.events }
@@ -129,11 +130,11 @@ fn greatest_printing<K: Sink>(
 
 // ---- without the lines of proofs
 
-fn find_quietly(work: &mut Work, net: &Network, budget: u64) -> SearchFinding
+fn find_quietly(work: &mut Work, net: &Network, budget: u64) -> Consistency
     requires made { IsMadeFor net.now work.old }
     requires budget { 0 < budget }
     ensures made { IsMadeFor net.now work.new }
-    ensures known { IsSome work.new.known ↔ (result ≡ SearchFinding.Consistent) }
+    ensures known { IsSome work.new.known ↔ (result ≡ Consistency.Consistent) }
     ensures close { IfSome work.new.known (All IsClose) }
     ensures finds { (lines : List ProofLine)
         × FindsBy net.now budget lines work.new.leaves work.new.known result }
@@ -145,7 +146,7 @@ fn find_quietly(work: &mut Work, net: &Network, budget: u64) -> SearchFinding
     }
 }
 
-fn greatest_quietly(work: &mut Work, net: &Network, pair: Pair, budget: u64) -> GreatestAnswer
+fn greatest_quietly(work: &mut Work, net: &Network, pair: Pair, budget: u64) -> Bound
     requires made { IsMadeFor net.now work.old }
     requires known { IsSomeAnd work.old.known (λ times. Satisfies times net.now) }
     requires from { pair.from.0 < net.now.events }

@@ -6,9 +6,8 @@ ghost use Rattle.job_bounds.specs.Step.Ready.{IsTally, tally_after};
 ghost use Rattle.requirements.specs.declared.verdict.Verdict.{Verdict as Word};
 ghost use Rattle.right_report.specs.Right.ReportState.{tally_of};
 
-use requirements::{BothBounds, Verdict};
+use requirements::{BothBounds, Consistency, Verdict};
 use right_report::ReportTally;
-use slack_report::FindingWord;
 
 /// The result of a row: its verdict, if it has one, and both bounds.
 #[derive(Clone, Copy)]
@@ -28,7 +27,7 @@ pub struct Tally {
 
 impl Tally {
     /// After a finding, before the first row.
-    pub fn start(found: FindingWord) -> Tally
+    pub fn start(found: Consistency) -> Tally
         ensures counted { IsTally result [] }
         ensures report { result.report ≡ tally_of found }
         ensures none { result.passes + result.fails + result.undecided ≡ 0 }

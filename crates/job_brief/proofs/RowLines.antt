@@ -16,7 +16,7 @@ use Rattle.origin.specs.declared.origin.Origin.{Origin}
 use Rattle.drawn_networks.specs.Drawn.{Drawn, name_of}
 use Rattle.drawn_networks.specs.declared.row.Row.{Row}
 use Rattle.explanations.specs.declared.row.RowFound.{RowFound}
-use Rattle.explanations.specs.Answers.{bound_of}
+use Rattle.requirements.specs.Separations.{bound_of}
 use Rattle.slack_report.specs.Text.{bound_words, name_word, row_words}
 use Rattle.job_why.specs.Step.{by_words}
 use Rattle.job_why.specs.Text.{Noted, grade_word, part_of, row_origin_words, some_word}

@@ -6,15 +6,15 @@ use Rattle.line_words.specs.Lines.{ended, line_of}
 use Rattle.slack_report.specs.Entry as line
 use Rattle.slack_report.specs.Text.{entry_text}
 use Rattle.slack_report.specs.declared.words.EndWord.{EndWord}
-use Rattle.slack_report.specs.declared.words.FindingWord.{FindingWord}
+use Rattle.requirements.specs.declared.consistency.Consistency.{Consistency}
 use Rattle.drawn_networks.specs.Drawn.{Drawn}
 use Rattle.drawn_networks.specs.declared.row.Row.{Row}
 use Rattle.job_base.specs.Ending.{answer_of}
 use Rattle.job_base.specs.declared.answer.Answer.{Answer}
 use Rattle.explanations.specs.declared.finding.Finding.{Finding}
-use Rattle.explanations.specs.declared.finding.Finding.TheVariants.{Consistent, Inconsistent, Unsettled}
+use Rattle.explanations.specs.declared.finding.Finding.TheVariants.{Consistent, Inconsistent, Open}
 use Rattle.explanations.specs.declared.row.RowFound.{RowFound}
-use Rattle.explanations.specs.Answers.{AreFound, AreRowsFound, IsFindingFound, SettlesWithin, word_of}
+use Rattle.explanations.specs.Answers.{AreFound, AreRowsFound, IsFindingFound, SettlesWithin, consistency_of}
 use Rattle.job_why.specs.Text.{Noted, ending_of}
 use Rattle.job_brief.specs.Brief.{AnswersBrief}
 use Rattle.job_brief.specs.Step.{counts_words, numbered_rows}
@@ -24,7 +24,7 @@ use Rattle.job_brief.specs.Text.{brief_text, count_words, rows_text, runs_text}
 use Rattle.job_base.specs.JobWrote.{Answered}
 
 -- there are no more findings of rows than rows
-few_rows : (drawn : Drawn) (budget : ℕ) (word apart : FindingWord) (rows : List Row) (found : List RowFound) → AreRowsFound drawn budget word apart rows found → length found ≤ length rows
+few_rows : (drawn : Drawn) (budget : ℕ) (word apart : Consistency) (rows : List Row) (found : List RowFound) → AreRowsFound drawn budget word apart rows found → length found ≤ length rows
 few_rows drawn budget word apart [] [] are = omega arith
 few_rows drawn budget word apart [] (f ∷ found) are = absurd are
 few_rows drawn budget word apart (r ∷ rows) [] are = absurd are
@@ -33,7 +33,7 @@ few_rows drawn budget word apart (r ∷ rows) (f ∷ found) are = let h = few_ro
 pub few_found : (drawn : Drawn) (budget : ℕ) (finding : Finding) (found : List RowFound) → AreFound drawn budget finding found → length found ≤ length drawn.rows
 few_found drawn budget Consistent found are = few_rows drawn budget _ are.word_apart drawn.rows found are.rows
 few_found drawn budget (Inconsistent set) found are = rw are (omega arith)
-few_found drawn budget Unsettled found are = few_rows drawn budget _ are.word_apart drawn.rows found are.rows
+few_found drawn budget Open found are = few_rows drawn budget _ are.word_apart drawn.rows found are.rows
 
 -- the lines of rows and the line of their counts
 pub rows_are : (noted : Noted) (drawn : Drawn) (rows found : List RowFound) (counts : RowCounts) → rows ≡ found → counts_words counts ≡ count_words (numbered_rows drawn found)
@@ -47,7 +47,7 @@ pub table_is : (noted : Noted) (drawn : Drawn) (finding : Finding) (rows found :
 table_is noted drawn finding rows found is = ap (λ found. header_text ++ runs_text true noted drawn (numbered_rows drawn found)) is
 
 -- the text in lines of words
-pub lines_are : (noted : Noted) (drawn : Drawn) (finding : Finding) (found : List RowFound) (told : FindingWord) (end : EndWord) → told ≡ word_of finding → end ≡ ending_of drawn.rows finding found
+pub lines_are : (noted : Noted) (drawn : Drawn) (finding : Finding) (found : List RowFound) (told : Consistency) (end : EndWord) → told ≡ consistency_of finding → end ≡ ending_of drawn.rows finding found
     → ended (codes "itv brief 1") ++ (entry_text (line.finding told) ++ (rows_text noted drawn (numbered_rows drawn found) ++ entry_text (line.ending end))) ≡ brief_text false noted drawn finding found
 lines_are noted drawn finding found told end is_told is_end = rw (is_told, is_end) refl
 

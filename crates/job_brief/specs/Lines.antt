@@ -8,7 +8,8 @@ use Rattle.requirements.specs.declared.bound.BothBounds.{BothBounds}
 use Rattle.slack_report.specs.Text.{bound_words, row_words, verdict_words}
 use Rattle.drawn_networks.specs.Drawn.{Drawn, name_of}
 use Rattle.explanations.specs.declared.row.RowFound.{RowFound}
-use Rattle.explanations.specs.Answers.{bound_of, verdict_in}
+use Rattle.requirements.specs.Separations.{bound_of}
+use Rattle.explanations.specs.Answers.{verdict_in}
 use Rattle.job_why.specs.Text.{Noted, part_of, row_origin_words}
 use Rattle.job_brief.specs.Rows.{NumberedRow, RowRun, slack_in}
 

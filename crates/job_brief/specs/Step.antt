@@ -10,7 +10,8 @@ use Rattle.origin.specs.Text.{origin_text}
 use Rattle.requirements.specs.Slacks.{slack_of}
 use Rattle.slack_report.specs.Text.{bound_words, name_word, row_words, verdict_words}
 use Rattle.drawn_networks.specs.Drawn.{Drawn}
-use Rattle.explanations.specs.Answers.{bound_of, verdict_in}
+use Rattle.requirements.specs.Separations.{bound_of}
+use Rattle.explanations.specs.Answers.{verdict_in}
 use Rattle.explanations.specs.declared.finding.Finding.{Finding}
 use Rattle.explanations.specs.declared.row.RowFound.{RowFound}
 use Rattle.job_why.specs.Step.{by_words}
@@ -25,7 +26,7 @@ use Rattle.job_brief.specs.declared.outline.Outline.{Outline}
 use Rattle.job_brief.specs.declared.row_rank.RowRank.{RowRank}
 use Rattle.job_brief.specs.declared.run_place.RunPlace.{RunPlace}
 use Rattle.job_brief.specs.Lines.{cycle_words}
-use Rattle.job_brief.specs.Rows.{NumberedRow, RowRun, goes_on, is_worse, lesser, misses_of, misses_without_number, numbered_from, ordered, rank_of, runs_of, verdict_rank, worst_of}
+use Rattle.job_brief.specs.Rows.{NumberedRow, RowRun, goes_on, is_worse, lesser, misses_by, misses_of, numbered_from, ordered, rank_of, runs_of, verdict_rank, worst_of}
 use Rattle.job_brief.specs.Table.{cells_text, in_quotes, kind_word, quoted, range_cells}
 use Rattle.job_brief.specs.Text.{count_words}
 
@@ -35,7 +36,7 @@ use Rattle.job_brief.specs.Text.{count_words}
 abbrev pub judged_in : RowKind → RowFound → Option Judged
 judged_in kinds.Ask found = None
 judged_in (kinds.Req range) found =
-    Some (record { word = verdict_in range found; slack = slack_of range (bound_of found.least) (bound_of found.greatest) })
+    Some (record { word = verdict_in range found; slack = slack_of range (bound_of found.least) (bound_of found.greatest); misses = misses_by (kinds.Req range) found })
 
 -- ---- rows and their ranks
 
@@ -53,7 +54,7 @@ place_by number None = record { number = number; rank = 3; misses = false; worst
 place_by number (Some judged) = record {
   number = number;
   rank = verdict_rank judged.word;
-  misses = misses_without_number judged.word judged.slack;
+  misses = judged.misses;
   worst = lesser judged.slack.low judged.slack.high;
 }
 

@@ -10,7 +10,8 @@ use Rattle.origin.specs.Text.{origin_text}
 use Rattle.slack_report.specs.Text.{bound_words, verdict_words}
 use Rattle.drawn_networks.specs.Drawn.{Drawn}
 use Rattle.explanations.specs.declared.row.RowFound.{RowFound}
-use Rattle.explanations.specs.Answers.{bound_of, verdict_in}
+use Rattle.requirements.specs.Separations.{bound_of}
+use Rattle.explanations.specs.Answers.{verdict_in}
 use Rattle.job_why.specs.Text.{Noted, name_in, part_of}
 use Rattle.job_brief.specs.Rows.{RowRun, slack_in}
 use Rattle.job_brief.specs.Lines.{cycle_of, order_words}

@@ -18,7 +18,6 @@ use drawn_networks::DrawnNetwork;
 use explanations::{NetworkFound, explain};
 use itv_base::{PutFailed, Sink};
 use job_base::{Answer, Unanswered, answer_of};
-use job_why::finding_word;
 use line_words::LineBuffer;
 use origin::Notes;
 use slack_report::{Item, LINE_ROOM, write_item};
@@ -113,7 +112,7 @@ fn put_lines<N: Notes, K: Sink>(
     ensures puts { Puts (K.state sink.old) (K.state sink.new)
         (brief_text false (N.noted notes.now) drawn.now found.now.finding found.now.rows.items) result }
 {
-    let finding = finding_word(&found.finding);
+    let finding = found.finding.consistency();
     sink.put(b"itv brief 1\n")?;
     write_item(&Item::Finding(finding), buffer, sink)?;
     put_counted(notes, drawn, found, outline, buffer, sink)?;

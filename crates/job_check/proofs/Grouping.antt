@@ -5,7 +5,7 @@ use Rattle.event_graph.specs.Network.{Net}
 use Rattle.event_graph.specs.Proof.{Case, IsProof, Loop, Path, ProofGoal, ProofLine, Split, cases_of}
 use Rattle.event_graph.specs.Proof as proofs
 use Rattle.requirements.specs.declared.bound.Bound.TheVariants as bounds
-use Rattle.slack_report.specs.declared.words.FindingWord.TheVariants as findings
+use Rattle.requirements.specs.declared.consistency.Consistency.TheVariants as findings
 use Rattle.slack_report.specs.Entry.{Entry, bound, finding, proof}
 use Rattle.right_report.specs.Right.ReportState.{ReportState, at_last}
 use Rattle.drawn_networks.specs.Drawn.{Drawn}
@@ -56,7 +56,7 @@ by_same : (drawn : Drawn) (group : ProofGroup) (lines : List ProofLine) (line : 
 by_same drawn (groups.Finding number) [] line = refl
 by_same drawn (groups.Finding number) (first ∷ lines) (finding findings.Consistent) = refl
 by_same drawn (groups.Finding number) (first ∷ lines) (finding findings.Inconsistent) = refl
-by_same drawn (groups.Finding number) (first ∷ lines) (finding findings.Unsettled) = refl
+by_same drawn (groups.Finding number) (first ∷ lines) (finding findings.Open) = refl
 by_same drawn (groups.Finding number) (first ∷ lines) line = refl
 by_same drawn (groups.Bound current coming) lines (bound word (bounds.Closed value)) = refl
 by_same drawn (groups.Bound current coming) lines (bound word bounds.Unbounded) = refl

@@ -4,8 +4,8 @@ use Rattle.event_graph.specs.Network.{Net}
 use Rattle.event_graph.specs.Proof.{Nothing, ProofLine}
 use Rattle.requirements.specs.declared.bound.Bound.{Bound}
 use Rattle.requirements.specs.declared.bound.Bound.TheVariants as bounds
-use Rattle.slack_report.specs.declared.words.FindingWord.{FindingWord}
-use Rattle.slack_report.specs.declared.words.FindingWord.TheVariants as findings
+use Rattle.requirements.specs.declared.consistency.Consistency.{Consistency}
+use Rattle.requirements.specs.declared.consistency.Consistency.TheVariants as findings
 use Rattle.slack_report.specs.declared.words.Which.{Which}
 use Rattle.slack_report.specs.Entry.{Entry, bound, finding, proof}
 use Rattle.right_report.specs.Right.ReportState as places
@@ -32,13 +32,13 @@ follows_find : (drawn : Drawn) (number : ℕ) (lines : List ProofLine) (line : E
 follows_find drawn number [] line next h = h
 follows_find drawn number (first ∷ lines) line next h = h
 
-finding_told : (net : Net) (number : ℕ) (lines : List ProofLine) (line : Entry) (word : FindingWord) (whole : Bool) → line ≡ finding word
+finding_told : (net : Net) (number : ℕ) (lines : List ProofLine) (line : Entry) (word : Consistency) (whole : Bool) → line ≡ finding word
     → IsWholeFor net (goal_by (at_event number []) line) lines whole → word ≡ findings.Inconsistent → IsWholeFor net (Some Nothing) lines whole
 finding_told net number lines line findings.Consistent whole is current e = absurd (cc e)
 finding_told net number lines line findings.Inconsistent whole is current e = subst (λ x. IsWholeFor net (goal_by (at_event number []) x) lines whole) is current
-finding_told net number lines line findings.Unsettled whole is current e = absurd (cc e)
+finding_told net number lines line findings.Open whole is current e = absurd (cc e)
 
-module _ (drawn : Drawn) (net : Net) (number : ℕ) (lines : List ProofLine) (line : Entry) (word : FindingWord) (whole test : Bool) (on : net ≡ drawn.net) (is : line ≡ finding word)
+module _ (drawn : Drawn) (net : Net) (number : ℕ) (lines : List ProofLine) (line : Entry) (word : Consistency) (whole test : Bool) (on : net ≡ drawn.net) (is : line ≡ finding word)
     (proves : (word ≡ findings.Inconsistent → IsWholeFor net (Some Nothing) lines whole) → (IsTrue test ↔ ProvesFinding net lines word))
     (current : IsWholeFor drawn.net (goal_by (at_event number []) line) lines whole) where
   tells : IsTrue test ↔ ProvesFinding drawn.net lines word

@@ -20,20 +20,19 @@ use branch::{Root, Work, root_bound};
 use drawn_networks::Row;
 use event_graph::Network;
 use itv_base::EventId;
-use requirements::Bound;
-use slack_report::FindingWord;
+use requirements::{Bound, Consistency};
 
 /// Whether a finding may stand after proof lines. `whole` says whether they prove that no times satisfy.
-pub fn proves_finding(net: &Network, work: &mut Work, word: FindingWord, whole: bool) -> bool
+pub fn proves_finding(net: &Network, work: &mut Work, word: Consistency, whole: bool) -> bool
     requires made { IsMadeFor net.now work.old }
-    ensures proves { (lines : List ProofLine) → (word ≡ FindingWord.Inconsistent → IsWholeFor net.now (Some Nothing) lines whole)
+    ensures proves { (lines : List ProofLine) → (word ≡ Consistency.Inconsistent → IsWholeFor net.now (Some Nothing) lines whole)
         → (IsTrue result ↔ ProvesFinding net.now lines word) }
     ensures made { IsMadeFor net.now work.new }
 {
     match word {
-        FindingWord::Consistent => true,
-        FindingWord::Inconsistent => whole,
-        FindingWord::Unsettled => some_meet(net, work),
+        Consistency::Consistent => true,
+        Consistency::Inconsistent => whole,
+        Consistency::Open => some_meet(net, work),
     }
 }
 
@@ -65,7 +64,7 @@ fn is_bound(root: Root) -> bool
 pub fn proves_bound(
     net: &Network,
     work: &mut Work,
-    found: FindingWord,
+    found: Consistency,
     row: &Row,
     coming: NextBound,
     value: Bound,
@@ -79,8 +78,8 @@ pub fn proves_bound(
     ensures made { IsMadeFor net.now work.new }
 {
     match value {
-        Bound::Closed(value) => is_time(value) && found == FindingWord::Consistent && whole,
-        Bound::Unbounded => found == FindingWord::Consistent,
+        Bound::Closed(value) => is_time(value) && found == Consistency::Consistent && whole,
+        Bound::Unbounded => found == Consistency::Consistent,
         Bound::Within { limit, attained } => {
             attained.is_none_or(is_time)
                 && has_attained(found, attained)
@@ -90,13 +89,13 @@ pub fn proves_bound(
 }
 
 // Whether the attained number is there if the finding is consistent, and not there if it is unsettled.
-fn has_attained(found: FindingWord, attained: Option<i64>) -> bool
+fn has_attained(found: Consistency, attained: Option<i64>) -> bool
     ensures attained { IsTrue result ↔ HasAttained found attained }
 {
     match found {
-        FindingWord::Consistent => attained.is_some(),
-        FindingWord::Inconsistent => false,
-        FindingWord::Unsettled => attained.is_none(),
+        Consistency::Consistent => attained.is_some(),
+        Consistency::Inconsistent => false,
+        Consistency::Open => attained.is_none(),
     }
 }
 

@@ -15,9 +15,9 @@ use crate::stage::{CurrentRow, NextBound, Stage, behind_past, behind_verdict, bo
 use crate::times::{are_known, are_times, attains, breaks, can_rise};
 use drawn_networks::{DrawnNetwork, Row};
 use itv_base::{EventId, EventName, Range};
-use requirements::{BothBounds, Bound, judge as verdict_of, slack as slack_of};
+use requirements::{BothBounds, Bound, Consistency, judge as verdict_of, slack as slack_of};
 use right_report::ReportTally;
-use slack_report::{EndWord, FindingWord, Item};
+use slack_report::{EndWord, Item};
 
 /// The next stage after a line, or none if the line may not follow. No proof line may come at the stage.
 pub fn judge<'a>(drawn: &DrawnNetwork, stage: &Stage<'a>, item: &Item<'a>) -> Option<Stage<'a>>
@@ -123,13 +123,13 @@ fn judge_known(drawn: &DrawnNetwork, item: &Item<'_>) -> Option<Stage<'static>>
 {
     match item {
         Item::Times(list) if are_known(drawn.network(), list) => {
-            Some(Stage::Rows(FindingWord::Consistent))
+            Some(Stage::Rows(Consistency::Consistent))
         }
         _ => None,
     }
 }
 
-fn judge_rows(drawn: &DrawnNetwork, word: FindingWord, item: &Item<'_>) -> Option<Stage<'static>>
+fn judge_rows(drawn: &DrawnNetwork, word: Consistency, item: &Item<'_>) -> Option<Stage<'static>>
     ensures decides { Decides drawn.now (at_of drawn.now (Stage.Rows word)) (item_view item.now) result }
 {
     match item {

@@ -20,8 +20,8 @@ use branch::Work;
 use cert_checker::{Checker, Goal};
 use drawn_networks::{DrawnNetwork, Row};
 use event_graph::Network;
-use requirements::Bound;
-use slack_report::{FindingWord, Item, Items, Which};
+use requirements::{Bound, Consistency};
+use slack_report::{Item, Items, Which};
 
 /// What some proof lines stand before.
 #[derive(Clone, Copy)]
@@ -98,7 +98,7 @@ fn goal_by(net: &Network, group: &ProofGroup, item: &Item<'_>) -> Option<Goal>
     ensures goal { (drawn : Drawn) → StandsForGoal net.now (goal_by (behind_lines drawn group.now []) (item_view item.now)) result }
 {
     match (group, item) {
-        (ProofGroup::Finding(_), Item::Finding(FindingWord::Inconsistent)) => Some(Goal::Nothing),
+        (ProofGroup::Finding(_), Item::Finding(Consistency::Inconsistent)) => Some(Goal::Nothing),
         (
             ProofGroup::Bound { current, coming },
             Item::Bound {

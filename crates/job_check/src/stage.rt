@@ -8,9 +8,9 @@ ghost use Rattle.job_check.specs.Step.Stages.{AreBounded, Fits, IsNextBound, IsC
 
 use drawn_networks::Row;
 use itv_base::{Range, RowKind};
-use requirements::{BothBounds, Bound, Verdict};
+use requirements::{BothBounds, Bound, Consistency, Verdict};
 use right_report::{ReportTally, is_fail};
-use slack_report::{EndWord, FindingWord, Which};
+use slack_report::{EndWord, Which};
 
 /// Which bound of a row comes next: the greatest, or the least after the greatest.
 #[derive(Clone, Copy)]
@@ -38,7 +38,7 @@ pub enum Stage<'a> {
     Event(u32),
     /// Before the times of a consistent finding.
     Known,
-    Rows(FindingWord),
+    Rows(Consistency),
     /// Before the row with this number, from 0. After all rows: before the end.
     Row {
         tally: ReportTally,
@@ -96,14 +96,14 @@ impl NextBound {
 }
 
 /// The stage after a finding.
-pub fn behind_finding(word: FindingWord) -> Stage<'static>
+pub fn behind_finding(word: Consistency) -> Stage<'static>
     ensures stage { (drawn : Drawn) → at_of drawn result ≡ behind_finding word }
     ensures fits { (drawn : Drawn) → Fits drawn result }
 {
     match word {
-        FindingWord::Consistent => Stage::Known,
-        FindingWord::Inconsistent => Stage::End(EndWord::Inconsistent),
-        FindingWord::Unsettled => Stage::Rows(FindingWord::Unsettled),
+        Consistency::Consistent => Stage::Known,
+        Consistency::Inconsistent => Stage::End(EndWord::Inconsistent),
+        Consistency::Open => Stage::Rows(Consistency::Open),
     }
 }
 

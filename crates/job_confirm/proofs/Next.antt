@@ -9,7 +9,7 @@ use Rattle.line_words.proofs.Plain.{join_line}
 use Rattle.event_graph.specs.Network.{Net}
 use Rattle.falling.specs.declared.view.View.{View}
 use Rattle.falling.specs.declared.view.View.TheVariants.{Plain, Negated}
-use Rattle.slack_report.specs.declared.words.FindingWord.TheVariants as findings
+use Rattle.requirements.specs.declared.consistency.Consistency.TheVariants as findings
 use Rattle.slack_report.specs.declared.words.Which.{Which}
 use Rattle.slack_report.specs.declared.words.Which.TheVariants.{Max, Min}
 use Rattle.slack_report.specs.Entry as line
@@ -20,7 +20,7 @@ use Rattle.drawn_networks.specs.declared.row.Row.{Row}
 use Rattle.edge_clauses.specs.Proofs.{lines_of}
 use Rattle.clause_texts.specs.Text.{claim_text, clause_line_text, view_text, view_word}
 use Rattle.job_settle.specs.declared.finding.Finding.{Finding}
-use Rattle.job_settle.specs.declared.finding.Finding.TheVariants.{Consistent, Inconsistent, Spent}
+use Rattle.job_settle.specs.declared.finding.Finding.TheVariants.{Consistent, Inconsistent, Open}
 use Rattle.job_settle.specs.declared.proof.Proof.{Proof}
 use Rattle.job_settle.specs.declared.bound.SettledBound.{SettledBound}
 use Rattle.job_settle.specs.declared.bound.SettledBound.TheVariants as settled
@@ -44,7 +44,7 @@ view_first Negated = refl
 
 -- ---- findings
 
-spent_begins : (rest more : List ℕ) → rest ≡ finding_text true Spent ++ more → Begins rest (codes "finding spent") more
+spent_begins : (rest more : List ℕ) → rest ≡ finding_text true Open ++ more → Begins rest (codes "finding spent") more
 spent_begins rest more e = record { is_line = join_line (codes "finding" ∷ codes "spent" ∷ []) (refl, (refl, tt)); text_is = e }
 
 consistent_begins : (times : Vec ℤ) (rest more : List ℕ) → rest ≡ finding_text true (Consistent times) ++ more
@@ -71,13 +71,13 @@ refuted_stands proof rest more e = e ∙ append_assoc (shown_text true proof) (e
 module _ (net : Net) (rest : List ℕ) where
   -- the finding is spent where that line stands next
   pub spent_read : ((next after : List ℕ) → Begins rest next after → next ≡ codes "finding spent") → (shown : Finding) (more : List ℕ) → rest ≡ finding_text true shown ++ more
-      → IsSameFinding shown Spent
+      → IsSameFinding shown Open
   spent_read is (Consistent times) more e =
       absurd (differ_at (codes "finding consistent") (codes "finding spent") 8 99 115 refl refl (λ same. omega arith) (is _ _ (consistent_begins times rest more e)))
   spent_read is (Inconsistent proof) more e =
       absurd (differ_at (view_line proof.view) (codes "finding spent") 0 118 102 (view_first proof.view) refl (λ same. omega arith)
       (is _ _ (proof_begins proof rest _ (refuted_stands proof rest more e))))
-  spent_read is Spent more e = tt
+  spent_read is Open more e = tt
 
   -- the finding is consistent where that line stands next
   pub consistent_read : (next : List ℕ) (r : Result Finding CheckStop) → ((line after : List ℕ) → Begins rest line after → line ≡ codes "finding consistent")
@@ -88,7 +88,7 @@ module _ (net : Net) (rest : List ℕ) where
   consistent_read next r is passed read (Inconsistent proof) more refuted e =
       absurd (differ_at (view_line proof.view) (codes "finding consistent") 0 118 102 (view_first proof.view) refl (λ same. omega arith)
       (is _ _ (proof_begins proof rest _ (refuted_stands proof rest more e))))
-  consistent_read next r is passed read Spent more nothing e =
+  consistent_read next r is passed read Open more nothing e =
       absurd (differ_at (codes "finding spent") (codes "finding consistent") 8 115 99 refl refl (λ same. omega arith) (is _ _ (spent_begins rest more e)))
 
   -- the finding is inconsistent where neither line stands next
@@ -99,7 +99,7 @@ module _ (net : Net) (rest : List ℕ) where
       → (shown : Finding) (more : List ℕ) → IsFinding true net shown → rest ≡ finding_text true shown ++ more → Gives (IsSameFinding shown) r
   refuted_read r not_spent not_consistent read (Consistent times) more printed e = absurd (not_consistent _ _ (consistent_begins times rest more e) refl)
   refuted_read r not_spent not_consistent read (Inconsistent proof) more refuted e = read proof more refuted (refuted_stands proof rest more e)
-  refuted_read r not_spent not_consistent read Spent more nothing e = absurd (not_spent _ _ (spent_begins rest more e) refl)
+  refuted_read r not_spent not_consistent read Open more nothing e = absurd (not_spent _ _ (spent_begins rest more e) refl)
 
 -- ---- bounds
 
@@ -121,7 +121,7 @@ not_key : (view : View) (which : Which) (word : Word) → view_line view ≡ lin
 not_key view which word same =
     differ_at (view_line view) (line_of (which_word which ∷ word ∷ [])) 0 118 109 (view_first view) (key_first which word) (λ e. omega arith) same
 
-spent_bound_begins : (which : Which) (rest more : List ℕ) → rest ≡ bound_text true which settled.Spent ++ more → Begins rest (spent_key which) more
+spent_bound_begins : (which : Which) (rest more : List ℕ) → rest ≡ bound_text true which settled.Open ++ more → Begins rest (spent_key which) more
 spent_bound_begins which rest more e = record { is_line = join_line (which_word which ∷ codes "spent" ∷ []) (which_plain which, (refl, tt)); text_is = e }
 
 endless_begins : (which : Which) (times : Vec ℤ) (ray : Vec Bool) (rest more : List ℕ) → rest ≡ bound_text true which (settled.Unbounded times ray) ++ more
@@ -146,11 +146,11 @@ number_begins which value times proof rest more e =
 module _ (net : Net) (which : Which) (row : Row) (rest : List ℕ) where
   -- the bound is spent where that line stands next
   pub spent_bound_read : ((next after : List ℕ) → Begins rest next after → next ≡ spent_key which) → (shown : SettledBound) (more : List ℕ) → rest ≡ bound_text true which shown ++ more
-      → IsSameBound shown settled.Spent
+      → IsSameBound shown settled.Open
   spent_bound_read is (settled.Closed value times proof) more e =
       absurd (not_key proof.view which (codes "spent") (is _ _ (proof_begins proof rest _ (number_begins which value times proof rest more e))))
   spent_bound_read is (settled.Unbounded times ray) more e = absurd (keys_differ which (sym (is _ _ (endless_begins which times ray rest more e))))
-  spent_bound_read is settled.Spent more e = tt
+  spent_bound_read is settled.Open more e = tt
 
   -- there is no bound where that line stands next
   pub endless_read : (next : List ℕ) (r : Result SettledBound CheckStop) → ((line after : List ℕ) → Begins rest line after → line ≡ endless_key which)
@@ -161,7 +161,7 @@ module _ (net : Net) (which : Which) (row : Row) (rest : List ℕ) where
   endless_read next r is passed read (settled.Closed value times proof) more number e =
       absurd (not_key proof.view which (codes "unbounded") (is _ _ (proof_begins proof rest _ (number_begins which value times proof rest more e))))
   endless_read next r is passed read (settled.Unbounded times ray) more endless e = read times ray more endless (passed _ _ (endless_begins which times ray rest more e))
-  endless_read next r is passed read settled.Spent more nothing e = absurd (keys_differ which (is _ _ (spent_bound_begins which rest more e)))
+  endless_read next r is passed read settled.Open more nothing e = absurd (keys_differ which (is _ _ (spent_bound_begins which rest more e)))
 
   -- the bound is a number where neither line stands next
   pub number_read : (r : Result SettledBound CheckStop) → ((line after : List ℕ) → Begins rest line after → line ≡ spent_key which → ⊥)
@@ -172,4 +172,4 @@ module _ (net : Net) (which : Which) (row : Row) (rest : List ℕ) where
       → (shown : SettledBound) (more : List ℕ) → IsBound true net which row shown → rest ≡ bound_text true which shown ++ more → Gives (IsSameBound shown) r
   number_read r not_spent not_endless read (settled.Closed value times proof) more number e = read value times proof more number (number_begins which value times proof rest more e)
   number_read r not_spent not_endless read (settled.Unbounded times ray) more endless e = absurd (not_endless _ _ (endless_begins which times ray rest more e) refl)
-  number_read r not_spent not_endless read settled.Spent more nothing e = absurd (not_spent _ _ (spent_bound_begins which rest more e) refl)
+  number_read r not_spent not_endless read settled.Open more nothing e = absurd (not_spent _ _ (spent_bound_begins which rest more e) refl)

@@ -15,7 +15,7 @@ use Rattle.drawn_networks.specs.declared.row.Row.{Row}
 use Rattle.edge_clauses.specs.declared.line.StoredLine.{StoredLine}
 use Rattle.edge_clauses.specs.Proofs.{IsProofAs, lines_of}
 use Rattle.job_settle.specs.declared.finding.Finding.{Finding}
-use Rattle.job_settle.specs.declared.finding.Finding.TheVariants.{Consistent, Inconsistent, Spent}
+use Rattle.job_settle.specs.declared.finding.Finding.TheVariants.{Consistent, Inconsistent, Open}
 use Rattle.job_settle.specs.declared.proof.Proof.{Proof}
 use Rattle.job_settle.specs.declared.row.RowFound.{RowFound}
 use Rattle.job_settle.specs.Answers.{AreFound, AreRowsFound, IsBound, IsFinding, IsPastOf, IsRowFound}
@@ -87,24 +87,24 @@ rows_stand drawn text place finding shown times found more is same are stands =
       by_shown (Consistent other) same are stands =
           (are, stands ∙ append_assoc (entry_text (line.rows (length drawn.rows))) (rows_text drawn true 0 drawn.rows found) more)
       by_shown (Inconsistent proof) same are stands = absurd same
-      by_shown Spent same are stands = absurd same
+      by_shown Open same are stands = absurd same
 
-not_consistent : (times : Vec ℤ) → ((proof : Proof) × (Consistent times ≡ Inconsistent proof)) ⊎ (Consistent times ≡ Spent) → ⊥
+not_consistent : (times : Vec ℤ) → ((proof : Proof) × (Consistent times ≡ Inconsistent proof)) ⊎ (Consistent times ≡ Open) → ⊥
 not_consistent times (inl (proof, e)) = absurd (cc e)
 not_consistent times (inr e) = absurd (cc e)
 
 -- nothing stands after another finding
-pub none_stand : (drawn : Drawn) (text : List ℕ) (place : ℕ) (finding shown : Finding) (found read : List RowFound) (more : List ℕ) → ((proof : Proof) × (finding ≡ Inconsistent proof)) ⊎ (finding ≡ Spent)
+pub none_stand : (drawn : Drawn) (text : List ℕ) (place : ℕ) (finding shown : Finding) (found read : List RowFound) (more : List ℕ) → ((proof : Proof) × (finding ≡ Inconsistent proof)) ⊎ (finding ≡ Open)
     → IsSameFinding shown finding → AreFound true drawn.net drawn.rows shown found → drop place text ≡ behind_text drawn true shown found ++ more → read ≡ []
     → AreSameRows found read × (drop place text ≡ more)
 none_stand drawn text place (Consistent times) shown found read more other same are stands none = absurd (not_consistent times other)
 none_stand drawn text place (Inconsistent proof) (Consistent times) found read more other same are stands none = absurd same
 none_stand drawn text place (Inconsistent proof) (Inconsistent also) found read more other same are stands none =
     (subst (λ (rows : List RowFound). AreSameRows rows read) (sym are) (subst (AreSameRows []) (sym none) tt), stands)
-none_stand drawn text place (Inconsistent proof) Spent found read more other same are stands none = absurd same
-none_stand drawn text place Spent (Consistent times) found read more other same are stands none = absurd same
-none_stand drawn text place Spent (Inconsistent proof) found read more other same are stands none = absurd same
-none_stand drawn text place Spent Spent found read more other same are stands none =
+none_stand drawn text place (Inconsistent proof) Open found read more other same are stands none = absurd same
+none_stand drawn text place Open (Consistent times) found read more other same are stands none = absurd same
+none_stand drawn text place Open (Inconsistent proof) found read more other same are stands none = absurd same
+none_stand drawn text place Open Open found read more other same are stands none =
     (subst (λ (rows : List RowFound). AreSameRows rows read) (sym are) (subst (AreSameRows []) (sym none) tt), stands)
 
 -- ---- a whole text

@@ -8,7 +8,7 @@ use Rattle.requirements.specs.Verdicts.{verdict_of}
 use Rattle.requirements.specs.declared.bound.BothBounds.{BothBounds}
 use Rattle.requirements.specs.declared.bound.Bound.{Bound}
 use Rattle.requirements.specs.declared.bound.Bound.TheVariants as bounds
-use Rattle.slack_report.specs.declared.words.FindingWord.TheVariants as findings
+use Rattle.requirements.specs.declared.consistency.Consistency.TheVariants as findings
 use Rattle.slack_report.specs.declared.words.Which.{Which}
 use Rattle.slack_report.specs.Entry as line
 use Rattle.slack_report.specs.Text.{entry_text}
@@ -18,7 +18,7 @@ use Rattle.drawn_networks.specs.declared.row.Row.{Row}
 use Rattle.edge_clauses.specs.Proofs.{lines_of}
 use Rattle.clause_texts.specs.Text.{proof_text}
 use Rattle.job_settle.specs.declared.finding.Finding.{Finding}
-use Rattle.job_settle.specs.declared.finding.Finding.TheVariants.{Consistent, Inconsistent, Spent}
+use Rattle.job_settle.specs.declared.finding.Finding.TheVariants.{Consistent, Inconsistent, Open}
 use Rattle.job_settle.specs.declared.proof.Proof.{Proof}
 use Rattle.job_settle.specs.declared.bound.SettledBound.{SettledBound}
 use Rattle.job_settle.specs.declared.bound.SettledBound.TheVariants as settled
@@ -35,13 +35,13 @@ proof_same a b s =
 pub finding_same : (a b : Finding) → IsSameFinding a b → finding_text true a ≡ finding_text true b
 finding_same (Consistent a) (Consistent b) s = ap (λ times. entry_text (line.finding findings.Consistent) ++ entry_text (line.times times)) s
 finding_same (Consistent a) (Inconsistent b) s = absurd s
-finding_same (Consistent a) Spent s = absurd s
+finding_same (Consistent a) Open s = absurd s
 finding_same (Inconsistent a) (Consistent b) s = absurd s
 finding_same (Inconsistent a) (Inconsistent b) s = ap (λ text. text ++ entry_text (line.finding findings.Inconsistent)) (proof_same a b s)
-finding_same (Inconsistent a) Spent s = absurd s
-finding_same Spent (Consistent b) s = absurd s
-finding_same Spent (Inconsistent b) s = absurd s
-finding_same Spent Spent s = refl
+finding_same (Inconsistent a) Open s = absurd s
+finding_same Open (Consistent b) s = absurd s
+finding_same Open (Inconsistent b) s = absurd s
+finding_same Open Open s = refl
 
 abbrev closed_text : Which → ℤ → List ℤ → List ℕ → List ℕ
 closed_text which value times proof = proof ++ (entry_text (line.bound which (bounds.Closed value)) ++ entry_text (line.times times))
@@ -51,26 +51,26 @@ bound_same which (settled.Closed value times proof) (settled.Closed other others
     ap (λ v. closed_text which v times.items (shown_text true proof)) s.0
     ∙ (ap (λ ts. closed_text which other ts (shown_text true proof)) s.1 ∙ ap (λ text. closed_text which other others.items text) (proof_same proof also s.2))
 bound_same which (settled.Closed value times proof) (settled.Unbounded others set) s = absurd s
-bound_same which (settled.Closed value times proof) settled.Spent s = absurd s
+bound_same which (settled.Closed value times proof) settled.Open s = absurd s
 bound_same which (settled.Unbounded times ray) (settled.Closed other others also) s = absurd s
 bound_same which (settled.Unbounded times ray) (settled.Unbounded others set) s =
     ap (λ ts. entry_text (line.bound which bounds.Unbounded) ++ (entry_text (line.times ts) ++ entry_text (line.raise ray.items))) s.0
     ∙ ap (λ r. entry_text (line.bound which bounds.Unbounded) ++ (entry_text (line.times others.items) ++ entry_text (line.raise r))) s.1
-bound_same which (settled.Unbounded times ray) settled.Spent s = absurd s
-bound_same which settled.Spent (settled.Closed other others also) s = absurd s
-bound_same which settled.Spent (settled.Unbounded others set) s = absurd s
-bound_same which settled.Spent settled.Spent s = refl
+bound_same which (settled.Unbounded times ray) settled.Open s = absurd s
+bound_same which settled.Open (settled.Closed other others also) s = absurd s
+bound_same which settled.Open (settled.Unbounded others set) s = absurd s
+bound_same which settled.Open settled.Open s = refl
 
 pub bound_of_same : (a b : SettledBound) → IsSameBound a b → bound_of a ≡ bound_of b
 bound_of_same (settled.Closed value times proof) (settled.Closed other others also) s = ap bounds.Closed s.0
 bound_of_same (settled.Closed value times proof) (settled.Unbounded others set) s = absurd s
-bound_of_same (settled.Closed value times proof) settled.Spent s = absurd s
+bound_of_same (settled.Closed value times proof) settled.Open s = absurd s
 bound_of_same (settled.Unbounded times ray) (settled.Closed other others also) s = absurd s
 bound_of_same (settled.Unbounded times ray) (settled.Unbounded others set) s = refl
-bound_of_same (settled.Unbounded times ray) settled.Spent s = absurd s
-bound_of_same settled.Spent (settled.Closed other others also) s = absurd s
-bound_of_same settled.Spent (settled.Unbounded others set) s = absurd s
-bound_of_same settled.Spent settled.Spent s = refl
+bound_of_same (settled.Unbounded times ray) settled.Open s = absurd s
+bound_of_same settled.Open (settled.Closed other others also) s = absurd s
+bound_of_same settled.Open (settled.Unbounded others set) s = absurd s
+bound_of_same settled.Open settled.Open s = refl
 
 abbrev judged_as : Ends → Bound → Bound → List ℤ → List ℕ
 judged_as range least greatest past =
@@ -102,10 +102,10 @@ pub ending_same : (rows : List Row) (a b : Finding) (found other : List RowFound
 ending_same rows (Consistent a) (Consistent b) found other s r =
     ap (λ bs. end_word (with_rows (tally_of findings.Consistent) (kinds_of rows) bs)) (bounds_same found other r)
 ending_same rows (Consistent a) (Inconsistent b) found other s r = absurd s
-ending_same rows (Consistent a) Spent found other s r = absurd s
+ending_same rows (Consistent a) Open found other s r = absurd s
 ending_same rows (Inconsistent a) (Consistent b) found other s r = absurd s
 ending_same rows (Inconsistent a) (Inconsistent b) found other s r = refl
-ending_same rows (Inconsistent a) Spent found other s r = absurd s
-ending_same rows Spent (Consistent b) found other s r = absurd s
-ending_same rows Spent (Inconsistent b) found other s r = absurd s
-ending_same rows Spent Spent found other s r = refl
+ending_same rows (Inconsistent a) Open found other s r = absurd s
+ending_same rows Open (Consistent b) found other s r = absurd s
+ending_same rows Open (Inconsistent b) found other s r = absurd s
+ending_same rows Open Open found other s r = refl

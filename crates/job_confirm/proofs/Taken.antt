@@ -11,7 +11,7 @@ use Rattle.line_words.specs.Lines.{ended, line_of}
 use Rattle.line_words.specs.Words.{Word, split_words}
 use Rattle.line_words.proofs.Cutting.{IsLine as IsTextLine}
 use Rattle.line_words.proofs.Plain.{ArePlain, join_line, signed_plain, split-join}
-use Rattle.slack_report.specs.declared.words.FindingWord.TheVariants.{Inconsistent}
+use Rattle.requirements.specs.declared.consistency.Consistency.TheVariants.{Inconsistent}
 use Rattle.slack_report.specs.declared.words.Which.{Which}
 use Rattle.slack_report.specs.declared.words.Which.TheVariants.{Max, Min}
 use Rattle.slack_report.specs.Entry as line

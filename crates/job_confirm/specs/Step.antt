@@ -19,7 +19,7 @@ use Rattle.slack_report.specs.declared.words.Which.{Which}
 use Rattle.slack_report.specs.declared.words.Which.TheVariants.{Max, Min}
 use Rattle.drawn_networks.specs.declared.row.Row.{Row}
 use Rattle.job_settle.specs.declared.finding.Finding.{Finding}
-use Rattle.job_settle.specs.declared.finding.Finding.TheVariants.{Consistent, Inconsistent, Spent}
+use Rattle.job_settle.specs.declared.finding.Finding.TheVariants.{Consistent, Inconsistent, Open}
 use Rattle.job_settle.specs.declared.proof.Proof.{Proof}
 use Rattle.job_settle.specs.declared.bound.SettledBound.{SettledBound}
 use Rattle.job_settle.specs.declared.bound.SettledBound.TheVariants as settled
@@ -122,24 +122,24 @@ pub record IsSameProof (a b : Proof) : Type 0 where
 abbrev pub IsSameFinding : Finding → Finding → Type 0
 IsSameFinding (Consistent a) (Consistent b) = a.items ≡ b.items
 IsSameFinding (Consistent a) (Inconsistent b) = ⊥
-IsSameFinding (Consistent a) Spent = ⊥
+IsSameFinding (Consistent a) Open = ⊥
 IsSameFinding (Inconsistent a) (Consistent b) = ⊥
 IsSameFinding (Inconsistent a) (Inconsistent b) = IsSameProof a b
-IsSameFinding (Inconsistent a) Spent = ⊥
-IsSameFinding Spent (Consistent b) = ⊥
-IsSameFinding Spent (Inconsistent b) = ⊥
-IsSameFinding Spent Spent = Unit {0}
+IsSameFinding (Inconsistent a) Open = ⊥
+IsSameFinding Open (Consistent b) = ⊥
+IsSameFinding Open (Inconsistent b) = ⊥
+IsSameFinding Open Open = Unit {0}
 
 abbrev pub IsSameBound : SettledBound → SettledBound → Type 0
 IsSameBound (settled.Closed value times proof) (settled.Closed other others also) = (value ≡ other) × (times.items ≡ others.items) × IsSameProof proof also
 IsSameBound (settled.Closed value times proof) (settled.Unbounded others set) = ⊥
-IsSameBound (settled.Closed value times proof) settled.Spent = ⊥
+IsSameBound (settled.Closed value times proof) settled.Open = ⊥
 IsSameBound (settled.Unbounded times ray) (settled.Closed other others also) = ⊥
 IsSameBound (settled.Unbounded times ray) (settled.Unbounded others set) = (times.items ≡ others.items) × (ray.items ≡ set.items)
-IsSameBound (settled.Unbounded times ray) settled.Spent = ⊥
-IsSameBound settled.Spent (settled.Closed other others also) = ⊥
-IsSameBound settled.Spent (settled.Unbounded others set) = ⊥
-IsSameBound settled.Spent settled.Spent = Unit {0}
+IsSameBound (settled.Unbounded times ray) settled.Open = ⊥
+IsSameBound settled.Open (settled.Closed other others also) = ⊥
+IsSameBound settled.Open (settled.Unbounded others set) = ⊥
+IsSameBound settled.Open settled.Open = Unit {0}
 
 pub record IsSameRow (a b : RowFound) : Type 0 where
   pub greatest : IsSameBound a.greatest b.greatest

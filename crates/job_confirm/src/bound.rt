@@ -50,7 +50,7 @@ pub fn bound_next(
         → reader.old.rest.now ≡ bound_text true which shown ++ more → Gives (IsSameBound shown) result }
 {
     if reader.passes(spent_line(which)) {
-        return Ok(SettledBound::Spent);
+        return Ok(SettledBound::Open);
     }
     if reader.passes(unbounded_line(which)) {
         return endless_next(alloc, which, row, net, reader);

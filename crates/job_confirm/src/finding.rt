@@ -3,7 +3,7 @@
 ghost use Rattle.std.specs.Prelude.{◌≡◌, ◌<◌, ◌<ℤ◌, ◌++◌, ◌↔◌, ℕ, ℤ, neg_ℤ, pos, true, IfOk, IsTrue, List};
 ghost use Rattle.std.specs.Global.{Vec};
 ghost use Rattle.line_words.specs.Numbers.{IsLong};
-ghost use Rattle.slack_report.specs.declared.words.FindingWord.TheVariants.{Inconsistent as IsInconsistentWord};
+ghost use Rattle.requirements.specs.declared.consistency.Consistency.TheVariants.{Inconsistent as IsInconsistentWord};
 ghost use Rattle.slack_report.specs.Entry.{finding as entry_finding, times as entry_times};
 ghost use Rattle.slack_report.specs.Text.{entry_text};
 ghost use Rattle.event_graph.specs.Network.{Net};
@@ -44,7 +44,7 @@ pub fn finding_next(
         → Gives (IsSameFinding shown) result }
 {
     if reader.passes(b"finding spent") {
-        return Ok(Finding::Spent);
+        return Ok(Finding::Open);
     }
     if reader.passes(b"finding consistent") {
         return consistent_next(alloc, net, reader);

@@ -57,7 +57,7 @@ pub fn rows_behind(
             let start = behind_count(alloc, drawn, text, place, buffer)?;
             all_rows(alloc, drawn, views, text, start, buffer)
         }
-        Finding::Inconsistent(_) | Finding::Spent => Ok(RowsRead {
+        Finding::Inconsistent(_) | Finding::Open => Ok(RowsRead {
             found: Vec::new(alloc),
             place,
         }),

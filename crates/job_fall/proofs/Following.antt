@@ -12,8 +12,8 @@ use Rattle.slack_report.specs.declared.words.Which.{Which}
 use Rattle.drawn_networks.specs.declared.row.Row.{Row}
 use Rattle.drawn_networks.specs.Drawn.{Drawn}
 use Rattle.job_fall.specs.declared.desk.Desk.{Desk}
-use Rattle.job_fall.specs.declared.finding.FallFinding.{FallFinding}
-use Rattle.job_fall.specs.declared.finding.FallFinding.TheVariants as founds
+use Rattle.requirements.specs.declared.consistency.Consistency.{Consistency}
+use Rattle.requirements.specs.declared.consistency.Consistency.TheVariants as founds
 use Rattle.falling.specs.declared.view.View.{View}
 use Rattle.job_fall.specs.declared.wanted.Wanted.{Wanted}
 use Rattle.job_fall.specs.Fall.{AreBegun, Job, PieceMayFollow, FallRow, at_bound, at_finding, at_rows, before_rows, behind_bound, behind_finding, is_spent}
@@ -74,10 +74,10 @@ module _ {net : Net} {wanted : Wanted} {job : Job} (of : IsJobOf net wanted job)
     refl,
   )
 
-pub behind_told : (found : FallFinding) (times : List ℤ) → behind_finding (shown_finding found times) ≡ behind_found found
+pub behind_told : (found : Consistency) (times : List ℤ) → behind_finding (shown_finding found times) ≡ behind_found found
 behind_told founds.Consistent times = refl
 behind_told founds.Inconsistent times = refl
-behind_told founds.Spent times = refl
+behind_told founds.Open times = refl
 
 pub spent_told : (which : Which) (from : EventId) (times : List ℤ) (ray : List Bool) (fallen : Fallen) → (fallen ≡ Inconsistent → ⊥) → is_spent (shown_bound which from times ray fallen) ≡ was_spent fallen
 spent_told which from times ray (Closed value) other = refl

@@ -28,7 +28,7 @@ use Rattle.slack_report.specs.declared.words.Which.{Which}
 use Rattle.slack_report.specs.declared.words.Which.TheVariants.{Max, Min}
 use Rattle.drawn_networks.specs.declared.row.Row.{Row}
 use Rattle.drawn_networks.specs.Drawn.{AreTimes}
-use Rattle.job_fall.specs.declared.finding.FallFinding.TheVariants as founds
+use Rattle.requirements.specs.declared.consistency.Consistency.TheVariants as founds
 use Rattle.falling.specs.declared.view.View.{View}
 use Rattle.falling.specs.declared.view.View.TheVariants.{Plain, Negated}
 use Rattle.job_fall.specs.Shows.{CanRise, IsFallBound, IsExtreme, IsFinding, first_event, shown_by}

@@ -19,8 +19,8 @@ use Rattle.slack_report.specs.declared.words.Which.{Which}
 use Rattle.drawn_networks.specs.declared.row.Row.{Row}
 use Rattle.drawn_networks.specs.Drawn.{Drawn}
 use Rattle.job_fall.specs.declared.desk.Desk.{Desk}
-use Rattle.job_fall.specs.declared.finding.FallFinding.{FallFinding}
-use Rattle.job_fall.specs.declared.finding.FallFinding.TheVariants as founds
+use Rattle.requirements.specs.declared.consistency.Consistency.{Consistency}
+use Rattle.requirements.specs.declared.consistency.Consistency.TheVariants as founds
 use Rattle.falling.specs.declared.view.View.{View}
 use Rattle.falling.specs.declared.view.View.TheVariants.{Plain}
 use Rattle.job_fall.specs.declared.wanted.Wanted.{Wanted}
@@ -70,22 +70,22 @@ AnswersRow net which r turns lines solver answer =
 -- ---- what is written
 
 -- the finding from an answer for the pair of event 0 and event 0. That pair is never unbounded
-abbrev pub found_by : Fallen → FallFinding
+abbrev pub found_by : Fallen → Consistency
 found_by (fallen.Closed value) = founds.Consistent
 found_by fallen.Unbounded = founds.Consistent
 found_by fallen.Inconsistent = founds.Inconsistent
-found_by fallen.Spent = founds.Spent
+found_by fallen.Spent = founds.Open
 
-abbrev pub shown_finding : FallFinding → List ℤ → Finding
+abbrev pub shown_finding : Consistency → List ℤ → Finding
 shown_finding founds.Consistent list = consistent list
 shown_finding founds.Inconsistent list = inconsistent
-shown_finding founds.Spent list = finding_spent
+shown_finding founds.Open list = finding_spent
 
 -- if the finding is consistent, some times satisfy
-abbrev pub HasFound : Net → FallFinding → Type 0
+abbrev pub HasFound : Net → Consistency → Type 0
 HasFound net founds.Consistent = (times : List ℤ) × Satisfies times net
 HasFound net founds.Inconsistent = Unit {0}
-HasFound net founds.Spent = Unit {0}
+HasFound net founds.Open = Unit {0}
 
 -- the bound of a row with this from-event, from an answer. For a consistent network no answer is inconsistent
 abbrev pub shown_bound : Which → EventId → List ℤ → List Bool → Fallen → FallBound
@@ -138,10 +138,10 @@ WritesPieces job here to old new (Ok x) = WrotePieces job here (to x) old new
 WritesPieces job here to old new (Err e) = WrotePieceFront job here old new
 
 -- the state after a finding
-abbrev pub behind_found : FallFinding → TextState
+abbrev pub behind_found : Consistency → TextState
 behind_found founds.Consistent = at_rows
 behind_found founds.Inconsistent = at_end endings.Inconsistent
-behind_found founds.Spent = at_end endings.Undecided
+behind_found founds.Open = at_end endings.Undecided
 
 -- the state after both bounds of a row. It depends on whether the turns of one of them were spent
 abbrev pub behind_row : FallRow → Bool → TextState

@@ -3,7 +3,7 @@ use Rattle.std.specs.Prelude.{ℕ, ℤ, Bool, true, false, List, [], ◌∷◌, 
 use Rattle.line_words.specs.Lines.{ended, line_of}
 use Rattle.requirements.specs.declared.bound.Bound.TheVariants.{Closed, Unbounded}
 use Rattle.falling.specs.declared.line.FallLine.{FallLine}
-use Rattle.slack_report.specs.declared.words.FindingWord.TheVariants.{Consistent, Inconsistent}
+use Rattle.requirements.specs.declared.consistency.Consistency.TheVariants.{Consistent, Inconsistent}
 use Rattle.slack_report.specs.declared.words.Which.{Which}
 use Rattle.slack_report.specs.Entry as line
 use Rattle.drawn_networks.specs.Drawn.{Drawn}

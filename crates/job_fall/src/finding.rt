@@ -17,18 +17,8 @@ use event_graph::Network;
 use falling::{Fallen, Falling};
 use itv_base::{EventId, PutFailed, Sink};
 use line_words::LineBuffer;
-use slack_report::{FindingWord, Item, write_item};
-
-/// The finding of a network.
-#[derive(Clone, Copy)]
-pub enum FallFinding {
-    /// Some times satisfy it.
-    Consistent,
-    /// No times satisfy it.
-    Inconsistent,
-    /// The turns were spent before this was known.
-    Spent,
-}
+use requirements::Consistency;
+use slack_report::{Item, write_item};
 
 /// Looks for times that satisfy a network. Writes the finding and the times, if there are any.
 pub fn print_finding<K: Sink>(
@@ -36,7 +26,7 @@ pub fn print_finding<K: Sink>(
     wanted: Wanted,
     desk: &mut Desk,
     sink: &mut K,
-) -> Result<FallFinding, PutFailed>
+) -> Result<Consistency, PutFailed>
     requires set { IsSet net.now desk.old }
     ensures set { IsSet net.now desk.new }
     ensures found { IfOk result (HasFound net.now) }
@@ -55,7 +45,7 @@ fn find<K: Sink>(
     wanted: Wanted,
     solver: &mut Falling,
     sink: &mut K,
-) -> Result<FallFinding, PutFailed>
+) -> Result<Consistency, PutFailed>
     requires made { IsMadeFor net.now solver.old }
     ensures made { IsMadeFor net.now solver.new }
     ensures found { IfOk result (HasFound net.now) }
@@ -64,14 +54,14 @@ fn find<K: Sink>(
     ensures cut { OnErr result (WasCut wanted.cert (K.state sink.old) (K.state sink.new) (BeginsFrom net.now wanted.turns (λ _. first_event))) }
 {
     if net.events() == 0 {
-        return Ok(FallFinding::Consistent);
+        return Ok(Consistency::Consistent);
     }
     let fallen = greatest_of(solver, net, EventId(0), EventId(0), wanted, sink)?;
     Ok(found_by(fallen, net, solver))
 }
 
 // What the solver's answer for the pair of event 0 and event 0 says of the network.
-fn found_by(fallen: Fallen, net: &Network, solver: &Falling) -> FallFinding
+fn found_by(fallen: Fallen, net: &Network, solver: &Falling) -> Consistency
     requires events { 0 < net.now.events }
     requires made { IsMadeFor net.now solver.now }
     requires answers { (turns : ℕ) × (lines : List FallLine)
@@ -80,16 +70,16 @@ fn found_by(fallen: Fallen, net: &Network, solver: &Falling) -> FallFinding
     ensures has { HasFound net.now result }
 {
     match fallen {
-        Fallen::Closed(_) => FallFinding::Consistent,
-        Fallen::Inconsistent => FallFinding::Inconsistent,
-        Fallen::Spent => FallFinding::Spent,
+        Fallen::Closed(_) => Consistency::Consistent,
+        Fallen::Inconsistent => Consistency::Inconsistent,
+        Fallen::Spent => Consistency::Open,
         Fallen::Unbounded => unreachable!(),
     }
 }
 
 // Puts the finding, and after a consistent finding the times of the solver.
 fn put_finding<K: Sink>(
-    found: FallFinding,
+    found: Consistency,
     solver: &Falling,
     buffer: &mut LineBuffer,
     sink: &mut K,
@@ -97,13 +87,13 @@ fn put_finding<K: Sink>(
     ensures { Puts (K.state sink.old) (K.state sink.new) (finding_text (shown_finding found solver.now.times)) result }
 {
     match found {
-        FallFinding::Consistent => {
-            write_item(&Item::Finding(FindingWord::Consistent), buffer, sink)?;
+        Consistency::Consistent => {
+            write_item(&Item::Finding(Consistency::Consistent), buffer, sink)?;
             write_item(&Item::Times(solver.times()), buffer, sink)
         }
-        FallFinding::Inconsistent => {
-            write_item(&Item::Finding(FindingWord::Inconsistent), buffer, sink)
+        Consistency::Inconsistent => {
+            write_item(&Item::Finding(Consistency::Inconsistent), buffer, sink)
         }
-        FallFinding::Spent => sink.put(b"finding spent\n"),
+        Consistency::Open => sink.put(b"finding spent\n"),
     }
 }

@@ -9,7 +9,7 @@ ghost use Rattle.job_fall.specs.Step.{WritesPieces, HasFound, IsSet, asked, behi
 ghost use Rattle.job_fall.specs.Text.{front_text, view_text};
 
 use crate::desk::Desk;
-use crate::finding::{FallFinding, print_finding};
+use crate::finding::print_finding;
 use crate::rows::print_rows;
 use crate::wanted::Wanted;
 use drawn_networks::DrawnNetwork;
@@ -17,6 +17,7 @@ use falling::View;
 use itv_base::{PutFailed, Sink};
 use job_base::{Answer, Unanswered, answer_of, put_events};
 use line_words::LineBuffer;
+use requirements::Consistency;
 use slack_report::{EndWord, Item, write_item};
 use std::alloc::Global;
 
@@ -102,7 +103,7 @@ fn print_bounds<K: Sink>(
 
 // Writes the rows after a consistent finding. Returns the word at the end.
 fn print_behind<K: Sink>(
-    found: FallFinding,
+    found: Consistency,
     drawn: &DrawnNetwork,
     wanted: Wanted,
     desk: &mut Desk,
@@ -114,12 +115,12 @@ fn print_behind<K: Sink>(
         → WritesPieces (asked drawn.now view wanted) (behind_found found) at_end (K.state sink.old) (K.state sink.new) result }
 {
     match found {
-        FallFinding::Consistent => {
+        Consistency::Consistent => {
             let is_spent = print_rows(drawn, wanted, desk, sink)?;
             Ok(end_word(is_spent))
         }
-        FallFinding::Inconsistent => Ok(EndWord::Inconsistent),
-        FallFinding::Spent => Ok(EndWord::Undecided),
+        Consistency::Inconsistent => Ok(EndWord::Inconsistent),
+        Consistency::Open => Ok(EndWord::Undecided),
     }
 }
 

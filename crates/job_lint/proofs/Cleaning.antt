@@ -1,6 +1,6 @@
 -- What a clean end says.
 use Rattle.std.proofs.Common.{◌≡◌, ◌==◌, ◌<◌, ◌+◌, ℕ, Bool, true, false, List, [], ◌∷◌, ◌++◌, length, All, refl, sym, subst, arith, inl, inr, ◌⊎◌}
-use Rattle.std.specs.Prelude.{if◌then◌else◌, count_by}
+use Rattle.std.specs.Prelude.{if◌then◌else◌, count_by, map}
 use Rattle.std.specs.List.{AllZip, flat_map, list_all}
 use Rattle.std.proofs.lemmas.Bool.{eqb-true}
 use Rattle.std.proofs.lemmas.List.Elements.{All-cons}
@@ -9,17 +9,16 @@ use Rattle.drawn_networks.specs.Drawn.{Drawn}
 use Rattle.drawn_networks.specs.declared.row.Row.{Row}
 use Rattle.narrow_ends.specs.declared.end.RangeEnd.{RangeEnd}
 use Rattle.design_plan.specs.Plan.{PlanView}
+use Rattle.lint.specs.Never.{never_places}
 use Rattle.lint.specs.declared.warning.Warning.{Warning}
-use Rattle.job_lint.specs.declared.by_order.ByOrder.{ByOrder}
-use Rattle.job_lint.specs.declared.by_order.ByOrder.TheVariants as by_order
 use Rattle.job_lint.specs.declared.line.Line.{Line}
-use Rattle.job_lint.specs.declared.line.Line.TheVariants.{OpenEnds, OpenRow, Order}
+use Rattle.job_lint.specs.declared.line.Line.TheVariants.{Never, OpenEnds, OpenRow, Order}
 use Rattle.job_lint.specs.declared.lint_found.LintFound.{LintFound}
 use Rattle.job_lint.specs.declared.lint_found.LintFound.TheVariants as found
 use Rattle.job_lint.specs.declared.row_seen.RowSeen.{RowSeen}
 use Rattle.job_lint.specs.Clean.{CleanHasSearchedAll, HasSearchedAll, IsRowKnown}
 use Rattle.job_lint.specs.Found.{AreRowsSeen, IsLintFound, IsRowSeen, has_order, is_row_open}
-use Rattle.job_lint.specs.Lines.{contradiction_lines, drawing_line, is_end_open, is_silenced, lines_of, narrow_lines, open_ends_line, other_lines, rests_on_order, row_place, row_line, row_lines}
+use Rattle.job_lint.specs.Lines.{drawing_line, is_end_open, is_silenced, lines_of, narrow_lines, open_ends_line, other_lines, rests_on_order, row_place, row_line, row_lines}
 use Rattle.itv_base.proofs.Bools.{both_true}
 
 -- ---- lists of which all pass
@@ -70,24 +69,21 @@ module _ (plan : PlanView) (d : DesignView) (network : Drawn) where
   rows_by true seen are e = rows_known 0 network.rows seen are e
   rows_by false seen none e = subst (All (IsRowKnown network)) (sym none) (λ k d within. absurd (omega arith))
 
-  contradiction_known : (by : ByOrder) → list_all silenced (contradiction_lines by) ≡ true → by ≡ by_order.No
-  contradiction_known by_order.Yes e = absurd (cc e)
-  contradiction_known by_order.No e = refl
-  contradiction_known by_order.Open e = absurd (cc e)
-
   -- ---- what is found
 
   others_known : (seen : LintFound) → IsLintFound network seen → list_all silenced (other_lines network seen) ≡ true → HasSearchedAll network seen
   others_known (found.Consistent ends rows) is e =
       let parts = all_parts silenced (row_lines network 0 network.rows rows.items) (open_ends_line (count_by is_end_open ends.items)) e in
       (ends_known (count_by is_end_open ends.items) parts.1, rows_by (has_order network) rows.items is.rows parts.0)
-  others_known (found.Inconsistent by) is e = contradiction_known by e
+  others_known (found.Inconsistent by) is e = absurd (cc e)
   others_known found.Open is e = absurd (cc e)
 
   pub ended : (warnings : List Warning) (seen : LintFound) → IsLintFound network seen → list_all silenced (lines_of d network warnings seen) ≡ true → HasSearchedAll network seen
   ended warnings seen is e =
-      let behind = all_parts silenced (flat_map (drawing_line d network (narrow_lines network seen)) warnings) (narrow_lines network seen ++ other_lines network seen) e in
-      others_known seen is (all_parts silenced (narrow_lines network seen) (other_lines network seen) behind.1).1
+      let drawing = flat_map (drawing_line d network (narrow_lines network seen)) warnings in
+      let after = all_parts silenced drawing (map Never (never_places d) ++ (narrow_lines network seen ++ other_lines network seen)) e in
+      let times = all_parts silenced (map Never (never_places d)) (narrow_lines network seen ++ other_lines network seen) after.1 in
+      others_known seen is (all_parts silenced (narrow_lines network seen) (other_lines network seen) times.1).1
 
 pub clean_has_searched_all : CleanHasSearchedAll
 clean_has_searched_all plan design network warnings found is clean = ended plan design network warnings found is clean

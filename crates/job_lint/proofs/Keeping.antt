@@ -13,11 +13,12 @@ use Rattle.drawn_networks.specs.Drawn.{Drawn}
 use Rattle.drawn_networks.specs.declared.row.Row.{Row}
 use Rattle.requirements.specs.Laws.{IsMet}
 use Rattle.explanations.specs.Apart.{net_apart}
-use Rattle.extremes.specs.Found.{IsConsistency, IsGreatestFound, is_open}
-use Rattle.extremes.specs.declared.found.Consistency.{Consistency}
-use Rattle.extremes.specs.declared.found.Consistency.TheVariants as consistency
-use Rattle.extremes.specs.declared.found.Greatest.{Greatest}
-use Rattle.extremes.specs.declared.found.Greatest.TheVariants as greatest
+use Rattle.requirements.specs.Separations.{is_open}
+use Rattle.extremes.specs.Found.{IsConsistency, IsGreatestFound}
+use Rattle.requirements.specs.declared.consistency.Consistency.{Consistency}
+use Rattle.requirements.specs.declared.consistency.Consistency.TheVariants as consistency
+use Rattle.extremes.specs.Found.{Greatest}
+use Rattle.requirements.specs.declared.separation.Separation.TheVariants as greatest
 use Rattle.job_lint.specs.declared.by_order.ByOrder.TheVariants as by_order
 use Rattle.job_lint.specs.declared.kept.Extent.{Extent}
 use Rattle.job_lint.specs.declared.kept.Extent.TheVariants as extent

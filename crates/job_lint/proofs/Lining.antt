@@ -1,10 +1,13 @@
 -- Lists of lines, piece by piece.
 use Rattle.std.proofs.Common.{◌≡◌, ℕ, zero, suc, ◌+◌, ◌<◌, ◌≤◌, Bool, true, false, List, [], ◌∷◌, ◌++◌, length, get_or, take, drop, refl, sym, ap, ◌∙◌, append_assoc, append-nil, add-one, drop-cons, arith}
+use Rattle.std.specs.Prelude.{map}
 use Rattle.std.specs.List.{flat_map}
-use Rattle.std.proofs.lemmas.List.{at_drop_more, drop_all, flat_map_more, take_more}
+use Rattle.std.proofs.lemmas.List.{at_drop_more, drop_all, flat_map_more, map-append, take_more}
 use Rattle.drawn_networks.specs.Drawn.{Drawn}
 use Rattle.drawn_networks.specs.declared.row.Row.{Row}
+use Rattle.lint.specs.declared.warning.DrawnPlace.{DrawnPlace}
 use Rattle.job_lint.specs.declared.line.Line.{Line}
+use Rattle.job_lint.specs.declared.line.Line.TheVariants.{Never}
 use Rattle.job_lint.specs.declared.row_seen.RowSeen.{RowSeen}
 use Rattle.job_lint.specs.Lines.{row_line, row_lines}
 
@@ -29,6 +32,14 @@ pub line_at : (lines : List Line) (k : ℕ) (d : Line) (first items next : List 
     → next ≡ items ++ get_or lines k d ∷ [] → next ≡ first ++ take (k + 1) lines
 line_at lines k d first items next within before pushed =
     pushed ∙ (ap (λ ys. ys ++ get_or lines k d ∷ []) before ∙ (append_assoc first (take k lines) (get_or lines k d ∷ []) ∙ ap (λ ys. first ++ ys) (sym (take_more lines k d within))))
+
+-- the line of one place more
+pub place_at : (places : List DrawnPlace) (k : ℕ) (d : DrawnPlace) (first items next : List Line) → k < length places → items ≡ first ++ map Never (take k places)
+    → next ≡ items ++ Never (get_or places k d) ∷ [] → next ≡ first ++ map Never (take (k + 1) places)
+place_at places k d first items next within before pushed =
+    let more : map Never (take (k + 1) places) ≡ map Never (take k places) ++ Never (get_or places k d) ∷ [] =
+    ap (map Never) (take_more places k d within) ∙ map-append Never (take k places) (get_or places k d ∷ []) in
+    pushed ∙ (ap (λ ys. ys ++ Never (get_or places k d) ∷ []) before ∙ (append_assoc first (map Never (take k places)) (Never (get_or places k d) ∷ []) ∙ ap (λ ys. first ++ ys) (sym more)))
 
 -- ---- rows
 

@@ -16,7 +16,7 @@ use Rattle.explanations.specs.Answers.{Explains}
 use Rattle.explanations.proofs.Wider.{apart_is_wider}
 use Rattle.explanations.proofs.Settling.{fewer_choices}
 use Rattle.extremes.specs.Found.{IsAttainedBy, IsConsistency}
-use Rattle.extremes.specs.declared.found.Consistency.TheVariants as consistency
+use Rattle.requirements.specs.declared.consistency.Consistency.TheVariants as consistency
 use Rattle.job_lint.specs.declared.row_seen.RowSeen.{RowSeen}
 use Rattle.job_lint.specs.declared.rows.RowSearch.{RowSearch}
 use Rattle.job_lint.specs.Found.{IsRowSeen, is_order_open, is_pair_open, is_row_open}

@@ -21,6 +21,7 @@ module _ (plan : PlanView) (design : DesignView) (network : Drawn) (budget : ℕ
   answers_lint answer by = record {
     design = design;
     is_design = is.is_design;
+    warnings = is.warnings;
     found = is.found;
     is_found = is.is_found;
     settles = is.settles;

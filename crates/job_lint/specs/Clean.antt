@@ -4,7 +4,6 @@ use Rattle.compose.specs.Design.{DesignView}
 use Rattle.drawn_networks.specs.Drawn.{Drawn}
 use Rattle.design_plan.specs.Plan.{PlanView}
 use Rattle.lint.specs.declared.warning.Warning.{Warning}
-use Rattle.job_lint.specs.declared.by_order.ByOrder.TheVariants as by_order
 use Rattle.job_lint.specs.declared.row_seen.RowSeen.{RowSeen}
 use Rattle.job_lint.specs.declared.lint_found.LintFound.{LintFound}
 use Rattle.job_lint.specs.declared.lint_found.LintFound.TheVariants.{Consistent, Inconsistent, Open}
@@ -15,11 +14,10 @@ use Rattle.job_lint.specs.Lines.{is_clean, is_end_open, lines_of, rests_on_order
 abbrev pub IsRowKnown : Drawn → RowSeen → Type 0
 IsRowKnown network row = (rests_on_order network row ≡ true) ⊎ (is_row_open row ≡ false)
 
--- The searches ended. If times satisfy the design, no end was left open, and each row is known. If none do, the order of lanes is not what contradicts the
--- other rules.
+-- The searches ended. Some times satisfy the design, no end was left open, and each row is known.
 abbrev pub HasSearchedAll : Drawn → LintFound → Type 0
 HasSearchedAll network (Consistent ends rows) = (count_by is_end_open ends.items ≡ 0) × All (IsRowKnown network) rows.items
-HasSearchedAll network (Inconsistent by) = by ≡ by_order.No
+HasSearchedAll network (Inconsistent by) = ⊥
 HasSearchedAll network Open = ⊥
 
 -- where no line is to be printed, the searches ended

@@ -14,7 +14,7 @@ use Rattle.drawn_networks.specs.declared.row.Row.{Row}
 use Rattle.explanations.specs.Answers.{Explains}
 use Rattle.explanations.specs.Apart.{keeps_order, net_apart}
 use Rattle.extremes.specs.Found.{CanRise, IsConsistency}
-use Rattle.extremes.specs.declared.found.Consistency.TheVariants as consistency
+use Rattle.requirements.specs.declared.consistency.Consistency.TheVariants as consistency
 use Rattle.narrow_ends.specs.Ends.{all_ends, ends_of}
 use Rattle.narrow_ends.specs.Narrow.{IsEndFound, IsEndSettled}
 use Rattle.narrow_ends.specs.declared.end.RangeEnd.{RangeEnd}

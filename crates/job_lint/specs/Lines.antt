@@ -1,5 +1,5 @@
 -- Which lines job lint has, according to the warnings of the drawing and to what the searches find.
-use Rattle.std.specs.Prelude.{ℕ, ℤ, ◌+◌, ◌==◌, ◌&&◌, ◌||◌, Bool, true, false, if◌then◌else◌, List, [], ◌∷◌, ◌++◌, Option, Some, None, option_and_then, unwrap_or, slice_get, codes, nat_eq, count_by}
+use Rattle.std.specs.Prelude.{ℕ, ℤ, ◌+◌, ◌==◌, ◌&&◌, ◌||◌, Bool, true, false, if◌then◌else◌, List, [], ◌∷◌, ◌++◌, Option, Some, None, option_and_then, unwrap_or, slice_get, codes, map, nat_eq, count_by}
 use Rattle.std.specs.List.{ends_with, flat_map, list_all, list_any}
 use Rattle.std.specs.Option.{option_map_or}
 use Rattle.std.specs.Str.{bytes_eq}
@@ -20,9 +20,14 @@ use Rattle.narrow_ends.specs.Ends.{origin_at}
 use Rattle.narrow_ends.specs.declared.end.RangeEnd.{RangeEnd}
 use Rattle.narrow_ends.specs.declared.end.EndFound.{EndFound}
 use Rattle.narrow_ends.specs.declared.end.EndFound.TheVariants as ends
+use Rattle.lint.specs.Never.{never_places}
 use Rattle.lint.specs.declared.warning.DrawnPlace.{DrawnPlace}
 use Rattle.lint.specs.declared.warning.Warning.{Warning}
-use Rattle.lint.specs.declared.warning.Warning.TheVariants as said
+use Rattle.lint.specs.declared.about.About.{About}
+use Rattle.lint.specs.declared.about.About.TheVariants as abouts
+use Rattle.lint.specs.declared.warning_word.WarningWord.{WarningWord}
+use Rattle.lint.specs.declared.warning_word.WarningWord.TheVariants as words
+use Rattle.lint.specs.Words.{can_be_meant}
 use Rattle.job_lint.specs.declared.by_order.ByOrder.{ByOrder}
 use Rattle.job_lint.specs.declared.by_order.ByOrder.TheVariants as by_order
 use Rattle.job_lint.specs.declared.drawn_at.DrawnAt.{DrawnAt}
@@ -32,7 +37,7 @@ use Rattle.job_lint.specs.declared.row_seen.RowSeen.{RowSeen}
 use Rattle.job_lint.specs.declared.lint_found.LintFound.{LintFound}
 use Rattle.job_lint.specs.declared.lint_found.LintFound.TheVariants as found
 use Rattle.job_lint.specs.declared.line.Line.{Line}
-use Rattle.job_lint.specs.declared.line.Line.TheVariants.{Drawing, Narrow, Order, OpenRow, Contradiction, Open, OpenEnds}
+use Rattle.job_lint.specs.declared.line.Line.TheVariants.{Drawing, Never, Narrow, Order, OpenRow, Contradiction, OrderContradicts, Open, OpenEnds}
 use Rattle.job_lint.specs.Found.{is_row_open}
 
 -- ---- names of parts
@@ -118,15 +123,16 @@ narrow_lines network (found.Consistent ends rows) = flat_map (narrow_line networ
 narrow_lines network (found.Inconsistent by) = []
 narrow_lines network found.Open = []
 
-abbrev pub contradiction_lines : ByOrder → List Line
-contradiction_lines by_order.Yes = Contradiction ∷ []
-contradiction_lines by_order.No = []
-contradiction_lines by_order.Open = Open ∷ []
+-- the line after a contradiction: the order of lanes is what contradicts the other rules, or it is not known whether it is
+abbrev pub order_lines : ByOrder → List Line
+order_lines by_order.Yes = OrderContradicts ∷ []
+order_lines by_order.No = []
+order_lines by_order.Open = Open ∷ []
 
 -- the lines after the lines of ends
 abbrev pub other_lines : Drawn → LintFound → List Line
 other_lines network (found.Consistent ends rows) = row_lines network 0 network.rows rows.items ++ open_ends_line (count_by is_end_open ends.items)
-other_lines network (found.Inconsistent by) = contradiction_lines by
+other_lines network (found.Inconsistent by) = Contradiction ∷ order_lines by
 other_lines network found.Open = Open ∷ []
 
 -- ---- warnings of the drawing
@@ -146,9 +152,12 @@ abbrev pub is_narrow_spot : DesignView → Drawn → List Line → DrawnPlace �
 is_narrow_spot d network narrow spot = list_any (is_about network (part_word d spot.part) spot.origin) narrow
 
 -- lines of ends say what the warning would say: it is of two rules into one mark, and a line is about one of the two
+abbrev pub said_by : DesignView → Drawn → List Line → WarningWord → About → Bool
+said_by d network narrow words.Both (abouts.Two first other) = is_narrow_spot d network narrow first || is_narrow_spot d network narrow other
+said_by d network narrow word about = false
+
 abbrev pub is_said : DesignView → Drawn → List Line → Warning → Bool
-is_said d network narrow (said.Both first other) = is_narrow_spot d network narrow first || is_narrow_spot d network narrow other
-is_said d network narrow warning = false
+is_said d network narrow warning = said_by d network narrow warning.word warning.about
 
 abbrev pub drawing_line : DesignView → Drawn → List Line → Warning → List Line
 drawing_line d network narrow warning = if is_said d network narrow warning then [] else Drawing warning ∷ []
@@ -158,7 +167,7 @@ drawing_line d network narrow warning = if is_said d network narrow warning then
 -- the lines in order, with those that are meant
 abbrev pub lines_of : DesignView → Drawn → List Warning → LintFound → List Line
 lines_of d network warnings found =
-    flat_map (drawing_line d network (narrow_lines network found)) warnings ++ (narrow_lines network found ++ other_lines network found)
+    flat_map (drawing_line d network (narrow_lines network found)) warnings ++ (map Never (never_places d) ++ (narrow_lines network found ++ other_lines network found))
 
 -- ---- lines that are meant
 
@@ -175,13 +184,16 @@ is_spot_meant plan d spot = is_meant plan (part_word d spot.part) spot.origin
 abbrev pub is_place_meant : PlanView → Drawn → DrawnAt → Bool
 is_place_meant plan network at = is_meant plan (event_part network at.event) at.origin
 
+-- an edge that a warning is about is meant
+abbrev pub is_about_meant : PlanView → DesignView → About → Bool
+is_about_meant plan d (abouts.Place place) = is_spot_meant plan d place
+is_about_meant plan d (abouts.Two first other) = is_spot_meant plan d first || is_spot_meant plan d other
+is_about_meant plan d (abouts.Follows mark by) = is_spot_meant plan d by
+is_about_meant plan d (abouts.Driven mark by edge) = is_meant plan (part_word d mark.part) edge
+is_about_meant plan d about = false
+
 abbrev pub is_warning_meant : PlanView → DesignView → Warning → Bool
-is_warning_meant plan d (said.Both first other) = is_spot_meant plan d first || is_spot_meant plan d other
-is_warning_meant plan d (said.Single spot) = is_spot_meant plan d spot
-is_warning_meant plan d (said.Unit spot) = is_spot_meant plan d spot
-is_warning_meant plan d (said.Periods first other) = is_spot_meant plan d first || is_spot_meant plan d other
-is_warning_meant plan d (said.Period mark follows) = is_spot_meant plan d follows
-is_warning_meant plan d warning = false
+is_warning_meant plan d warning = can_be_meant warning.word && is_about_meant plan d warning.about
 
 -- a line is silenced: an edge that it is about is meant
 abbrev pub is_silenced : PlanView → DesignView → Drawn → Line → Bool

@@ -23,10 +23,12 @@ use Rattle.compose.specs.Nets.{marks_at}
 use Rattle.drawn_networks.specs.Drawn.{Drawn}
 use Rattle.lint.specs.declared.warning.DrawnPlace.{DrawnPlace}
 use Rattle.lint.specs.declared.warning.Warning.{Warning}
-use Rattle.lint.specs.declared.warning.Warning.TheVariants as said
+use Rattle.lint.specs.declared.about.About.{About}
+use Rattle.lint.specs.declared.about.About.TheVariants as abouts
+use Rattle.lint.specs.Words.{word_text}
 use Rattle.job_lint.specs.declared.drawn_at.DrawnAt.{DrawnAt}
 use Rattle.job_lint.specs.declared.line.Line.{Line}
-use Rattle.job_lint.specs.declared.line.Line.TheVariants.{Drawing, Narrow, Order, OpenRow, Contradiction, Open, OpenEnds}
+use Rattle.job_lint.specs.declared.line.Line.TheVariants.{Drawing, Never, Narrow, Order, OpenRow, Contradiction, OrderContradicts, Open, OpenEnds}
 use Rattle.job_lint.specs.Lines.{event_part, is_clean, is_silenced, meant_count, part_word}
 
 -- ---- places
@@ -134,29 +136,27 @@ pair_words plan d key first other =
 abbrev pub driven_words : PlanView → DesignView → Word → DesignMark → Origin → Origin → List Word
 driven_words plan d key mark by edge = key ∷ mark_word d mark ∷ origin_text by ∷ origin_text edge ∷ told_words plan (part_word d mark.part) edge
 
--- a mark that follows two drivers
-abbrev pub drivers_words : PlanView → DesignView → DesignMark → Origin → Origin → List Word
-drivers_words plan d mark first other =
-    codes "drivers" ∷ mark_word d mark ∷ origin_text first ∷ origin_text other
+-- a word, a mark that follows two drivers, and what draws these two
+abbrev pub drivers_words : PlanView → DesignView → Word → DesignMark → Origin → Origin → List Word
+drivers_words plan d key mark first other =
+    key ∷ mark_word d mark ∷ origin_text first ∷ origin_text other
     ∷ both_words (told plan (part_word d mark.part) first) (told plan (part_word d mark.part) other)
 
+-- a word, and what the warning is about
+abbrev pub about_words : PlanView → DesignView → Word → About → List Word
+about_words plan d key abouts.Nothing = key ∷ []
+about_words plan d key (abouts.Place spot) = spot_words plan d key spot
+about_words plan d key (abouts.Two first other) = pair_words plan d key first other
+about_words plan d key (abouts.Follows mark by) = key ∷ mark_word d mark ∷ spot_word d by ∷ spot_told plan d by
+about_words plan d key (abouts.Driven mark by edge) = driven_words plan d key mark by edge
+about_words plan d key (abouts.Drivers mark first other) = drivers_words plan d key mark first other
+about_words plan d key (abouts.SheetKey part near) = key ∷ part_word d part ∷ sheet_key_word d part near ∷ []
+about_words plan d key (abouts.NetlistKey stray) = netlist_key_words plan d (slice_get plan.netlist.stray stray)
+about_words plan d key (abouts.Net net) = key ∷ codes "net" ∷ number_text net ∷ net_told plan net
+about_words plan d key (abouts.Count part count) = key ∷ part_word d part ∷ number_text count ∷ []
+
 abbrev pub warning_words : PlanView → DesignView → Warning → List Word
-warning_words plan d said.Rows = codes "rows" ∷ []
-warning_words plan d (said.Comment spot) = spot_words plan d (codes "comment") spot
-warning_words plan d (said.Word spot) = spot_words plan d (codes "word") spot
-warning_words plan d (said.Note spot) = spot_words plan d (codes "note") spot
-warning_words plan d (said.SheetKey part key) = codes "key" ∷ part_word d part ∷ sheet_key_word d part key ∷ []
-warning_words plan d (said.NetlistKey key) = netlist_key_words plan d (slice_get plan.netlist.stray key)
-warning_words plan d (said.Unit spot) = spot_words plan d (codes "unit") spot
-warning_words plan d (said.NetUnit net) = codes "unit" ∷ codes "net" ∷ number_text net ∷ net_told plan net
-warning_words plan d (said.Both first other) = pair_words plan d (codes "both") first other
-warning_words plan d (said.Single spot) = spot_words plan d (codes "single") spot
-warning_words plan d (said.Never spot) = spot_words plan d (codes "never") spot
-warning_words plan d (said.Periods first other) = pair_words plan d (codes "period") first other
-warning_words plan d (said.Period mark follows) = codes "period" ∷ mark_word d mark ∷ spot_word d follows ∷ spot_told plan d follows
-warning_words plan d (said.Drivers mark first other) = drivers_words plan d mark first other
-warning_words plan d (said.Own mark pin edge) = driven_words plan d (codes "own") mark pin edge
-warning_words plan d (said.Held mark by edge) = driven_words plan d (codes "held") mark by edge
+warning_words plan d warning = about_words plan d (word_text warning.word) warning.about
 
 -- the end of a range; on the low side it is minus what is kept
 abbrev pub end_word : Side → Word
@@ -176,10 +176,12 @@ narrow_words plan network at side weight only =
 -- the words of a line, after its first word
 abbrev pub line_words : PlanView → DesignView → Drawn → Line → List Word
 line_words plan d network (Drawing warning) = warning_words plan d warning
+line_words plan d network (Never spot) = spot_words plan d (codes "never") spot
 line_words plan d network (Narrow at side weight only) = narrow_words plan network at side weight only
 line_words plan d network (Order number at) = codes "order" ∷ codes "row" ∷ number_text number ∷ at_told plan network at
 line_words plan d network (OpenRow number at) = codes "open" ∷ codes "row" ∷ number_text number ∷ at_told plan network at
-line_words plan d network Contradiction = codes "order" ∷ []
+line_words plan d network Contradiction = codes "contradiction" ∷ []
+line_words plan d network OrderContradicts = codes "order" ∷ []
 line_words plan d network Open = codes "open" ∷ []
 line_words plan d network (OpenEnds count) = codes "open" ∷ codes "ends" ∷ number_text count ∷ []
 

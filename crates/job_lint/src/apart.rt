@@ -19,8 +19,9 @@ use crate::turns::run_turns;
 use drawn_networks::{DrawnNetwork, Row};
 use event_graph::Network;
 use explanations::network_apart;
-use extremes::{Consistency, Extremes};
+use extremes::Extremes;
 use itv_base::{EventId, NoMemory, Range};
+use requirements::Consistency;
 use std::alloc::Global;
 
 /// The network apart from the order of lanes, which some times satisfy, and the memory for its searches.

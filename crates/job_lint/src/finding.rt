@@ -12,9 +12,10 @@ use crate::lint_found::LintFound;
 use crate::rows::see_rows;
 use crate::turns::run_turns;
 use drawn_networks::DrawnNetwork;
-use extremes::{Consistency, Extremes};
+use extremes::Extremes;
 use itv_base::NoMemory;
 use narrow_ends::find_narrow;
+use requirements::Consistency;
 use std::alloc::Global;
 
 /// Looks for times that satisfy a design, and for what its ends of ranges and its rows rest on. Each search closes at most `budget` cases, and takes at

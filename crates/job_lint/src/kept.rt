@@ -6,8 +6,9 @@ ghost use Rattle.job_lint.specs.Step.Keeping.{extent_by, extent_of, kept_below, 
 use crate::by_order::ByOrder;
 use crate::pair_seen::PairSeen;
 use event_graph::negated_end;
-use extremes::{Consistency, Greatest};
+use extremes::Greatest;
 use itv_base::Range;
+use requirements::{Consistency, Separation};
 
 /// The greatest separation of a pair of events, in picoseconds.
 #[derive(Clone, Copy)]
@@ -43,9 +44,9 @@ pub fn extent_by(found: &Greatest) -> Extent
     ensures extent { result ≡ extent_by found.now }
 {
     match found {
-        Greatest::Closed { value, .. } => Extent::Closed(*value),
-        Greatest::Unbounded { .. } => Extent::Unbounded,
-        Greatest::Open { .. } => Extent::Open,
+        Separation::Closed { value, .. } => Extent::Closed(*value),
+        Separation::Unbounded { .. } => Extent::Unbounded,
+        Separation::Open { .. } => Extent::Open,
     }
 }
 

@@ -1,6 +1,6 @@
-//! Job lint: what in a design may say something else than was meant. The contract of the crate: `write_lint` writes just the lines of the
-//! warnings of the definitions, and of what is found of the design, except for those that are meant. If a put failed, the beginning of these
-//! lines was written.
+//! Job lint: what in a design may say something else than was meant. The contract of the crate: `write_lint` writes lines of warnings of the
+//! drawing, and then just the lines of what is found of its times, except for those that are meant. If a put failed, the beginning of these lines
+//! was written.
 #![tactic(auto)]
 
 mod apart;
@@ -30,4 +30,5 @@ mod said;
 mod turns;
 mod write;
 
+pub use meant::is_warning_meant;
 pub use write::write_lint;

@@ -1,9 +1,11 @@
 //! The lines, with those that are meant.
 
-ghost use Rattle.std.specs.Prelude.{◌≡◌, ◌++◌, ◌<◌, if◌then◌else◌, [], ◌∷◌, IfOk, count_by, length};
+ghost use Rattle.std.specs.Prelude.{◌≡◌, ◌++◌, ◌<◌, if◌then◌else◌, [], ◌∷◌, IfOk, count_by, length, map};
 ghost use Rattle.std.specs.List.{flat_map};
-ghost use Rattle.job_lint.specs.Lines.{contradiction_lines, drawing_line, is_end_open, lines_of, narrow_line, narrow_lines, open_ends_line, other_lines, row_line, row_lines};
+ghost use Rattle.job_lint.specs.Lines.{drawing_line, is_end_open, lines_of, narrow_line, narrow_lines, open_ends_line, order_lines, other_lines, row_line, row_lines};
 ghost use Rattle.job_lint.specs.declared.line.Line.{Line as LineOf};
+ghost use Rattle.job_lint.specs.declared.line.Line.TheVariants.{Contradiction, Never};
+ghost use Rattle.lint.specs.Never.{never_places};
 
 use crate::by_order::ByOrder;
 use crate::drawn_at::DrawnAt;
@@ -16,7 +18,7 @@ use crate::said::is_said;
 use compose::Design;
 use drawn_networks::{DrawnNetwork, Row};
 use itv_base::NoMemory;
-use lint::Warning;
+use lint::{DrawnPlace, Warning, never_places};
 use narrow_ends::RangeEnd;
 use std::alloc::Global;
 
@@ -32,6 +34,7 @@ pub fn lines_of(
 {
     let narrow = narrow_lines(alloc, drawn, found)?;
     let mut lines = drawing_lines(alloc, design, drawn, &narrow, warnings)?;
+    push_never(alloc, design, &mut lines)?;
     push_all(&narrow, &mut lines)?;
     push_others(drawn, found, &mut lines)?;
     Ok(lines)
@@ -68,6 +71,23 @@ fn push_drawing(
         return Ok(());
     }
     Ok(lines.push(Line::Drawing(*warning))?)
+}
+
+// The lines of the rules and rows that are in no cycle.
+fn push_never(alloc: Global, design: &Design<'_>, lines: &mut Vec<Line>) -> Result<(), NoMemory>
+    ensures lines { IfOk result (λ _. lines.new.items ≡ lines.old.items ++ map Never (never_places design.now)) }
+{
+    let places = never_places(alloc, design)?;
+    push_places(&places, lines)
+}
+
+fn push_places(places: &[DrawnPlace], lines: &mut Vec<Line>) -> Result<(), NoMemory>
+    ensures lines { IfOk result (λ _. lines.new.items ≡ lines.old.items ++ map Never places.now) }
+{
+    for place in places {
+        lines.push(Line::Never(*place))?;
+    }
+    Ok(())
 }
 
 // Lines after others.
@@ -131,11 +151,13 @@ fn push_others(
     }
 }
 
+// The line of a contradiction, and what is known of the order of lanes in it.
 fn push_contradiction(by: ByOrder, lines: &mut Vec<Line>) -> Result<(), NoMemory>
-    ensures lines { IfOk result (λ _. lines.new.items ≡ lines.old.items ++ contradiction_lines by) }
+    ensures lines { IfOk result (λ _. lines.new.items ≡ lines.old.items ++ Contradiction ∷ order_lines by) }
 {
+    lines.push(Line::Contradiction)?;
     match by {
-        ByOrder::Yes => Ok(lines.push(Line::Contradiction)?),
+        ByOrder::Yes => Ok(lines.push(Line::OrderContradicts)?),
         ByOrder::No => Ok(()),
         ByOrder::Open => Ok(lines.push(Line::Open)?),
     }

@@ -2,7 +2,7 @@
 
 ghost use Rattle.std.specs.Prelude.{◌≡◌, codes, nat_eq};
 ghost use Rattle.std.specs.List.{ends_with};
-ghost use Rattle.job_lint.specs.Lines.{is_clean, is_meant, is_place_meant, is_silenced, is_spot_meant, is_warning_meant, meant_count};
+ghost use Rattle.job_lint.specs.Lines.{is_about_meant, is_clean, is_meant, is_place_meant, is_silenced, is_spot_meant, is_warning_meant, meant_count};
 
 use crate::drawn_at::DrawnAt;
 use crate::line::Line;
@@ -10,7 +10,7 @@ use crate::parts::{event_part, part_word};
 use compose::Design;
 use design_plan::Plan;
 use drawn_networks::DrawnNetwork;
-use lint::{DrawnPlace, Warning};
+use lint::{About, DrawnPlace, Warning};
 use origin::{Notes, Origin};
 
 /// Whether no line is to be printed: each is silenced.
@@ -39,19 +39,34 @@ pub fn is_silenced(plan: &Plan, design: &Design<'_>, drawn: &DrawnNetwork, line:
     match line {
         Line::Drawing(warning) => is_warning_meant(plan, design, warning),
         Line::Narrow { at, .. } | Line::Order { at, .. } => is_place_meant(plan, drawn, at),
-        Line::OpenRow { .. } | Line::Contradiction | Line::Open | Line::OpenEnds(_) => false,
+        Line::Never(_)
+        | Line::OpenRow { .. }
+        | Line::Contradiction
+        | Line::OrderContradicts
+        | Line::Open
+        | Line::OpenEnds(_) => false,
     }
 }
 
-fn is_warning_meant(plan: &Plan, design: &Design<'_>, warning: &Warning) -> bool
-    ensures { result ≡ is_warning_meant plan.now design.now warning.now }
+/// Whether a warning is silenced: its word can be meant, and an edge that it is about is meant.
+pub fn is_warning_meant(plan: &Plan, design: &Design<'_>, warning: &Warning) -> bool
+    ensures meant { result ≡ is_warning_meant plan.now design.now warning.now }
 {
-    match warning {
-        Warning::Both(first, other) | Warning::Periods(first, other) => {
+    warning.word.can_be_meant() && is_about_meant(plan, design, &warning.about)
+}
+
+fn is_about_meant(plan: &Plan, design: &Design<'_>, about: &About) -> bool
+    ensures { result ≡ is_about_meant plan.now design.now about.now }
+{
+    match about {
+        About::Place(place) | About::Follows { by: place, .. } => {
+            is_spot_meant(plan, design, place)
+        }
+        About::Two(first, other) => {
             is_spot_meant(plan, design, first) || is_spot_meant(plan, design, other)
         }
-        Warning::Single(spot) | Warning::Unit(spot) | Warning::Period { follows: spot, .. } => {
-            is_spot_meant(plan, design, spot)
+        About::Driven { mark, edge, .. } => {
+            is_meant(plan, part_word(design, u64::from(mark.part)), *edge)
         }
         _ => false,
     }

@@ -8,7 +8,8 @@ ghost use Rattle.itv_base.specs.Numerals.{number_text};
 ghost use Rattle.design_plan.specs.Notes.{is_printed_byte};
 ghost use Rattle.job_lint.specs.Lines.{event_part, part_word};
 ghost use Rattle.job_lint.specs.Step.Put.{piece_word, told_by};
-ghost use Rattle.job_lint.specs.Text.{at_told, driven_words, drivers_words, line_text, line_words, mark_word, narrow_words, net_told, netlist_key_words, pair_words, sheet_key_word, spot_told, spot_word, spot_words, stray_words, warning_words};
+ghost use Rattle.lint.specs.Words.{word_text};
+ghost use Rattle.job_lint.specs.Text.{about_words, at_told, driven_words, drivers_words, line_text, line_words, mark_word, narrow_words, net_told, netlist_key_words, pair_words, sheet_key_word, spot_told, spot_word, spot_words, stray_words, warning_words};
 
 use crate::drawn_at::DrawnAt;
 use crate::line::Line;
@@ -22,7 +23,7 @@ use drawn_networks::DrawnNetwork;
 use itv_base::{PutFailed, Side, Sink};
 use json_tree::{KeyPlace, StrayKey};
 use line_words::LineBuffer;
-use lint::{DrawnPlace, Warning};
+use lint::{About, DrawnPlace, Warning};
 use origin::Origin;
 
 /// Puts a line and its end, by one put if it fits the buffer, and otherwise piece by piece. What the buffer held before is forgotten.
@@ -70,6 +71,7 @@ fn put_line_words<K: Sink>(
 {
     match line {
         Line::Drawing(warning) => put_warning(plan, design, warning, sink),
+        Line::Never(spot) => put_spot(plan, design, b"never", spot, sink),
         Line::Narrow {
             at,
             side,
@@ -78,7 +80,8 @@ fn put_line_words<K: Sink>(
         } => put_narrow(plan, drawn, *at, *side, *weight, *only, sink),
         Line::Order { number, at } => put_row(plan, drawn, b"order", *number, *at, sink),
         Line::OpenRow { number, at } => put_row(plan, drawn, b"open", *number, *at, sink),
-        Line::Contradiction => sink.put(b" order"),
+        Line::Contradiction => sink.put(b" contradiction"),
+        Line::OrderContradicts => sink.put(b" order"),
         Line::Open => sink.put(b" open"),
         Line::OpenEnds(count) => {
             put_pieces(
@@ -193,29 +196,22 @@ fn put_warning<K: Sink>(
 ) -> Result<(), PutFailed>
     ensures puts { Puts (K.state sink.old) (K.state sink.new) (flat_map spaced (warning_words plan.now design.now warning.now)) result }
 {
-    match warning {
-        Warning::Rows => sink.put(b" rows"),
-        Warning::Comment(spot) => put_spot(plan, design, b"comment", spot, sink),
-        Warning::Word(spot) => put_spot(plan, design, b"word", spot, sink),
-        Warning::Note(spot) => put_spot(plan, design, b"note", spot, sink),
-        Warning::SheetKey { part, key } => put_sheet_key(design, *part, *key, sink),
-        Warning::NetlistKey(key) => put_netlist_key(plan, design, *key, sink),
-        Warning::Unit(spot) => put_spot(plan, design, b"unit", spot, sink),
-        Warning::NetUnit(net) => put_net_unit(plan, *net, sink),
-        Warning::Both(first, other) => put_pair(plan, design, b"both", first, other, sink),
-        Warning::Single(spot) => put_spot(plan, design, b"single", spot, sink),
-        Warning::Never(spot) => put_spot(plan, design, b"never", spot, sink),
-        Warning::Periods(first, other) => put_pair(plan, design, b"period", first, other, sink),
-        Warning::Period { mark, follows } => put_period(plan, design, *mark, follows, sink),
-        Warning::Drivers { mark, first, other } => {
-            put_drivers(plan, design, *mark, *first, *other, sink)
+    let key = warning.word.text();
+    match &warning.about {
+        About::Nothing => put_pieces(&[Piece::Key(key)], sink),
+        About::Place(spot) => put_spot(plan, design, key, spot, sink),
+        About::Two(first, other) => put_pair(plan, design, key, first, other, sink),
+        About::Follows { mark, by } => put_follows(plan, design, key, *mark, by, sink),
+        About::Driven { mark, by, edge } => {
+            put_driven(plan, design, key, *mark, *by, *edge, sink)
         }
-        Warning::Own { mark, pin, edge } => {
-            put_driven(plan, design, b"own", *mark, *pin, *edge, sink)
+        About::Drivers { mark, first, other } => {
+            put_drivers(plan, design, key, *mark, *first, *other, sink)
         }
-        Warning::Held { mark, by, edge } => {
-            put_driven(plan, design, b"held", *mark, *by, *edge, sink)
-        }
+        About::SheetKey { part, key: near } => put_sheet_key(design, key, *part, *near, sink),
+        About::NetlistKey(stray) => put_netlist_key(plan, design, *stray, sink),
+        About::Net(net) => put_net(plan, key, *net, sink),
+        About::Count { part, count } => put_count(design, key, *part, *count, sink),
     }
 }
 
@@ -259,22 +255,23 @@ fn put_pair<'a, K: Sink>(
     )
 }
 
-// Puts a mark that follows a clock by one rule or pin alone.
-fn put_period<K: Sink>(
+// Puts a word, a mark that follows something, and the place of what it follows.
+fn put_follows<'a, K: Sink>(
     plan: &Plan,
-    design: &Design<'_>,
+    design: &'a Design<'_>,
+    key: &'a [u8],
     mark: DesignMark,
-    follows: &DrawnPlace,
+    by: &DrawnPlace,
     sink: &mut K,
 ) -> Result<(), PutFailed>
     ensures puts { Puts (K.state sink.old) (K.state sink.new)
-        (flat_map spaced (codes "period" ∷ mark_word design.now mark ∷ spot_word design.now follows.now ∷ spot_told plan.now design.now follows.now)) result }
+        (flat_map spaced (key.now ∷ mark_word design.now mark ∷ spot_word design.now by.now ∷ spot_told plan.now design.now by.now)) result }
 {
-    let place = place_of(design, follows);
+    let place = place_of(design, by);
     put_words(
         plan,
         &[
-            Piece::Key(b"period"),
+            Piece::Key(key),
             mark_piece(design, mark),
             Piece::Place(place),
         ],
@@ -295,20 +292,21 @@ fn place_of<'a>(design: &'a Design<'_>, spot: &DrawnPlace) -> PartPlace<'a>
 }
 
 // Puts a mark that follows two drivers, through the pins.
-fn put_drivers<K: Sink>(
+fn put_drivers<'a, K: Sink>(
     plan: &Plan,
-    design: &Design<'_>,
+    design: &'a Design<'_>,
+    key: &'a [u8],
     mark: DesignMark,
     first: Origin,
     other: Origin,
     sink: &mut K,
 ) -> Result<(), PutFailed>
-    ensures puts { Puts (K.state sink.old) (K.state sink.new) (flat_map spaced (drivers_words plan.now design.now mark first other)) result }
+    ensures puts { Puts (K.state sink.old) (K.state sink.new) (flat_map spaced (drivers_words plan.now design.now key.now mark first other)) result }
 {
     put_words(
         plan,
         &[
-            Piece::Key(b"drivers"),
+            Piece::Key(key),
             mark_piece(design, mark),
             Piece::Drawn(first),
             Piece::Drawn(other),
@@ -362,20 +360,36 @@ fn beside<'a>(design: &'a Design<'_>, mark: DesignMark, origin: Origin) -> PartP
     }
 }
 
-// Puts a near key of the sheet of a part.
-fn put_sheet_key<K: Sink>(
-    design: &Design<'_>,
+// Puts a word, and a near key of the sheet of a part.
+fn put_sheet_key<'a, K: Sink>(
+    design: &'a Design<'_>,
+    key: &'a [u8],
     part: u32,
-    key: u64,
+    near: u64,
     sink: &mut K,
 ) -> Result<(), PutFailed>
     ensures puts { Puts (K.state sink.old) (K.state sink.new)
-        (flat_map spaced (codes "key" ∷ part_word design.now part ∷ sheet_key_word design.now part key ∷ [])) result }
+        (flat_map spaced (key.now ∷ part_word design.now part ∷ sheet_key_word design.now part near ∷ [])) result }
 {
     let name = part_word(design, u64::from(part)).as_bytes();
-    let key = sheet_key_word(design, part, key).as_bytes();
+    let near = sheet_key_word(design, part, near).as_bytes();
+    put_pieces(&[Piece::Key(key), Piece::Key(name), Piece::Key(near)], sink)
+}
+
+// Puts a word, a part, and how many things its sheet has.
+fn put_count<'a, K: Sink>(
+    design: &'a Design<'_>,
+    key: &'a [u8],
+    part: u32,
+    count: u64,
+    sink: &mut K,
+) -> Result<(), PutFailed>
+    ensures puts { Puts (K.state sink.old) (K.state sink.new)
+        (flat_map spaced (key.now ∷ part_word design.now part ∷ number_text count ∷ [])) result }
+{
+    let name = part_word(design, u64::from(part)).as_bytes();
     put_pieces(
-        &[Piece::Key(b"key"), Piece::Key(name), Piece::Key(key)],
+        &[Piece::Key(key), Piece::Key(name), Piece::Count(count)],
         sink,
     )
 }
@@ -448,14 +462,14 @@ fn put_part_key<'a, K: Sink>(
     )
 }
 
-// Puts a net of which an end of the delay is tiny.
-fn put_net_unit<K: Sink>(plan: &Plan, net: u64, sink: &mut K) -> Result<(), PutFailed>
+// Puts a word and a net.
+fn put_net<K: Sink>(plan: &Plan, key: &[u8], net: u64, sink: &mut K) -> Result<(), PutFailed>
     ensures puts { Puts (K.state sink.old) (K.state sink.new)
-        (flat_map spaced (codes "unit" ∷ codes "net" ∷ number_text net ∷ net_told plan.now net)) result }
+        (flat_map spaced (key.now ∷ codes "net" ∷ number_text net ∷ net_told plan.now net)) result }
 {
     put_words(
         plan,
-        &[Piece::Key(b"unit"), Piece::Key(b"net"), Piece::Count(net)],
+        &[Piece::Key(key), Piece::Key(b"net"), Piece::Count(net)],
         Told::One(net_place(net)),
         sink,
     )

@@ -6,7 +6,7 @@ ghost use Rattle.drawn_networks.specs.Drawn.{IsRowOf};
 ghost use Rattle.event_graph.specs.Edges.{cause_choices};
 ghost use Rattle.explanations.specs.Apart.{keeps_order};
 ghost use Rattle.extremes.specs.Found.{IsAttainedBy, IsConsistency};
-ghost use Rattle.extremes.specs.declared.found.Consistency.TheVariants.{Consistent};
+ghost use Rattle.requirements.specs.declared.consistency.Consistency.TheVariants.{Consistent};
 ghost use Rattle.extremes.specs.Ready.{IsReady};
 ghost use Rattle.itv_base.specs.declared.limits.TheConstants.{MAX_BUDGET};
 ghost use Rattle.event_graph.specs.Network.{Net};
@@ -24,9 +24,10 @@ use crate::row_seen::RowSeen;
 use chains::Chains;
 use drawn_networks::{DrawnNetwork, Row};
 use event_graph::Network;
-use extremes::{Extremes, Greatest};
+use extremes::Extremes;
 use itv_base::{EventId, NoMemory, Range, RowKind};
 use origin::Origin;
+use requirements::Separation;
 use std::alloc::Global;
 
 /// The memory for the searches of rows and for their chains.
@@ -193,11 +194,11 @@ fn see_pair(
     ensures settles { IfOk result (λ found. cause_choices net.now.constraints ≤ search.old.extremes.budget → is_pair_open found ≡ false) }
 {
     match search.extremes.greatest(alloc, net, from, to)? {
-        Greatest::Closed { value, times } => {
-            see_closed(alloc, net, from, to, value, &times, &mut search.chains)
+        Separation::Closed { value, shown } => {
+            see_closed(alloc, net, from, to, value, &shown, &mut search.chains)
         }
-        Greatest::Unbounded { .. } => Ok(PairSeen::Unbounded),
-        Greatest::Open { .. } => Ok(PairSeen::Open),
+        Separation::Unbounded { .. } => Ok(PairSeen::Unbounded),
+        Separation::Open { .. } => Ok(PairSeen::Open),
     }
 }
 

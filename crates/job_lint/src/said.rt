@@ -7,7 +7,7 @@ use crate::line::Line;
 use crate::parts::{event_part, part_word};
 use compose::Design;
 use drawn_networks::DrawnNetwork;
-use lint::{DrawnPlace, Warning};
+use lint::{About, DrawnPlace, Warning, WarningWord};
 use origin::Origin;
 
 /// Whether lines of ends say what a warning says: it is of two rules into one mark, and a line is about one of the two.
@@ -19,8 +19,8 @@ pub fn is_said(
 ) -> bool
     ensures said { result ≡ is_said design.now drawn.now narrow.now warning.now }
 {
-    match warning {
-        Warning::Both(first, other) => {
+    match (warning.word, &warning.about) {
+        (WarningWord::Both, About::Two(first, other)) => {
             is_narrow_spot(design, drawn, narrow, first)
                 || is_narrow_spot(design, drawn, narrow, other)
         }

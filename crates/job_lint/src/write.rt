@@ -21,15 +21,16 @@ use drawn_networks::DrawnNetwork;
 use itv_base::{NoMemory, PutFailed, Sink};
 use job_base::{Answer, Unanswered};
 use line_words::LineBuffer;
-use lint::warnings_of;
+use lint::{push_heuristics, warnings_of};
 use std::alloc::Global;
 
 // Room for most lines. A longer line is put piece by piece.
 const LINE_ROOM: u32 = 256;
 
-/// Writes what in a design may say something else than was meant: a line for each warning of the drawing, for each end of a range that no times attain,
-/// and for each row whose answer rests on the order of a lane or was left open. In place of the lines of ends and rows one line may say that the order of
-/// lanes contradicts the other rules, or that the search for times was left open. A line about an edge that is meant is left out and counted. Each search
+/// Writes what in a design may say something else than was meant: a line for each warning of the drawing, for each rule and row that is in no cycle, for
+/// each end of a range that no times attain, and for each row whose answer rests on the order of a lane or was left open. In place of the lines of ends and
+/// rows one or two lines may say that the rules contradict each other, or that the search for times was left open. A line about an edge that is meant is
+/// left out and counted. Each search
 /// closes at most `budget` cases, and takes at most a thousand turns for each. All is found before the first put.
 pub fn write_lint<K: Sink>(
     alloc: Global,
@@ -81,7 +82,8 @@ fn find_lines(
     requires most { budget ≤ MAX_BUDGET }
     ensures lines { IfOk result (λ lines. AreLintLines plan.now design.now drawn.now budget lines.items) }
 {
-    let warnings = warnings_of(alloc, plan, design)?;
+    let mut warnings = warnings_of(alloc, plan, design)?;
+    push_heuristics(&mut warnings, design)?;
     let found = find_all(alloc, drawn, budget)?;
     lines_of(alloc, design, drawn, &warnings, &found)
 }

@@ -13,7 +13,7 @@ ghost use Rattle.job_margin.specs.Step.{AreFoundIf, AreFoundOf, IsBaseOf, EndsBy
 use crate::number_found::NumberFound;
 use drawn_networks::DrawnNetwork;
 use drawn_numbers::DrawnNumber;
-use extremes::{RunTurns, turns_of};
+use extremes::{RunTurns, run_turns};
 use itv_base::{NoMemory, Range};
 use margins::{EndsFound, base_of, find_ends};
 use moves::{NetFound, NumberSeen, SpanFound};
@@ -43,7 +43,7 @@ pub fn find_margins(
     requires most { budget ≤ MAX_BUDGET }
     ensures ending { IfOk result (λ found. EndsByOf drawn.now budget seen.now as_one found.word found.numbers.items) }
 {
-    let mut turns = RunTurns::of(turns_of(budget));
+    let mut turns = run_turns(budget);
     let base = base_of(alloc, drawn, budget, &mut turns)?;
     let numbers = numbers_by(alloc, drawn, seen, as_one, &base, budget, &mut turns)?;
     Ok(MarginFound {

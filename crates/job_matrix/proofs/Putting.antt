@@ -13,7 +13,7 @@ use Rattle.event_graph.specs.RootBound.{HasNoRoot, IsRootBound, MeetsAlways}
 use Rattle.line_words.specs.Lines.{spaced}
 use Rattle.minplus.specs.Matrix.{AreRootBounds, entry_of, number_of}
 use Rattle.minplus.specs.declared.rows.TheConstants.{ABSENT}
-use Rattle.slack_report.specs.declared.words.FindingWord.TheVariants as findings
+use Rattle.requirements.specs.declared.consistency.Consistency.TheVariants as findings
 use Rattle.slack_report.specs.Entry.{finding}
 use Rattle.slack_report.specs.Text.{entry_text}
 use Rattle.drawn_networks.specs.Drawn.{Drawn}

@@ -9,7 +9,7 @@ use Rattle.event_graph.specs.RootBound.{HasNoRoot, IsRootBound, MeetsAlways}
 use Rattle.line_words.specs.Lines.{ended, line_of}
 use Rattle.job_base.specs.declared.answer.Answer.{Answer}
 use Rattle.job_base.specs.declared.answer.Answer.TheVariants.{AllPass, SomeFail, Inconsistent, Undecided, CheckRefused, DesignRefused}
-use Rattle.slack_report.specs.declared.words.FindingWord.TheVariants as findings
+use Rattle.requirements.specs.declared.consistency.Consistency.TheVariants as findings
 use Rattle.slack_report.specs.Entry.{finding}
 use Rattle.drawn_networks.specs.Drawn.{Drawn}
 use Rattle.slack_report.specs.Text.{entry_text, report_text}

@@ -7,7 +7,7 @@ ghost use Rattle.job_base.specs.JobWrote.{Answered, JobWrote};
 ghost use Rattle.minplus.specs.Matrix.{IsSquare};
 ghost use Rattle.slack_report.specs.Entry.{finding};
 ghost use Rattle.slack_report.specs.Text.{entry_text};
-ghost use Rattle.slack_report.specs.declared.words.FindingWord.TheVariants.{Inconsistent};
+ghost use Rattle.requirements.specs.declared.consistency.Consistency.TheVariants.{Inconsistent};
 ghost use Rattle.job_matrix.specs.Matrix.{AnswersMatrix, matrix_text};
 ghost use Rattle.job_matrix.specs.Step.{entries_of};
 
@@ -17,7 +17,8 @@ use itv_base::{PutFailed, Sink};
 use job_base::{Answer, Unanswered, put_events};
 use line_words::LineBuffer;
 use minplus::{Matrix, MatrixFault, closure};
-use slack_report::{FindingWord, Item, LINE_ROOM, write_item};
+use requirements::Consistency;
+use slack_report::{Item, LINE_ROOM, write_item};
 use std::alloc::Global;
 
 /// Writes the root bounds of all pairs of events of a drawn network, in picoseconds, or that no times meet its always-edges. All
@@ -50,7 +51,7 @@ pub fn write_matrix<K: Sink>(
 fn put_inconsistent<K: Sink>(buffer: &mut LineBuffer, sink: &mut K) -> Result<(), PutFailed>
     ensures { Puts (K.state sink.old) (K.state sink.new) (entry_text (finding Inconsistent)) result }
 {
-    write_item(&Item::Finding(FindingWord::Inconsistent), buffer, sink)
+    write_item(&Item::Finding(Consistency::Inconsistent), buffer, sink)
 }
 
 // Writes the heading, the events and the rows.

@@ -14,8 +14,8 @@ use Rattle.requirements.specs.Slacks.{slack_of}
 use Rattle.requirements.specs.Verdicts.{verdict_of}
 use Rattle.slack_report.specs.declared.words.EndWord.{EndWord}
 use Rattle.slack_report.specs.declared.words.EndWord.TheVariants as endings
-use Rattle.slack_report.specs.declared.words.FindingWord.{FindingWord}
-use Rattle.slack_report.specs.declared.words.FindingWord.TheVariants as findings
+use Rattle.requirements.specs.declared.consistency.Consistency.{Consistency}
+use Rattle.requirements.specs.declared.consistency.Consistency.TheVariants as findings
 use Rattle.slack_report.specs.Entry.{Entry, heading, budget, events, event, proof, finding, times, rows, row, bound, raise, verdict, slack, ending}
 use Rattle.drawn_networks.specs.Drawn.{AreTimes, Drawn, name_of}
 use Rattle.drawn_networks.specs.declared.row.Row.{Row}
@@ -175,10 +175,10 @@ past_seen drawn current range word list scan h side kind fails small satisfied b
 
 -- ---- line by line
 
-finding_seen : (drawn : Drawn) (word : FindingWord) (scan : Scan) → HasNothing scan → HasSeen drawn (behind_finding word) scan
+finding_seen : (drawn : Drawn) (word : Consistency) (scan : Scan) → HasNothing scan → HasSeen drawn (behind_finding word) scan
 finding_seen drawn findings.Consistent scan h = h
 finding_seen drawn findings.Inconsistent scan h = λ e. absurd (cc e)
-finding_seen drawn findings.Unsettled scan h = h
+finding_seen drawn findings.Open scan h = h
 
 find_seen : (drawn : Drawn) (most : ℕ) (known : List ℤ) (lines : List ProofLine) (line : Entry) (next : ReportState) (scan : Scan) → MayFind (written drawn.net most false known) lines line next → HasNothing scan
     → HasSeen drawn next (with_line scan line)
@@ -227,13 +227,13 @@ step drawn most known at_last line next scan m h = absurd m
 
 -- ---- the end
 
-never_fails : (found : FindingWord) (within : Bool) → undecided_or_pass found within ≡ endings.Fail → ⊥
+never_fails : (found : Consistency) (within : Bool) → undecided_or_pass found within ≡ endings.Fail → ⊥
 never_fails findings.Consistent true e = cc e
 never_fails findings.Consistent false e = cc e
 never_fails findings.Inconsistent within e = cc e
-never_fails findings.Unsettled within e = cc e
+never_fails findings.Open within e = cc e
 
-fails_by : (fails : Bool) (found : FindingWord) (within : Bool) → (if fails then endings.Fail else undecided_or_pass found within) ≡ endings.Fail → fails ≡ true
+fails_by : (fails : Bool) (found : Consistency) (within : Bool) → (if fails then endings.Fail else undecided_or_pass found within) ≡ endings.Fail → fails ≡ true
 fails_by true found within e = refl
 fails_by false found within e = absurd (never_fails found within e)
 

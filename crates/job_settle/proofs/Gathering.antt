@@ -27,7 +27,7 @@ bound_times cert net which row (settled.Closed value times proof) is_row b =
     less_zero (time_of times.items row.from) (time_of times.items row.to) value b.are_times.at_zero
     (printed_time (time_of times.items row.to) (b.are_times.printed row.to.0 (pos 0) (subst (λ n. row.to.0 < n) (sym b.are_times.satisfied.count) is_row.1))) b.attained
 bound_times cert net which row (settled.Unbounded times ray) is_row b = tt
-bound_times cert net which row settled.Spent is_row b = (tt, tt)
+bound_times cert net which row settled.Open is_row b = (tt, tt)
 
 -- ---- what is found of each row
 

@@ -25,12 +25,12 @@ use Rattle.job_settle.specs.Step.{ArePast, IsBeyond, shown_by, source, target}
 beyond_high : (limit : ℤ) (found : SettledBound) → breaks_high (Some limit) (bound_of found) ≡ true → IsBeyond Max found limit
 beyond_high limit (settled.Closed value times proof) e = lt_from_test limit value e
 beyond_high limit (settled.Unbounded times ray) e = tt
-beyond_high limit settled.Spent e = cc e
+beyond_high limit settled.Open e = cc e
 
 beyond_low : (limit : ℤ) (found : SettledBound) → breaks_low (Some (neg_ℤ limit)) (bound_of found) ≡ true → IsBeyond Min found limit
 beyond_low limit (settled.Closed value times proof) e = past_minus value limit e
 beyond_low limit (settled.Unbounded times ray) e = tt
-beyond_low limit settled.Spent e = cc e
+beyond_low limit settled.Open e = cc e
 
 -- a bound that breaks an end exceeds it
 pub past_high : (range : Ends) (least most : Bound) (found : SettledBound) (limit : ℤ) → most ≡ bound_of found → verdict_of range least most ≡ verdicts.FailHigh → range.high ≡ Some limit

@@ -25,7 +25,7 @@ use Rattle.slack_report.specs.declared.words.Which.{Which}
 use Rattle.slack_report.specs.declared.words.Which.TheVariants.{Max, Min}
 use Rattle.drawn_networks.specs.declared.row.Row.{Row}
 use Rattle.job_settle.specs.declared.finding.Finding.{Finding}
-use Rattle.job_settle.specs.declared.finding.Finding.TheVariants.{Consistent, Inconsistent, Spent}
+use Rattle.job_settle.specs.declared.finding.Finding.TheVariants.{Consistent, Inconsistent, Open}
 use Rattle.job_settle.specs.declared.proof.Proof.{Proof}
 use Rattle.job_settle.specs.declared.bound.SettledBound.{SettledBound}
 use Rattle.job_settle.specs.declared.bound.SettledBound.TheVariants as settled
@@ -59,7 +59,7 @@ pub record IsRefuted (cert : Bool) (net : Net) (proof : Proof) : Type 0 where
 abbrev pub IsFinding : Bool → Net → Finding → Type 0
 IsFinding cert net (Consistent times) = ArePrintedTimes net first_event times.items
 IsFinding cert net (Inconsistent proof) = IsRefuted cert net proof
-IsFinding cert net Spent = Unit {0}
+IsFinding cert net Open = Unit {0}
 
 -- ---- a bound
 
@@ -89,13 +89,13 @@ pub record IsEndless (net : Net) (which : Which) (row : Row) (times : List ℤ) 
 abbrev pub IsBound : Bool → Net → Which → Row → SettledBound → Type 0
 IsBound cert net which row (settled.Closed value times proof) = IsNumber cert net which row value times.items proof
 IsBound cert net which row (settled.Unbounded times ray) = IsEndless net which row times.items ray.items
-IsBound cert net which row settled.Spent = Unit {0}
+IsBound cert net which row settled.Open = Unit {0}
 
 -- the bound as verdicts and slacks use it; of a spent bound nothing is known
 abbrev pub bound_of : SettledBound → Bound
 bound_of (settled.Closed value times proof) = bounds.Closed value
 bound_of (settled.Unbounded times ray) = bounds.Unbounded
-bound_of settled.Spent = bounds.Within None None
+bound_of settled.Open = bounds.Within None None
 
 -- ---- a row
 
@@ -136,7 +136,7 @@ AreRowsFound cert net (row ∷ rows) (found ∷ others) = IsRowFound cert net ro
 abbrev pub AreFound : Bool → Net → List Row → Finding → List RowFound → Type 0
 AreFound cert net rows (Consistent times) found = AreRowsFound cert net rows found
 AreFound cert net rows (Inconsistent proof) found = found ≡ []
-AreFound cert net rows Spent found = found ≡ []
+AreFound cert net rows Open found = found ≡ []
 
 -- ---- what the turns bound
 

@@ -34,7 +34,7 @@ IsNearTime time = (neg_ℤ (pos (2 * cap_limit)) ≤ℤ time) × (time ≤ℤ po
 abbrev pub HasNearby : SettledBound → Type 0
 HasNearby (settled.Closed value times proof) = All IsNearTime times.items
 HasNearby (settled.Unbounded times ray) = All IsNearTime times.items
-HasNearby settled.Spent = Unit {0}
+HasNearby settled.Open = Unit {0}
 
 -- a bound that was found, with its proof or without; its times are near times
 abbrev pub IsFoundBound : Net → Which → Row → SettledBound → Type 0
@@ -44,7 +44,7 @@ IsFoundBound net which row value = ((cert : Bool) × IsBound cert net which row 
 abbrev pub IsBeyond : Which → SettledBound → ℤ → Type 0
 IsBeyond which (settled.Closed value times proof) limit = limit <ℤ shown_by which value
 IsBeyond which (settled.Unbounded times ray) limit = Unit {0}
-IsBeyond which settled.Spent limit = ⊥
+IsBeyond which settled.Open limit = ⊥
 
 -- the printed times satisfy, with the from-event at 0, and their separation of the searched pair exceeds a limit
 pub record ArePast (net : Net) (which : Which) (row : Row) (limit : ℤ) (times : List ℤ) : Type 0 where

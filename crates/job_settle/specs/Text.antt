@@ -7,7 +7,7 @@ use Rattle.requirements.specs.Slacks.{slack_of}
 use Rattle.requirements.specs.declared.bound.Bound.TheVariants as bounds
 use Rattle.slack_report.specs.declared.words.EndWord.{EndWord}
 use Rattle.slack_report.specs.declared.words.EndWord.TheVariants as endings
-use Rattle.slack_report.specs.declared.words.FindingWord.TheVariants as findings
+use Rattle.requirements.specs.declared.consistency.Consistency.TheVariants as findings
 use Rattle.slack_report.specs.declared.words.Which.{Which}
 use Rattle.slack_report.specs.declared.words.Which.TheVariants.{Max, Min}
 use Rattle.slack_report.specs.Entry as line
@@ -20,7 +20,7 @@ use Rattle.job_base.specs.Events.{event_lines}
 use Rattle.edge_clauses.specs.Proofs.{lines_of}
 use Rattle.clause_texts.specs.Text.{proof_text}
 use Rattle.job_settle.specs.declared.finding.Finding.{Finding}
-use Rattle.job_settle.specs.declared.finding.Finding.TheVariants.{Consistent, Inconsistent, Spent}
+use Rattle.job_settle.specs.declared.finding.Finding.TheVariants.{Consistent, Inconsistent, Open}
 use Rattle.job_settle.specs.declared.proof.Proof.{Proof}
 use Rattle.job_settle.specs.declared.bound.SettledBound.{SettledBound}
 use Rattle.job_settle.specs.declared.bound.SettledBound.TheVariants as settled
@@ -39,13 +39,13 @@ shown_text false proof = []
 abbrev pub finding_text : Bool → Finding → List ℕ
 finding_text cert (Consistent times) = entry_text (line.finding findings.Consistent) ++ entry_text (line.times times.items)
 finding_text cert (Inconsistent proof) = shown_text cert proof ++ entry_text (line.finding findings.Inconsistent)
-finding_text cert Spent = ended (line_of (codes "finding" ∷ codes "spent" ∷ []))
+finding_text cert Open = ended (line_of (codes "finding" ∷ codes "spent" ∷ []))
 
 -- A bound is a number with its proof and times; or it is unbounded, with times and the events that can be raised from them; or it was spent.
 abbrev pub bound_text : Bool → Which → SettledBound → List ℕ
 bound_text cert which (settled.Closed value times proof) = shown_text cert proof ++ (entry_text (line.bound which (bounds.Closed value)) ++ entry_text (line.times times.items))
 bound_text cert which (settled.Unbounded times ray) = entry_text (line.bound which bounds.Unbounded) ++ (entry_text (line.times times.items) ++ entry_text (line.raise ray.items))
-bound_text cert which settled.Spent = ended (line_of (which_word which ∷ codes "spent" ∷ []))
+bound_text cert which settled.Open = ended (line_of (which_word which ∷ codes "spent" ∷ []))
 
 -- the verdict on a requirement, times that break it if it is a fail, and the slack; a row that only asks has no verdict
 abbrev pub judged_text : RowKind → RowFound → List ℕ
@@ -71,13 +71,13 @@ rows_text drawn cert number (row ∷ rows) (found ∷ others) = row_text drawn c
 abbrev pub behind_text : Drawn → Bool → Finding → List RowFound → List ℕ
 behind_text drawn cert (Consistent times) found = entry_text (line.rows (length drawn.rows)) ++ rows_text drawn cert 0 drawn.rows found
 behind_text drawn cert (Inconsistent proof) found = []
-behind_text drawn cert Spent found = []
+behind_text drawn cert Open found = []
 
 -- the word at the end, as a report with these bounds has it
 abbrev pub ending_of : List Row → Finding → List RowFound → EndWord
 ending_of rows (Consistent times) found = end_word (with_rows (tally_of findings.Consistent) (kinds_of rows) (map both_of found))
 ending_of rows (Inconsistent proof) found = endings.Inconsistent
-ending_of rows Spent found = endings.Undecided
+ending_of rows Open found = endings.Undecided
 
 -- the whole text
 abbrev pub settle_text : Drawn → Bool → Finding → List RowFound → List ℕ

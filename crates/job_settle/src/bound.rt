@@ -14,7 +14,7 @@ pub enum SettledBound {
     /// There is no bound: times, and for each event whether it can be raised from them without end.
     Unbounded(Vec<i64>, Vec<bool>),
     /// The turns were spent before the bound was known.
-    Spent,
+    Open,
 }
 
 /// The bound as it is printed, and as verdicts and slacks use it; of a spent bound nothing is known.
@@ -24,7 +24,7 @@ pub fn bound_of(found: &SettledBound) -> Bound
     match found {
         SettledBound::Closed(value, _, _) => Bound::Closed(*value),
         SettledBound::Unbounded(_, _) => Bound::Unbounded,
-        SettledBound::Spent => Bound::Within {
+        SettledBound::Open => Bound::Within {
             limit: None,
             attained: None,
         },

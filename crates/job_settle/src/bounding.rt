@@ -44,7 +44,7 @@ pub fn find_bound(
     let to = target(which, row);
     let turns = left.next();
     if turns == 0 {
-        return Ok(SettledBound::Spent);
+        return Ok(SettledBound::Open);
     }
     let found = settler.greatest(alloc, net, from, to, turns)?;
     left.take(found.turns);
@@ -84,7 +84,7 @@ fn bound_by(
             proof_of(alloc, view, claim, lines, cert),
         ),
         Settled::Unbounded => SettledBound::Unbounded(moved(times, row.from), ray),
-        Settled::Spent => SettledBound::Spent,
+        Settled::Spent => SettledBound::Open,
         Settled::Inconsistent => unreachable!(),
     }
 }

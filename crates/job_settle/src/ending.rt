@@ -11,8 +11,9 @@ use crate::finding::Finding;
 use crate::row::RowFound;
 use drawn_networks::DrawnNetwork;
 use job_base::row_at;
+use requirements::Consistency;
 use right_report::ReportTally;
-use slack_report::{EndWord, FindingWord};
+use slack_report::EndWord;
 
 /// The word at the end, for what was found of the network and of each row.
 pub fn ending_of(drawn: &DrawnNetwork, finding: &Finding, found: &[RowFound]) -> EndWord
@@ -22,16 +23,16 @@ pub fn ending_of(drawn: &DrawnNetwork, finding: &Finding, found: &[RowFound]) ->
     match finding {
         Finding::Consistent(_) => tally_rows(drawn, found).end_word(),
         Finding::Inconsistent(_) => EndWord::Inconsistent,
-        Finding::Spent => EndWord::Undecided,
+        Finding::Open => EndWord::Undecided,
     }
 }
 
 // The tally of all rows of a consistent network.
 fn tally_rows(drawn: &DrawnNetwork, found: &[RowFound]) -> ReportTally
     requires found { (cert : Bool) × AreRowsFound cert drawn.now.net drawn.now.rows found.now }
-    ensures tally { result ≡ with_rows (tally_of FindingWord.Consistent) (kinds_of drawn.now.rows) (map both_of found.now) }
+    ensures tally { result ≡ with_rows (tally_of Consistency.Consistent) (kinds_of drawn.now.rows) (map both_of found.now) }
 {
-    let mut tally = ReportTally::new(FindingWord::Consistent);
+    let mut tally = ReportTally::new(Consistency::Consistent);
     for number in 0..drawn.rows().len() as u32 {
         let row = row_at(drawn, number);
         let of_row = &found[number as usize];

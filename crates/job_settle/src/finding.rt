@@ -21,7 +21,7 @@ pub enum Finding {
     /// No times satisfy the network.
     Inconsistent(Proof),
     /// The turns were spent before the finding was known.
-    Spent,
+    Open,
 }
 
 /// Looks for times that satisfy a network. A network without events is satisfied by the empty list of times. The search takes its turns from those that
@@ -71,7 +71,7 @@ fn finding_of(alloc: Global, net: &Network, found: ShownAnswer, cert: bool) -> F
         Settled::Inconsistent => {
             Finding::Inconsistent(proof_of(alloc, view, claim, lines, cert))
         }
-        Settled::Spent => Finding::Spent,
+        Settled::Spent => Finding::Open,
         Settled::Unbounded => unreachable!(),
     }
 }

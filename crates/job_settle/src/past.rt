@@ -88,7 +88,7 @@ fn past_limit(
             raise(&mut past, ray, which, limit, row, net);
             Ok(past)
         }
-        SettledBound::Spent => unreachable!(),
+        SettledBound::Open => unreachable!(),
     }
 }
 

@@ -13,8 +13,8 @@ use crate::finding::Finding;
 use crate::proof::put_proof;
 use itv_base::{PutFailed, Sink};
 use line_words::LineBuffer;
-use requirements::Bound;
-use slack_report::{FindingWord, Item, Which, write_item};
+use requirements::{Bound, Consistency};
+use slack_report::{Item, Which, write_item};
 
 /// Puts the finding, with times that satisfy the network or, if proofs are wanted, with the proof that none do.
 pub fn put_finding<K: Sink>(
@@ -27,14 +27,14 @@ pub fn put_finding<K: Sink>(
 {
     match finding {
         Finding::Consistent(times) => {
-            write_item(&Item::Finding(FindingWord::Consistent), buffer, sink)?;
+            write_item(&Item::Finding(Consistency::Consistent), buffer, sink)?;
             write_item(&Item::Times(times), buffer, sink)
         }
         Finding::Inconsistent(proof) => {
             put_proof(cert, proof, buffer, sink)?;
-            write_item(&Item::Finding(FindingWord::Inconsistent), buffer, sink)
+            write_item(&Item::Finding(Consistency::Inconsistent), buffer, sink)
         }
-        Finding::Spent => sink.put(b"finding spent\n"),
+        Finding::Open => sink.put(b"finding spent\n"),
     }
 }
 
@@ -54,7 +54,7 @@ pub fn put_bound<K: Sink>(
             put_number(which, bound_of(found), times, buffer, sink)
         }
         SettledBound::Unbounded(times, ray) => put_unbounded(which, times, ray, buffer, sink),
-        SettledBound::Spent => put_spent(which, sink),
+        SettledBound::Open => put_spent(which, sink),
     }
 }
 

@@ -36,7 +36,7 @@ pub fn put_behind<K: Sink>(
 {
     match finding {
         Finding::Consistent(_) => put_rows(drawn, cert, found, buffer, sink),
-        Finding::Inconsistent(_) | Finding::Spent => Ok(()),
+        Finding::Inconsistent(_) | Finding::Open => Ok(()),
     }
 }
 

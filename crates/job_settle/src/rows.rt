@@ -38,7 +38,7 @@ pub fn find_rows(
 {
     match finding {
         Finding::Consistent(_) => find_all(alloc, drawn, settler, wanted, left),
-        Finding::Inconsistent(_) | Finding::Spent => Ok(Vec::new(alloc)),
+        Finding::Inconsistent(_) | Finding::Open => Ok(Vec::new(alloc)),
     }
 }
 

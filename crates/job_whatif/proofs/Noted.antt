@@ -1,5 +1,5 @@
 -- The notes of a session of rows, and of the sessions through which edits lead.
-use Rattle.std.proofs.Common.{◌≡◌, ◌+◌, ◌<◌, ℕ, suc, List, [], ◌∷◌, length, get_or, map, All, inl, inr, refl, sym, subst, ap, ◌∙◌, arith}
+use Rattle.std.proofs.Common.{◌≡◌, ◌+◌, ◌<◌, ℕ, suc, List, [], ◌∷◌, length, get_or, map, All, inl, inr, refl, sym, subst, ap, ◌∙◌, arith, None, Some}
 use Rattle.std.proofs.lemmas.List.{length-map}
 use Rattle.std.proofs.lemmas.List.Elements.{All-cons, All-head, All-map, All-tail}
 use Rattle.itv_base.specs.declared.row_kind.RowKind.{RowKind}
@@ -8,10 +8,10 @@ use Rattle.event_graph.specs.Times.{IsTime}
 use Rattle.event_graph.proofs.Sizes.{limit_time}
 use Rattle.branch.specs.Answers.{IsGreatestAnswer, Evidence, PairSearch}
 use Rattle.branch.specs.Work.{IsClose}
-use Rattle.branch.specs.declared.answer.GreatestAnswer.{GreatestAnswer}
-use Rattle.branch.specs.declared.answer.GreatestAnswer.TheVariants.{Closed, Unbounded, Enclosed}
-use Rattle.branch.specs.declared.answer.SearchFinding.{SearchFinding}
-use Rattle.branch.specs.declared.answer.SearchFinding.TheVariants.{Consistent, Inconsistent, Unsettled}
+use Rattle.requirements.specs.declared.bound.Bound.{Bound}
+use Rattle.requirements.specs.declared.bound.Bound.TheVariants.{Closed, Unbounded, Within}
+use Rattle.requirements.specs.declared.consistency.Consistency.{Consistency}
+use Rattle.requirements.specs.declared.consistency.Consistency.TheVariants.{Consistent, Inconsistent, Open}
 use Rattle.branch.proofs.Close.{separation_time}
 use Rattle.range_edits.specs.declared.edit.RangeEdit.{RangeEdit}
 use Rattle.whatif.specs.declared.change.Change.{Change}
@@ -28,10 +28,11 @@ use Rattle.job_whatif.specs.Whatif.{pair_of, pairs_of}
 
 -- ---- numbers
 
-timed_by : (search : PairSearch) (left : Evidence) (answer : GreatestAnswer) → IsGreatestAnswer search left answer → All IsClose left.times → IsTimed answer
+timed_by : (search : PairSearch) (left : Evidence) (answer : Bound) → IsGreatestAnswer search left answer → All IsClose left.times → IsTimed answer
 timed_by search left (Closed value) a close = subst IsTime a.attained (separation_time left.times search.from search.to close)
 timed_by search left Unbounded a close = tt
-timed_by search left (Enclosed upper found) a close = (limit_time upper a.within, subst IsTime a.attains (separation_time left.times search.from search.to close))
+timed_by search left (Within limit None) a close = absurd a
+timed_by search left (Within limit (Some found)) a close = (limit_time limit a.within, subst IsTime a.attains (separation_time left.times search.from search.to close))
 
 bound_timed : (net : Net) (budget : ℕ) (b : KeptBound) → IsRightBound net budget b → IsTimed b.answer
 bound_timed net budget b right =
@@ -43,14 +44,14 @@ bounds_timed net budget bounds right =
 
 -- ---- notes
 
-note_by : (kinds : List RowKind) (s : SessionView) (change : Change) (found : SearchFinding) → s.found ≡ found → IsRight s → length kinds ≡ length s.pairs
+note_by : (kinds : List RowKind) (s : SessionView) (change : Change) (found : Consistency) → s.found ≡ found → IsRight s → length kinds ≡ length s.pairs
     → IsNoteOf kinds (record { change = change; found = found; answers = answers_of found s.bounds })
 note_by kinds s change Consistent is right same = record {
   timed = bounds_timed s.net s.budget s.bounds (right.bounds is);
   count = inr (omega (arith, length-map s.bounds (λ (b : KeptBound). b.answer), count_bounds s.pairs s.bounds right.pairs, same));
 }
 note_by kinds s change Inconsistent is right same = record { timed = λ k d within. absurd (omega arith); count = inl refl }
-note_by kinds s change Unsettled is right same = record { timed = λ k d within. absurd (omega arith); count = inl refl }
+note_by kinds s change Open is right same = record { timed = λ k d within. absurd (omega arith); count = inl refl }
 
 -- the note of a right session fits its rows
 pub note_is : (kinds : List RowKind) (s : SessionView) (change : Change) → IsRight s → length kinds ≡ length s.pairs → IsNoteOf kinds (note_of change s)

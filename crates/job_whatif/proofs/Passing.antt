@@ -11,24 +11,21 @@ use Rattle.event_graph.specs.Network.{Net}
 use Rattle.event_graph.specs.Satisfying.{Satisfies}
 use Rattle.event_graph.proofs.Rays.{ray_is_unbounded}
 use Rattle.branch.specs.Answers.{Evidence, IsGreatestAnswer, PairSearch}
-use Rattle.branch.specs.AnswerBound.{greatest_bound}
-use Rattle.branch.specs.declared.answer.GreatestAnswer.{GreatestAnswer}
-use Rattle.branch.specs.declared.answer.GreatestAnswer.TheVariants.{Closed, Unbounded, Enclosed}
-use Rattle.branch.specs.declared.answer.SearchFinding.{SearchFinding}
-use Rattle.branch.specs.declared.answer.SearchFinding.TheVariants.{Consistent, Inconsistent, Unsettled}
+use Rattle.requirements.specs.declared.bound.Bound.{Bound}
+use Rattle.requirements.specs.declared.bound.Bound.TheVariants.{Closed, Unbounded, Within}
+use Rattle.requirements.specs.declared.consistency.Consistency.{Consistency}
+use Rattle.requirements.specs.declared.consistency.Consistency.TheVariants.{Consistent, Inconsistent, Open}
 use Rattle.requirements.specs.Bounds.{IsGreatestBound, IsLeastBound}
 use Rattle.requirements.specs.Laws.{IsMet, IsWithin}
 use Rattle.requirements.specs.Verdicts.{verdict_of}
 use Rattle.requirements.specs.declared.bound.BothBounds.{BothBounds}
-use Rattle.requirements.specs.declared.bound.Bound.{Bound}
 use Rattle.requirements.specs.declared.bound.Bound.TheVariants as bounds
 use Rattle.requirements.specs.declared.verdict.Verdict.{Verdict}
 use Rattle.requirements.specs.declared.verdict.Verdict.TheVariants as verdicts
 use Rattle.requirements.proofs.Judging.{pass_is_met, reversed_greatest_is_least, undecided_is_within}
 use Rattle.slack_report.specs.declared.words.EndWord.{EndWord}
 use Rattle.slack_report.specs.declared.words.EndWord.TheVariants as endings
-use Rattle.slack_report.specs.declared.words.FindingWord.{FindingWord}
-use Rattle.slack_report.specs.declared.words.FindingWord.TheVariants as findings
+use Rattle.requirements.specs.declared.consistency.Consistency.TheVariants as findings
 use Rattle.right_report.specs.Laws.{AllMet, SomeSatisfy}
 use Rattle.right_report.specs.Right.ReportState.{end_word, is_fail, is_within, tally_of}
 use Rattle.right_report.specs.RowTally.{kinds_of, with_row, with_rows}
@@ -74,12 +71,12 @@ last_noted change s (t ∷ later) = last_noted t.change t.session later
 abbrev Clean : ReportTally → Type 0
 Clean tally = (tally.fails ≡ false) × (tally.within ≡ false)
 
-pass_by : (fails within : Bool) (found : FindingWord) → end_word (record { found = found; fails = fails; within = within }) ≡ endings.Pass → (fails ≡ false) × (within ≡ false)
+pass_by : (fails within : Bool) (found : Consistency) → end_word (record { found = found; fails = fails; within = within }) ≡ endings.Pass → (fails ≡ false) × (within ≡ false)
 pass_by true within found e = absurd (cc e)
 pass_by false true findings.Consistent e = absurd (cc e)
 pass_by false false findings.Consistent e = (refl, refl)
 pass_by false within findings.Inconsistent e = absurd (cc e)
-pass_by false within findings.Unsettled e = absurd (cc e)
+pass_by false within findings.Open e = absurd (cc e)
 
 pass_is_clean : (tally : ReportTally) → end_word tally ≡ endings.Pass → Clean tally
 pass_is_clean tally e = pass_by tally.fails tally.within tally.found e
@@ -125,31 +122,32 @@ pass_of range least most verdicts.Undecided is fine low high = by_open (undecide
     by_open (inl within) = absurd (within_is least within low)
     by_open (inr within) = absurd (within_is most within high)
 
-greatest_by : (search : PairSearch) (left : Evidence) (answer : GreatestAnswer) → IsGreatestAnswer search left answer → Satisfies left.times search.net
-    → IsGreatestBound search.net search.from search.to (greatest_bound answer)
+greatest_by : (search : PairSearch) (left : Evidence) (answer : Bound) → IsGreatestAnswer search left answer → Satisfies left.times search.net
+    → IsGreatestBound search.net search.from search.to answer
 greatest_by search left (Closed value) a satisfied = a.greatest
 greatest_by search left Unbounded a satisfied = ray_is_unbounded search.net search.from search.to left.times left.ray a.raised
-greatest_by search left (Enclosed upper found) a satisfied = (a.root, (left.times, satisfied, a.attains))
+greatest_by search left (Within limit None) a satisfied = absurd a
+greatest_by search left (Within limit (Some found)) a satisfied = (a.root, (left.times, satisfied, a.attains))
 
 module _ (net : Net) (budget : ℕ) where
   -- the bound that a session keeps is right
-  greatest_is : (b : KeptBound) → IsRightBound net budget b → IsGreatestBound net b.pair.from b.pair.to (greatest_bound b.answer)
+  greatest_is : (b : KeptBound) → IsRightBound net budget b → IsGreatestBound net b.pair.from b.pair.to b.answer
   greatest_is b right =
       greatest_by (pair_search net b.pair budget) (left_by right.answers.0 right.answers.1 b.times b.ray) b.answer right.answers.2 right.satisfies
 
   row_met : (row : Row) (range : Ends) (a b : KeptBound) → a.pair ≡ pair_of row → b.pair ≡ record { from = row.to; to = row.from } → IsRightBound net budget a
-      → IsRightBound net budget b → row.kind ≡ kinds.Req range → is_within (least_bound b.answer) ≡ false → is_within (greatest_bound a.answer) ≡ false
-      → NoFail row.kind (least_bound b.answer) (greatest_bound a.answer) → IsMet net row.from row.to range
+      → IsRightBound net budget b → row.kind ≡ kinds.Req range → is_within (least_bound b.answer) ≡ false → is_within a.answer ≡ false
+      → NoFail row.kind (least_bound b.answer) a.answer → IsMet net row.from row.to range
   row_met row range a b is_a is_b right_a right_b kind low high fine =
-      let most : IsGreatestBound net row.from row.to (greatest_bound a.answer) =
-      subst (λ (p : Pair). IsGreatestBound net p.from p.to (greatest_bound a.answer)) is_a (greatest_is a right_a) in
-      let other : IsGreatestBound net row.to row.from (greatest_bound b.answer) =
-      subst (λ (p : Pair). IsGreatestBound net p.from p.to (greatest_bound b.answer)) is_b (greatest_is b right_b) in
-      let least : IsLeastBound net row.from row.to (least_bound b.answer) = (reversed_greatest_is_least net row.from row.to (greatest_bound b.answer)).0 other in
-      let no_fail : is_fail (verdict_of range (least_bound b.answer) (greatest_bound a.answer)) ≡ false =
-      subst (λ k. NoFail k (least_bound b.answer) (greatest_bound a.answer)) kind fine in
-      pass_is_met net row.from row.to range (least_bound b.answer) (greatest_bound a.answer) (record { is_least = least; is_greatest = most })
-      (pass_of range (least_bound b.answer) (greatest_bound a.answer) (verdict_of range (least_bound b.answer) (greatest_bound a.answer)) refl no_fail low high)
+      let most : IsGreatestBound net row.from row.to a.answer =
+      subst (λ (p : Pair). IsGreatestBound net p.from p.to a.answer) is_a (greatest_is a right_a) in
+      let other : IsGreatestBound net row.to row.from b.answer =
+      subst (λ (p : Pair). IsGreatestBound net p.from p.to b.answer) is_b (greatest_is b right_b) in
+      let least : IsLeastBound net row.from row.to (least_bound b.answer) = (reversed_greatest_is_least net row.from row.to b.answer).0 other in
+      let no_fail : is_fail (verdict_of range (least_bound b.answer) a.answer) ≡ false =
+      subst (λ k. NoFail k (least_bound b.answer) a.answer) kind fine in
+      pass_is_met net row.from row.to range (least_bound b.answer) a.answer (record { is_least = least; is_greatest = most })
+      (pass_of range (least_bound b.answer) a.answer (verdict_of range (least_bound b.answer) a.answer) refl no_fail low high)
 
   -- all rows with a clean tally are met
   rows_met : (rows : List Row) (kept : List KeptBound) (tally : ReportTally) → map (λ (b : KeptBound). b.pair) kept ≡ both_ways (pairs_of rows) → All (IsRightBound net budget) kept
@@ -183,7 +181,7 @@ none_judged : (tally : ReportTally) (rows : List RowKind) → with_rows tally ro
 none_judged tally [] = refl
 none_judged tally (kind ∷ rows) = refl
 
-met_by : (drawn : Drawn) (last : SessionView) (found : SearchFinding) → last.found ≡ found → IsRight last → last.pairs ≡ pairs_of drawn.rows
+met_by : (drawn : Drawn) (last : SessionView) (found : Consistency) → last.found ≡ found → IsRight last → last.pairs ≡ pairs_of drawn.rows
     → ending_of (kinds_of drawn.rows) found (answers_of found last.bounds) ≡ endings.Pass → SomeSatisfy last.net × AllMet (record drawn { net = last.net })
 met_by drawn last Consistent is right pairs word =
     let finding : IsRightFinding last.net last.budget Consistent = subst (IsRightFinding last.net last.budget) is right.finding in
@@ -195,8 +193,8 @@ met_by drawn last Consistent is right pairs word =
 met_by drawn last Inconsistent is right pairs word =
     let none : end_word (tally_of findings.Inconsistent) ≡ endings.Pass = ap end_word (sym (none_judged (tally_of findings.Inconsistent) (kinds_of drawn.rows))) ∙ word in
     absurd (cc none)
-met_by drawn last Unsettled is right pairs word =
-    let none : end_word (tally_of findings.Unsettled) ≡ endings.Pass = ap end_word (sym (none_judged (tally_of findings.Unsettled) (kinds_of drawn.rows))) ∙ word in
+met_by drawn last Open is right pairs word =
+    let none : end_word (tally_of findings.Open) ≡ endings.Pass = ap end_word (sym (none_judged (tally_of findings.Open) (kinds_of drawn.rows))) ∙ word in
     absurd (cc none)
 
 pass_word : (word : EndWord) → AllPass ≡ answer_of word → word ≡ endings.Pass

@@ -9,10 +9,8 @@ use Rattle.itv_base.proofs.Lists.{drop_one}
 use Rattle.line_words.specs.Words.{Word}
 use Rattle.line_words.specs.Lines.{ended, line_of, spaced}
 use Rattle.line_words.proofs.Printing.{join_spaced}
-use Rattle.branch.specs.AnswerBound.{greatest_bound}
-use Rattle.branch.specs.declared.answer.GreatestAnswer.{GreatestAnswer}
-use Rattle.requirements.specs.declared.bound.BothBounds.{BothBounds}
 use Rattle.requirements.specs.declared.bound.Bound.{Bound}
+use Rattle.requirements.specs.declared.bound.BothBounds.{BothBounds}
 use Rattle.slack_report.specs.Text.{bound_words}
 use Rattle.right_report.specs.RowTally.{with_row, with_rows}
 use Rattle.right_report.specs.declared.tally.ReportTally.{ReportTally}
@@ -54,25 +52,25 @@ drop_two xs k x y d e h is_x is_y =
     drop_one xs (2 * k) x d (omega (arith, h)) is_x ∙ ap (λ l. x ∷ l) (drop_one xs (2 * k + 1) y e h is_y ∙ ap (λ n. y ∷ drop n xs) next)
 
 -- a list is empty if its length is 0 by the test
-pub none_in : (list : List GreatestAnswer) → true ≡ (length list == 0) → length list ≡ 0
+pub none_in : (list : List Bound) → true ≡ (length list == 0) → length list ≡ 0
 none_in list e = eqb-true (length list) 0 (sym e)
 
 -- there are two answers for the row at a place
-pub enough_of : (rows : List RowKind) (list : List GreatestAnswer) (k : ℕ) → IsCountFor rows list → (length list == 0) ≡ false → k < length rows → 2 * k + 1 < length list
+pub enough_of : (rows : List RowKind) (list : List Bound) (k : ℕ) → IsCountFor rows list → (length list == 0) ≡ false → k < length rows → 2 * k + 1 < length list
 enough_of rows list k (inl none) some within = absurd (cc (none, some))
 enough_of rows list k (inr both) some within = omega (arith, both, within)
 
 -- ---- rows
 
-pub rows_none : (number : ℕ) (rows : List RowKind) (list : List GreatestAnswer) → length list ≡ 0 → rows_text number rows list ≡ []
+pub rows_none : (number : ℕ) (rows : List RowKind) (list : List Bound) → length list ≡ 0 → rows_text number rows list ≡ []
 rows_none number [] list none = refl
 rows_none number (kind ∷ rows) [] none = refl
 rows_none number (kind ∷ rows) (a ∷ list) none = absurd (omega (arith, none))
 
 -- the line of the row at a place stands after a text
-pub rows_step : (whole text next : List ℕ) (rows : List RowKind) (list : List GreatestAnswer) (k : ℕ) (kind c : RowKind) (most least d e : GreatestAnswer) (low high : Bound) → k < length rows
+pub rows_step : (whole text next : List ℕ) (rows : List RowKind) (list : List Bound) (k : ℕ) (kind c : RowKind) (most least d e : Bound) (low high : Bound) → k < length rows
     → 2 * k + 1 < length list → kind ≡ get_or rows k c → most ≡ get_or list (2 * k) d → least ≡ get_or list (2 * k + 1) e → low ≡ least_bound least
-    → high ≡ greatest_bound most → text ++ rows_text k (drop k rows) (drop (2 * k) list) ≡ whole → next ≡ text ++ ended (line_of (row_words k kind low high))
+    → high ≡ most → text ++ rows_text k (drop k rows) (drop (2 * k) list) ≡ whole → next ≡ text ++ ended (line_of (row_words k kind low high))
     → next ++ rows_text (k + 1) (drop (k + 1) rows) (drop (2 * (k + 1)) list) ≡ whole
 rows_step whole text next rows list k kind c most least d e low high within enough is_kind is_most is_least is_low is_high before is_next =
     let line : List ℕ = ended (line_of (row_words k kind low high)) in
@@ -98,13 +96,13 @@ states_step whole text begun next rows edits notes k e f note g within noted is_
 
 -- ---- the tally of the rows
 
-pub none_judged : (tally : ReportTally) (rows : List RowKind) (list : List GreatestAnswer) → length list ≡ 0 → with_rows tally rows (bounds_of list) ≡ tally
+pub none_judged : (tally : ReportTally) (rows : List RowKind) (list : List Bound) → length list ≡ 0 → with_rows tally rows (bounds_of list) ≡ tally
 none_judged tally [] list none = refl
 none_judged tally (kind ∷ rows) [] none = refl
 none_judged tally (kind ∷ rows) (a ∷ list) none = absurd (omega (arith, none))
 
 -- the row at a place is added to the tally
-pub tally_step : (tally next whole : ReportTally) (rows : List RowKind) (list : List GreatestAnswer) (k : ℕ) (kind c : RowKind) (most least d e : GreatestAnswer) (both : BothBounds)
+pub tally_step : (tally next whole : ReportTally) (rows : List RowKind) (list : List Bound) (k : ℕ) (kind c : RowKind) (most least d e : Bound) (both : BothBounds)
     → k < length rows → 2 * k + 1 < length list → kind ≡ get_or rows k c → most ≡ get_or list (2 * k) d → least ≡ get_or list (2 * k + 1) e → both ≡ both_of most least
     → next ≡ with_row tally kind both → with_rows tally (drop k rows) (bounds_of (drop (2 * k) list)) ≡ whole
     → with_rows next (drop (k + 1) rows) (bounds_of (drop (2 * (k + 1)) list)) ≡ whole

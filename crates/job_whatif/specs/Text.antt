@@ -5,19 +5,16 @@ use Rattle.itv_base.specs.declared.row_kind.RowKind.{RowKind}
 use Rattle.itv_base.specs.declared.row_kind.RowKind.TheVariants as kinds
 use Rattle.line_words.specs.Words.{Word}
 use Rattle.line_words.specs.Lines.{ended, line_of}
-use Rattle.branch.specs.AnswerBound.{greatest_bound}
-use Rattle.branch.specs.declared.answer.GreatestAnswer.{GreatestAnswer}
-use Rattle.branch.specs.declared.answer.SearchFinding.{SearchFinding}
+use Rattle.requirements.specs.declared.bound.Bound.{Bound}
+use Rattle.requirements.specs.declared.consistency.Consistency.{Consistency}
 use Rattle.requirements.specs.Bounds.{reversed}
 use Rattle.requirements.specs.Verdicts.{verdict_of}
 use Rattle.requirements.specs.declared.bound.BothBounds.{BothBounds}
-use Rattle.requirements.specs.declared.bound.Bound.{Bound}
 use Rattle.slack_report.specs.Entry.{ending, finding}
 use Rattle.slack_report.specs.Text.{bound_words, entry_text, range_word, verdict_words}
 use Rattle.slack_report.specs.declared.words.EndWord.{EndWord}
 use Rattle.right_report.specs.Right.ReportState.{tally_of, end_word}
 use Rattle.right_report.specs.RowTally.{with_rows}
-use Rattle.job_base.specs.Found.{found_word}
 use Rattle.range_edits.specs.Subject.{subject_text}
 use Rattle.range_edits.specs.declared.edit.RangeEdit.{RangeEdit}
 use Rattle.whatif.specs.Runs.{Note}
@@ -25,12 +22,12 @@ use Rattle.whatif.specs.Runs.{Note}
 -- ---- a row
 
 -- the least bound of a pair, from the answer for the reversed pair
-abbrev pub least_bound : GreatestAnswer → Bound
-least_bound answer = reversed (greatest_bound answer)
+abbrev pub least_bound : Bound → Bound
+least_bound answer = reversed answer
 
 -- both bounds of a pair, from the answers for it and for the reversed pair
-abbrev pub both_of : GreatestAnswer → GreatestAnswer → BothBounds
-both_of most least = record { least = least_bound least; greatest = greatest_bound most }
+abbrev pub both_of : Bound → Bound → BothBounds
+both_of most least = record { least = least_bound least; greatest = most }
 
 -- the words of the verdict on a requirement. A question has no verdict
 abbrev pub judged_words : RowKind → Bound → Bound → List Word
@@ -43,18 +40,18 @@ row_words number kind least most =
     codes "row" ∷ number_text number ∷ codes "max" ∷ (bound_words most ++ (codes "min" ∷ (bound_words least ++ judged_words kind least most)))
 
 -- the lines of rows of these kinds, where the first row has this number. There are two answers for each row. Without answers there are no lines
-abbrev pub rows_text : ℕ → List RowKind → List GreatestAnswer → List ℕ
+abbrev pub rows_text : ℕ → List RowKind → List Bound → List ℕ
 rows_text number [] found = []
 rows_text number (kind ∷ others) [] = []
 rows_text number (kind ∷ others) (most ∷ []) = []
 rows_text number (kind ∷ others) (most ∷ least ∷ found) =
-    ended (line_of (row_words number kind (least_bound least) (greatest_bound most))) ++ rows_text (number + 1) others found
+    ended (line_of (row_words number kind (least_bound least) most)) ++ rows_text (number + 1) others found
 
 -- ---- a state
 
 -- the finding and the rows. If the finding is not consistent, there are no answers, and so no rows
-abbrev pub found_text : List RowKind → SearchFinding → List GreatestAnswer → List ℕ
-found_text rows found list = entry_text (finding (found_word found)) ++ rows_text 0 rows list
+abbrev pub found_text : List RowKind → Consistency → List Bound → List ℕ
+found_text rows found list = entry_text (finding found) ++ rows_text 0 rows list
 
 -- the line that begins a state after an edit; the edit is named as in its file
 abbrev pub state_words : ℕ → RangeEdit → Note → List Word
@@ -72,14 +69,14 @@ states_text number rows (e ∷ edits) (note ∷ notes) =
 -- ---- the end
 
 -- both bounds of each row; there are two answers for a row
-abbrev pub bounds_of : List GreatestAnswer → List BothBounds
+abbrev pub bounds_of : List Bound → List BothBounds
 bounds_of [] = []
 bounds_of (most ∷ []) = []
 bounds_of (most ∷ least ∷ found) = both_of most least ∷ bounds_of found
 
 -- the word at the end, according to a finding and the answers for rows. A report of that state ends with the same word
-abbrev pub ending_of : List RowKind → SearchFinding → List GreatestAnswer → EndWord
-ending_of rows found list = end_word (with_rows (tally_of (found_word found)) rows (bounds_of list))
+abbrev pub ending_of : List RowKind → Consistency → List Bound → EndWord
+ending_of rows found list = end_word (with_rows (tally_of found) rows (bounds_of list))
 
 -- the note of the last state, after all others
 abbrev pub last_note : Note → List Note → Note

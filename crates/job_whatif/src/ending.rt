@@ -8,11 +8,10 @@ ghost use Rattle.job_whatif.specs.Step.{IsCountFor, IsNoteOf, IsTimed};
 ghost use Rattle.job_whatif.specs.Text.{bounds_of, ending_of, last_note};
 
 use crate::rows::both_of;
-use branch::GreatestAnswer;
 use itv_base::RowKind;
-use job_base::found_word;
+use requirements::{Bound, Consistency};
 use right_report::ReportTally;
-use slack_report::{EndWord, FindingWord};
+use slack_report::EndWord;
 use whatif::Note;
 
 /// The note of the last state: the last of `notes`, or `first` if there are none.
@@ -31,11 +30,11 @@ pub fn end_word(kinds: &[RowKind], note: &Note) -> EndWord
     requires few { length kinds.now ≤ MAX_PAIRS }
     ensures word { result ≡ ending_of kinds.now note.now.found note.now.answers }
 {
-    tally_rows(found_word(note.found), kinds, &note.answers).end_word()
+    tally_rows(note.found, kinds, &note.answers).end_word()
 }
 
 // The tally of all rows after a finding.
-fn tally_rows(word: FindingWord, kinds: &[RowKind], answers: &[GreatestAnswer]) -> ReportTally
+fn tally_rows(word: Consistency, kinds: &[RowKind], answers: &[Bound]) -> ReportTally
     requires timed { All IsTimed answers.now }
     requires count { IsCountFor kinds.now answers.now }
     requires few { length kinds.now ≤ MAX_PAIRS }

@@ -3,25 +3,19 @@
 ghost use Rattle.std.specs.Prelude.{◌≡◌, ◌++◌, ◌≤◌, All, OnOk, length};
 ghost use Rattle.std.specs.List.{flat_map};
 ghost use Rattle.line_words.specs.Lines.{ended, line_of, spaced};
-ghost use Rattle.branch.specs.AnswerBound.{greatest_bound};
 ghost use Rattle.requirements.specs.Bounds.{HasTimes};
 ghost use Rattle.slack_report.specs.Text.{bound_words};
 ghost use Rattle.whatif.specs.declared.session.TheConstants.{MAX_PAIRS};
 ghost use Rattle.job_whatif.specs.Step.{IsCountFor, IsTimed};
 ghost use Rattle.job_whatif.specs.Text.{both_of, judged_words, least_bound, row_words, rows_text};
 
-use branch::GreatestAnswer;
 use itv_base::{NoMemory, RowKind};
 use requirements::{BothBounds, Bound, judge};
 use slack_report::{add_bound, add_number, add_piece, add_spaced, add_verdict};
 
 /// Adds the lines of rows. There are two answers for each row, for its own pair and for the reversed pair, or no
 /// answers at all. Without answers nothing is added.
-pub fn add_rows(
-    text: &mut Vec<u8>,
-    kinds: &[RowKind],
-    answers: &[GreatestAnswer],
-) -> Result<(), NoMemory>
+pub fn add_rows(text: &mut Vec<u8>, kinds: &[RowKind], answers: &[Bound]) -> Result<(), NoMemory>
     requires timed { All IsTimed answers.now }
     requires count { IsCountFor kinds.now answers.now }
     requires few { length kinds.now ≤ MAX_PAIRS }
@@ -38,18 +32,18 @@ pub fn add_rows(
 }
 
 /// Both bounds of a row. `most` is the answer for its pair, and `least` the answer for the reversed pair.
-pub fn both_of(most: GreatestAnswer, least: GreatestAnswer) -> BothBounds
+pub fn both_of(most: Bound, least: Bound) -> BothBounds
     requires most { IsTimed most }
     requires least { IsTimed least }
-    ensures greatest { result.greatest ≡ greatest_bound most }
+    ensures greatest { result.greatest ≡ most }
     ensures least { result.least ≡ least_bound least }
     ensures both { result ≡ both_of most least }
     ensures most_times { HasTimes result.greatest }
     ensures least_times { HasTimes result.least }
 {
     BothBounds {
-        greatest: most.bound(),
-        least: least.bound().reversed(),
+        greatest: most,
+        least: least.reversed(),
     }
 }
 

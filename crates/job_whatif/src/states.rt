@@ -6,18 +6,17 @@ ghost use Rattle.line_words.specs.Lines.{ended, line_of, spaced};
 ghost use Rattle.slack_report.specs.Entry.{finding};
 ghost use Rattle.slack_report.specs.Text.{entry_text};
 ghost use Rattle.drawn_numbers.specs.Numbers.{drawn_number_text};
-ghost use Rattle.job_base.specs.Found.{found_word};
 ghost use Rattle.range_edits.specs.Subject.{subject_text};
 ghost use Rattle.whatif.specs.declared.session.TheConstants.{MAX_PAIRS};
 ghost use Rattle.job_whatif.specs.Step.{IsNoteOf};
 ghost use Rattle.job_whatif.specs.Text.{found_text, state_words, states_text};
 
 use crate::rows::add_rows;
-use branch::SearchFinding;
 use drawn_numbers::{CauseName, DrawnNumber};
 use itoa::Buffer;
 use itv_base::{NoMemory, RowKind, number_text};
 use range_edits::{RangeEdit, Subject};
+use requirements::Consistency;
 use slack_report::{add_number, add_piece, add_range, add_spaced};
 use whatif::{Change, Note};
 
@@ -52,13 +51,13 @@ pub fn add_found(text: &mut Vec<u8>, kinds: &[RowKind], note: &Note) -> Result<(
 
 // Adds the line of a finding.
 #[tactic(auto, unfolding(slack_report::specs::Text::words_of))]
-fn add_finding(text: &mut Vec<u8>, found: SearchFinding) -> Result<(), NoMemory>
-    ensures { OnOk result (text.new.items ≡ text.old.items ++ entry_text (finding (found_word found))) }
+fn add_finding(text: &mut Vec<u8>, found: Consistency) -> Result<(), NoMemory>
+    ensures { OnOk result (text.new.items ≡ text.old.items ++ entry_text (finding found)) }
 {
     match found {
-        SearchFinding::Consistent => add_piece(text, b"finding consistent\n"),
-        SearchFinding::Inconsistent => add_piece(text, b"finding inconsistent\n"),
-        SearchFinding::Unsettled => add_piece(text, b"finding unsettled\n"),
+        Consistency::Consistent => add_piece(text, b"finding consistent\n"),
+        Consistency::Inconsistent => add_piece(text, b"finding inconsistent\n"),
+        Consistency::Open => add_piece(text, b"finding unsettled\n"),
     }
 }
 

@@ -10,14 +10,15 @@ use Rattle.event_graph.specs.declared.cause.Cause.{Cause}
 use Rattle.event_graph.proofs.Causes.{few_causes as few}
 use Rattle.origin.specs.declared.origin.Origin.{Origin}
 use Rattle.right_report.specs.Right.ReportState.{NextBound, greatest, least_by}
-use Rattle.slack_report.specs.declared.words.FindingWord.{FindingWord}
+use Rattle.requirements.specs.declared.consistency.Consistency.{Consistency}
 use Rattle.drawn_networks.specs.Drawn.{Drawn, OriginsFit}
 use Rattle.drawn_networks.specs.declared.row.Row.{Row}
-use Rattle.explanations.specs.Answers.{AreFound, AreFoundBehind, AreRowsFound, HasRowTimes, IsBehind, IsFindingFound, bound_of, word_of}
-use Rattle.explanations.specs.declared.bound.BoundFound.{BoundFound}
-use Rattle.explanations.specs.declared.bound.BoundFound.TheVariants.{Closed, Unbounded, Within}
+use Rattle.requirements.specs.Separations.{bound_of}
+use Rattle.explanations.specs.Answers.{AreFound, AreFoundBehind, AreRowsFound, HasRowTimes, IsBehind, IsFindingFound, consistency_of}
+use Rattle.explanations.specs.Answers.{BoundFound}
+use Rattle.requirements.specs.declared.separation.Separation.TheVariants as separations
 use Rattle.explanations.specs.declared.finding.Finding.{Finding}
-use Rattle.explanations.specs.declared.finding.Finding.TheVariants.{Consistent, Inconsistent, Unsettled}
+use Rattle.explanations.specs.declared.finding.Finding.TheVariants.{Consistent, Inconsistent, Open}
 use Rattle.explanations.specs.declared.row.RowFound.{RowFound}
 use Rattle.job_why.specs.Step.{HasFlags, IsWritable, constraint_at, no_constraint, origins_at}
 use Rattle.job_why.specs.Text.{Noted, drawn_words, origin_words, part_of}
@@ -34,19 +35,19 @@ at_or xs k d h = go d (slice_get xs k) (slice_get-get_or xs k d h)
 -- ---- rows
 
 flags : (net : _) (row : Row) (side : NextBound) (found : BoundFound) → IsBehind net row side found → HasFlags net.events found
-flags net row side (Closed value chain) b = tt
-flags net row greatest (Unbounded set) b = b.2.count
-flags net row (least_by most) (Unbounded set) b = b.2.count
-flags net row side (Within limit attained) b = tt
+flags net row side (separations.Closed value chain) b = tt
+flags net row greatest (separations.Unbounded set) b = b.2.count
+flags net row (least_by most) (separations.Unbounded set) b = b.2.count
+flags net row side (separations.Open limit attained) b = tt
 
-pub rows_count : (drawn : Drawn) (budget : ℕ) (word apart : FindingWord) (rows : List Row) (found : List RowFound) → AreRowsFound drawn budget word apart rows found → length found ≡ length rows
+pub rows_count : (drawn : Drawn) (budget : ℕ) (word apart : Consistency) (rows : List Row) (found : List RowFound) → AreRowsFound drawn budget word apart rows found → length found ≡ length rows
 rows_count drawn budget word apart [] [] are = refl
 rows_count drawn budget word apart [] (f ∷ found) are = absurd are
 rows_count drawn budget word apart (r ∷ rows) [] are = absurd are
 rows_count drawn budget word apart (r ∷ rows) (f ∷ found) are = ap suc (rows_count drawn budget word apart rows found are.1)
 
 -- what is found of each row can be written
-pub rows_told : (drawn : Drawn) (budget : ℕ) (word apart : FindingWord) (rows : List Row) (found : List RowFound) → AreRowsFound drawn budget word apart rows found → All HasRowTimes found
+pub rows_told : (drawn : Drawn) (budget : ℕ) (word apart : Consistency) (rows : List Row) (found : List RowFound) → AreRowsFound drawn budget word apart rows found → All HasRowTimes found
     → All (IsWritable drawn.net.events) found
 rows_told drawn budget word apart [] [] are times k d h = absurd (omega arith)
 rows_told drawn budget word apart [] (f ∷ found) are times k d h = absurd are
@@ -60,24 +61,24 @@ rows_told drawn budget word apart (r ∷ rows) (f ∷ found) are times (suc k) d
     rows_told drawn budget word apart rows found are.1 (λ j e within. times (suc j) e (omega arith)) k d (omega arith)
 
 -- if the finding is not inconsistent, something is found of each row
-known_rows : (drawn : Drawn) (budget : ℕ) (finding : Finding) (found : List RowFound) → (finding ≡ Consistent) ⊎ (finding ≡ Unsettled) → AreFound drawn budget finding found
-    → AreFoundBehind drawn budget (word_of finding) found
+known_rows : (drawn : Drawn) (budget : ℕ) (finding : Finding) (found : List RowFound) → (finding ≡ Consistent) ⊎ (finding ≡ Open) → AreFound drawn budget finding found
+    → AreFoundBehind drawn budget (consistency_of finding) found
 known_rows drawn budget Consistent found e are = are
 known_rows drawn budget (Inconsistent set) found (inl e) are = absurd (cc e)
 known_rows drawn budget (Inconsistent set) found (inr e) are = absurd (cc e)
-known_rows drawn budget Unsettled found e are = are
+known_rows drawn budget Open found e are = are
 
-pub known_count : (drawn : Drawn) (finding : Finding) (found : List RowFound) → (finding ≡ Consistent) ⊎ (finding ≡ Unsettled) → (budget : ℕ) × AreFound drawn budget finding found
+pub known_count : (drawn : Drawn) (finding : Finding) (found : List RowFound) → (finding ≡ Consistent) ⊎ (finding ≡ Open) → (budget : ℕ) × AreFound drawn budget finding found
     → length found ≡ length drawn.rows
 known_count drawn finding found e are =
     let behind = known_rows drawn are.0 finding found e are.1 in
-    rows_count drawn are.0 (word_of finding) behind.word_apart drawn.rows found behind.rows
+    rows_count drawn are.0 (consistency_of finding) behind.word_apart drawn.rows found behind.rows
 
-pub known_told : (drawn : Drawn) (finding : Finding) (found : List RowFound) → (finding ≡ Consistent) ⊎ (finding ≡ Unsettled) → (budget : ℕ) × AreFound drawn budget finding found
+pub known_told : (drawn : Drawn) (finding : Finding) (found : List RowFound) → (finding ≡ Consistent) ⊎ (finding ≡ Open) → (budget : ℕ) × AreFound drawn budget finding found
     → All HasRowTimes found → All (IsWritable drawn.net.events) found
 known_told drawn finding found e are times =
     let behind = known_rows drawn are.0 finding found e are.1 in
-    rows_told drawn are.0 (word_of finding) behind.word_apart drawn.rows found behind.rows times
+    rows_told drawn are.0 (consistency_of finding) behind.word_apart drawn.rows found behind.rows times
 
 -- a set of rules that contradict each other has a flag for each constraint
 pub set_count : (drawn : Drawn) (finding : Finding) (set : _) → finding ≡ Inconsistent set → (budget : ℕ) × IsFindingFound drawn.net budget finding

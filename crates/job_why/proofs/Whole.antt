@@ -13,13 +13,14 @@ use Rattle.requirements.specs.declared.verdict.Verdict.{Verdict}
 use Rattle.slack_report.specs.Entry as line
 use Rattle.slack_report.specs.Text.{entry_text}
 use Rattle.slack_report.specs.declared.words.EndWord.{EndWord}
-use Rattle.slack_report.specs.declared.words.FindingWord.{FindingWord}
+use Rattle.requirements.specs.declared.consistency.Consistency.{Consistency}
 use Rattle.drawn_networks.specs.Drawn.{Drawn}
 use Rattle.job_base.specs.Ending.{answer_of}
 use Rattle.job_base.specs.declared.answer.Answer.{Answer}
 use Rattle.explanations.specs.declared.finding.Finding.{Finding}
 use Rattle.explanations.specs.declared.row.RowFound.{RowFound}
-use Rattle.explanations.specs.Answers.{AreFound, IsFindingFound, SettlesWithin, bound_of, word_of}
+use Rattle.requirements.specs.Separations.{bound_of}
+use Rattle.explanations.specs.Answers.{AreFound, IsFindingFound, SettlesWithin, consistency_of}
 use Rattle.job_why.specs.Text.{Noted, apart_text, ending_of, found_text, judged_text, why_text}
 use Rattle.job_why.specs.Why.{AnswersWhy}
 use Rattle.job_base.specs.JobWrote.{Answered}
@@ -29,7 +30,7 @@ pub verdict_is : (range : Ends) (found : RowFound) (least most : Bound) (word : 
     → entry_text (line.verdict word) ++ (apart_text range found.apart ++ entry_text (line.slack value)) ≡ judged_text (Req range) found
 verdict_is range found least most word value is_least is_most is_word is_value = rw (is_word, is_value, is_least, is_most) refl
 
-pub why_is : (noted : Noted) (drawn : Drawn) (finding : Finding) (rows found : List RowFound) (writable : FindingWord) (word : EndWord) → rows ≡ found → writable ≡ word_of finding
+pub why_is : (noted : Noted) (drawn : Drawn) (finding : Finding) (rows found : List RowFound) (writable : Consistency) (word : EndWord) → rows ≡ found → writable ≡ consistency_of finding
     → word ≡ ending_of drawn.rows finding found
     → ended (codes "itv why 1") ++ (entry_text (line.finding writable) ++ (found_text noted drawn finding rows ++ entry_text (line.ending word))) ≡ why_text noted drawn finding found
 why_is noted drawn finding rows found writable word is_rows is_told is_word = rw (is_rows, is_told, is_word) refl

@@ -10,8 +10,8 @@ use Rattle.origin.specs.declared.origin.Origin.{Origin}
 use Rattle.slack_report.specs.Text.{bound_words, name_word, range_word, row_words, verdict_words}
 use Rattle.drawn_networks.specs.Drawn.{Drawn}
 use Rattle.explanations.specs.Answers.{HasRowTimes}
-use Rattle.explanations.specs.declared.bound.BoundFound.{BoundFound}
-use Rattle.explanations.specs.declared.bound.BoundFound.TheVariants.{Closed, Unbounded, Within}
+use Rattle.explanations.specs.Answers.{BoundFound}
+use Rattle.requirements.specs.declared.separation.Separation.TheVariants as separations
 use Rattle.explanations.specs.declared.row.RowFound.{RowFound}
 use Rattle.job_why.specs.declared.drawn_by.DrawnBy.{DrawnBy}
 use Rattle.job_why.specs.declared.line.Line.{Line}
@@ -40,9 +40,9 @@ line_words (lines.Rule kind from to range by) =
 
 -- a set has a flag for each event
 abbrev pub HasFlags : ℕ → BoundFound → Type 0
-HasFlags events (Closed value chain) = Unit {0}
-HasFlags events (Unbounded set) = length set.items ≡ events
-HasFlags events (Within limit attained) = Unit {0}
+HasFlags events (separations.Closed value chain) = Unit {0}
+HasFlags events (separations.Unbounded set) = length set.items ≡ events
+HasFlags events (separations.Open limit attained) = Unit {0}
 
 -- what is found of a row can be written: its sets have a flag for each event, and its numbers are below 2^61 in absolute value
 pub record IsWritable (events : ℕ) (found : RowFound) : Type 0 where

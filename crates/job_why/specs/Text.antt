@@ -30,12 +30,13 @@ use Rattle.right_report.specs.Right.ReportState.{tally_of, end_word}
 use Rattle.right_report.specs.RowTally.{kinds_of, with_rows}
 use Rattle.drawn_networks.specs.Drawn.{Drawn, name_of}
 use Rattle.drawn_networks.specs.declared.row.Row.{Row}
-use Rattle.explanations.specs.declared.bound.BoundFound.{BoundFound}
-use Rattle.explanations.specs.declared.bound.BoundFound.TheVariants.{Closed, Unbounded, Within}
+use Rattle.explanations.specs.Answers.{BoundFound}
+use Rattle.requirements.specs.declared.separation.Separation.TheVariants as separations
 use Rattle.explanations.specs.declared.finding.Finding.{Finding}
-use Rattle.explanations.specs.declared.finding.Finding.TheVariants.{Consistent, Inconsistent, Unsettled}
+use Rattle.explanations.specs.declared.finding.Finding.TheVariants.{Consistent, Inconsistent, Open}
 use Rattle.explanations.specs.declared.row.RowFound.{RowFound}
-use Rattle.explanations.specs.Answers.{both_of, bound_of, verdict_by, verdict_in, word_of}
+use Rattle.requirements.specs.Separations.{bound_of}
+use Rattle.explanations.specs.Answers.{both_of, verdict_by, verdict_in, consistency_of}
 
 -- ---- origins
 
@@ -110,9 +111,9 @@ raise_text drawn number (is_in ∷ set) =
 
 -- the lines after a bound
 abbrev pub behind_text : Noted → Drawn → Which → BoundFound → List ℕ
-behind_text noted drawn which (Closed value chain) = steps_text noted drawn which chain.items
-behind_text noted drawn which (Unbounded set) = raise_text drawn 0 set.items
-behind_text noted drawn which (Within limit attained) = []
+behind_text noted drawn which (separations.Closed value chain) = steps_text noted drawn which chain.items
+behind_text noted drawn which (separations.Unbounded set) = raise_text drawn 0 set.items
+behind_text noted drawn which (separations.Open limit attained) = []
 
 -- a bound, and the lines after it
 abbrev pub bound_text : Noted → Drawn → Which → BoundFound → List ℕ
@@ -180,9 +181,9 @@ rules_text noted drawn (is_in ∷ set) (c ∷ constraints) (drew ∷ origins) =
 
 -- the word at the end, as in a report with these bounds
 abbrev pub ending_of : List Row → Finding → List RowFound → EndWord
-ending_of rows Consistent found = end_word (with_rows (tally_of (word_of Consistent)) (kinds_of rows) (map both_of found))
+ending_of rows Consistent found = end_word (with_rows (tally_of (consistency_of Consistent)) (kinds_of rows) (map both_of found))
 ending_of rows (Inconsistent set) found = endings.Inconsistent
-ending_of rows Unsettled found = end_word (with_rows (tally_of (word_of Unsettled)) (kinds_of rows) (map both_of found))
+ending_of rows Open found = end_word (with_rows (tally_of (consistency_of Open)) (kinds_of rows) (map both_of found))
 
 -- ---- the whole
 
@@ -190,9 +191,9 @@ ending_of rows Unsettled found = end_word (with_rows (tally_of (word_of Unsettle
 abbrev pub found_text : Noted → Drawn → Finding → List RowFound → List ℕ
 found_text noted drawn Consistent found = rows_text noted drawn 0 drawn.rows found
 found_text noted drawn (Inconsistent set) found = rules_text noted drawn set.items drawn.net.constraints drawn.origins
-found_text noted drawn Unsettled found = rows_text noted drawn 0 drawn.rows found
+found_text noted drawn Open found = rows_text noted drawn 0 drawn.rows found
 
 abbrev pub why_text : Noted → Drawn → Finding → List RowFound → List ℕ
 why_text noted drawn finding found =
-    ended (codes "itv why 1") ++ (entry_text (line.finding (word_of finding)) ++ (found_text noted drawn finding found
+    ended (codes "itv why 1") ++ (entry_text (line.finding (consistency_of finding)) ++ (found_text noted drawn finding found
     ++ entry_text (line.ending (ending_of drawn.rows finding found))))

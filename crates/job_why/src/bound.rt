@@ -1,7 +1,8 @@
 //! The bounds of a row that are printed, and from which its verdict and its slack follow.
 
 ghost use Rattle.std.specs.Prelude.{◌≡◌};
-ghost use Rattle.explanations.specs.Answers.{both_of, bound_of};
+ghost use Rattle.requirements.specs.Separations.{bound_of};
+ghost use Rattle.explanations.specs.Answers.{both_of};
 
 use explanations::RowFound;
 use requirements::BothBounds;

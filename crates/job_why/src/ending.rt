@@ -3,26 +3,16 @@
 ghost use Rattle.std.specs.Prelude.{◌≡◌, ℕ, length, map};
 ghost use Rattle.right_report.specs.Right.ReportState.{tally_of};
 ghost use Rattle.right_report.specs.RowTally.{kinds_of, with_rows};
-ghost use Rattle.explanations.specs.Answers.{AreFound, both_of, word_of};
+ghost use Rattle.explanations.specs.Answers.{AreFound, both_of};
 ghost use Rattle.job_why.specs.Text.{ending_of};
 
 use crate::bound::both_of;
 use drawn_networks::DrawnNetwork;
 use explanations::{Finding, RowFound};
 use job_base::row_at;
+use requirements::Consistency;
 use right_report::ReportTally;
-use slack_report::{EndWord, FindingWord};
-
-/// The word of a finding.
-pub fn finding_word(finding: &Finding) -> FindingWord
-    ensures word { result ≡ word_of finding.now }
-{
-    match finding {
-        Finding::Consistent => FindingWord::Consistent,
-        Finding::Inconsistent(_) => FindingWord::Inconsistent,
-        Finding::Unsettled => FindingWord::Unsettled,
-    }
-}
+use slack_report::EndWord;
 
 /// The word at the end, according to what was found of the network and of each row.
 pub fn ending_of(drawn: &DrawnNetwork, finding: &Finding, found: &[RowFound]) -> EndWord
@@ -30,14 +20,14 @@ pub fn ending_of(drawn: &DrawnNetwork, finding: &Finding, found: &[RowFound]) ->
     ensures word { result ≡ ending_of drawn.now.rows finding.now found.now }
 {
     match finding {
-        Finding::Consistent => tally_rows(FindingWord::Consistent, drawn, found).end_word(),
+        Finding::Consistent => tally_rows(Consistency::Consistent, drawn, found).end_word(),
         Finding::Inconsistent(_) => EndWord::Inconsistent,
-        Finding::Unsettled => tally_rows(FindingWord::Unsettled, drawn, found).end_word(),
+        Finding::Open => tally_rows(Consistency::Open, drawn, found).end_word(),
     }
 }
 
 // The tally of all rows after a finding.
-fn tally_rows(word: FindingWord, drawn: &DrawnNetwork, found: &[RowFound]) -> ReportTally
+fn tally_rows(word: Consistency, drawn: &DrawnNetwork, found: &[RowFound]) -> ReportTally
     requires count { length found.now ≡ length drawn.now.rows }
     ensures tally { result ≡ with_rows (tally_of word) (kinds_of drawn.now.rows) (map both_of found.now) }
 {

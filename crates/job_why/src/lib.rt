@@ -16,5 +16,5 @@ mod write;
 
 pub use bound::both_of;
 pub use drawn_by::{DrawnBy, put_by};
-pub use ending::{ending_of, finding_word};
+pub use ending::ending_of;
 pub use write::write_why;

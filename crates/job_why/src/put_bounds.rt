@@ -14,6 +14,7 @@ use explanations::BoundFound;
 use itv_base::{EventId, PutFailed, Sink};
 use line_words::LineBuffer;
 use origin::Notes;
+use requirements::Separation;
 use slack_report::{Item, Which, write_item};
 
 /// Puts a bound and the lines after it. They are the steps that sum to it if it is a number, and the events that can be raised by
@@ -47,9 +48,9 @@ fn put_behind<N: Notes, K: Sink>(
     ensures { Puts (K.state sink.old) (K.state sink.new) (behind_text (N.noted notes.now) drawn.now which found.now) result }
 {
     match found {
-        BoundFound::Closed { chain, .. } => { put_steps(notes, drawn, which, chain, buffer, sink) }
-        BoundFound::Unbounded { set } => put_raised(drawn, set, buffer, sink),
-        BoundFound::Within { .. } => Ok(()),
+        Separation::Closed { shown, .. } => { put_steps(notes, drawn, which, shown, buffer, sink) }
+        Separation::Unbounded { shown } => put_raised(drawn, shown, buffer, sink),
+        Separation::Open { .. } => Ok(()),
     }
 }
 

@@ -8,7 +8,7 @@ ghost use Rattle.explanations.specs.Answers.{AreFound, HasRowTimes, IsFindingFou
 ghost use Rattle.job_why.specs.Text.{ending_of, found_text, why_text};
 ghost use Rattle.job_why.specs.Why.{AnswersWhy};
 
-use crate::ending::{ending_of, finding_word};
+use crate::ending::ending_of;
 use crate::put_rows::put_rows;
 use crate::put_rules::put_rules;
 use drawn_networks::DrawnNetwork;
@@ -86,7 +86,7 @@ fn put_text<N: Notes, K: Sink>(
 {
     let finding = &found.finding;
     sink.put(b"itv why 1\n")?;
-    write_item(&Item::Finding(finding_word(finding)), buffer, sink)?;
+    write_item(&Item::Finding(finding.consistency()), buffer, sink)?;
     put_behind(notes, drawn, finding, &found.rows, buffer, sink)?;
     write_item(&Item::End(word), buffer, sink)
 }
@@ -106,7 +106,7 @@ fn put_behind<N: Notes, K: Sink>(
     ensures puts { Puts (K.state sink.old) (K.state sink.new) (found_text (N.noted notes.now) drawn.now finding.now found.now) result }
 {
     match finding {
-        Finding::Consistent | Finding::Unsettled => { put_rows(notes, drawn, found, buffer, sink) }
+        Finding::Consistent | Finding::Open => { put_rows(notes, drawn, found, buffer, sink) }
         Finding::Inconsistent(set) => put_rules(notes, drawn, set, buffer, sink),
     }
 }

@@ -13,7 +13,7 @@ use Rattle.sheet.specs.SheetContents.{SheetView}
 use Rattle.lint.specs.declared.first_two.FirstTwo.{FirstTwo}
 use Rattle.lint.specs.declared.lead.Lead.{Lead}
 use Rattle.lint.specs.declared.warning.Warning.{Warning}
-use Rattle.lint.specs.declared.warning.Warning.TheVariants.{Both}
+use Rattle.lint.specs.Kinds.{both_of}
 use Rattle.lint.specs.Leads.{is_at}
 use Rattle.lint.specs.Lists.{each_behind, each_from, netlist_part, spot}
 use Rattle.lint.specs.Rules.{across_by, across_on, both_in, caps_too, comes_along, draws_skew, drawn_by, from_mark, is_cap, is_upper, is_wire_cap, lead_across, meet, of_two, rule_both, same_mark, sheet_both}
@@ -57,7 +57,7 @@ other_part lead part texts apart (rule ∷ rules) =
 
 -- the warning of two rules, given by their first causes
 abbrev two_sources : ℕ → Option RuleCause → Option RuleCause → List Warning
-two_sources part mine theirs = option_to_list (option_map (λ origin. Both (spot part origin) (spot part (unwrap_or (origin_in mine) origin))) (origin_in theirs))
+two_sources part mine theirs = option_to_list (option_map (λ origin. both_of (spot part origin) (spot part (unwrap_or (origin_in mine) origin))) (origin_in theirs))
 
 abbrev meet_by : ℕ → ℕ → Option RuleCause → Option RuleCause → Bool → Bool → Bool
 meet_by target other mine theirs a b = target == other && (not (same_mark (mark_in mine) (mark_in theirs)) && (a && b))
@@ -179,8 +179,8 @@ module _ (lead : Lead) where
         → both_at (spot netlist_part lead.origin) others ≡ across_by lead found
         → both_at (spot netlist_part lead.origin) (cond b (Some (cap_lead part r s)) others) ≡ across_by lead (cond b (Some r) found)
     across_one r s there true found others rest =
-        ap (λ n. Both (spot n s.origin) (spot netlist_part lead.origin) ∷ []) here
-        ∙ ap (λ (o : Option RuleCause). option_to_list (option_map (λ origin. Both (spot lead.to.part origin) (spot netlist_part lead.origin)) (origin_in o))) (sym there)
+        ap (λ n. both_of (spot n s.origin) (spot netlist_part lead.origin) ∷ []) here
+        ∙ ap (λ (o : Option RuleCause). option_to_list (option_map (λ origin. both_of (spot lead.to.part origin) (spot netlist_part lead.origin)) (origin_in o))) (sym there)
     across_one r s there false found others rest = rest
 
     across_next : (r : RuleView) (found : Option RuleView) (caps : List Lead) → both_at (spot netlist_part lead.origin) (find (meets lead) caps) ≡ across_by lead found

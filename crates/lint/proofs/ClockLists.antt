@@ -7,7 +7,7 @@ use Rattle.lint.specs.declared.clock.Clock.{Clock}
 use Rattle.lint.specs.declared.crossings.Crossing.{Crossing}
 use Rattle.lint.specs.declared.lead.Lead.{Lead}
 use Rattle.lint.specs.declared.warning.Warning.{Warning}
-use Rattle.lint.specs.declared.warning.Warning.TheVariants.{Period}
+use Rattle.lint.specs.Kinds.{follows_of}
 use Rattle.lint.specs.Leads.{is_at, leads_into, mark_on}
 use Rattle.lint.specs.Lists.{each_from, spot}
 use Rattle.lint.specs.Periods.{driver_of, follows_by, has_period, is_crossed, is_join_into, is_one_value, is_period, is_timed, lead_clock, mark_period, period_by, place_period, sheet_periods}
@@ -54,7 +54,7 @@ module _ (joins : FirstLeads) (leads : List Lead) (are_joins : AreFirst is_join_
       clocked_same : (mark : DesignMark) (found : Option Lead) → clocked_by periods crossings mark found ≡ period_by leads crossings mark found
       clocked_same mark None = refl
       clocked_same mark (Some lead) =
-          let warning : Warning = Period mark (spot mark.part lead.origin) in
+          let warning : Warning = follows_of mark (spot mark.part lead.origin) in
           ap (λ b. cond (not b && crossed_by periods crossings mark) (warning ∷ []) []) (period_same mark)
           ∙ ap (λ b. cond (not (has_period leads mark) && b) (warning ∷ []) []) (crossed_same mark)
 

@@ -11,7 +11,7 @@ use Rattle.compose.specs.declared.mark.DesignMark.{DesignMark}
 use Rattle.compose.specs.Design.{DesignView}
 use Rattle.lint.specs.declared.lead.Lead.{Lead}
 use Rattle.lint.specs.declared.warning.Warning.{Warning}
-use Rattle.lint.specs.declared.warning.Warning.TheVariants.{Drivers, Held, Own}
+use Rattle.lint.specs.Kinds.{drivers_of, held_of, own_of}
 use Rattle.lint.specs.Leads.{is_at, is_edge, leads_of, rules_at}
 use Rattle.lint.specs.Lists.{each_behind}
 use Rattle.lint.specs.Rules.{drawn_by, is_high, is_linear, keeps_order}
@@ -20,7 +20,7 @@ use Rattle.lint.specs.Rules.{drawn_by, is_high, is_linear, keeps_order}
 
 abbrev pub two_drivers : Join → Option Join → List Warning
 two_drivers join None = []
-two_drivers join (Some earlier) = Drivers join.to earlier.origin join.origin ∷ []
+two_drivers join (Some earlier) = drivers_of join.to earlier.origin join.origin ∷ []
 
 -- another join goes into the mark of a join, from another mark
 abbrev pub drives_too : Join → Join → Bool
@@ -45,7 +45,7 @@ holds mark rule = rule.target == mark && list_any (is_high_from_other mark) rule
 
 abbrev pub own_by : Join → Option RuleView → List Warning
 own_by join None = []
-own_by join (Some rule) = option_to_list (option_map (Own join.to join.origin) (drawn_by rule))
+own_by join (Some rule) = option_to_list (option_map (own_of join.to join.origin) (drawn_by rule))
 
 -- the first rule of the sheet of a part that holds a mark of the sheet from above, after another mark
 abbrev pub own_rule : List SheetView → DesignMark → Option RuleView
@@ -87,7 +87,7 @@ rule_below sheet mark = find (holds_below (list_any (measures_from mark) sheet.r
 
 abbrev pub held_by : Lead → Option RuleView → List Warning
 held_by lead None = []
-held_by lead (Some rule) = option_to_list (option_map (Held lead.to lead.origin) (drawn_by rule))
+held_by lead (Some rule) = option_to_list (option_map (held_of lead.to lead.origin) (drawn_by rule))
 
 abbrev pub held_on : Lead → Option SheetView → List Warning
 held_on lead None = []

@@ -13,7 +13,7 @@ use Rattle.lint.specs.declared.clock.Clock.{Clock}
 use Rattle.lint.specs.declared.crossings.Crossing.{Crossing}
 use Rattle.lint.specs.declared.warning.DrawnPlace.{DrawnPlace}
 use Rattle.lint.specs.declared.warning.Warning.{Warning}
-use Rattle.lint.specs.declared.warning.Warning.TheVariants.{Period, Periods}
+use Rattle.lint.specs.Kinds.{follows_of, periods_of}
 use Rattle.lint.specs.Leads.{crossings_of, is_at, is_edge, is_pin, leads_into, leads_of, mark_on}
 use Rattle.lint.specs.Lists.{each_behind, each_from, spot}
 use Rattle.lint.specs.Rules.{is_linear}
@@ -63,7 +63,7 @@ is_rival a b = is_at a.driver b.driver && (a.shift == b.shift && (not (same_home
 
 abbrev pub rival_of : Clock → Option Clock → List Warning
 rival_of clock None = []
-rival_of clock (Some earlier) = Periods earlier.place clock.place ∷ []
+rival_of clock (Some earlier) = periods_of earlier.place clock.place ∷ []
 
 -- the warning of a rule with another period than a rule before it, with the first such rule
 abbrev pub clock_periods : List Clock → Clock → List Warning
@@ -90,7 +90,7 @@ follows_by leads mark lead = leads_into mark lead && (is_linear lead.kind && (no
 abbrev pub period_by : List Lead → List Crossing → DesignMark → Option Lead → List Warning
 period_by leads crossings mark None = []
 period_by leads crossings mark (Some lead) =
-    if not (has_period leads mark) && is_crossed leads crossings mark then Period mark (spot mark.part lead.origin) ∷ [] else []
+    if not (has_period leads mark) && is_crossed leads crossings mark then follows_of mark (spot mark.part lead.origin) ∷ [] else []
 
 -- the warning of a mark that follows a clock, with the first lead by which it does
 abbrev pub mark_period : List Lead → List Crossing → DesignMark → List Warning

@@ -8,25 +8,23 @@ use Rattle.itv_base.specs.declared.names.RuleKind.TheVariants.{Lin, Late, Early}
 use Rattle.origin.specs.declared.origin.Origin.{Origin}
 use Rattle.origin.specs.declared.origin.Origin.TheVariants as drawn
 use Rattle.origin.specs.Order.{is_lane}
-use Rattle.sheet.specs.declared.row.SheetRow.{SheetRow}
 use Rattle.sheet.specs.declared.rule.RuleCause.{RuleCause}
 use Rattle.sheet.specs.SheetContents.{SheetView}
 use Rattle.sheet.specs.Rule.{RuleView}
 use Rattle.compose.specs.Design.{DesignView}
-use Rattle.unroll.specs.Cycles.{row_exists, rule_exists}
 use Rattle.unroll.specs.Cycle.{rows_of}
 use Rattle.design_plan.specs.Plan.{PlanView}
 use Rattle.lint.specs.declared.lead.Lead.{Lead}
 use Rattle.lint.specs.declared.warning.DrawnPlace.{DrawnPlace}
 use Rattle.lint.specs.declared.warning.Warning.{Warning}
-use Rattle.lint.specs.declared.warning.Warning.TheVariants.{Rows, Both, Single, Never}
+use Rattle.lint.specs.Kinds.{nothing_asked, both_of, single_at}
 use Rattle.lint.specs.Leads.{is_at, is_wire, leads_of}
 use Rattle.lint.specs.Lists.{each_behind, each_from, netlist_part, spot, warned}
 
 -- ---- rows
 
 abbrev pub row_warnings : DesignView → List Warning
-row_warnings d = warned (length (rows_of d) == 0) Rows
+row_warnings d = warned (length (rows_of d) == 0) nothing_asked
 
 -- ---- rules
 
@@ -88,7 +86,7 @@ meet texts a b = a.target == b.target && (not (same_mark (from_mark a) (from_mar
 
 abbrev pub of_two : ℕ → RuleView → Option RuleView → List Warning
 of_two part rule None = []
-of_two part rule (Some earlier) = option_to_list (option_map (λ origin. Both (spot part origin) (spot part (unwrap_or (drawn_by rule) origin))) (drawn_by earlier))
+of_two part rule (Some earlier) = option_to_list (option_map (λ origin. both_of (spot part origin) (spot part (unwrap_or (drawn_by rule) origin))) (drawn_by earlier))
 
 -- the warning of a rule that meets a rule before it, with the first that it meets
 abbrev pub rule_both : ℕ → List (List ℕ) → List RuleView → RuleView → List Warning
@@ -115,7 +113,7 @@ caps_too texts lead rule = rule.target == lead.to.mark && (not (comes_along lead
 
 abbrev pub across_by : Lead → Option RuleView → List Warning
 across_by lead None = []
-across_by lead (Some rule) = option_to_list (option_map (λ origin. Both (spot lead.to.part origin) (spot netlist_part lead.origin)) (drawn_by rule))
+across_by lead (Some rule) = option_to_list (option_map (λ origin. both_of (spot lead.to.part origin) (spot netlist_part lead.origin)) (drawn_by rule))
 
 -- the warning of a wire into a mark that a rule of the mark's sheet caps too, with the first such rule
 abbrev pub across_on : Lead → Option SheetView → List Warning
@@ -136,7 +134,7 @@ abbrev pub is_single : RuleView → Bool
 is_single rule = not (is_linear rule.kind) && length rule.causes == 1
 
 abbrev pub rule_single : ℕ → RuleView → List Warning
-rule_single part rule = if is_single rule then of_rule part Single rule else []
+rule_single part rule = if is_single rule then of_rule part single_at rule else []
 
 abbrev pub single_in : ℕ → List RuleView → List Warning
 single_in part rules = flat_map (rule_single part) rules
@@ -146,23 +144,3 @@ sheet_single part sheet = single_in part sheet.rules
 
 abbrev pub single_warnings : DesignView → List Warning
 single_warnings d = each_from sheet_single 0 d.sheets ++ single_in netlist_part d.rules
-
--- ---- rules and rows that are in no cycle: their shifts reach before the first cycle even from the last cycle
-
-abbrev pub rule_never : ℕ → ℕ → RuleView → List Warning
-rule_never last part rule = if rule_exists last rule || keeps_order rule then [] else of_rule part Never rule
-
-abbrev pub never_rules : ℕ → ℕ → List RuleView → List Warning
-never_rules last part rules = flat_map (rule_never last part) rules
-
-abbrev pub row_never : ℕ → ℕ → SheetRow → List Warning
-row_never last part row = warned (not (row_exists last row)) (Never (spot part row.origin))
-
-abbrev pub never_rows : ℕ → ℕ → List SheetRow → List Warning
-never_rows last part rows = flat_map (row_never last part) rows
-
-abbrev pub sheet_never : ℕ → ℕ → SheetView → List Warning
-sheet_never last part sheet = never_rules last part sheet.rules ++ never_rows last part sheet.rows
-
-abbrev pub never_warnings : DesignView → List Warning
-never_warnings d = each_from (sheet_never (d.cycles - 1)) 0 d.sheets ++ (never_rules (d.cycles - 1) netlist_part d.rules ++ never_rows (d.cycles - 1) netlist_part d.rows)

@@ -26,7 +26,7 @@ use Rattle.lint.specs.declared.texts.TextCheck.{TextCheck}
 use Rattle.lint.specs.declared.texts.TextCheck.TheVariants as checks
 use Rattle.lint.specs.declared.warning.DrawnPlace.{DrawnPlace}
 use Rattle.lint.specs.declared.warning.Warning.{Warning}
-use Rattle.lint.specs.declared.warning.Warning.TheVariants.{Both, Comment, Drivers, Note, Own, Period, Word}
+use Rattle.lint.specs.Kinds.{both_of, comment_at, drivers_of, note_at, own_of, follows_of, word_at}
 use Rattle.lint.specs.Driven.{holds}
 use Rattle.lint.specs.Leads.{is_at, leads_into, mark_on}
 use Rattle.lint.specs.Lists.{each_from, netlist_part, spot, warned}
@@ -37,9 +37,9 @@ use Rattle.lint.specs.Texts.{begins_with_kind, edge_written, is_before_word, is_
 -- ---- checks of the texts of edges
 
 abbrev pub warning_at : TextCheck → DrawnPlace → Warning
-warning_at checks.Comment place = Comment place
-warning_at checks.Word place = Word place
-warning_at checks.Note place = Note place
+warning_at checks.Comment place = comment_at place
+warning_at checks.Word place = word_at place
+warning_at checks.Note place = note_at place
 
 -- a note begins, from its first word on, as what belongs before it
 abbrev pub is_note_misplaced : List ℕ → Bool
@@ -136,7 +136,7 @@ crossed_by periods crossings mark = list_any (λ (crossing : Crossing). is_at cr
 abbrev pub clocked_by : FirstLeads → List Crossing → DesignMark → Option Lead → List Warning
 clocked_by periods crossings mark None = []
 clocked_by periods crossings mark (Some lead) =
-    if not (is_some (first_at periods mark)) && crossed_by periods crossings mark then Period mark (spot mark.part lead.origin) ∷ [] else []
+    if not (is_some (first_at periods mark)) && crossed_by periods crossings mark then follows_of mark (spot mark.part lead.origin) ∷ [] else []
 
 abbrev pub place_clocked : FirstLeads → FirstLeads → List Crossing → ℕ → ℕ → Mark → List Warning
 place_clocked periods clocks crossings part k mark = clocked_by periods crossings (mark_on part k) (first_at clocks (mark_on part k))
@@ -186,7 +186,7 @@ pub record IsPinOf (d : DesignView) (pin : PinJoins) : Type 0 where
 -- the warning of a lead of a join with an earlier one that it meets, if there is one
 abbrev pub drivers_at : Lead → Option Lead → List Warning
 drivers_at join None = []
-drivers_at join (Some earlier) = Drivers join.to earlier.origin join.origin ∷ []
+drivers_at join (Some earlier) = drivers_of join.to earlier.origin join.origin ∷ []
 
 abbrev pub lead_drivers : List Lead → Lead → List Warning
 lead_drivers before join = drivers_at join (find (meets join) before)
@@ -194,7 +194,7 @@ lead_drivers before join = drivers_at join (find (meets join) before)
 -- the warning of a lead of a join with a rule, if there is one
 abbrev pub own_with : Lead → Option RuleView → List Warning
 own_with join None = []
-own_with join (Some rule) = option_to_list (option_map (Own join.to join.origin) (drawn_by rule))
+own_with join (Some rule) = option_to_list (option_map (own_of join.to join.origin) (drawn_by rule))
 
 -- the warning of a lead of a join into a mark of a sheet
 abbrev pub own_on : Lead → Option SheetView → List Warning
@@ -221,7 +221,7 @@ sheet_caps part sheet = caps_in part sheet.edges sheet.rules
 -- the warning of a place with a cap that it meets, if there is one
 abbrev pub both_at : DrawnPlace → Option Lead → List Warning
 both_at place None = []
-both_at place (Some cap) = Both (spot cap.to.part cap.origin) place ∷ []
+both_at place (Some cap) = both_of (spot cap.to.part cap.origin) place ∷ []
 
 -- the warning of a cap after others, with the first one that it meets
 abbrev pub cap_both : List Lead → Lead → List Warning

@@ -18,7 +18,7 @@ use Rattle.compose.specs.Design.{DesignView}
 use Rattle.json_tree.specs.declared.stray_key.StrayKey.{StrayKey}
 use Rattle.design_plan.specs.Plan.{PlanView}
 use Rattle.lint.specs.declared.warning.Warning.{Warning}
-use Rattle.lint.specs.declared.warning.Warning.TheVariants.{Comment, Word, Note, SheetKey, NetlistKey}
+use Rattle.lint.specs.Kinds.{comment_at, word_at, note_at, near_key_at, stray_key_at}
 use Rattle.lint.specs.Lists.{each_from, netlist_part, spot, warned}
 
 -- ---- letters
@@ -48,10 +48,10 @@ is_wire_comment (wires.timing from to label) = false
 is_wire_comment wires.malformed = false
 
 abbrev pub edge_comment : ℕ → ℕ → List ℕ → List Warning
-edge_comment part n text = warned (is_edge_comment (edge_of text) && list_any is_sign text) (Comment (spot part (drawn.Edge n)))
+edge_comment part n text = warned (is_edge_comment (edge_of text) && list_any is_sign text) (comment_at (spot part (drawn.Edge n)))
 
 abbrev pub wire_comment : ℕ → List ℕ → List Warning
-wire_comment n text = warned (is_wire_comment (wire_of text) && list_any is_sign text) (Comment (spot netlist_part (drawn.Wire n)))
+wire_comment n text = warned (is_wire_comment (wire_of text) && list_any is_sign text) (comment_at (spot netlist_part (drawn.Wire n)))
 
 abbrev pub sheet_comments : ℕ → SheetView → List Warning
 sheet_comments part sheet = each_from (edge_comment part) 0 sheet.edges
@@ -81,12 +81,12 @@ begins_with_kind text = list_any (is_nearly (first_word text)) kind_words
 -- a comment without a sign of a label whose first word is nearly a kind; the word stands after the shape word
 abbrev pub edge_word : ℕ → ℕ → List ℕ → List Warning
 edge_word part n text =
-    warned (is_edge_comment (edge_of text) && (not (list_any is_sign text) && begins_with_kind (after_first is_space text))) (Word (spot part (drawn.Edge n)))
+    warned (is_edge_comment (edge_of text) && (not (list_any is_sign text) && begins_with_kind (after_first is_space text))) (word_at (spot part (drawn.Edge n)))
 
 -- the word stands after the two marks of the wire
 abbrev pub wire_word : ℕ → List ℕ → List Warning
 wire_word n text =
-    warned (is_wire_comment (wire_of text) && (not (list_any is_sign text) && begins_with_kind (after_first is_space (after_first is_space text)))) (Word (spot netlist_part (drawn.Wire n)))
+    warned (is_wire_comment (wire_of text) && (not (list_any is_sign text) && begins_with_kind (after_first is_space (after_first is_space text)))) (word_at (spot netlist_part (drawn.Wire n)))
 
 abbrev pub sheet_words : ℕ → SheetView → List Warning
 sheet_words part sheet = each_from (edge_word part) 0 sheet.edges
@@ -137,10 +137,10 @@ abbrev pub is_misplaced : List ℕ → Bool
 is_misplaced note = is_unit (before_first is_word_end note) || slice_index note 0 == 91
 
 abbrev pub edge_note_warning : ℕ → ℕ → ℕ → List ℕ → List Warning
-edge_note_warning version part n text = warned (is_misplaced (after_while is_before_word (edge_written version (edge_of text)))) (Note (spot part (drawn.Edge n)))
+edge_note_warning version part n text = warned (is_misplaced (after_while is_before_word (edge_written version (edge_of text)))) (note_at (spot part (drawn.Edge n)))
 
 abbrev pub wire_note_warning : ℕ → List ℕ → List Warning
-wire_note_warning n text = warned (is_misplaced (after_while is_before_word (wire_written (wire_of text)))) (Note (spot netlist_part (drawn.Wire n)))
+wire_note_warning n text = warned (is_misplaced (after_while is_before_word (wire_written (wire_of text)))) (note_at (spot netlist_part (drawn.Wire n)))
 
 abbrev pub sheet_notes : ℕ → ℕ → SheetView → List Warning
 sheet_notes version part sheet = each_from (edge_note_warning version part) 0 sheet.edges
@@ -151,10 +151,10 @@ note_warnings plan d = each_from (sheet_notes plan.netlist.version) 0 d.sheets +
 -- ---- keys of sheets that nearly are keys which are read, and keys of the netlist that are not known
 
 abbrev pub sheet_key : ℕ → ℕ → List ℕ → List Warning
-sheet_key part n key = SheetKey part n ∷ []
+sheet_key part n key = near_key_at part n ∷ []
 
 abbrev pub netlist_key : ℕ → StrayKey → List Warning
-netlist_key n key = NetlistKey n ∷ []
+netlist_key n key = stray_key_at n ∷ []
 
 abbrev pub sheet_key_warnings : ℕ → SheetView → List Warning
 sheet_key_warnings part sheet = each_from (sheet_key part) 0 sheet.near

@@ -14,7 +14,7 @@ use Rattle.compose.specs.Design.{DesignView}
 use Rattle.design_plan.specs.Plan.{PlanView}
 use Rattle.lint.specs.declared.ranged.Ranged.{Ranged}
 use Rattle.lint.specs.declared.warning.Warning.{Warning}
-use Rattle.lint.specs.declared.warning.Warning.TheVariants.{NetUnit, Unit as UnitOf}
+use Rattle.lint.specs.Kinds.{tiny_net_at, tiny_at}
 use Rattle.lint.specs.Lists.{each_from, netlist_part, spot, warned}
 
 -- ---- the ranges of a design, each with the warning that it may give
@@ -24,7 +24,7 @@ ranged_by warning range = record { warning = warning; range = range } ∷ []
 
 -- the order of a lane has no range that was written
 abbrev pub source_ranged : ℕ → RuleCause → List Ranged
-source_ranged part source = if is_lane source.origin then [] else ranged_by (UnitOf (spot part source.origin)) source.range
+source_ranged part source = if is_lane source.origin then [] else ranged_by (tiny_at (spot part source.origin)) source.range
 
 abbrev pub rule_ranged : ℕ → RuleView → List Ranged
 rule_ranged part rule = flat_map (source_ranged part) rule.causes
@@ -34,7 +34,7 @@ kind_ranged warning Ask = []
 kind_ranged warning (Req range) = ranged_by warning range
 
 abbrev pub row_ranged : ℕ → SheetRow → List Ranged
-row_ranged part row = kind_ranged (UnitOf (spot part row.origin)) row.kind
+row_ranged part row = kind_ranged (tiny_at (spot part row.origin)) row.kind
 
 abbrev pub rules_ranged : ℕ → List RuleView → List Ranged
 rules_ranged part rules = flat_map (rule_ranged part) rules
@@ -47,7 +47,7 @@ sheet_ranged part sheet = rules_ranged part sheet.rules ++ rows_ranged part shee
 
 -- a net has one delay, however many pins it has
 abbrev pub net_ranged : ℕ → PinNetView → List Ranged
-net_ranged n net = ranged_by (NetUnit n) net.delay
+net_ranged n net = ranged_by (tiny_net_at n) net.delay
 
 -- the ranges of the sheets, then of the nets, then of the wires; within each the ranges of rules, and then of requirements
 abbrev pub ranges_of : PlanView → DesignView → List Ranged

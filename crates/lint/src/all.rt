@@ -21,7 +21,6 @@ use crate::held::push_held;
 use crate::keys::push_keys;
 use crate::lead::Lead;
 use crate::leads::{joins_of, leads_of};
-use crate::never::push_never;
 use crate::own::push_own;
 use crate::periods::push_rivals;
 use crate::single::push_single;
@@ -101,7 +100,6 @@ fn push_rules(
     push_units(alloc, warnings, plan, design)?;
     push_both(alloc, warnings, leads, plan, design)?;
     push_single(warnings, design)?;
-    push_never(warnings, design)?;
     push_periods(alloc, warnings, leads, design)
 }
 

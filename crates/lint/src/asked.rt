@@ -6,8 +6,10 @@ ghost use Rattle.compose.specs.Design.{IsDesign};
 ghost use Rattle.unroll.specs.Cycle.{rows_of};
 ghost use Rattle.lint.specs.Rules.{row_warnings};
 
+use crate::about::About;
 use crate::push::push_where;
 use crate::warning::Warning;
+use crate::warning_word::WarningWord;
 use compose::Design;
 use itv_base::NoMemory;
 use sheet::Sheet;
@@ -16,7 +18,9 @@ use sheet::Sheet;
 pub fn push_asked(warnings: &mut Vec<Warning>, design: &Design<'_>) -> Result<(), NoMemory>
     ensures pushed { OnOk result (warnings.new.items ≡ warnings.old.items ++ row_warnings design.now) }
 {
-    push_where(has_no_rows(design), Warning::Rows, warnings)
+    let word = WarningWord::Rows;
+    let about = About::Nothing;
+    push_where(has_no_rows(design), Warning { word, about }, warnings)
 }
 
 fn has_no_rows(design: &Design<'_>) -> bool

@@ -14,6 +14,7 @@ use crate::lead::{Lead, is_at, is_wire};
 use crate::rule::is_linear;
 use crate::skew::draws_skew;
 use crate::warning::{DrawnPlace, Warning};
+use crate::warning_word::WarningWord;
 use compose::Design;
 use design_plan::Plan;
 use itv_base::{NoMemory, Texts};
@@ -120,7 +121,7 @@ fn push_two(
             part: cap.to.part,
             origin: cap.origin,
         };
-        warnings.push(Warning::Both(first, place))?;
+        warnings.push(Warning::of_two(WarningWord::Both, first, place))?;
     }
     Ok(())
 }

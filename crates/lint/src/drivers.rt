@@ -8,9 +8,11 @@ ghost use Rattle.lint.specs.Leads.{join_leads};
 ghost use Rattle.lint.specs.Lists.{each_behind};
 ghost use Rattle.lint.specs.Step.{AreFirstTwo, drivers_at, lead_drivers};
 
+use crate::about::About;
 use crate::first_two::{FirstTwo, first_met, note_lead};
 use crate::lead::Lead;
 use crate::warning::Warning;
+use crate::warning_word::WarningWord;
 use compose::Design;
 use itv_base::NoMemory;
 use std::alloc::Global;
@@ -59,7 +61,9 @@ fn push_mark(
         let mark = join.to;
         let first = earlier.origin;
         let other = join.origin;
-        warnings.push(Warning::Drivers { mark, first, other })?;
+        let word = WarningWord::Drivers;
+        let about = About::Drivers { mark, first, other };
+        warnings.push(Warning { word, about })?;
     }
     Ok(())
 }

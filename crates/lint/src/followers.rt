@@ -8,6 +8,7 @@ ghost use Rattle.lint.specs.Lists.{each_from};
 ghost use Rattle.lint.specs.Periods.{follows_by, is_join_into, sheet_periods};
 ghost use Rattle.lint.specs.Step.{AreFirst, clocked_by, crossed_by, first_at, follows_clock, is_period_into, place_clocked, sheet_clocked, timed_by};
 
+use crate::about::About;
 use crate::asked::part_count;
 use crate::clock::{driver_by, first_periods};
 use crate::crossings::{Crossing, crossings_of};
@@ -16,6 +17,7 @@ use crate::lead::{Lead, is_at};
 use crate::periods::is_one_value;
 use crate::rule::is_linear;
 use crate::warning::{DrawnPlace, Warning};
+use crate::warning_word::WarningWord;
 use compose::{Design, DesignMark};
 use itv_base::NoMemory;
 use sheet::Marks;
@@ -132,11 +134,13 @@ fn push_mark(
         return Ok(());
     };
     if !has_first(periods, mark) && is_crossed(periods, crossings, mark) {
-        let follows = DrawnPlace {
+        let by = DrawnPlace {
             part: mark.part,
             origin: lead.origin,
         };
-        warnings.push(Warning::Period { mark, follows })?;
+        let word = WarningWord::Period;
+        let about = About::Follows { mark, by };
+        warnings.push(Warning { word, about })?;
     }
     Ok(())
 }

@@ -6,10 +6,12 @@ ghost use Rattle.std.specs.Option.{option_copied};
 ghost use Rattle.sheet.specs.declared.rule.RuleCause.{RuleCause as Cause};
 ghost use Rattle.lint.specs.Driven.{held_by, held_on, holds_below, is_beside, is_low_alone, lead_held, measures_from, on_one_lane, rule_below};
 
+use crate::about::About;
 use crate::asked::sheet_at;
 use crate::lead::{Lead, is_edge};
 use crate::rule::{drawn_by, is_linear, keeps_order};
 use crate::warning::Warning;
+use crate::warning_word::WarningWord;
 use compose::Design;
 use itv_base::NoMemory;
 use sheet::{Mark, Rule, RuleCause, Sheet};
@@ -60,7 +62,9 @@ fn push_by(warnings: &mut Vec<Warning>, lead: &Lead, rule: Option<&Rule>) -> Res
     };
     let mark = lead.to;
     let by = lead.origin;
-    warnings.push(Warning::Held { mark, by, edge })?;
+    let word = WarningWord::Held;
+    let about = About::Driven { mark, by, edge };
+    warnings.push(Warning { word, about })?;
     Ok(())
 }
 

@@ -4,8 +4,10 @@ ghost use Rattle.std.specs.Prelude.{◌≡◌, ◌++◌, OnOk};
 ghost use Rattle.lint.specs.Lists.{each_from};
 ghost use Rattle.lint.specs.Texts.{key_warnings, netlist_key, sheet_key, sheet_key_warnings};
 
+use crate::about::About;
 use crate::asked::part_count;
 use crate::warning::Warning;
+use crate::warning_word::WarningWord;
 use compose::Design;
 use design_plan::Plan;
 use itv_base::{NoMemory, Texts};
@@ -38,7 +40,9 @@ fn push_sheet(warnings: &mut Vec<Warning>, part: u32, near: &Texts) -> Result<()
     ensures pushed { OnOk result (warnings.new.items ≡ warnings.old.items ++ each_from (sheet_key part) 0 near.now) }
 {
     for key in 0..near.len() {
-        warnings.push(Warning::SheetKey { part, key })?;
+        let word = WarningWord::Key;
+        let about = About::SheetKey { part, key };
+        warnings.push(Warning { word, about })?;
     }
     Ok(())
 }
@@ -48,7 +52,9 @@ fn push_netlist(warnings: &mut Vec<Warning>, stray: &StrayKeys) -> Result<(), No
     ensures pushed { OnOk result (warnings.new.items ≡ warnings.old.items ++ each_from netlist_key 0 stray.now) }
 {
     for key in 0..stray.len() {
-        warnings.push(Warning::NetlistKey(key))?;
+        let word = WarningWord::Key;
+        let about = About::NetlistKey(key);
+        warnings.push(Warning { word, about })?;
     }
     Ok(())
 }

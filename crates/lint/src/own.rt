@@ -7,10 +7,12 @@ ghost use Rattle.lint.specs.Driven.{holds, is_high_from_other, own_warnings};
 ghost use Rattle.lint.specs.Leads.{join_leads};
 ghost use Rattle.lint.specs.Step.{own_on, own_with};
 
+use crate::about::About;
 use crate::asked::sheet_at;
 use crate::lead::Lead;
 use crate::rule::{drawn_by, is_high};
 use crate::warning::Warning;
+use crate::warning_word::WarningWord;
 use compose::Design;
 use itv_base::NoMemory;
 use sheet::{Rule, RuleCause, Sheet};
@@ -55,8 +57,10 @@ fn push_by(warnings: &mut Vec<Warning>, join: &Lead, rule: Option<&Rule>) -> Res
         return Ok(());
     };
     let mark = join.to;
-    let pin = join.origin;
-    warnings.push(Warning::Own { mark, pin, edge })?;
+    let by = join.origin;
+    let word = WarningWord::Own;
+    let about = About::Driven { mark, by, edge };
+    warnings.push(Warning { word, about })?;
     Ok(())
 }
 

@@ -10,6 +10,7 @@ use crate::clock::{Clock, clocks_of};
 use crate::firsts::FirstLeads;
 use crate::lead::{Lead, is_at, is_edge};
 use crate::warning::{DrawnPlace, Warning};
+use crate::warning_word::WarningWord;
 use itv_base::{NoMemory, Range};
 use std::alloc::Global;
 
@@ -53,7 +54,8 @@ fn push_two(
     ensures pushed { OnOk result (warnings.new.items ≡ warnings.old.items ++ rival_of clock.now (option_copied earlier.entry)) }
 {
     if let Some(earlier) = earlier {
-        warnings.push(Warning::Periods(earlier.place, clock.place))?;
+        let word = WarningWord::Period;
+        warnings.push(Warning::of_two(word, earlier.place, clock.place))?;
     }
     Ok(())
 }

@@ -2,12 +2,14 @@
 
 ghost use Rattle.std.specs.Prelude.{◌≡◌, ◌++◌, IfOk, OnOk};
 ghost use Rattle.std.specs.List.{flat_map};
-ghost use Rattle.lint.specs.declared.warning.Warning.TheVariants.{Unit as UnitOf};
+ghost use Rattle.lint.specs.Kinds.{tiny_at};
 ghost use Rattle.lint.specs.Lists.{each_from, spot};
 ghost use Rattle.lint.specs.Units.{kind_ranged, net_ranged, ranged_by, ranges_of, row_ranged, rows_ranged, rule_ranged, rules_ranged, sheet_ranged, source_ranged};
 
+use crate::about::About;
 use crate::asked::part_count;
 use crate::warning::{DrawnPlace, Warning};
+use crate::warning_word::WarningWord;
 use compose::Design;
 use design_plan::Plan;
 use itv_base::{NoMemory, Range, RowKind};
@@ -99,9 +101,9 @@ fn push_range(ranges: &mut Vec<Ranged>, warning: Warning, range: Range) -> Resul
 
 // The warning of what draws a range on the sheet of a part.
 fn unit_at(part: u32, origin: Origin) -> Warning
-    ensures { result ≡ UnitOf (spot part origin) }
+    ensures { result ≡ tiny_at (spot part origin) }
 {
-    Warning::Unit(DrawnPlace { part, origin })
+    Warning::at(WarningWord::Unit, DrawnPlace { part, origin })
 }
 
 // Puts the ranges of the requirements among some rows at the end.
@@ -136,7 +138,9 @@ fn push_nets(ranges: &mut Vec<Ranged>, nets: &Nets) -> Result<(), NoMemory>
     ensures pushed { OnOk result (ranges.new.items ≡ ranges.old.items ++ each_from net_ranged 0 nets.now) }
 {
     for n in 0..nets.len() {
-        push_range(ranges, Warning::NetUnit(n), nets.get(n).delay())?;
+        let word = WarningWord::Unit;
+        let about = About::Net(n);
+        push_range(ranges, Warning { word, about }, nets.get(n).delay())?;
     }
     Ok(())
 }

@@ -7,6 +7,7 @@ ghost use Rattle.lint.specs.Rules.{is_single, rule_single, sheet_single, single_
 use crate::asked::part_count;
 use crate::rule::{is_linear, spot_of};
 use crate::warning::Warning;
+use crate::warning_word::WarningWord;
 use compose::Design;
 use itv_base::NoMemory;
 use sheet::Rule;
@@ -45,7 +46,7 @@ fn push_rule(warnings: &mut Vec<Warning>, part: u32, rule: &Rule) -> Result<(), 
 {
     if is_single(rule) {
         if let Some(spot) = spot_of(part, rule) {
-            warnings.push(Warning::Single(spot))?;
+            warnings.push(Warning::at(WarningWord::Single, spot))?;
         }
     }
     Ok(())

@@ -11,6 +11,7 @@ use crate::comments::{has_sign, is_edge_comment, is_wire_comment};
 use crate::misplaced::is_note_misplaced;
 use crate::push::push_where;
 use crate::warning::{DrawnPlace, Warning};
+use crate::warning_word::WarningWord;
 use crate::words::{after_space, begins_with_kind};
 use crate::written::{edge_written, wire_written};
 use compose::Design;
@@ -124,9 +125,9 @@ fn warning_at(check: TextCheck, place: DrawnPlace) -> Warning
     ensures { result ≡ warning_at check place }
 {
     match check {
-        TextCheck::Comment => Warning::Comment(place),
-        TextCheck::Word => Warning::Word(place),
-        TextCheck::Note => Warning::Note(place),
+        TextCheck::Comment => Warning::at(WarningWord::Comment, place),
+        TextCheck::Word => Warning::at(WarningWord::Word, place),
+        TextCheck::Note => Warning::at(WarningWord::Note, place),
     }
 }
 

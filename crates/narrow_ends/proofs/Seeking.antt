@@ -12,8 +12,8 @@ use Rattle.event_graph.specs.Satisfying.{Satisfies}
 use Rattle.event_graph.specs.Times.{IsTime, separation, time_of}
 use Rattle.event_graph.proofs.Rays.{ray_is_unbounded}
 use Rattle.extremes.specs.Found.{CanRise, IsAttainedBy, IsGreatestFound}
-use Rattle.extremes.specs.declared.found.Greatest.{Greatest}
-use Rattle.extremes.specs.declared.found.Greatest.TheVariants.{Closed, Unbounded}
+use Rattle.extremes.specs.Found.{Greatest}
+use Rattle.requirements.specs.declared.separation.Separation.TheVariants.{Closed, Unbounded}
 use Rattle.narrow_ends.specs.declared.end.EndFound.{EndFound}
 use Rattle.narrow_ends.specs.declared.end.EndFound.TheVariants.{Narrow, Wide}
 use Rattle.narrow_ends.specs.Narrow.{IsAttainable}

@@ -2,7 +2,8 @@
 
 ghost use Rattle.std.specs.Prelude.{◌≡◌, false, ◌<◌, ◌≤◌, ◌≤ℤ◌, ◌+◌, ◌⊎◌, IfOk, IfSome, OnOk, Some};
 ghost use Rattle.event_graph.specs.Edges.{cause_choices};
-ghost use Rattle.extremes.specs.Found.{IsGreatestFound, is_open};
+ghost use Rattle.requirements.specs.Separations.{is_open};
+ghost use Rattle.extremes.specs.Found.{IsGreatestFound};
 ghost use Rattle.extremes.specs.Ready.{IsReady};
 ghost use Rattle.narrow_ends.specs.Narrow.{IsEndSettled};
 ghost use Rattle.narrow_ends.specs.Step.{AreFoundTimes, IsSearched};
@@ -16,6 +17,7 @@ use crate::found_times::FoundTimes;
 use event_graph::{Edge, Network};
 use extremes::{Extremes, Greatest};
 use itv_base::NoMemory;
+use requirements::Separation;
 use std::alloc::Global;
 
 /// Looks whether satisfying times attain an end with a weight along an edge, where some separation, or none, is the greatest so far. It searches for the
@@ -83,8 +85,8 @@ fn keep_times(greatest: Greatest, found: &mut FoundTimes) -> Result<(), NoMemory
     ensures kept { OnOk result ((net : Net) (e : EdgeSeen) → IsGreatestFound net e.from e.to greatest → AreFoundTimes net found.old → AreFoundTimes net found.new) }
 {
     match greatest {
-        Greatest::Closed { times, .. } => found.keep(times),
-        Greatest::Unbounded { .. } | Greatest::Open { .. } => Ok(()),
+        Separation::Closed { shown, .. } => found.keep(shown),
+        Separation::Unbounded { .. } | Separation::Open { .. } => Ok(()),
     }
 }
 
@@ -94,9 +96,9 @@ fn found_of(greatest: &Greatest, weight: i64, so_far: Option<i64>) -> EndFound
     ensures settled { is_open greatest.now ≡ false → IsEndSettled result }
 {
     match greatest {
-        Greatest::Closed { value, .. } => found_by(*value, weight, so_far),
-        Greatest::Unbounded { .. } => EndFound::Wide,
-        Greatest::Open { .. } => EndFound::Open,
+        Separation::Closed { value, .. } => found_by(*value, weight, so_far),
+        Separation::Unbounded { .. } => EndFound::Wide,
+        Separation::Open { .. } => EndFound::Open,
     }
 }
 

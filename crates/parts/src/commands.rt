@@ -2,7 +2,7 @@
 
 use crate::out::Out;
 use crate::writing::put_bytes;
-use command_words::{CheckJob, Invocation, PlanJob, SearchJob, Task, read_words};
+use command_words::{Invocation, PlanJob, SearchJob, Task, read_words};
 use design_gen::make;
 use itv_base::{FILE_LIMIT, Shelf, ShelfMem, Texts};
 use line_words::short_in;
@@ -76,24 +76,18 @@ fn put_task(task: Task<'_>, out: &mut Out) {
             design,
             job,
             budget,
-        } => {
-            let (name, flag) = search_name(job);
-            put_search(name, design, budget, flag, out)
-        }
+        } => { put_search(job.name(), design, budget, proofs_of(job), out) }
         Task::Planned {
             design,
             job,
             budget,
-        } => {
-            let (name, flag) = plan_name(job);
-            put_search(name, design, budget, flag, out)
-        }
+        } => { put_search(job.name(), design, budget, table_of(job), out) }
         Task::Checked {
             design,
             job,
             report,
         } => {
-            put_named(check_name(job), design, out);
+            put_named(job.name(), design, out);
             put_more(report, out);
         }
         Task::Fall {
@@ -102,6 +96,7 @@ fn put_task(task: Task<'_>, out: &mut Out) {
             cert,
         } => put_search("fall", design, budget, Some(cert), out),
         Task::Matrix { design } => put_named("matrix", design, out),
+        Task::Files { design } => put_named("files", design, out),
         Task::Generated { size, budget } => {
             out.put("self ");
             out.put_count(u64::from(size));
@@ -146,21 +141,19 @@ fn put_budget(budget: u64, out: &mut Out) {
     out.put_count(budget);
 }
 
-// The name of a job, and whether it writes proofs.
-fn search_name(job: SearchJob) -> (&'static str, Option<bool>) {
+// Whether a job writes proofs, if it has this choice.
+fn proofs_of(job: SearchJob) -> Option<bool> {
     match job {
-        SearchJob::Bounds { cert } => ("bounds", Some(cert)),
-        SearchJob::Settle { cert } => ("settle", Some(cert)),
-        SearchJob::Redraw => ("redraw", None),
+        SearchJob::Bounds { cert } | SearchJob::Settle { cert } => Some(cert),
+        SearchJob::Redraw => None,
     }
 }
 
-// The name of a job, and whether it writes a table.
-fn plan_name(job: PlanJob) -> (&'static str, Option<bool>) {
+// Whether a job writes a table, if it has this choice.
+fn table_of(job: PlanJob) -> Option<bool> {
     match job {
-        PlanJob::Why => ("why", None),
-        PlanJob::Brief { csv } => ("brief", Some(csv)),
-        PlanJob::Lint => ("lint", None),
+        PlanJob::Brief { csv } => Some(csv),
+        _ => None,
     }
 }
 
@@ -173,13 +166,6 @@ fn put_search(name: &str, design: &str, budget: u64, flag: Option<bool>, out: &m
         Some(false) => " false",
         None => "",
     });
-}
-
-fn check_name(job: CheckJob) -> &'static str {
-    match job {
-        CheckJob::Check => "check",
-        CheckJob::Confirm => "confirm",
-    }
 }
 
 /// Writes the front of a file of the generated design of a size, for a row as in `1 bus.json 80`, or the fault of the size.

@@ -7,11 +7,12 @@ ghost use Rattle.extremes.specs.Ready.{IsFor};
 use crate::out::Out;
 use crate::proof_lines::put_tree;
 use crate::writing::{PairQuestion, asked_of};
-use branch::{GreatestAnswer, SearchFinding, Work, find, greatest};
+use branch::{Work, find, greatest};
 use certificate::TreeScribe;
 use event_graph::{Line, Network};
-use extremes::{Consistency, Extremes, Greatest, RunTurns};
+use extremes::{Extremes, Greatest, RunTurns};
 use itv_base::NoMemory;
+use requirements::{Bound, Consistency, Separation};
 use settle::{Settled, Settler, ShownAnswer};
 use std::alloc::Global;
 
@@ -92,21 +93,21 @@ fn search_pair(
         return;
     };
     match find(work, net, most, kept) {
-        Ok(SearchFinding::Consistent) => {
+        Ok(Consistency::Consistent) => {
             kept.clear();
             match greatest(work, net, asked.from, asked.to, most, kept) {
                 Ok(answer) => put_asked(asked.word, work, kept, answer, out),
                 Err(_) => out.refuse(),
             }
         }
-        Ok(SearchFinding::Unsettled) => out.put("unsettled"),
-        Ok(SearchFinding::Inconsistent) if asked.word == "proof" => put_tree(alloc, kept, out),
-        Ok(SearchFinding::Inconsistent) => out.put("inconsistent"),
+        Ok(Consistency::Open) => out.put("unsettled"),
+        Ok(Consistency::Inconsistent) if asked.word == "proof" => put_tree(alloc, kept, out),
+        Ok(Consistency::Inconsistent) => out.put("inconsistent"),
         Err(_) => out.refuse(),
     }
 }
 
-fn put_asked(word: &str, work: &Work, kept: &TreeScribe, answer: GreatestAnswer, out: &mut Out) {
+fn put_asked(word: &str, work: &Work, kept: &TreeScribe, answer: Bound, out: &mut Out) {
     match word {
         "answer" => put_answer(answer, out),
         "splits" => put_splits(kept, out),
@@ -114,15 +115,15 @@ fn put_asked(word: &str, work: &Work, kept: &TreeScribe, answer: GreatestAnswer,
     }
 }
 
-fn put_answer(answer: GreatestAnswer, out: &mut Out) {
+fn put_answer(answer: Bound, out: &mut Out) {
     match answer {
-        GreatestAnswer::Closed(value) => put_closed(value, out),
-        GreatestAnswer::Unbounded => out.put("unbounded"),
-        GreatestAnswer::Enclosed { upper, attained } => {
+        Bound::Closed(value) => put_closed(value, out),
+        Bound::Unbounded => out.put("unbounded"),
+        Bound::Within { limit, attained } => {
             out.put("from ");
-            out.put_number(attained);
+            out.put_end(attained);
             out.put(" to ");
-            out.put_end(upper);
+            out.put_end(limit);
         }
     }
 }
@@ -259,8 +260,8 @@ fn extremes_of(
 
 fn put_greatest(found: &Greatest, out: &mut Out) {
     match found {
-        Greatest::Closed { value, .. } => put_closed(*value, out),
-        Greatest::Unbounded { .. } => out.put("unbounded"),
-        Greatest::Open { .. } => out.put("open"),
+        Separation::Closed { value, .. } => put_closed(*value, out),
+        Separation::Unbounded { .. } => out.put("unbounded"),
+        Separation::Open { .. } => out.put("open"),
     }
 }

@@ -13,9 +13,10 @@ use crate::side::SideFound;
 use chains::Chains;
 use drawn_networks::Row;
 use event_graph::Network;
-use extremes::{Extremes, Greatest};
+use extremes::Extremes;
 use itv_base::{EventId, NoMemory};
 use moves::NetFound;
+use requirements::Separation;
 use std::alloc::Global;
 
 /// What was noted of the ends of requirements so far, and the memory in which their edges are found.
@@ -116,9 +117,9 @@ pub fn look(
     ensures turns { AreTurnsOf extremes.old.turns extremes.new.turns }
 {
     match extremes.greatest(alloc, net, limit.from, limit.to)? {
-        Greatest::Closed { value, times } => note(alloc, net, limit, value, times, noted),
-        Greatest::Unbounded { .. } => Ok(SideFound::Exceeds),
-        Greatest::Open { .. } => Ok(SideFound::Open),
+        Separation::Closed { value, shown } => note(alloc, net, limit, value, shown, noted),
+        Separation::Unbounded { .. } => Ok(SideFound::Exceeds),
+        Separation::Open { .. } => Ok(SideFound::Open),
     }
 }
 

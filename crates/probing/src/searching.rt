@@ -15,13 +15,11 @@ use crate::probed::Probed;
 use crate::side::{SideFound, both_of};
 use drawn_networks::Row;
 use event_graph::Network;
-use extremes::{Consistency, Extremes, RunTurns};
+use extremes::{Extremes, FIRST_CASES, RunTurns};
 use itv_base::{NoMemory, Range, RowKind};
 use moves::NetFound;
+use requirements::Consistency;
 use std::alloc::Global;
-
-// The cases of the first try. Where few cases are not enough, a search by clauses mostly is, and takes less time than many cases.
-const FIRST_CASES: u64 = 8;
 
 /// Looks for times that satisfy a network, and for times that break the requirement of a row, from the first row on. It ends with the first row that is
 /// found to break. Each search closes at most `budget` cases, and takes turns from those that are left of the run where that is not enough. What is found is

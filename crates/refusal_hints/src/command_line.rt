@@ -1,11 +1,8 @@
 //! The first word of a command line that is not understood.
 
 use crate::hint::Hint;
+use command_words::{JOBS, JobNeeds, JobWord, job_named};
 use itv_base::{MAX_BUDGET, MAX_SELF_SIZE, Texts};
-
-// The names of the jobs, as a sentence has them.
-const JOBS: &str =
-    "bounds, matrix, check, self, fall, settle, confirm, redraw, whatif, why, brief, lint and margin";
 
 /// What is wrong with words.
 #[derive(Clone, Copy)]
@@ -23,8 +20,8 @@ pub enum WordsFault<'a> {
     Twice(WordsOption),
     /// There are two designs, and the first may be the name of a job.
     OneTooMany { first: &'a str, word: &'a str },
-    /// The job wants another option.
-    Lacks { job: &'a str, option: WordsOption },
+    /// The job needs an option that is not there.
+    Lacks(JobWord),
     NoDesign,
 }
 
@@ -70,16 +67,6 @@ impl WordsOption {
         }
     }
 
-    // The option as a usage shows it.
-    fn usage(self) -> &'static str {
-        match self {
-            WordsOption::Report => "--report FILE",
-            WordsOption::Edits => "--edits FILE",
-            WordsOption::Size => "--size N",
-            _ => self.word(),
-        }
-    }
-
     // The greatest number that the option takes.
     fn most(self) -> u64 {
         match self {
@@ -99,7 +86,7 @@ pub fn put_words_fault(hint: &mut Hint, fault: WordsFault<'_>) {
         WordsFault::NoNumber(word, option) => put_no_number(hint, word, option),
         WordsFault::Twice(option) => put_both(hint, option.word(), " stands twice"),
         WordsFault::OneTooMany { first, word } => put_one_too_many(hint, first, word),
-        WordsFault::Lacks { job, option } => put_lacks(hint, job, option),
+        WordsFault::Lacks(job) => put_lacks(hint, job),
         WordsFault::NoDesign => hint.put("the DESIGN is missing"),
     }
 }
@@ -116,7 +103,19 @@ fn put_no_job(hint: &mut Hint, word: &str) {
     hint.put("there is no job ");
     hint.put_quoted(word);
     hint.put(": the jobs are ");
-    hint.put(JOBS);
+    put_jobs(hint);
+}
+
+// The names of the jobs, as a sentence has them.
+fn put_jobs(hint: &mut Hint) {
+    for at in 0..JOBS.len() {
+        hint.put(match at {
+            0 => "",
+            _ if at + 1 == JOBS.len() => " and ",
+            _ => ", ",
+        });
+        hint.put(JOBS[at].name);
+    }
 }
 
 fn put_no_number(hint: &mut Hint, word: &str, option: WordsOption) {
@@ -127,11 +126,11 @@ fn put_no_number(hint: &mut Hint, word: &str, option: WordsOption) {
     hint.put(option.word());
 }
 
-fn put_lacks(hint: &mut Hint, job: &str, option: WordsOption) {
+fn put_lacks(hint: &mut Hint, job: JobWord) {
     hint.put("job ");
-    hint.put(job);
-    hint.put(" wants ");
-    hint.put(option.usage());
+    hint.put(job.name);
+    hint.put(" needs ");
+    hint.put(job.needs.usage());
 }
 
 fn put_no_option(hint: &mut Hint, word: &str) {
@@ -162,22 +161,7 @@ fn put_as_job(hint: &mut Hint, name: &str) {
 }
 
 fn is_job(name: &str) -> bool {
-    matches!(
-        name,
-        "bounds"
-            | "matrix"
-            | "check"
-            | "self"
-            | "fall"
-            | "settle"
-            | "confirm"
-            | "redraw"
-            | "whatif"
-            | "why"
-            | "brief"
-            | "lint"
-            | "margin"
-    )
+    job_named(name).is_some()
 }
 
 /// The first fault of words, or `None` if none shows.
@@ -338,17 +322,26 @@ impl<'a> Given<'a> {
         if let Some(option) = self.wanting {
             return Err(WordsFault::NoValue(option));
         }
-        let job = self.job.unwrap_or("bounds");
-        let lacking = match job {
-            "self" if !self.has_size => Some(WordsOption::Size),
-            "check" | "confirm" if !self.has_report => Some(WordsOption::Report),
-            "whatif" if !self.has_edits => Some(WordsOption::Edits),
-            _ => None,
-        };
-        match lacking {
-            Some(option) => Err(WordsFault::Lacks { job, option }),
-            None if self.design.is_none() && job != "self" => Err(WordsFault::NoDesign),
+        match job_named(self.job.unwrap_or(JOBS[0].name)) {
+            Some(job) => self.judge_needs(job),
             None => Ok(()),
+        }
+    }
+
+    // What a job needs and is not there.
+    fn judge_needs(&self, job: JobWord) -> Result<(), WordsFault<'a>> {
+        let has_option = match job.needs {
+            JobNeeds::Design => true,
+            JobNeeds::Report => self.has_report,
+            JobNeeds::Edits => self.has_edits,
+            JobNeeds::Size => self.has_size,
+        };
+        if !has_option {
+            Err(WordsFault::Lacks(job))
+        } else if self.design.is_none() && job.needs != JobNeeds::Size {
+            Err(WordsFault::NoDesign)
+        } else {
+            Ok(())
         }
     }
 }

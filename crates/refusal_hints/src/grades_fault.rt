@@ -1,11 +1,13 @@
-//! Why the speed grades of a sheet are refused, or are not what a part or a label wants.
+//! Why the speed grades of a sheet are refused, or are not what a part or a label needs.
 
-use crate::edge::put_edge;
+use crate::edge::Edge;
 use crate::hint::Hint;
 use crate::label_fault::EMPTY_RANGE;
 use crate::sheet_fault::RefusedSheet;
+use crate::source::Source;
 use crate::tree::{is_ends, put_ends_fault};
 use itv_base::{RangeFault, is_name, split_name};
+use json_places::Step;
 use netlist::{Netlist, Part};
 use serde_json::{Map, Value};
 use sheet::GradesFault;
@@ -17,23 +19,24 @@ const GRADES: &str = "itv_grades";
 const NAME: &str = "a name has 1 to 16 letters, digits or _";
 
 /// Why the speed grades of a tree are refused.
-pub fn put_grades_fault(hint: &mut Hint, tree: &Value, fault: GradesFault) {
+pub fn put_grades_fault(hint: &mut Hint, sheet: RefusedSheet<'_>, fault: GradesFault) {
     match fault {
-        GradesFault::Grades => put_form_fault(hint, tree),
+        GradesFault::Grades => put_form_fault(hint, sheet),
         GradesFault::Limits(grade, parameter, fault) => {
-            put_limits_fault(hint, tree, grade as usize, parameter as usize, fault)
+            put_limits_fault(hint, sheet, grade as usize, parameter as usize, fault)
         }
         GradesFault::NoMemory => hint.cut(),
     }
 }
 
 // The first grade or parameter that does not have its form, or that the grades are no object.
-fn put_form_fault(hint: &mut Hint, tree: &Value) {
-    match object_of(tree.get(GRADES)) {
-        Some(grades) => put_first_fault(hint, grades),
+fn put_form_fault(hint: &mut Hint, sheet: RefusedSheet<'_>) {
+    match object_of(sheet.tree.get(GRADES)) {
+        Some(grades) => put_first_fault(hint, sheet.source, grades),
         None => {
+            sheet.source.begin_at_value(hint, &[Step::Key(GRADES)]);
             put_key(hint);
-            hint.put(" is no object from names of grades to objects");
+            hint.put(" is not an object from names of grades to objects");
         }
     }
 }
@@ -45,42 +48,57 @@ fn put_key(hint: &mut Hint) {
     hint.put("\"");
 }
 
-fn put_first_fault(hint: &mut Hint, grades: &Map<String, Value>) {
+fn put_first_fault(hint: &mut Hint, source: Source<'_>, grades: &Map<String, Value>) {
     for (name, value) in grades.iter() {
-        if has_grade_fault(hint, name.as_str(), value) {
+        if has_grade_fault(hint, source, name.as_str(), value) {
             return;
         }
     }
 }
 
 // Puts what is wrong with the form of a grade. Whether anything is.
-fn has_grade_fault(hint: &mut Hint, name: &str, value: &Value) -> bool {
+fn has_grade_fault(hint: &mut Hint, source: Source<'_>, name: &str, value: &Value) -> bool {
     if !is_name(name) {
-        put_about_grade(hint, name, ": ", NAME);
+        put_about_grade(hint, source, name, NAME);
         return true;
     }
     let Some(parameters) = value.as_object() else {
-        put_about_grade(hint, name, " ", NO_PARAMETERS);
+        put_about_grade(hint, source, name, NO_PARAMETERS);
         return true;
     };
     let Some((parameter, ends)) = first_misfit(parameters) else {
         return false;
     };
-    put_about_grade(hint, name, ": ", "");
+    begin_at_parameter(hint, source, name, parameter);
     put_parameter_fault(hint, parameter, ends);
     true
 }
 
-const NO_PARAMETERS: &str = "is no object from names to lists of two ends";
+const NO_PARAMETERS: &str = "expected an object from names to lists of two ends";
 
-// What is said of a grade, after its name and a joint.
-fn put_about_grade(hint: &mut Hint, name: &str, joint: &str, says: &str) {
+// What is said of a grade.
+fn put_about_grade(hint: &mut Hint, source: Source<'_>, name: &str, says: &str) {
+    source.begin_at_value(hint, &[Step::Key(GRADES), Step::Key(name)]);
+    put_grade(hint, name);
+    hint.put(says);
+}
+
+// Begins a line about a parameter of a grade.
+fn begin_at_parameter<'x>(hint: &mut Hint, source: Source<'_>, grade: &'x str, parameter: &'x str) {
+    source.begin_at_value(
+        hint,
+        &[Step::Key(GRADES), Step::Key(grade), Step::Key(parameter)],
+    );
+    put_grade(hint, grade);
+}
+
+// A grade, before what is said of it.
+fn put_grade(hint: &mut Hint, name: &str) {
     hint.put("grade ");
     hint.put_quoted(name);
     hint.put(" of ");
     put_key(hint);
-    hint.put(joint);
-    hint.put(says);
+    hint.put(": ");
 }
 
 // The first of some parameters that does not have its form.
@@ -110,19 +128,19 @@ fn put_parameter_fault(hint: &mut Hint, name: &str, value: &Value) {
 // The ends of a parameter are no range. Grades and parameters have numbers in the order of their names.
 fn put_limits_fault(
     hint: &mut Hint,
-    tree: &Value,
+    sheet: RefusedSheet<'_>,
     grade: usize,
     parameter: usize,
     fault: RangeFault,
 ) {
-    let Some((grade, value)) = member_at(tree.get(GRADES), grade) else {
+    let Some((grade, value)) = member_at(sheet.tree.get(GRADES), grade) else {
         return;
     };
     let name = match member_at(Some(value), parameter) {
         Some((name, _)) => name,
         None => "",
     };
-    put_about_grade(hint, grade, ": ", "");
+    begin_at_parameter(hint, sheet.source, grade, name);
     hint.put_quoted(name);
     hint.put(": ");
     hint.put(range_says(fault));
@@ -173,7 +191,8 @@ pub fn put_grade_missing(hint: &mut Hint, sheet: RefusedSheet<'_>) {
         return;
     };
     for part in netlist.parts().as_slice() {
-        if part.sheet.as_text() == sheet.name && lacks_grade(part, grades) {
+        if part.sheet.as_text() == sheet.source.name && lacks_grade(part, grades) {
+            sheet.source.begin_at_value(hint, &[Step::Key(GRADES)]);
             put_lacked(hint, part, grades);
             return;
         }
@@ -186,7 +205,7 @@ fn put_lacked(hint: &mut Hint, part: &Part, grades: Option<&Value>) {
     hint.put(part.name.as_text());
     hint.put(" names grade ");
     hint.put_quoted(grade_of(part));
-    hint.put(", which this sheet has not; ");
+    hint.put(", which this sheet does not have; ");
     put_members(hint, grades, "grade", "grades");
 }
 
@@ -203,25 +222,16 @@ fn lacks_grade(part: &Part, grades: Option<&Value>) -> bool {
 }
 
 /// The label of an edge names a parameter that the grade of a part on this file does not have.
-pub fn put_parameter_missing(
-    hint: &mut Hint,
-    sheet: RefusedSheet<'_>,
-    n: u64,
-    text: &str,
-    label: &str,
-) {
-    let parameter = match label.split_once(" $") {
-        Some((_, behind)) => split_name(behind).0,
-        None => "",
-    };
+pub fn put_parameter_missing(hint: &mut Hint, sheet: RefusedSheet<'_>, edge: Edge<'_>) {
+    let (_, rest) = edge.text.split_once(" $").unwrap_or(("", ""));
+    let (parameter, _) = split_name(rest);
     let grades = sheet.tree.get(GRADES);
     let Some(netlist) = sheet.netlist else {
         return;
     };
     for part in netlist.parts().as_slice() {
-        if part.sheet.as_text() == sheet.name && !has_parameter(part, grades, parameter) {
-            put_edge(hint, n, text);
-            hint.put(": ");
+        if part.sheet.as_text() == sheet.source.name && !has_parameter(part, grades, parameter) {
+            edge.begin_at_rest(hint, rest);
             put_lacking(hint, part, grades, parameter);
             return;
         }

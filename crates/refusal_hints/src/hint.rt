@@ -1,6 +1,7 @@
 //! The text of a hint, with names and texts of files as hints show them.
 
 use itv_base::NoMemory;
+use json_places::Place;
 use std::alloc::Global;
 use std::fmt::Write;
 
@@ -10,7 +11,7 @@ const MOST_SHOWN: usize = 120;
 // The most names of a list that are shown.
 const MOST_NAMED: u64 = 100;
 
-/// A text that grows piece by piece. If memory is not found, the text is cut: it takes nothing more, and its end is a fault. So a caller asks once,
+/// A text of lines that grows piece by piece. If memory is not found, the text is cut: it takes nothing more, and its end is a fault. So a caller asks once,
 /// at the end, and not after each piece.
 #[derive(Drop)]
 pub struct Hint {
@@ -50,6 +51,30 @@ impl Hint {
             Err(NoMemory)
         } else {
             Ok(self.text)
+        }
+    }
+
+    /// Begins a line about no place of a file.
+    pub fn begin(&mut self) {
+        self.end_line();
+        self.put("itv: ");
+    }
+
+    /// Begins a line about a place of the file of a name, in the form that editors and build logs know.
+    pub fn begin_at(&mut self, name: &str, place: Place) {
+        self.end_line();
+        self.put_plain(name);
+        self.put(":");
+        self.put_number(place.line);
+        self.put(":");
+        self.put_number(place.column);
+        self.put(": ");
+    }
+
+    /// Ends the line, if there is one.
+    pub fn end_line(&mut self) {
+        if !self.is_empty() {
+            self.put("\n");
         }
     }
 
@@ -143,7 +168,7 @@ impl Hint {
         }
     }
 
-    // Puts what stands before name k of so many, or what ends a list that is cut. Whether the name is to follow.
+    // Puts what is before name k of so many, or what ends a list that is cut. Whether the name is to follow.
     fn has_joint(&mut self, k: u64, count: u64) -> bool {
         if k == MOST_NAMED {
             self.put(" and more");
@@ -154,7 +179,7 @@ impl Hint {
     }
 }
 
-// What stands before name k of a list.
+// What is before name k of a list.
 fn joint(k: u64, count: u64) -> &'static str {
     if k == 0 {
         ""

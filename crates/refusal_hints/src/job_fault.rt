@@ -3,6 +3,7 @@
 use crate::edits_fault::put_edits_fault;
 use crate::hint::Hint;
 use crate::limit::put_too_many;
+use crate::source::Source;
 use command_words::{SearchJob, Task};
 use drawn_networks::DrawnNetwork;
 use itv_base::Shelf;
@@ -17,12 +18,13 @@ pub fn put_job_fault<H: Shelf>(
     shelf: &mut H,
 ) {
     match task {
-        Task::Fall { .. } => hint.put(MIXED),
+        Task::Fall { .. } => put_plain_fault(hint, MIXED),
         Task::Searched {
             job: SearchJob::Redraw,
             ..
-        } => hint.put(WIDE),
+        } => put_plain_fault(hint, WIDE),
         Task::Matrix { .. } => {
+            hint.begin();
             put_too_many(
                 hint,
                 Limit::MatrixEvents,
@@ -30,6 +32,7 @@ pub fn put_job_fault<H: Shelf>(
             )
         }
         Task::Checked { report, .. } => {
+            hint.begin();
             hint.put_plain(report);
             hint.put(": the report has more than 67,108,864 bytes");
         }
@@ -38,29 +41,32 @@ pub fn put_job_fault<H: Shelf>(
     }
 }
 
+fn put_plain_fault(hint: &mut Hint, says: &str) {
+    hint.begin();
+    hint.put(says);
+}
+
 const MIXED: &str =
     "job fall takes a design whose rules of several causes are all late or all early, and this one has both: --job settle takes it";
 
 const WIDE: &str =
-    "job redraw draws no requirement with an end of 10,000,000,000,000 ps: an open end is *";
+    "job redraw can't draw a requirement with an end of 10,000,000,000,000 ps: an open end is *";
 
 // Why job whatif refuses a design with too many rows, or a file of edits.
 fn put_whatif_fault<H: Shelf>(hint: &mut Hint, edits: &str, drawn: &DrawnNetwork, shelf: &mut H) {
     let rows = drawn.rows().len();
     if rows > u64::from(MAX_SESSION_ROWS) {
+        hint.begin();
         put_too_many(hint, Limit::SessionRows, u128::from(rows));
     } else if let Ok(bytes) = shelf.fetch(hint.alloc(), edits, MAX_EDITS_BYTES as u32 + 1) {
-        put_file_fault(hint, edits, drawn, &bytes);
+        let source = Source {
+            name: edits,
+            bytes: &bytes,
+        };
+        if let Some(fault) = fault_of(hint, drawn, source.bytes) {
+            put_edits_fault(hint, source, fault);
+        }
         drop(bytes);
-    }
-}
-
-// Why the bytes of a file of edits are refused.
-fn put_file_fault(hint: &mut Hint, name: &str, drawn: &DrawnNetwork, bytes: &[u8]) {
-    if let Some(fault) = fault_of(hint, drawn, bytes) {
-        hint.put_plain(name);
-        hint.put(": ");
-        put_edits_fault(hint, bytes, fault);
     }
 }
 

@@ -1,27 +1,31 @@
 //! Why a netlist and its sheets make no design.
 
-use crate::edge::{put_about_edge, put_edge};
+use crate::edge::Edge;
 use crate::hint::Hint;
 use crate::part::put_no_part;
 use crate::sheet_fault::TOO_MANY_CAUSES;
+use crate::source::Source;
 use compose::{JoinFault, SheetKey};
 use design_plan::Plan;
 use itv_base::NoMemory;
+use json_places::Step;
 use label_grammar::{WireText, read_wire};
 use netlist::{Part, PinText};
 use sheet::{Mark, Pin, Sheet};
 use wave_string::MarkKind;
 
-/// Why the netlist and the sheets of a plan make no design.
-pub fn put_join_fault(hint: &mut Hint, plan: &Plan, fault: JoinFault) {
+/// Why the netlist of a file and the sheets of its plan make no design.
+pub fn put_join_fault(hint: &mut Hint, source: Source<'_>, plan: &Plan, fault: JoinFault) {
     match fault {
-        JoinFault::NoPart(net, pin) => put_part_fault(hint, plan, net, pin),
-        JoinFault::NoPin(net, pin) => put_pin_fault(hint, plan, net, pin),
-        JoinFault::MarkCounts(net, pin, _, _) => put_counts_fault(hint, plan, net, pin),
-        JoinFault::KindsDiffer(net, pin, mark) => put_kinds_fault(hint, plan, net, pin, mark),
-        JoinFault::WireNoPart(n) => put_wire_part_fault(hint, plan, n),
-        JoinFault::WireNoMark(n) => put_wire_mark_fault(hint, plan, n),
-        JoinFault::TooManyCauses(n) => put_about_edge(hint, n, wire_text(plan, n), TOO_MANY_CAUSES),
+        JoinFault::NoPart(net, pin) => put_part_fault(hint, source, plan, net, pin),
+        JoinFault::NoPin(net, pin) => put_pin_fault(hint, source, plan, net, pin),
+        JoinFault::MarkCounts(net, pin, _, _) => put_counts_fault(hint, source, plan, net, pin),
+        JoinFault::KindsDiffer(net, pin, mark) => {
+            put_kinds_fault(hint, source, plan, net, pin, mark)
+        }
+        JoinFault::WireNoPart(n) => put_wire_part_fault(hint, plan, wire_at(source, plan, n)),
+        JoinFault::WireNoMark(n) => put_wire_mark_fault(hint, plan, wire_at(source, plan, n)),
+        JoinFault::TooManyCauses(n) => wire_at(source, plan, n).put_wrong(hint, TOO_MANY_CAUSES),
         JoinFault::NoMemory => hint.cut(),
     }
 }
@@ -35,19 +39,34 @@ fn pin_at(plan: &Plan, net: u64, pin: u64) -> Option<&PinText> {
 }
 
 // A pin of a net is of a part that is not there.
-fn put_part_fault(hint: &mut Hint, plan: &Plan, net: u64, pin: u64) {
+fn put_part_fault(hint: &mut Hint, source: Source<'_>, plan: &Plan, net: u64, pin: u64) {
     if let Some(text) = pin_at(plan, net, pin) {
+        begin_at_pin(hint, source, net, pin);
         put_pin(hint, net, text);
         put_no_part(hint, plan.netlist(), text.part.as_text());
     }
 }
 
-// A pin of a net is no lane with a mark.
-fn put_pin_fault(hint: &mut Hint, plan: &Plan, net: u64, pin: u64) {
+// A pin of a net is not a lane with a mark.
+fn put_pin_fault(hint: &mut Hint, source: Source<'_>, plan: &Plan, net: u64, pin: u64) {
     if let Some(text) = pin_at(plan, net, pin) {
+        begin_at_pin(hint, source, net, pin);
         put_pin(hint, net, text);
         put_no_lane(hint, plan, text);
     }
+}
+
+// Begins a line about a pin of a net.
+fn begin_at_pin(hint: &mut Hint, source: Source<'_>, net: u64, pin: u64) {
+    source.begin_at_value(
+        hint,
+        &[
+            Step::Key("nets"),
+            Step::Item(net),
+            Step::Key("pins"),
+            Step::Item(pin),
+        ],
+    );
 }
 
 // A pin of a net, before what is said of it.
@@ -173,8 +192,9 @@ fn lane_named(sheet: &Sheet, name: &str) -> u64 {
 }
 
 // Two pins of a net have different numbers of marks.
-fn put_counts_fault(hint: &mut Hint, plan: &Plan, net: u64, pin: u64) {
+fn put_counts_fault(hint: &mut Hint, source: Source<'_>, plan: &Plan, net: u64, pin: u64) {
     if let (Some(driver), Some(other)) = (pin_at(plan, net, 0), pin_at(plan, net, pin)) {
+        begin_at_pin(hint, source, net, pin);
         put_net(hint, net);
         hint.put(": ");
         put_with_marks(hint, plan, driver);
@@ -200,8 +220,16 @@ fn put_with_marks(hint: &mut Hint, plan: &Plan, text: &PinText) {
 }
 
 // Of two marks that a net joins one is a rise and the other a fall.
-fn put_kinds_fault(hint: &mut Hint, plan: &Plan, net: u64, pin: u64, mark: u32) {
+fn put_kinds_fault(
+    hint: &mut Hint,
+    source: Source<'_>,
+    plan: &Plan,
+    net: u64,
+    pin: u64,
+    mark: u32,
+) {
     if let (Some(driver), Some(other)) = (pin_at(plan, net, 0), pin_at(plan, net, pin)) {
+        begin_at_pin(hint, source, net, pin);
         put_net(hint, net);
         hint.put(": ");
         put_turning(hint, plan, driver, mark);
@@ -227,69 +255,93 @@ fn put_turning(hint: &mut Hint, plan: &Plan, text: &PinText, mark: u32) {
 
 // ---- edges of the netlist
 
-fn wire_text(plan: &Plan, n: u64) -> &str {
-    match plan.netlist().edges().as_slice().get(n as usize) {
+// An edge of the netlist.
+fn wire_at<'a>(source: Source<'a>, plan: &'a Plan, n: u64) -> Edge<'a> {
+    let text = match plan.netlist().edges().as_slice().get(n as usize) {
         Some(text) => text.as_text(),
         None => "",
+    };
+    Edge {
+        source,
+        key: "edges",
+        number: n,
+        text,
     }
 }
 
 // An edge of the netlist names a part that is not there.
-fn put_wire_part_fault(hint: &mut Hint, plan: &Plan, n: u64) {
-    let text = wire_text(plan, n);
+fn put_wire_part_fault(hint: &mut Hint, plan: &Plan, edge: Edge<'_>) {
     let WireText::Timing {
         from_part,
         to_part,
         ..
-    } = read_wire(text)
+    } = read_wire(edge.text)
     else {
         return;
     };
     let part = match part_named(plan, from_part) {
-        Some(_) => to_part,
-        None => from_part,
+        Some(_) => {
+            edge.begin_at(hint, second_word(edge.text));
+            to_part
+        }
+        None => {
+            edge.begin_at(hint, 0);
+            from_part
+        }
     };
-    put_edge(hint, n, text);
-    hint.put(": ");
     put_no_part(hint, plan.netlist(), part);
 }
 
+// Where the second word of a text begins.
+fn second_word(text: &str) -> u64 {
+    match text.split_once(' ') {
+        Some((first, _)) => (first.chars().count() as u64).saturating_add(1),
+        None => 0,
+    }
+}
+
 // An edge of the netlist names a mark that is not there.
-fn put_wire_mark_fault(hint: &mut Hint, plan: &Plan, n: u64) {
-    let text = wire_text(plan, n);
+fn put_wire_mark_fault(hint: &mut Hint, plan: &Plan, edge: Edge<'_>) {
     let WireText::Timing {
         from_part,
         from_mark,
         to_part,
         to_mark,
         ..
-    } = read_wire(text)
+    } = read_wire(edge.text)
     else {
         return;
     };
-    put_edge(hint, n, text);
-    hint.put(": ");
-    if !lacks_mark(hint, plan, from_part, from_mark) {
-        lacks_mark(hint, plan, to_part, to_mark);
+    if lacks_mark(hint, plan, from_part, from_mark) {
+        edge.begin_at(hint, 0);
+        put_lacking(hint, plan, from_part, from_mark);
+    } else {
+        edge.begin_at(hint, second_word(edge.text));
+        put_lacking(hint, plan, to_part, to_mark);
     }
 }
 
-// Puts that a part has no mark of a name, and which marks it has. Whether it has none.
+// Whether a part has no mark of a name.
 fn lacks_mark(hint: &mut Hint, plan: &Plan, part: &str, mark: u8) -> bool {
-    let Some(sheet) = sheet_named(hint, plan, part) else {
-        return false;
-    };
-    let marks = sheet.marks().as_slice();
-    if marks.iter().any(|found| found.name == mark) {
-        return false;
+    match sheet_named(hint, plan, part) {
+        Some(sheet) => {
+            let marks = sheet.marks().as_slice();
+            !marks.iter().any(|found| found.name == mark)
+        }
+        None => false,
     }
+}
+
+// Puts that a part has no mark of a name, and which marks it has.
+fn put_lacking(hint: &mut Hint, plan: &Plan, part: &str, mark: u8) {
     hint.put("part ");
     hint.put(part);
     hint.put(" has no mark ");
     hint.put_mark(mark);
     hint.put("; ");
-    put_marks(hint, marks);
-    true
+    if let Some(sheet) = sheet_named(hint, plan, part) {
+        put_marks(hint, sheet.marks().as_slice());
+    }
 }
 
 fn put_marks(hint: &mut Hint, marks: &[Mark]) {

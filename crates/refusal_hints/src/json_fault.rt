@@ -1,6 +1,8 @@
-//! Why bytes are no strict JSON, and where.
+//! Why a file is not strict JSON, and where.
 
 use crate::hint::Hint;
+use crate::source::Source;
+use json_places::byte_at;
 use serde_json::Value;
 use std::str;
 
@@ -9,66 +11,23 @@ const STRICT: &str = "tools/strict FILE prints WaveDrom's relaxed spelling as st
 
 const ENDS_EARLY: &str = "the file ends too early: a bracket or a quote is not closed";
 
-const IN_QUOTES: &str = "texts and keys stand in double quotes";
+const IN_QUOTES: &str = "texts and keys need double quotes";
 
-const NOT_STRICT: &str = "this is no strict JSON";
+const NOT_STRICT: &str = "this is not strict JSON";
 
-/// Why these bytes are no JSON. The column counts characters from 1.
-pub fn put_json_fault(hint: &mut Hint, bytes: &[u8]) {
-    match whole_fault(bytes) {
-        Some(says) => hint.put(says),
-        None => put_read_fault(hint, bytes),
+/// Why a file is not JSON.
+pub fn put_json_fault(hint: &mut Hint, source: Source<'_>) {
+    if is_blank(source.bytes) {
+        source.begin(hint);
+        hint.put("the file is empty");
+        return;
     }
-}
-
-// What a reading of the bytes finds.
-fn put_read_fault(hint: &mut Hint, bytes: &[u8]) {
-    match Value::from_slice(hint.alloc(), bytes) {
-        Ok(tree) => {
-            drop(tree);
-            hint.put("it is no strict JSON");
+    match first_fault(source.bytes) {
+        Some(says) => {
+            source.begin_at(hint, 1, 1);
+            hint.put(says);
         }
-        Err(error) => {
-            let line = error.line();
-            let column = error.column();
-            let is_early = error.is_eof();
-            drop(error);
-            put_fault_at(hint, bytes, line, column, is_early);
-        }
-    }
-}
-
-// What is wrong at a line and at a byte of it, both from 1, or that the bytes end too early.
-fn put_fault_at(hint: &mut Hint, bytes: &[u8], line: usize, column: usize, is_early: bool) {
-    let place = place_at(bytes, line, column);
-    hint.put("line ");
-    hint.put_number(line as u64);
-    hint.put(" column ");
-    hint.put_number(place.column);
-    hint.put(": ");
-    hint.put(if str::from_utf8(bytes).is_err() {
-        "a byte is no UTF-8: save the file as UTF-8"
-    } else if is_early {
-        ENDS_EARLY
-    } else {
-        place_fault(place)
-    });
-    hint.put("; ");
-    hint.put(STRICT);
-}
-
-// What is wrong with the file as a whole, if its first bytes show it.
-fn whole_fault(bytes: &[u8]) -> Option<&'static str> {
-    if is_blank(bytes) {
-        Some("the file is empty")
-    } else if bytes.starts_with(b"\xff\xfe") || bytes.starts_with(b"\xfe\xff") {
-        Some("the file is UTF-16: save it as UTF-8")
-    } else if bytes.starts_with(b"\xef\xbb\xbf") {
-        Some(
-            "line 1 column 1: a byte order mark stands in front of the file: save it as UTF-8 without one",
-        )
-    } else {
-        None
+        None => put_read_fault(hint, source),
     }
 }
 
@@ -76,87 +35,90 @@ fn is_blank(bytes: &[u8]) -> bool {
     bytes.iter().all(|byte| byte.is_ascii_whitespace())
 }
 
-// A place in a file: its column, the byte there, and the byte before it that is no blank.
-#[derive(Clone, Copy)]
-struct Place {
-    column: u64,
-    before: u8,
-    here: Option<u8>,
-}
-
-// The place at a line and at a byte of it, both from 1.
-fn place_at(bytes: &[u8], line: usize, column: usize) -> Place {
-    let mut before = 0;
-    let mut at_line = 1usize;
-    let mut at_byte = 1usize;
-    let mut at_column = 1u64;
-    for byte in bytes {
-        if at_line == line && at_byte == column {
-            return Place {
-                column: at_column,
-                before,
-                here: Some(*byte),
-            };
-        }
-        if *byte == b'\n' {
-            at_line = at_line.saturating_add(1);
-            at_byte = 1;
-            at_column = 1;
-        } else {
-            at_byte = at_byte.saturating_add(1);
-            at_column = column_after(at_column, *byte);
-        }
-        if !byte.is_ascii_whitespace() {
-            before = *byte;
-        }
-    }
-    Place {
-        column: at_column,
-        before,
-        here: None,
-    }
-}
-
-// The column after a byte: only the first byte of a character counts.
-fn column_after(column: u64, byte: u8) -> u64 {
-    if 0x80 <= byte && byte < 0xc0 {
-        column
+// What is wrong with the first bytes of a file.
+fn first_fault(bytes: &[u8]) -> Option<&'static str> {
+    if bytes.starts_with(b"\xff\xfe") || bytes.starts_with(b"\xfe\xff") {
+        Some("the file is UTF-16: save it as UTF-8")
+    } else if bytes.starts_with(b"\xef\xbb\xbf") {
+        Some("the file begins with a byte order mark: save it as UTF-8 without one")
     } else {
-        column.saturating_add(1)
+        None
     }
 }
 
-// What is wrong at a place.
-fn place_fault(place: Place) -> &'static str {
-    match place.here {
-        Some(here) => byte_fault(place.before, here),
+// What a reading of the file finds.
+fn put_read_fault(hint: &mut Hint, source: Source<'_>) {
+    match Value::from_slice(hint.alloc(), source.bytes) {
+        Ok(tree) => {
+            drop(tree);
+            source.begin(hint);
+            hint.put(NOT_STRICT);
+        }
+        Err(error) => {
+            let at = byte_at(source.bytes, error.line(), error.column());
+            let is_early = error.is_eof();
+            drop(error);
+            put_fault_at(hint, source, at, is_early);
+        }
+    }
+}
+
+// What is wrong at a byte, or that the file ends too early.
+fn put_fault_at(hint: &mut Hint, source: Source<'_>, at: usize, is_early: bool) {
+    source.begin_at_byte(hint, at);
+    hint.put(if str::from_utf8(source.bytes).is_err() {
+        "this byte is not UTF-8: save the file as UTF-8"
+    } else if is_early {
+        ENDS_EARLY
+    } else {
+        place_fault(source.bytes, at)
+    });
+    hint.put("; ");
+    hint.put(STRICT);
+}
+
+// What is wrong at a byte.
+fn place_fault(bytes: &[u8], at: usize) -> &'static str {
+    match bytes.get(at) {
+        Some(here) => byte_fault(last_before(bytes, at), *here),
         None => ENDS_EARLY,
     }
+}
+
+// The last byte before a place that is not a blank, or 0.
+fn last_before(bytes: &[u8], at: usize) -> u8 {
+    let mut last = 0;
+    for byte in bytes.iter().take(at) {
+        if !byte.is_ascii_whitespace() {
+            last = *byte;
+        }
+    }
+    last
 }
 
 // What is wrong with a byte after another one.
 fn byte_fault(before: u8, here: u8) -> &'static str {
     if before == b',' && is_close(here) {
-        "there may be no comma in front of a closing bracket"
+        "remove the comma before the closing bracket"
     } else if before == b',' && here == b',' {
-        "there is a comma too many"
+        "there is one comma too many"
     } else if here == b'\'' || here == b'`' {
         IN_QUOTES
     } else if here == b'/' {
-        "there may be no comment"
+        "JSON has no comments"
     } else if is_open(before) || before == b',' || before == b':' {
-        first_fault(here)
+        begin_fault(here)
     } else if ends_value(before) && begins_value(here) {
-        "a comma or a colon is missing in front of this"
+        "expected a comma or a colon before this"
     } else {
         NOT_STRICT
     }
 }
 
 // What is wrong with a byte with which a key or a value should begin.
-fn first_fault(here: u8) -> &'static str {
+fn begin_fault(here: u8) -> &'static str {
     if here == b'"' {
-        "this text has a line end, a tab or a backslash that may not stand there"
+        "line ends, tabs and unknown escapes are not allowed in a text"
     } else if is_open(here) {
         "the nesting is deeper than 127"
     } else if here.is_ascii_alphabetic() || here == b'_' || here == b'$' {

@@ -1,4 +1,4 @@
-//! Why a text is no label: where it leaves the form `@kind+K:tag [LOW,HIGH] note`, and what is wrong there.
+//! Why a text is not a label: where it leaves the form `@kind+K:tag [LOW,HIGH] note`, and what is wrong there.
 
 use crate::hint::Hint;
 use itv_base::{END_LIMIT, MAX_SHIFT, is_name, split_digits, split_name, strip};
@@ -8,7 +8,7 @@ use itv_base::{END_LIMIT, MAX_SHIFT, is_name, split_digits, split_name, strip};
 pub struct Misfit<'a> {
     /// What is left of the label there.
     pub rest: &'a str,
-    // A word of the label that is shown, with what stands before it.
+    // A word of the label that is shown, with what is said before it.
     shown: Option<(&'static str, &'a str)>,
     says: &'static str,
 }
@@ -59,17 +59,17 @@ pub fn high_low_end(text: &str) -> Option<Misfit<'_>> {
     Some(Misfit::new(low, EMPTY_RANGE))
 }
 
-/// Where the range of a text leaves the form, or what stands after it, or `None` if the text has no range or nothing is wrong with it.
+/// Where the range of a text leaves the form, or what comes after it, or `None` if the text has no range or nothing is wrong with it.
 pub fn range_misfit(text: &str) -> Option<Misfit<'_>> {
     let (_, ends) = text.split_once('[')?;
-    match behind_ends(ends) {
+    match after_ends(ends) {
         Ok("") => None,
-        Ok(rest) => Some(Misfit::new(rest, "nothing may stand behind the range")),
+        Ok(rest) => Some(Misfit::new(rest, "unexpected text after the range")),
         Err(misfit) => Some(misfit),
     }
 }
 
-// What stands from the low end of the range of a text on, and what from its high end on.
+// The text from the low end of its range on, and from its high end on.
 fn ends_in(text: &str) -> Option<(&str, &str)> {
     let (_, low) = text.split_once('[')?;
     let (_, high) = low.split_once(',')?;
@@ -95,32 +95,32 @@ pub fn misfit_in(label: &str, version: u32) -> Option<Misfit<'_>> {
 
 fn walk(label: &str, version: u32) -> Result<&str, Misfit<'_>> {
     let rest = strip(label, "@").unwrap_or(label);
-    let (word, behind) = split_name(rest);
+    let (word, tail) = split_name(rest);
     if word.is_empty() {
         return wrong(
             rest,
-            "behind @ a kind is wanted: lin, late, early, req or ask",
+            "expected a kind after @: lin, late, early, req or ask",
         );
     }
     if !is_kind(word) {
         return Err(Misfit::shown(rest, "there is no kind ", word, KINDS));
     }
-    let rest = behind_shift(behind)?;
-    let rest = behind_tag(rest)?;
+    let rest = after_shift(tail)?;
+    let rest = after_tag(rest)?;
     if word == "ask" {
-        return behind_end(rest, NO_SPACE);
+        return after_end(rest, NO_SPACE);
     }
-    let rest = behind_span(rest, version)?;
-    behind_end(rest, "behind a range a space is wanted in front of a note")
+    let rest = after_span(rest, version)?;
+    after_end(rest, "expected a space between the range and the note")
 }
 
 const KINDS: &str = ": the kinds are lin, late, early, req and ask, in small letters";
 
-const NO_SPACE: &str = "a space is wanted here";
+const NO_SPACE: &str = "expected a space here";
 
-const NO_RANGE: &str = "a range is wanted here, as [0,2000]";
+const NO_RANGE: &str = "expected a range here, such as [0,2000]";
 
-const SPACE_IN_RANGE: &str = "there may be no space within a range";
+const SPACE_IN_RANGE: &str = "remove the space in the range";
 
 const NOT_CLOSED: &str = "a range ends with ]";
 
@@ -133,37 +133,37 @@ fn is_kind(word: &str) -> bool {
 }
 
 // What is left after `+` and a shift, if they are there.
-fn behind_shift(text: &str) -> Result<&str, Misfit<'_>> {
+fn after_shift(text: &str) -> Result<&str, Misfit<'_>> {
     let Some(rest) = strip(text, "+") else {
         return Ok(text);
     };
-    let (digits, behind) = split_digits(rest);
+    let (digits, tail) = split_digits(rest);
     match digits.parse::<u32>() {
-        Ok(shift) if 1 <= shift && shift <= MAX_SHIFT && !digits.starts_with('0') => Ok(behind),
-        _ => wrong(rest, "behind + a whole number from 1 to 64 is wanted"),
+        Ok(shift) if 1 <= shift && shift <= MAX_SHIFT && !digits.starts_with('0') => Ok(tail),
+        _ => wrong(rest, "expected a whole number from 1 to 64 after +"),
     }
 }
 
 // What is left after `:` and a tag, if they are there.
-fn behind_tag(text: &str) -> Result<&str, Misfit<'_>> {
+fn after_tag(text: &str) -> Result<&str, Misfit<'_>> {
     let Some(rest) = strip(text, ":") else {
         return Ok(text);
     };
-    let (tag, behind) = split_name(rest);
+    let (tag, tail) = split_name(rest);
     if !is_name(tag) {
         return wrong(
             rest,
-            "behind : a tag of 1 to 16 letters, digits or _ is wanted",
+            "expected a tag of 1 to 16 letters, digits or _ after :",
         );
     }
-    if behind.starts_with('+') {
-        return wrong(behind, "+ and its number stand in front of the tag");
+    if tail.starts_with('+') {
+        return wrong(tail, "put +N before the tag");
     }
-    Ok(behind)
+    Ok(tail)
 }
 
 // What is left after a space and a range or a name.
-fn behind_span(text: &str, version: u32) -> Result<&str, Misfit<'_>> {
+fn after_span(text: &str, version: u32) -> Result<&str, Misfit<'_>> {
     if text.is_empty() {
         return wrong(text, NO_RANGE);
     }
@@ -171,55 +171,55 @@ fn behind_span(text: &str, version: u32) -> Result<&str, Misfit<'_>> {
         return wrong(text, NO_SPACE);
     };
     if rest.starts_with(' ') {
-        return wrong(rest, "there is a space too many in front of the range");
+        return wrong(rest, "only one space goes before the range");
     }
     if let Some(name) = strip(rest, "$") {
-        return behind_name(rest, name, version);
+        return after_name(rest, name, version);
     }
     match strip(rest, "[") {
-        Some(ends) => behind_ends(ends),
+        Some(ends) => after_ends(ends),
         None if rest.is_empty() => wrong(rest, NO_RANGE),
-        None => wrong(rest, "a range stands in brackets, as [0,2000]"),
+        None => wrong(rest, "a range is in brackets, such as [0,2000]"),
     }
 }
 
 // What is left after `$` and a name.
-fn behind_name<'a>(text: &'a str, name: &'a str, version: u32) -> Result<&'a str, Misfit<'a>> {
+fn after_name<'a>(text: &'a str, name: &'a str, version: u32) -> Result<&'a str, Misfit<'a>> {
     if version != 2 {
         return wrong(text, "$ needs a netlist with \"itv\": 2");
     }
-    let (word, behind) = split_name(name);
+    let (word, tail) = split_name(name);
     if is_name(word) {
-        Ok(behind)
+        Ok(tail)
     } else {
         wrong(
             name,
-            "behind $ a name of 1 to 16 letters, digits or _ is wanted",
+            "expected a name of 1 to 16 letters, digits or _ after $",
         )
     }
 }
 
 // What is left after two ends and `]`.
-fn behind_ends(text: &str) -> Result<&str, Misfit<'_>> {
-    let rest = behind_number(text, SPACE_IN_RANGE)?;
+fn after_ends(text: &str) -> Result<&str, Misfit<'_>> {
+    let rest = after_number(text, SPACE_IN_RANGE)?;
     if rest.starts_with(']') {
-        return wrong(rest, "a range has two ends, as [0,2000]");
+        return wrong(rest, "a range has two ends, such as [0,2000]");
     }
     let Some(rest) = strip(rest, ",") else {
         return wrong(rest, NOT_CLOSED);
     };
-    let rest = behind_number(rest, "there may be no space behind the comma")?;
+    let rest = after_number(rest, "remove the space after the comma")?;
     if rest.starts_with(',') {
         return wrong(rest, "a range has two ends and one comma");
     }
     match strip(rest, "]") {
-        Some(behind) => Ok(behind),
+        Some(tail) => Ok(tail),
         None => wrong(rest, NOT_CLOSED),
     }
 }
 
 // What is left after an end. `space` is what is said of a space before it.
-fn behind_number<'a>(text: &'a str, space: &'static str) -> Result<&'a str, Misfit<'a>> {
+fn after_number<'a>(text: &'a str, space: &'static str) -> Result<&'a str, Misfit<'a>> {
     if text.starts_with(' ') {
         return wrong(text, space);
     }
@@ -247,34 +247,34 @@ fn is_end(end: &str) -> bool {
     end == "*" || is_number(strip(end, "-").unwrap_or(end), end)
 }
 
-// Whether these are the digits of a number without a zero in front. `-0` is none.
+// Whether these are the digits of a number without a leading zero. `-0` is none.
 fn is_number(digits: &str, end: &str) -> bool {
-    let (run, behind) = split_digits(digits);
-    behind.is_empty() && !run.is_empty() && (!run.starts_with('0') || end == "0")
+    let (run, tail) = split_digits(digits);
+    tail.is_empty() && !run.is_empty() && (!run.starts_with('0') || end == "0")
 }
 
-// What is said after a text that is no end.
+// What is said after a text that is not an end.
 fn why_no_end(end: &str) -> &'static str {
     let digits = end.trim_start_matches(['-', '+']);
-    let (run, behind) = split_digits(digits);
-    if behind.is_empty() && !run.is_empty() {
-        return " has a zero or a plus in front: a number has none";
+    let (run, tail) = split_digits(digits);
+    if tail.is_empty() && !run.is_empty() {
+        return " has a leading zero or plus: write it as 7, -7 or 0";
     }
-    match strip(behind, ".") {
+    match strip(tail, ".") {
         Some(fraction) if is_digits(fraction) && !fraction.is_empty() => {
-            " is no whole number: times are whole picoseconds"
+            " is not a whole number: times are in whole picoseconds"
         }
-        _ => " is no whole number: an open end is *",
+        _ => " is not a whole number: an open end is *",
     }
 }
 
 fn is_digits(text: &str) -> bool {
-    let (_, behind) = split_digits(text);
-    behind.is_empty()
+    let (_, tail) = split_digits(text);
+    tail.is_empty()
 }
 
 // Nothing is left, or a space and a note.
-fn behind_end<'a>(text: &'a str, why: &'static str) -> Result<&'a str, Misfit<'a>> {
+fn after_end<'a>(text: &'a str, why: &'static str) -> Result<&'a str, Misfit<'a>> {
     if text.is_empty() || text.starts_with(' ') {
         Ok("")
     } else {

@@ -1,7 +1,9 @@
 //! The lanes and the marks of a drawing.
 
 use crate::hint::Hint;
+use crate::source::Source;
 use itv_base::is_mark;
+use json_places::Step;
 use serde_json::Value;
 use std::alloc::Global;
 use wavejson::{Diagram, LaneText, read_diagram};
@@ -28,7 +30,7 @@ pub fn name_of(lane: &LaneText) -> &str {
     }
 }
 
-/// What stands in the `node` of a lane.
+/// The `node` of a lane, or an empty text.
 pub fn node_of(lane: &LaneText) -> &str {
     match &lane.node {
         Some(node) => node.as_text(),
@@ -36,7 +38,26 @@ pub fn node_of(lane: &LaneText) -> &str {
     }
 }
 
-/// Puts lane k, as `lane 2 'DQ'`, or `lane 2` where it has no name.
+/// Begins a line about a place in the node of a lane.
+pub fn begin_at_node(hint: &mut Hint, source: Source<'_>, lane: u64, place: usize) {
+    let way = [Step::Key("signal"), Step::Object(lane), Step::Key("node")];
+    source.begin_at_character(hint, &way, place as u64);
+}
+
+/// The last lane with a mark, and the last place of the mark on it, if a lane has it.
+pub fn last_place(diagram: &Diagram, mark: u8) -> Option<(u64, usize)> {
+    let mut last = None;
+    for lane in 0..diagram.lanes().len() {
+        for (place, byte) in node_of(diagram.lanes().get(lane)).bytes().enumerate() {
+            if byte == mark {
+                last = Some((lane, place));
+            }
+        }
+    }
+    last
+}
+
+/// Puts lane k, as `lane 2 'DQ'`, or `lane 2` if it has no name.
 pub fn put_lane(hint: &mut Hint, diagram: &Diagram, k: u64) {
     let name = match lane_at(diagram, k) {
         Some(lane) => name_of(lane),

@@ -1,12 +1,10 @@
-//! What stands under the name of a file.
+//! What is under the name of a file.
 
-/// What stands under a name.
+/// What is under a name.
 #[derive(Clone, Copy, PartialEq, Eq)]
 pub enum Looked {
-    /// A file that can be read as often as one likes.
+    /// A file that can be read as often as one likes, if it may be read.
     File,
-    /// A file that may not be read.
-    Denied,
     Folder,
     /// Nothing.
     Absent,
@@ -16,7 +14,14 @@ pub enum Looked {
     Other,
 }
 
-/// Looks at names as the shelf of a run takes them. Nothing is read.
+/// Looks at the system without reading or writing anything.
 pub trait NameLook {
+    /// What is under a name as the shelf of a run takes it.
     fn look(&self, name: &str) -> Looked;
+
+    /// Whether there is no permission to read a file.
+    fn is_denied(&self, name: &str) -> bool;
+
+    /// Whether nobody reads the output any more, as of a pipe whose reader has ended.
+    fn is_output_closed(&self) -> bool;
 }

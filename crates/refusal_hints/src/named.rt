@@ -17,6 +17,7 @@ pub fn files_of<'a>(task: Task<'a>) -> NamedFiles<'a> {
         | Task::Planned { design, .. }
         | Task::Fall { design, .. }
         | Task::Matrix { design }
+        | Task::Files { design }
         | Task::Margin { design, .. } => only(Some(design)),
         Task::Checked { design, report, .. } => NamedFiles {
             report: Some(report),

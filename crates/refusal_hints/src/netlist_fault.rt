@@ -1,67 +1,90 @@
-//! Why a tree is no netlist.
+//! Why a tree is not a netlist.
 
-use crate::edge::{edge_text, element_at, put_edge, put_label_refused, put_no_text};
+use crate::edge::{Edge, element_at, put_no_text};
 use crate::grades_fault::range_says;
 use crate::hint::Hint;
 use crate::part::put_lane_for_mark;
+use crate::source::Source;
 use crate::tree::{is_ends, put_about_key, put_ends_fault, put_value};
 use itv_base::{Shelf, is_mark, is_name};
+use json_places::Step;
 use json_tree::{list_at, text_at};
 use netlist::NetlistFault;
 use serde_json::Value;
 
-/// Why the tree of a design is no netlist. The marks of a lane are looked for in the file of its sheet.
+/// Why the tree of a design is not a netlist. The marks of a lane are looked for in the file of its sheet.
 pub fn put_netlist_fault<H: Shelf>(
     hint: &mut Hint,
+    source: Source<'_>,
     tree: &Value,
     fault: NetlistFault,
     shelf: &mut H,
 ) {
     match fault {
-        NetlistFault::Part(n) => put_part_fault(hint, tree, n),
-        NetlistFault::DoublePart(n) => put_double_part(hint, tree, n),
-        NetlistFault::Net(n) => put_net_fault(hint, tree, n),
+        NetlistFault::Part(n) => put_part_fault(hint, source, tree, n),
+        NetlistFault::DoublePart(n) => put_double_part(hint, source, tree, n),
+        NetlistFault::Net(n) => put_net_fault(hint, source, tree, n),
         NetlistFault::Delay(n, fault) => {
+            let way = [Step::Key("nets"), Step::Item(n), Step::Key("delay")];
+            source.begin_at_value(hint, &way);
             put_net(hint, tree, n);
             hint.put("in its \"delay\" ");
             hint.put(range_says(fault));
         }
-        NetlistFault::Edge(n) => put_wire_fault(hint, tree, n, shelf),
+        NetlistFault::Edge(n) => put_wire_fault(hint, source, tree, n, shelf),
         NetlistFault::Label(n, fault) => {
-            put_label_refused(hint, n, edge_text(tree, "edges", n), 2, 1, fault)
+            Edge::of(source, tree, EDGES, n).put_label_refused(hint, 2, 1, fault)
         }
         NetlistFault::NoMemory => hint.cut(),
-        _ => put_whole_fault(hint, tree, fault),
+        _ => put_whole_fault(hint, source, tree, fault),
     }
 }
 
+// The key of the edges.
+const EDGES: &str = "edges";
+
 // Why a netlist as a whole is refused.
-fn put_whole_fault(hint: &mut Hint, tree: &Value, fault: NetlistFault) {
+fn put_whole_fault(hint: &mut Hint, source: Source<'_>, tree: &Value, fault: NetlistFault) {
+    match key_of(fault) {
+        Some(key) => source.begin_at_value(hint, &[Step::Key(key)]),
+        None => source.begin_at_value(hint, &[]),
+    }
     match fault {
-        NetlistFault::Version => put_about_key(hint, "itv", tree.get("itv"), version_wanted(tree)),
+        NetlistFault::Version => put_about_key(hint, "itv", tree.get("itv"), version_rule(tree)),
         NetlistFault::Cycles => put_about_key(
             hint,
             "cycles",
             tree.get("cycles"),
-            "a whole number from 1 to 256 is wanted",
+            "expected a whole number from 1 to 256",
         ),
         NetlistFault::TooManyParts(count) => {
-            put_too_many(hint, "it has ", count, " parts, and 256 are the limit")
+            put_too_many(hint, "it has ", count, " parts (limit 256)")
         }
-        NetlistFault::TooManySheets(count) => put_too_many(
-            hint,
-            "its parts name ",
-            count,
-            " sheets, and 64 are the limit",
-        ),
+        NetlistFault::TooManySheets(count) => {
+            put_too_many(hint, "its parts name ", count, " sheets (limit 64)")
+        }
         _ => hint.put(plain_fault(fault)),
     }
 }
 
-fn version_wanted(tree: &Value) -> &'static str {
+// The key of what is wrong with a netlist as a whole.
+fn key_of(fault: NetlistFault) -> Option<&'static str> {
+    match fault {
+        NetlistFault::Version => Some("itv"),
+        NetlistFault::Cycles => Some("cycles"),
+        NetlistFault::PartsNotList
+        | NetlistFault::TooManyParts(_)
+        | NetlistFault::TooManySheets(_) => Some("parts"),
+        NetlistFault::NetsNotList => Some("nets"),
+        NetlistFault::EdgesNotList => Some(EDGES),
+        _ => None,
+    }
+}
+
+fn version_rule(tree: &Value) -> &'static str {
     match tree.get("itv") {
-        Some(Value::String(_)) => "the number 1 or 2 is wanted, without quotes",
-        _ => "the whole number 1 or 2 is wanted",
+        Some(Value::String(_)) => "expected the number 1 or 2, without quotes",
+        _ => "expected the whole number 1 or 2",
     }
 }
 
@@ -73,41 +96,40 @@ fn put_too_many(hint: &mut Hint, front: &str, count: u64, back: &str) {
 
 fn plain_fault(fault: NetlistFault) -> &'static str {
     match fault {
-        NetlistFault::NotObject => "the design has to stand in { }",
-        NetlistFault::PartsNotList => "\"parts\" is missing, or is no list of parts",
-        NetlistFault::NetsNotList => "\"nets\" is no list: give it a list, or take it out",
+        NetlistFault::NotObject => "a design is an object in { }",
+        NetlistFault::PartsNotList => "\"parts\" is missing, or is not a list of parts",
+        NetlistFault::NetsNotList => "\"nets\" is not a list: give it a list, or remove it",
         NetlistFault::EdgesNotList =>
-            "\"edges\" is no list: give it a list of texts, or take it out",
+            "\"edges\" is not a list: give it a list of texts, or remove it",
         _ => "",
     }
 }
 
 // ---- parts
 
-fn put_part_fault(hint: &mut Hint, tree: &Value, n: u64) {
+fn put_part_fault(hint: &mut Hint, source: Source<'_>, tree: &Value, n: u64) {
     if let Some(part) = element_at(tree, "parts", n) {
+        let (key, expected) = wrong_key(part);
+        source.begin_at_value(hint, &[Step::Key("parts"), Step::Item(n), Step::Key(key)]);
         hint.put("part ");
         hint.put_number(n);
         hint.put(": ");
-        put_in_part(hint, part);
+        if part.is_object() {
+            put_about_key(hint, key, part.get(key), expected);
+        } else {
+            hint.put("it is not an object with a name and a sheet");
+        }
     }
 }
 
-// What is wrong in a part.
-fn put_in_part(hint: &mut Hint, part: &Value) {
-    if !part.is_object() {
-        hint.put("it is no object with a name and a sheet");
-    } else if !has_name(part) {
-        put_about_key(hint, "name", part.get("name"), NAME);
+// The key of a part whose value is wrong, and what is expected of it.
+fn wrong_key(part: &Value) -> (&'static str, &'static str) {
+    if !has_name(part) {
+        ("name", NAME)
     } else if text_at(part, "sheet").is_none() {
-        put_about_key(
-            hint,
-            "sheet",
-            part.get("sheet"),
-            "the name of a file is wanted",
-        );
+        ("sheet", "expected the name of a file")
     } else {
-        put_about_key(hint, "grade", part.get("grade"), NAME);
+        ("grade", NAME)
     }
 }
 
@@ -118,10 +140,14 @@ fn has_name(part: &Value) -> bool {
     }
 }
 
-// What a name is.
-const NAME: &str = "1 to 16 letters, digits or _ are wanted";
+// What is expected of a name.
+const NAME: &str = "expected 1 to 16 letters, digits or _";
 
-fn put_double_part(hint: &mut Hint, tree: &Value, n: u64) {
+fn put_double_part(hint: &mut Hint, source: Source<'_>, tree: &Value, n: u64) {
+    source.begin_at_value(
+        hint,
+        &[Step::Key("parts"), Step::Item(n), Step::Key("name")],
+    );
     hint.put("part ");
     hint.put_number(n);
     hint.put(" has the name ");
@@ -147,47 +173,32 @@ fn put_net(hint: &mut Hint, tree: &Value, n: u64) {
     hint.put(": ");
 }
 
-fn put_net_fault(hint: &mut Hint, tree: &Value, n: u64) {
-    if let Some(net) = element_at(tree, "nets", n) {
-        put_net(hint, tree, n);
-        put_in_net(hint, net);
-    }
-}
-
 // What is wrong in a net.
-fn put_in_net(hint: &mut Hint, net: &Value) {
-    if !net.is_object() {
-        hint.put("it is no object with pins");
-    } else if !has_pins(net) {
-        put_about_key(
-            hint,
-            "pins",
-            net.get("pins"),
-            "a list of texts PART.LANE is wanted",
-        );
-    } else {
-        put_pin_or_delay_fault(hint, net);
-    }
-}
-
-fn has_pins(net: &Value) -> bool {
-    match list_at(net, "pins") {
-        Some(pins) => !pins.is_empty(),
-        None => false,
-    }
-}
-
-// What is wrong with a pin of a net, or else with its delay.
-fn put_pin_or_delay_fault(hint: &mut Hint, net: &Value) {
+fn put_net_fault(hint: &mut Hint, source: Source<'_>, tree: &Value, n: u64) {
+    let Some(net) = element_at(tree, "nets", n) else {
+        return;
+    };
     let pins = list_at(net, "pins").unwrap_or(&[]);
-    for (k, pin) in pins.iter().enumerate() {
-        if !is_pin(pin) {
-            put_pin_fault(hint, k as u64, pin);
-            return;
-        }
+    if pins.is_empty() {
+        put_no_pins(hint, source, tree, n, net);
+        return;
     }
-    if let Some(delay) = net.get("delay") {
-        put_delay_fault(hint, delay);
+    match pins.iter().position(|pin| !is_pin(pin)) {
+        Some(k) => put_pin_fault(hint, source, tree, n, k as u64, &pins[k]),
+        None => put_delay_fault(hint, source, tree, n, net),
+    }
+}
+
+// A net has no pins.
+fn put_no_pins(hint: &mut Hint, source: Source<'_>, tree: &Value, n: u64, net: &Value) {
+    let way = [Step::Key("nets"), Step::Item(n), Step::Key("pins")];
+    source.begin_at_value(hint, &way);
+    put_net(hint, tree, n);
+    if net.is_object() {
+        let expected = "expected a list of texts PART.LANE";
+        put_about_key(hint, "pins", net.get("pins"), expected);
+    } else {
+        hint.put("it is not an object with pins");
     }
 }
 
@@ -198,16 +209,32 @@ fn is_pin(pin: &Value) -> bool {
     }
 }
 
-fn put_pin_fault(hint: &mut Hint, k: u64, pin: &Value) {
+fn put_pin_fault(hint: &mut Hint, source: Source<'_>, tree: &Value, n: u64, k: u64, pin: &Value) {
+    source.begin_at_value(
+        hint,
+        &[
+            Step::Key("nets"),
+            Step::Item(n),
+            Step::Key("pins"),
+            Step::Item(k),
+        ],
+    );
+    put_net(hint, tree, n);
     hint.put("pin ");
     hint.put_number(k);
     hint.put(" is ");
     put_value(hint, pin);
-    hint.put(": a text PART.LANE is wanted");
+    hint.put(": expected a text PART.LANE");
 }
 
-fn put_delay_fault(hint: &mut Hint, delay: &Value) {
+fn put_delay_fault(hint: &mut Hint, source: Source<'_>, tree: &Value, n: u64, net: &Value) {
+    let Some(delay) = net.get("delay") else {
+        return;
+    };
     if !is_ends(delay) {
+        let way = [Step::Key("nets"), Step::Item(n), Step::Key("delay")];
+        source.begin_at_value(hint, &way);
+        put_net(hint, tree, n);
         hint.put("its \"delay\" ");
         put_ends_fault(hint, delay);
     }
@@ -215,29 +242,34 @@ fn put_delay_fault(hint: &mut Hint, delay: &Value) {
 
 // ---- edges
 
-fn put_wire_fault<H: Shelf>(hint: &mut Hint, tree: &Value, n: u64, shelf: &mut H) {
-    let text = edge_text(tree, "edges", n);
-    let Some(word) = first_no_mark(text) else {
-        put_no_text(hint, tree, "edges", n);
+fn put_wire_fault<H: Shelf>(
+    hint: &mut Hint,
+    source: Source<'_>,
+    tree: &Value,
+    n: u64,
+    shelf: &mut H,
+) {
+    let edge = Edge::of(source, tree, EDGES, n);
+    let Some((word, rest)) = first_no_mark(edge.text) else {
+        put_no_text(hint, source, tree, EDGES, n);
         return;
     };
-    put_edge(hint, n, text);
-    hint.put(": ");
+    edge.begin_at_rest(hint, rest);
     hint.put_quoted(word);
-    hint.put(" is no PART.MARK");
+    hint.put(" is not a PART.MARK");
     if let Some((part, lane)) = word.split_once('.') {
         put_lane_for_mark(hint, tree, part, lane, shelf);
     }
 }
 
-// The first of the two words before a label that is no mark of a part.
-fn first_no_mark(text: &str) -> Option<&str> {
+// The first of the two words before a label that is not a mark of a part, and the text from there on.
+fn first_no_mark(text: &str) -> Option<(&str, &str)> {
     let (from, rest) = text.split_once(' ')?;
     let (to, _) = rest.split_once(' ')?;
     if !is_part_mark(from) {
-        Some(from)
+        Some((from, text))
     } else if !is_part_mark(to) {
-        Some(to)
+        Some((to, rest))
     } else {
         None
     }

@@ -6,13 +6,14 @@ use crate::job_fault::put_job_fault;
 use crate::join_fault::put_join_fault;
 use crate::limit::put_limit_fault;
 use crate::part::netlist_of;
+use crate::source::{Source, bytes_of};
 use command_words::Task;
 use design_plan::Plan;
 use design_reading::{Refusal, RefusalPlace, Stop, draw_plan, open_plan};
 use itv_base::Shelf;
 use netlist::Netlist;
 
-/// Puts why the run of a task ended with a refusal, or nothing where a second reading does not show it. The files are read again.
+/// Puts why the run of a task ended with a refusal, or nothing if a second reading does not show it.
 pub fn put_refusal<H: Shelf>(hint: &mut Hint, task: Task<'_>, design: &str, shelf: &mut H) {
     match open_plan(hint.alloc(), design, shelf) {
         Ok(plan) => {
@@ -69,19 +70,25 @@ fn put_plan_fault<H: Shelf>(
             put_job_fault(hint, task, &drawn, shelf);
             drop(drawn);
         }
-        Err(stop) => put_undrawn(hint, design, plan, stop),
+        Err(stop) => put_undrawn(hint, design, plan, stop, shelf),
     }
 }
 
 // Why a plan draws no network.
-fn put_undrawn(hint: &mut Hint, design: &str, plan: &Plan, stop: Stop) {
+fn put_undrawn<H: Shelf>(hint: &mut Hint, design: &str, plan: &Plan, stop: Stop, shelf: &mut H) {
     match stop {
         Stop::Refused(_, Refusal::Joins(fault)) => {
-            hint.put_plain(design);
-            hint.put(": ");
-            put_join_fault(hint, plan, fault);
+            if let Some(bytes) = bytes_of(hint.alloc(), design, shelf) {
+                let source = Source {
+                    name: design,
+                    bytes: &bytes,
+                };
+                put_join_fault(hint, source, plan, fault);
+                drop(bytes);
+            }
         }
         Stop::Refused(_, Refusal::Limits(fault)) => {
+            hint.begin();
             hint.put_plain(design);
             hint.put(": ");
             put_limit_fault(hint, fault);

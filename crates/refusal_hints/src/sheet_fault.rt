@@ -1,19 +1,23 @@
-//! Why a drawing is no sheet.
+//! Why a drawing is not a sheet.
 
-use crate::edge::{edge_text, label_in, put_about_edge, put_edge, put_label_refused};
+use crate::edge::Edge;
 use crate::grades_fault::{put_grade_missing, put_parameter_missing};
 use crate::hint::Hint;
-use crate::lanes::{drawing_of, lane_at, name_of, node_of, put_all_marks, put_lane};
+use crate::lanes::{
+    begin_at_node, drawing_of, lane_at, last_place, name_of, node_of, put_all_marks, put_lane,
+};
+use crate::source::Source;
 use itv_base::NoMemory;
+use json_places::Step;
 use netlist::Netlist;
 use serde_json::Value;
 use sheet::SheetFault;
 use wavejson::Diagram;
 
-/// A sheet that is refused: its file's name and tree, and the netlist that names it, if one does.
+/// A sheet that is refused: its file and the tree of it, and the netlist that names it, if one does.
 #[derive(Clone, Copy)]
 pub struct RefusedSheet<'a> {
-    pub name: &'a str,
+    pub source: Source<'a>,
     pub tree: &'a Value,
     pub netlist: Option<&'a Netlist>,
 }
@@ -32,7 +36,7 @@ impl RefusedSheet<'_> {
 pub fn put_sheet_fault(hint: &mut Hint, sheet: RefusedSheet<'_>, fault: SheetFault) {
     match fault {
         SheetFault::BadNode(_) | SheetFault::DoubleMark(_) | SheetFault::DoublePin(_) => {
-            put_drawing_fault(hint, sheet.tree, fault)
+            put_drawing_fault(hint, sheet, fault)
         }
         SheetFault::NoGrade => put_grade_missing(hint, sheet),
         SheetFault::BadEdge(n)
@@ -44,44 +48,51 @@ pub fn put_sheet_fault(hint: &mut Hint, sheet: RefusedSheet<'_>, fault: SheetFau
     }
 }
 
-// Why a lane of the drawing of a tree is refused.
-fn put_drawing_fault(hint: &mut Hint, tree: &Value, fault: SheetFault) {
-    if let Some(diagram) = drawing_of(hint.alloc(), tree) {
-        put_lane_fault(hint, &diagram, fault);
+// Why a lane of the drawing is refused.
+fn put_drawing_fault(hint: &mut Hint, sheet: RefusedSheet<'_>, fault: SheetFault) {
+    if let Some(diagram) = drawing_of(hint.alloc(), sheet.tree) {
+        put_lane_fault(hint, sheet.source, &diagram, fault);
         drop(diagram);
     }
 }
 
 // Why a lane is refused.
-fn put_lane_fault(hint: &mut Hint, diagram: &Diagram, fault: SheetFault) {
+fn put_lane_fault(hint: &mut Hint, source: Source<'_>, diagram: &Diagram, fault: SheetFault) {
     match fault {
-        SheetFault::BadNode(lane) => put_node_refused(hint, diagram, lane),
-        SheetFault::DoubleMark(mark) => put_mark_refused(hint, diagram, mark),
-        SheetFault::DoublePin(lane) => put_pin_refused(hint, diagram, lane),
+        SheetFault::BadNode(lane) => put_node_refused(hint, source, diagram, lane),
+        SheetFault::DoubleMark(mark) => put_mark_refused(hint, source, diagram, mark),
+        SheetFault::DoublePin(lane) => put_pin_refused(hint, source, diagram, lane),
         _ => {}
     }
 }
 
-fn put_node_refused(hint: &mut Hint, diagram: &Diagram, lane: u64) {
+fn put_node_refused(hint: &mut Hint, source: Source<'_>, diagram: &Diagram, lane: u64) {
     let node = match lane_at(diagram, lane) {
         Some(lane) => node_of(lane),
         None => "",
     };
+    let place = node
+        .chars()
+        .position(|c| !is_node_character(c))
+        .unwrap_or(0);
+    begin_at_node(hint, source, lane, place);
     hint.put("the node of ");
     put_lane(hint, diagram, lane);
     hint.put(" has '");
-    hint.put_character(node.chars().find(|c| !is_node_character(*c)).unwrap_or('?'));
-    hint.put("': a mark is one visible character of ASCII, and . or a space is no mark");
+    hint.put_character(node.chars().nth(place).unwrap_or('?'));
+    hint.put("': a mark is one visible character of ASCII; . or a space is a place without a mark");
 }
 
 fn is_node_character(c: char) -> bool {
     c == ' ' || c.is_ascii_graphic()
 }
 
-fn put_mark_refused(hint: &mut Hint, diagram: &Diagram, mark: u8) {
+fn put_mark_refused(hint: &mut Hint, source: Source<'_>, diagram: &Diagram, mark: u8) {
+    let (lane, place) = last_place(diagram, mark).unwrap_or((0, 0));
+    begin_at_node(hint, source, lane, place);
     hint.put("the mark ");
     hint.put_mark(mark);
-    hint.put(" stands twice, on ");
+    hint.put(" is used twice, on ");
     put_lanes_with(hint, diagram, mark);
     hint.put(": rename one");
 }
@@ -128,11 +139,15 @@ fn put_lane_name(hint: &mut Hint, diagram: &Diagram, lane: u64, k: u64, count: u
     }
 }
 
-fn put_pin_refused(hint: &mut Hint, diagram: &Diagram, lane: u64) {
+fn put_pin_refused(hint: &mut Hint, source: Source<'_>, diagram: &Diagram, lane: u64) {
     let name = match lane_at(diagram, lane) {
         Some(lane) => name_of(lane),
         None => "",
     };
+    source.begin_at_value(
+        hint,
+        &[Step::Key("signal"), Step::Object(lane), Step::Key("name")],
+    );
     hint.put("lane ");
     hint.put_number(lane);
     hint.put(" has the name ");
@@ -142,18 +157,16 @@ fn put_pin_refused(hint: &mut Hint, diagram: &Diagram, lane: u64) {
 
 // Why an edge is refused.
 fn put_edge_fault(hint: &mut Hint, sheet: RefusedSheet<'_>, n: u64, fault: SheetFault) {
-    let text = edge_text(sheet.tree, "edge", n);
+    let edge = Edge::of(sheet.source, sheet.tree, "edge", n);
     match fault {
-        SheetFault::BadEdge(_) => put_about_edge(
+        SheetFault::BadEdge(_) => edge.put_wrong(
             hint,
-            n,
-            text,
-            "in front of the label two marks are wanted with a shape between them, as a->b",
+            "an edge starts with two marks and an arrow between them, such as a->b",
         ),
-        SheetFault::Label(_, fault) => put_label_refused(hint, n, text, 1, sheet.version(), fault),
-        SheetFault::NoMark(_, mark) => put_no_mark(hint, sheet.tree, n, text, mark),
-        SheetFault::NoParam(_) => put_parameter_missing(hint, sheet, n, text, label_in(text, 1)),
-        SheetFault::TooManyCauses(_) => put_about_edge(hint, n, text, TOO_MANY_CAUSES),
+        SheetFault::Label(_, fault) => edge.put_label_refused(hint, 1, sheet.version(), fault),
+        SheetFault::NoMark(_, mark) => put_no_mark(hint, sheet.tree, edge, mark),
+        SheetFault::NoParam(_) => put_parameter_missing(hint, sheet, edge),
+        SheetFault::TooManyCauses(_) => edge.put_wrong(hint, TOO_MANY_CAUSES),
         _ => {}
     }
 }
@@ -163,12 +176,21 @@ pub const TOO_MANY_CAUSES: &str =
     "this would be the 65th cause of one rule: let some causes go to a mark of their own, and that mark to this one";
 
 // An edge names a mark that is not there.
-fn put_no_mark(hint: &mut Hint, tree: &Value, n: u64, text: &str, mark: u8) {
-    put_edge(hint, n, text);
-    hint.put(": no lane has the mark ");
+fn put_no_mark(hint: &mut Hint, tree: &Value, edge: Edge<'_>, mark: u8) {
+    edge.begin_at(hint, mark_place(edge.text, mark));
+    hint.put("no lane has the mark ");
     hint.put_mark(mark);
     hint.put(" in its node; ");
     put_marks_in(hint, tree);
+}
+
+// The place of a mark that is one of the two ends of an arrow, which are its first and its last character.
+fn mark_place(text: &str, mark: u8) -> u64 {
+    if text.bytes().next() == Some(mark) {
+        return 0;
+    }
+    let (arrow, _) = text.split_once(' ').unwrap_or((text, ""));
+    arrow.chars().count().saturating_sub(1) as u64
 }
 
 // Puts which marks the drawing of a tree has, if it is one.

@@ -15,8 +15,8 @@ pub fn put_value(hint: &mut Hint, value: &Value) {
     }
 }
 
-/// Puts what a key should have, and what it has.
-pub fn put_about_key(hint: &mut Hint, key: &str, value: Option<&Value>, wanted: &str) {
+/// Puts what a key has, and what is expected there.
+pub fn put_about_key(hint: &mut Hint, key: &str, value: Option<&Value>, expected: &str) {
     hint.put("its \"");
     hint.put(key);
     match value {
@@ -27,7 +27,7 @@ pub fn put_about_key(hint: &mut Hint, key: &str, value: Option<&Value>, wanted: 
         }
         None => hint.put("\" is missing: "),
     }
-    hint.put(wanted);
+    hint.put(expected);
 }
 
 /// Whether a value is a list of two ends.
@@ -38,14 +38,14 @@ pub fn is_ends(value: &Value) -> bool {
     }
 }
 
-/// Puts what a value is or has that should be a list of two ends, and what is wanted.
+/// Puts what a value is or has that should be a list of two ends, and what is expected.
 pub fn put_ends_fault(hint: &mut Hint, value: &Value) {
     match list_of(value) {
         Some([low, high]) => put_end_fault(hint, if is_end(low) { high } else { low }),
         _ => {
             hint.put("is ");
             put_value(hint, value);
-            hint.put(": a list of two ends is wanted, as [100,300], with null for an open end");
+            hint.put(": expected a list of two ends, such as [100,300], with null for an open end");
         }
     }
 }
@@ -54,19 +54,19 @@ fn put_end_fault(hint: &mut Hint, end: &Value) {
     hint.put("has the end ");
     put_value(hint, end);
     hint.put(": ");
-    hint.put(end_wanted(end));
+    hint.put(end_rule(end));
 }
 
 fn is_end(value: &Value) -> bool {
     value.is_null() || value.as_i64().is_some()
 }
 
-fn end_wanted(value: &Value) -> &'static str {
+fn end_rule(value: &Value) -> &'static str {
     match value.as_str() {
-        Some("*") => "an open end of a list is null, and * is one of a label",
-        Some(_) => "an end is a whole number without quotes, or null where it is open",
+        Some("*") => "an open end of a list is null; * is for labels",
+        Some(_) => "an end is a whole number without quotes, or null if it is open",
         None if value.is_number() =>
-            "an end is a whole number of picoseconds, or null where it is open",
-        None => "an end is a whole number, or null where it is open",
+            "an end is a whole number of picoseconds, or null if it is open",
+        None => "an end is a whole number, or null if it is open",
     }
 }

@@ -3,13 +3,15 @@
 use crate::hint::Hint;
 use crate::look::{Looked, NameLook};
 use crate::named::NamedFiles;
-use crate::part::netlist_of;
+use crate::part::netlist_in;
+use crate::source::{Source, bytes_of};
 use itv_base::Shelf;
+use json_places::Step;
 use netlist::Netlist;
 
-// What stands after the name of a sheet that is not there.
+// What is said after the name of a netlist whose sheet is not there.
 const FROM_HERE: &str =
-    " names: names count from the current folder, and itv -C FOLDER runs in another one";
+    " names: paths are relative to the current folder, and itv -C FOLDER runs in another one";
 
 /// Puts which of the files of a task could not be read, and why.
 pub fn put_unread<H: Shelf, L: NameLook>(
@@ -31,26 +33,44 @@ fn put_design<H: Shelf, L: NameLook>(
     shelf: &mut H,
     look: &L,
 ) {
-    if look.look(design) != Looked::File {
-        put_file(hint, design, look);
+    if is_unread(design, look) {
+        put_named(hint, design, look, "");
     } else if !has_sheet(hint, design, shelf, look) {
         put_other(hint, design, files, look);
     }
 }
 
+// Whether a file can't be read.
+fn is_unread<L: NameLook>(name: &str, look: &L) -> bool {
+    look.look(name) != Looked::File || look.is_denied(name)
+}
+
 // Puts what is said of the report or the edits of a task, or else of its design.
 fn put_other<L: NameLook>(hint: &mut Hint, design: &str, files: NamedFiles<'_>, look: &L) {
     match (files.report, files.edits) {
-        (Some(report), _) => {
-            put_file(hint, report, look);
-            hint.put("; it is the report that --report names");
-        }
+        (Some(report), _) => put_named(
+            hint,
+            report,
+            look,
+            "; it is the report that --report names",
+        ),
         (_, Some(edits)) => {
-            put_file(hint, edits, look);
-            hint.put("; it is the file of edits that --edits names");
+            put_named(
+                hint,
+                edits,
+                look,
+                "; it is the file of edits that --edits names",
+            )
         }
-        _ => put_file(hint, design, look),
+        _ => put_named(hint, design, look, ""),
     }
+}
+
+// Puts why a file of the command line is not read.
+fn put_named<L: NameLook>(hint: &mut Hint, name: &str, look: &L, says: &str) {
+    hint.begin();
+    put_file(hint, name, look);
+    hint.put(says);
 }
 
 // Puts which sheet of a netlist could not be read. Whether there is one.
@@ -60,9 +80,25 @@ fn has_sheet<H: Shelf, L: NameLook>(
     shelf: &mut H,
     look: &L,
 ) -> bool {
-    match netlist_of(hint.alloc(), design, shelf) {
+    match bytes_of(hint.alloc(), design, shelf) {
+        Some(bytes) => {
+            let source = Source {
+                name: design,
+                bytes: &bytes,
+            };
+            let has_sheet = has_sheet_in(hint, source, look);
+            drop(bytes);
+            has_sheet
+        }
+        None => false,
+    }
+}
+
+// The same for the netlist of a file, if it is one.
+fn has_sheet_in<L: NameLook>(hint: &mut Hint, source: Source<'_>, look: &L) -> bool {
+    match netlist_in(hint.alloc(), source.bytes) {
         Some(netlist) => {
-            let has_absent = has_absent(hint, design, &netlist, look);
+            let has_absent = has_absent(hint, source, &netlist, look);
             drop(netlist);
             has_absent
         }
@@ -70,13 +106,27 @@ fn has_sheet<H: Shelf, L: NameLook>(
     }
 }
 
-// Puts which sheet that a netlist names is no file that can be read. Whether there is one.
-fn has_absent<L: NameLook>(hint: &mut Hint, design: &str, netlist: &Netlist, look: &L) -> bool {
-    for name in netlist.sheet_names().as_slice() {
-        if look.look(name.as_text()) != Looked::File {
-            put_file(hint, name.as_text(), look);
+// Puts which sheet that a netlist names can't be read. Whether there is one.
+fn has_absent<L: NameLook>(
+    hint: &mut Hint,
+    source: Source<'_>,
+    netlist: &Netlist,
+    look: &L,
+) -> bool {
+    for (number, part) in netlist.parts().as_slice().iter().enumerate() {
+        let name = part.sheet.as_text();
+        if is_unread(name, look) {
+            source.begin_at_value(
+                hint,
+                &[
+                    Step::Key("parts"),
+                    Step::Item(number as u64),
+                    Step::Key("sheet"),
+                ],
+            );
+            put_file(hint, name, look);
             hint.put(", a sheet that ");
-            hint.put_plain(design);
+            hint.put_plain(source.name);
             hint.put(FROM_HERE);
             return true;
         }
@@ -86,19 +136,19 @@ fn has_absent<L: NameLook>(hint: &mut Hint, design: &str, netlist: &Netlist, loo
 
 // Puts why a file is not read.
 fn put_file<L: NameLook>(hint: &mut Hint, name: &str, look: &L) {
-    let (front, back) = around(name, look.look(name));
+    let (front, back) = around(name, look);
     hint.put(front);
     hint.put_plain(name);
     hint.put(back);
 }
 
 // What is said before the name of a file, and after it.
-fn around(name: &str, looked: Looked) -> (&'static str, &'static str) {
-    match looked {
+fn around<L: NameLook>(name: &str, look: &L) -> (&'static str, &'static str) {
+    match look.look(name) {
         _ if name.is_empty() => ("the name of a file is empty", ""),
         Looked::Folder => ("", " is a folder"),
         Looked::Absent => ("there is no file ", ""),
-        Looked::Denied => ("there is no permission to read ", ""),
+        Looked::File if look.is_denied(name) => ("there is no permission to read ", ""),
         _ => ("", " could not be read"),
     }
 }

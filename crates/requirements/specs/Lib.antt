@@ -4,4 +4,5 @@ pub mod Verdicts
 pub mod Slacks
 pub mod Raising
 pub mod Laws
+pub mod Separations
 pub mod Step

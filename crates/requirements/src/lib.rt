@@ -5,12 +5,16 @@
 
 mod bound;
 mod broken;
+mod consistency;
 pub mod laws;
 mod raising;
+mod separation;
 mod slacks;
 mod verdict;
 
 pub use bound::{BothBounds, Bound, Slack, negated_known};
+pub use consistency::Consistency;
 pub use raising::raise_past;
+pub use separation::Separation;
 pub use slacks::slack;
 pub use verdict::{Verdict, judge};

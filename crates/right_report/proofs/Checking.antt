@@ -7,8 +7,8 @@ use Rattle.event_graph.proofs.SoundProofs.{proof_bounds, proof_of_nothing}
 use Rattle.event_graph.proofs.Reversing.{above_value}
 use Rattle.requirements.specs.declared.bound.Bound.{Bound}
 use Rattle.requirements.specs.declared.bound.Bound.TheVariants.{Closed, Unbounded, Within}
-use Rattle.slack_report.specs.declared.words.FindingWord.{FindingWord}
-use Rattle.slack_report.specs.declared.words.FindingWord.TheVariants.{Consistent, Inconsistent, Unsettled}
+use Rattle.requirements.specs.declared.consistency.Consistency.{Consistency}
+use Rattle.requirements.specs.declared.consistency.Consistency.TheVariants.{Consistent, Inconsistent, Open}
 use Rattle.slack_report.specs.Entry.{Entry}
 use Rattle.drawn_networks.specs.Drawn.{Drawn, AreTimes}
 use Rattle.drawn_networks.specs.declared.row.Row.{Row}
@@ -19,10 +19,10 @@ use Rattle.right_report.specs.Checked.{ProvesBound, ProvesFinding, checked}
 use Rattle.right_report.specs.Laws.{CheckedIsRight}
 use Rattle.right_report.specs.Shown.{goal_of}
 
-is_finding : (net : Net) (lines : List ProofLine) (word : FindingWord) → ProvesFinding net lines word → IsFinding net word
+is_finding : (net : Net) (lines : List ProofLine) (word : Consistency) → ProvesFinding net lines word → IsFinding net word
 is_finding net lines Consistent h = h
 is_finding net lines Inconsistent h = proof_of_nothing net lines h
-is_finding net lines Unsettled h = h
+is_finding net lines Open h = h
 
 -- a bound that is proved, and attained by times, is closed
 is_closed : (net : Net) (r : Row) (coming : NextBound) (value : ℤ) (lines : List ProofLine) (list : List ℤ) → IsProof net (goal_of r coming value) lines → AreTimes net r list → separation list r.from r.to ≡ value

@@ -16,8 +16,8 @@ use Rattle.itv_base.specs.declared.row_kind.RowKind.{RowKind}
 use Rattle.itv_base.specs.declared.row_kind.RowKind.TheVariants.{Ask, Req}
 use Rattle.slack_report.specs.declared.words.EndWord.{EndWord}
 use Rattle.slack_report.specs.declared.words.EndWord.TheVariants as endings
-use Rattle.slack_report.specs.declared.words.FindingWord.{FindingWord}
-use Rattle.slack_report.specs.declared.words.FindingWord.TheVariants.{Consistent, Inconsistent, Unsettled}
+use Rattle.requirements.specs.declared.consistency.Consistency.{Consistency}
+use Rattle.requirements.specs.declared.consistency.Consistency.TheVariants.{Consistent, Inconsistent, Open}
 use Rattle.slack_report.specs.Entry.{Entry, ending}
 use Rattle.drawn_networks.specs.Drawn.{Drawn}
 use Rattle.drawn_networks.specs.declared.row.Row.{Row}
@@ -173,10 +173,10 @@ module _ (drawn : Drawn) (current : CurrentRow) (is_row : slice_get drawn.rows c
 -- ---- a right line keeps the tally
 
 module _ (drawn : Drawn) where
-  counts_finding : (word : FindingWord) → IsFinding drawn.net word → Counts drawn (behind_finding word)
+  counts_finding : (word : Consistency) → IsFinding drawn.net word → Counts drawn (behind_finding word)
   counts_finding Consistent h = tt
   counts_finding Inconsistent h = (refl, h)
-  counts_finding Unsettled h = ((λ e. absurd (cc e)), (λ e. cc))
+  counts_finding Open h = ((λ e. absurd (cc e)), (λ e. cc))
 
   counts_find : (lines : List ProofLine) (line : Entry) (next : ReportState) → MayFind (right drawn.net) lines line next → Counts drawn next
   counts_find lines line next (inl h) = subst (Counts drawn) (sym h.2) tt
@@ -187,7 +187,7 @@ module _ (drawn : Drawn) where
   counts_bind current coming lines line next t c (inl h) = subst (Counts drawn) (sym h.2) c
   counts_bind current coming lines line next t c (inr h) = subst (Counts drawn) (sym h.3) (counts_bound drawn current t.is_row c coming h.0)
 
-  first_tally : (word : FindingWord) → (word ≡ Consistent → SomeSatisfy drawn.net) → (word ≡ Inconsistent → ⊥) → Tallies drawn (record { found = word; fails = false; within = false }) 0
+  first_tally : (word : Consistency) → (word ≡ Consistent → SomeSatisfy drawn.net) → (word ≡ Inconsistent → ⊥) → Tallies drawn (record { found = word; fails = false; within = false }) 0
   first_tally word satisfied settled = record {
     met = λ f w k r range lt get kind. absurd (omega arith);
     broken = λ e. absurd (cc e);
@@ -236,13 +236,13 @@ module _ (drawn : Drawn) where
       let within : k < length drawn.rows = slice_get_within drawn.rows k r get in
       omega arith
 
-  word_says : (tally : ReportTally) (number : ℕ) → [] ≡ drop number drawn.rows → Tallies drawn tally number → (fails : Bool) (found : FindingWord) (within : Bool)
+  word_says : (tally : ReportTally) (number : ℕ) → [] ≡ drop number drawn.rows → Tallies drawn tally number → (fails : Bool) (found : Consistency) (within : Bool)
       → tally.fails ≡ fails → tally.found ≡ found → tally.within ≡ within → EndSays drawn (if fails then endings.Fail else undecided_or_pass found within)
   word_says tally number none c true found within f e w = c.broken f
   word_says tally number none c false Consistent true f e w = tt
   word_says tally number none c false Consistent false f e w = (c.satisfied e, λ k r range get kind. c.met f w k r range (all_told number k r none get) get kind)
   word_says tally number none c false Inconsistent within f e w = absurd (c.settled e)
-  word_says tally number none c false Unsettled within f e w = tt
+  word_says tally number none c false Open within f e w = tt
 
   ending_says : (here : ReportState) (word : EndWord) (next : ReportState) → Stands drawn here → Counts drawn here → MayFollow (right drawn.net) drawn here (ending word) next → EndSays drawn word
   ending_says at_heading word next s c h = absurd (cc h.0)

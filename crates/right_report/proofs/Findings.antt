@@ -3,8 +3,8 @@ use Rattle.std.proofs.Common.{◌≡◌, ℤ, List, [], ◌∷◌, Some, inl, in
 use Rattle.std.proofs.lemmas.Option.{same_Some}
 use Rattle.event_graph.specs.Satisfying.{Satisfies}
 use Rattle.event_graph.specs.Proof.{ProofLine}
-use Rattle.slack_report.specs.declared.words.FindingWord.{FindingWord}
-use Rattle.slack_report.specs.declared.words.FindingWord.TheVariants.{Consistent, Inconsistent}
+use Rattle.requirements.specs.declared.consistency.Consistency.{Consistency}
+use Rattle.requirements.specs.declared.consistency.Consistency.TheVariants.{Consistent, Inconsistent}
 use Rattle.slack_report.specs.Entry.{Entry, finding}
 use Rattle.drawn_networks.specs.Drawn.{Drawn}
 use Rattle.right_report.specs.Right.ReportState.{ReportState, at_heading, at_budget, at_events, at_event, at_finding, at_known, at_rows, at_row, at_bound, at_times, at_raise, at_verdict, at_past, at_slack, at_end, at_last, behind_finding}
@@ -14,15 +14,15 @@ use Rattle.right_report.specs.Laws.{ConsistentIsSo, InconsistentIsSo}
 use Rattle.right_report.specs.ReportContents.{finding_in}
 
 -- the line of a finding follows, with the lines of a proof before it
-pub record Finds (claims : LineClaims) (word : FindingWord) (next : ReportState) : Type 0 where
+pub record Finds (claims : LineClaims) (word : Consistency) (next : ReportState) : Type 0 where
   pub lines : List ProofLine
   pub holds : claims.finding lines word
   pub leads : next ≡ behind_finding word
 
-pub same_finding : (a b : FindingWord) → finding a ≡ finding b → a ≡ b
+pub same_finding : (a b : Consistency) → finding a ≡ finding b → a ≡ b
 same_finding a b e = cc
 
-module _ (claims : LineClaims) (drawn : Drawn) (word : FindingWord) (next : ReportState) where
+module _ (claims : LineClaims) (drawn : Drawn) (word : Consistency) (next : ReportState) where
   find_finds : (lines : List ProofLine) → MayFind claims lines (finding word) next → Finds claims word next
   find_finds lines (inl h) = absurd (cc h.1)
   find_finds lines (inr h) =
@@ -51,12 +51,12 @@ module _ (claims : LineClaims) (drawn : Drawn) (word : FindingWord) (next : Repo
   finds at_last h = absurd h
 
 -- the finding in the lines is right, and the lines after it lead on
-pub record Tells (drawn : Drawn) (word : FindingWord) (last : ReportState) : Type 0 where
+pub record Tells (drawn : Drawn) (word : Consistency) (last : ReportState) : Type 0 where
   pub holds : IsFinding drawn.net word
   pub lines : List Entry
   pub reads : LinesLead (right drawn.net) drawn (behind_finding word) lines last
 
-tells : (drawn : Drawn) (word : FindingWord) (lines : List Entry) (here last : ReportState) → LinesLead (right drawn.net) drawn here lines last → finding_in lines ≡ Some word → Tells drawn word last
+tells : (drawn : Drawn) (word : Consistency) (lines : List Entry) (here last : ReportState) → LinesLead (right drawn.net) drawn here lines last → finding_in lines ≡ Some word → Tells drawn word last
 tells drawn word [] here last h is = absurd (cc)
 tells drawn word (finding other ∷ lines) here last h is =
     let same : other ≡ word = same_Some other word is in

@@ -5,7 +5,7 @@ use Rattle.event_graph.specs.Proof.{Case, IsProof, Loop, Nothing, Path, ProofGoa
 use Rattle.event_graph.specs.Proof as proofs
 use Rattle.requirements.specs.declared.bound.Bound.{Bound}
 use Rattle.requirements.specs.declared.bound.Bound.TheVariants.{Closed}
-use Rattle.slack_report.specs.declared.words.FindingWord.TheVariants.{Consistent, Inconsistent, Unsettled}
+use Rattle.requirements.specs.declared.consistency.Consistency.TheVariants.{Consistent, Inconsistent, Open}
 use Rattle.slack_report.specs.declared.words.Which.{Which}
 use Rattle.slack_report.specs.Entry.{Entry, bound, budget, finding, heading, proof, times}
 use Rattle.drawn_networks.specs.Drawn.{Drawn}
@@ -155,7 +155,7 @@ event_ahead number [] = refl
 event_ahead number (proof line ∷ rest) = event_ahead number rest
 event_ahead number (finding Consistent ∷ rest) = refl
 event_ahead number (finding Inconsistent ∷ rest) = refl
-event_ahead number (finding Unsettled ∷ rest) = refl
+event_ahead number (finding Open ∷ rest) = refl
 event_ahead number (line ∷ rest) = refl
 
 -- no line of a proof before the finding is refused

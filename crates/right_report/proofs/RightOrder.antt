@@ -12,8 +12,8 @@ use Rattle.itv_base.specs.declared.row_kind.RowKind.{RowKind}
 use Rattle.itv_base.specs.declared.row_kind.RowKind.TheVariants as kinds
 use Rattle.slack_report.specs.declared.place.Place.{Place}
 use Rattle.slack_report.specs.declared.place.Place.TheVariants as at
-use Rattle.slack_report.specs.declared.words.FindingWord.{FindingWord}
-use Rattle.slack_report.specs.declared.words.FindingWord.TheVariants as findings
+use Rattle.requirements.specs.declared.consistency.Consistency.{Consistency}
+use Rattle.requirements.specs.declared.consistency.Consistency.TheVariants as findings
 use Rattle.slack_report.specs.declared.words.Which.{Which}
 use Rattle.slack_report.specs.declared.words.Which.TheVariants as sorts
 use Rattle.slack_report.specs.Entry.{Entry, heading, budget, events, event, proof, finding, times, rows, row, bound, raise, verdict, slack, ending}
@@ -63,10 +63,10 @@ reads-append claims drawn (line ∷ lines) more here mid last p q = (p.0, p.1, r
 -- ---- the order
 
 module _ (drawn : Drawn) where
-  find_place : (word : FindingWord) → after_finding (length drawn.names) word ≡ place_of drawn (behind_finding word)
+  find_place : (word : Consistency) → after_finding (length drawn.names) word ≡ place_of drawn (behind_finding word)
   find_place findings.Consistent = refl
   find_place findings.Inconsistent = refl
-  find_place findings.Unsettled = refl
+  find_place findings.Open = refl
 
   judged_place : (kind : RowKind) (current : CurrentRow) (least most : Bound)
       → cond (is_required kind) (at.Verdict (spot_behind drawn (current.number + 1) current.later (is_required kind))) (before_row (length drawn.names) (current.number + 1) (length current.later)) ≡ place_of drawn (judged kind current least most)

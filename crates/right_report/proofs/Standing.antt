@@ -16,8 +16,8 @@ use Rattle.requirements.specs.declared.verdict.Verdict.{Verdict}
 use Rattle.requirements.specs.declared.verdict.Verdict.TheVariants as verdicts
 use Rattle.itv_base.specs.declared.row_kind.RowKind.{RowKind}
 use Rattle.itv_base.specs.declared.row_kind.RowKind.TheVariants.{Ask, Req}
-use Rattle.slack_report.specs.declared.words.FindingWord.{FindingWord}
-use Rattle.slack_report.specs.declared.words.FindingWord.TheVariants as findings
+use Rattle.requirements.specs.declared.consistency.Consistency.{Consistency}
+use Rattle.requirements.specs.declared.consistency.Consistency.TheVariants as findings
 use Rattle.slack_report.specs.Entry.{Entry, row}
 use Rattle.drawn_networks.specs.Drawn.{Drawn, name_of, AreTimes}
 use Rattle.drawn_networks.specs.declared.row.Row.{Row}
@@ -76,7 +76,7 @@ Stands drawn at_last = Unit {0}
 
 -- ---- when a bound is right
 
-pub closed_is_right : (net : Net) (found : FindingWord) (r : Row) (coming : NextBound) (value : ℤ) → IsBoundOf net found r coming (Closed value) → IsRightBound net r coming (Closed value)
+pub closed_is_right : (net : Net) (found : Consistency) (r : Row) (coming : NextBound) (value : ℤ) → IsBoundOf net found r coming (Closed value) → IsRightBound net r coming (Closed value)
 closed_is_right net found r greatest value h = h.1
 closed_is_right net found r (least_by most) value h = h.1
 
@@ -84,11 +84,11 @@ pub rise_is_right : (net : Net) (r : Row) (coming : NextBound) (list : List ℤ)
 rise_is_right net r greatest list set h = ray_is_unbounded net r.from r.to list set h
 rise_is_right net r (least_by most) list set h = ray_is_unbounded net r.to r.from list set h
 
-pub none_is_right : (net : Net) (found : FindingWord) (r : Row) (coming : NextBound) (limit : Option ℤ) → IsBoundOf net found r coming (Within limit None) → IsRightBound net r coming (Within limit None)
+pub none_is_right : (net : Net) (found : Consistency) (r : Row) (coming : NextBound) (limit : Option ℤ) → IsBoundOf net found r coming (Within limit None) → IsRightBound net r coming (Within limit None)
 none_is_right net found r greatest limit h = (h.0, tt)
 none_is_right net found r (least_by most) limit h = (h.0, tt)
 
-pub attained_is_right : (net : Net) (found : FindingWord) (r : Row) (coming : NextBound) (limit : Option ℤ) (value : ℤ) (list : List ℤ) → IsBoundOf net found r coming (Within limit (Some value)) → AreTimes net r list
+pub attained_is_right : (net : Net) (found : Consistency) (r : Row) (coming : NextBound) (limit : Option ℤ) (value : ℤ) (list : List ℤ) → IsBoundOf net found r coming (Within limit (Some value)) → AreTimes net r list
     → Attains r (Within limit (Some value)) list → IsRightBound net r coming (Within limit (Some value))
 attained_is_right net found r greatest limit value list h t e = (h.0, (list, t.satisfied, e))
 attained_is_right net found r (least_by most) limit value list h t e = (h.0, (list, t.satisfied, e))
@@ -126,10 +126,10 @@ module _ (drawn : Drawn) where
   stands_verdict current range least most verdicts.FailLow s = s
   stands_verdict current range least most verdicts.Undecided s = s.0.are_later
 
-  stands_finding : (word : FindingWord) → Stands drawn (behind_finding word)
+  stands_finding : (word : Consistency) → Stands drawn (behind_finding word)
   stands_finding findings.Consistent = tt
   stands_finding findings.Inconsistent = tt
-  stands_finding findings.Unsettled = tt
+  stands_finding findings.Open = tt
 
   stands_find : (lines : List ProofLine) (line : Entry) (next : ReportState) → MayFind (right drawn.net) lines line next → Stands drawn next
   stands_find lines line next (inl h) = subst (Stands drawn) (sym h.2) tt

@@ -15,8 +15,8 @@ use Rattle.itv_base.specs.declared.row_kind.RowKind.{RowKind}
 use Rattle.itv_base.specs.declared.row_kind.RowKind.TheVariants.{Ask, Req}
 use Rattle.slack_report.specs.declared.words.EndWord.{EndWord}
 use Rattle.slack_report.specs.declared.words.EndWord.TheVariants as endings
-use Rattle.slack_report.specs.declared.words.FindingWord.{FindingWord}
-use Rattle.slack_report.specs.declared.words.FindingWord.TheVariants.{Consistent, Inconsistent, Unsettled}
+use Rattle.requirements.specs.declared.consistency.Consistency.{Consistency}
+use Rattle.requirements.specs.declared.consistency.Consistency.TheVariants.{Consistent, Inconsistent, Open}
 use Rattle.slack_report.specs.Entry.{Entry, ending}
 use Rattle.drawn_networks.specs.Drawn.{Drawn}
 use Rattle.drawn_networks.specs.declared.row.Row.{Row}
@@ -34,19 +34,19 @@ or_by P false b f g e = g e
 
 -- What an unsettled finding gives, and what a bound that was left open gives, a report that ends undecided gives.
 module _ (claims : LineClaims) (drawn : Drawn) (P : Type 0)
-    (by_finding : (lines : List ProofLine) → claims.finding lines Unsettled → P)
-    (by_bound : (found : FindingWord) (r : Row) (coming : NextBound) (lines : List ProofLine) (value : Bound) → claims.bound found r coming lines value → (found ≡ Unsettled → P) → is_within value ≡ true → P) where
+    (by_finding : (lines : List ProofLine) → claims.finding lines Open → P)
+    (by_bound : (found : Consistency) (r : Row) (coming : NextBound) (lines : List ProofLine) (value : Bound) → claims.bound found r coming lines value → (found ≡ Open → P) → is_within value ≡ true → P) where
   -- ---- what is known in a state
 
   abbrev Settles : ReportTally → Type 0
-  Settles tally = (tally.found ≡ Unsettled → P) × (tally.within ≡ true → P)
+  Settles tally = (tally.found ≡ Open → P) × (tally.within ≡ true → P)
 
   abbrev SettlesSide : NextBound → Type 0
   SettlesSide greatest = Unit {0}
   SettlesSide (least_by most) = is_within most ≡ true → P
 
   abbrev Settled : ReportState → Type 0
-  Settled (at_rows word) = word ≡ Unsettled → P
+  Settled (at_rows word) = word ≡ Open → P
   Settled (at_row tally number later) = Settles tally
   Settled (at_bound current coming lines) = Settles current.tally × SettlesSide coming
   Settled (at_times current coming value) = Settles current.tally × SettlesSide coming × (is_within value ≡ true → P)
@@ -89,10 +89,10 @@ module _ (claims : LineClaims) (drawn : Drawn) (P : Type 0)
 
   -- ---- a line keeps it
 
-  settled_finding : (lines : List ProofLine) (word : FindingWord) → claims.finding lines word → Settled (behind_finding word)
+  settled_finding : (lines : List ProofLine) (word : Consistency) → claims.finding lines word → Settled (behind_finding word)
   settled_finding lines Consistent h = tt
   settled_finding lines Inconsistent h = λ e. absurd (cc e)
-  settled_finding lines Unsettled h = λ e. by_finding lines h
+  settled_finding lines Open h = λ e. by_finding lines h
 
   settled_find : (lines : List ProofLine) (line : Entry) (next : ReportState) → MayFind claims lines line next → Settled next
   settled_find lines line next (inl h) = subst Settled (sym h.2) tt
@@ -124,13 +124,13 @@ module _ (claims : LineClaims) (drawn : Drawn) (P : Type 0)
 
   -- ---- the end
 
-  by_word : (tally : ReportTally) → Settles tally → (fails : Bool) (found : FindingWord) (within : Bool) → tally.found ≡ found → tally.within ≡ within
+  by_word : (tally : ReportTally) → Settles tally → (fails : Bool) (found : Consistency) (within : Bool) → tally.found ≡ found → tally.within ≡ within
       → (if fails then endings.Fail else undecided_or_pass found within) ≡ endings.Undecided → P
   by_word tally s true found within e w is = absurd (cc)
   by_word tally s false Consistent true e w is = s.1 w
   by_word tally s false Consistent false e w is = absurd (cc)
   by_word tally s false Inconsistent within e w is = absurd (cc)
-  by_word tally s false Unsettled within e w is = s.0 e
+  by_word tally s false Open within e w is = s.0 e
 
   same_ending : (a b : EndWord) → ending a ≡ ending b → a ≡ b
   same_ending a b e = cc
@@ -170,17 +170,17 @@ module _ (claims : LineClaims) (drawn : Drawn) (P : Type 0)
 abbrev IsBelow : Net → ℕ → Type 0
 IsBelow net most = most < cause_choices net.constraints
 
-below_by_bound : (net : Net) (most : ℕ) (found : FindingWord) (r : Row) (coming : NextBound) (lines : List ProofLine) (value : Bound) → IsNet net → IsBoundOf net found r coming value → ShowsBound net most lines r coming value
-    → (found ≡ Unsettled → IsBelow net most) → is_within value ≡ true → IsBelow net most
+below_by_bound : (net : Net) (most : ℕ) (found : Consistency) (r : Row) (coming : NextBound) (lines : List ProofLine) (value : Bound) → IsNet net → IsBoundOf net found r coming value → ShowsBound net most lines r coming value
+    → (found ≡ Open → IsBelow net most) → is_within value ≡ true → IsBelow net most
 below_by_bound net most found r coming lines (Closed value) is_net b h unsettled e = absurd (cc)
 below_by_bound net most found r coming lines Unbounded is_net b h unsettled e = absurd (cc)
 below_by_bound net most found r coming lines (Within limit (Some value)) is_net b h unsettled e = stopped_proof_is_below_choices net (goal_of r coming value) lines most is_net h
 below_by_bound net most found r coming lines (Within limit None) is_net b h unsettled e = by_found found b.1 unsettled
   where
-    by_found : (word : FindingWord) → HasAttained word None → (word ≡ Unsettled → IsBelow net most) → IsBelow net most
+    by_found : (word : Consistency) → HasAttained word None → (word ≡ Open → IsBelow net most) → IsBelow net most
     by_found Consistent attained unsettled = absurd (cc attained)
     by_found Inconsistent attained unsettled = absurd attained
-    by_found Unsettled attained unsettled = unsettled refl
+    by_found Open attained unsettled = unsettled refl
 
 pub shown_undecided_is_below : ShownUndecidedIsBelow
 shown_undecided_is_below drawn most lines is_net h is =

@@ -6,8 +6,8 @@ use Rattle.event_graph.specs.RootBound.{MeetsAlways}
 use Rattle.event_graph.specs.Times.{IsTime}
 use Rattle.requirements.specs.declared.bound.Bound.{Bound}
 use Rattle.requirements.specs.declared.bound.Bound.TheVariants as bounds
-use Rattle.slack_report.specs.declared.words.FindingWord.{FindingWord}
-use Rattle.slack_report.specs.declared.words.FindingWord.TheVariants as findings
+use Rattle.requirements.specs.declared.consistency.Consistency.{Consistency}
+use Rattle.requirements.specs.declared.consistency.Consistency.TheVariants as findings
 use Rattle.slack_report.specs.Entry.{Entry}
 use Rattle.drawn_networks.specs.Drawn.{Drawn}
 use Rattle.drawn_networks.specs.declared.row.Row.{Row}
@@ -17,13 +17,13 @@ use Rattle.right_report.specs.Right.Following.{LineClaims, LinesLead}
 use Rattle.right_report.specs.Shown.{goal_of}
 
 -- an inconsistent finding is proved by the lines before it
-abbrev pub ProvesFinding : Net → List ProofLine → FindingWord → Type 0
+abbrev pub ProvesFinding : Net → List ProofLine → Consistency → Type 0
 ProvesFinding net lines findings.Consistent = Unit {0}
 ProvesFinding net lines findings.Inconsistent = IsProof net Nothing lines
-ProvesFinding net lines findings.Unsettled = (list : List ℤ) × MeetsAlways list net
+ProvesFinding net lines findings.Open = (list : List ℤ) × MeetsAlways list net
 
 -- a closed bound is proved by the lines before it; the times after it show that it is attained
-abbrev pub ProvesBound : Net → FindingWord → Row → NextBound → List ProofLine → Bound → Type 0
+abbrev pub ProvesBound : Net → Consistency → Row → NextBound → List ProofLine → Bound → Type 0
 ProvesBound net found r coming lines (bounds.Closed value) = (found ≡ findings.Consistent) × IsProof net (goal_of r coming value) lines
 ProvesBound net found r coming lines bounds.Unbounded = found ≡ findings.Consistent
 ProvesBound net found r coming lines (bounds.Within limit attained) = IsLimit net r coming limit × HasAttained found attained

@@ -12,7 +12,7 @@ use Rattle.requirements.specs.declared.bound.Bound.TheVariants as bounds
 use Rattle.requirements.specs.declared.verdict.Verdict.TheVariants as verdicts
 use Rattle.itv_base.specs.declared.row_kind.RowKind.TheVariants as kinds
 use Rattle.slack_report.specs.declared.words.EndWord.TheVariants as endings
-use Rattle.slack_report.specs.declared.words.FindingWord.TheVariants as findings
+use Rattle.requirements.specs.declared.consistency.Consistency.TheVariants as findings
 use Rattle.slack_report.specs.declared.words.Which.TheVariants as sorts
 use Rattle.slack_report.specs.Entry.{Entry, IsReportEntry}
 use Rattle.slack_report.specs.Order.{IsReport}

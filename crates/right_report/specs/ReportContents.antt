@@ -2,14 +2,14 @@
 use Rattle.std.specs.Prelude.{◌==◌, ℕ, Bool, if◌then◌else◌, List, [], ◌∷◌, Option, Some, None}
 use Rattle.requirements.specs.declared.bound.Bound.{Bound}
 use Rattle.requirements.specs.declared.verdict.Verdict.{Verdict}
-use Rattle.slack_report.specs.declared.words.FindingWord.{FindingWord}
+use Rattle.requirements.specs.declared.consistency.Consistency.{Consistency}
 use Rattle.slack_report.specs.declared.words.EndWord.{EndWord}
 use Rattle.slack_report.specs.declared.words.Which.{Which}
 use Rattle.slack_report.specs.Entry.{Entry, bound, ending, finding, raise, row, verdict}
 use Rattle.slack_report.specs.Order.{is_which}
 
 -- the finding
-abbrev pub finding_in : List Entry → Option FindingWord
+abbrev pub finding_in : List Entry → Option Consistency
 finding_in [] = None
 finding_in (finding word ∷ lines) = Some word
 finding_in (line ∷ lines) = finding_in lines

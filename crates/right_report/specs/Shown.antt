@@ -5,8 +5,8 @@ use Rattle.event_graph.specs.Proof.{IsProof, IsStoppedProof, Nothing, ProofGoal,
 use Rattle.event_graph.specs.Proof.{Bound as BoundGoal}
 use Rattle.requirements.specs.declared.bound.Bound.{Bound}
 use Rattle.requirements.specs.declared.bound.Bound.TheVariants as bounds
-use Rattle.slack_report.specs.declared.words.FindingWord.{FindingWord}
-use Rattle.slack_report.specs.declared.words.FindingWord.TheVariants as findings
+use Rattle.requirements.specs.declared.consistency.Consistency.{Consistency}
+use Rattle.requirements.specs.declared.consistency.Consistency.TheVariants as findings
 use Rattle.slack_report.specs.Entry.{Entry, budget}
 use Rattle.drawn_networks.specs.Drawn.{Drawn}
 use Rattle.drawn_networks.specs.declared.row.Row.{Row}
@@ -30,10 +30,10 @@ IsStoppedWithin net goal most lines = (count : ℕ) × (count < most) × IsStopp
 
 -- An inconsistent finding has a proof within the budget, and a consistent one a stopped proof within the budget. An unsettled one has a stopped
 -- proof that used the budget up.
-abbrev pub ShowsFinding : Net → ℕ → List ProofLine → FindingWord → Type 0
+abbrev pub ShowsFinding : Net → ℕ → List ProofLine → Consistency → Type 0
 ShowsFinding net most lines findings.Consistent = IsStoppedWithin net Nothing most lines
 ShowsFinding net most lines findings.Inconsistent = IsProofWithin net Nothing most lines
-ShowsFinding net most lines findings.Unsettled = IsStoppedProof net Nothing lines most
+ShowsFinding net most lines findings.Open = IsStoppedProof net Nothing lines most
 
 -- A closed bound has a proof within the budget, and an unbounded one a stopped proof within the budget. A bound that was left open has a stopped
 -- proof of the attained separation that used the budget up; it has no lines if nothing was attained.

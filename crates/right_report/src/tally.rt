@@ -6,21 +6,21 @@ ghost use Rattle.right_report.specs.RowTally.{with_row};
 
 use crate::judging::{is_fail, is_within};
 use itv_base::RowKind;
-use requirements::{BothBounds, Verdict, judge};
-use slack_report::{EndWord, FindingWord};
+use requirements::{BothBounds, Consistency, Verdict, judge};
+use slack_report::EndWord;
 
 /// What decides the word at the end: the finding, whether some verdict was a fail, and whether some bound was left
 /// open.
 #[derive(Clone, Copy)]
 pub struct ReportTally {
-    pub found: FindingWord,
+    pub found: Consistency,
     pub fails: bool,
     pub within: bool,
 }
 
 impl ReportTally {
     /// The tally after a finding, before the first row.
-    pub fn new(found: FindingWord) -> ReportTally
+    pub fn new(found: Consistency) -> ReportTally
         ensures tally { result ≡ tally_of found }
     {
         ReportTally {
@@ -68,10 +68,10 @@ impl ReportTally {
             return EndWord::Fail;
         }
         match self.found {
-            FindingWord::Consistent if self.within => EndWord::Undecided,
-            FindingWord::Consistent => EndWord::Pass,
-            FindingWord::Inconsistent => EndWord::Inconsistent,
-            FindingWord::Unsettled => EndWord::Undecided,
+            Consistency::Consistent if self.within => EndWord::Undecided,
+            Consistency::Consistent => EndWord::Pass,
+            Consistency::Inconsistent => EndWord::Inconsistent,
+            Consistency::Open => EndWord::Undecided,
         }
     }
 }

@@ -10,7 +10,7 @@ use Rattle.requirements.specs.declared.bound.Bound.TheVariants as bounds
 use Rattle.requirements.specs.declared.verdict.Verdict.TheVariants as verdicts
 use Rattle.itv_base.specs.declared.row_kind.RowKind.TheVariants as kinds
 use Rattle.slack_report.specs.declared.words.EndWord.TheVariants as endings
-use Rattle.slack_report.specs.declared.words.FindingWord.TheVariants as findings
+use Rattle.requirements.specs.declared.consistency.Consistency.TheVariants as findings
 use Rattle.slack_report.specs.declared.words.Which.{Which}
 use Rattle.slack_report.specs.declared.words.Which.TheVariants as sorts
 use Rattle.slack_report.specs.declared.place.Place.{Place}
@@ -124,7 +124,7 @@ at_found : (count : ℕ) → Ends (at.FoundTimes count)
 at_found count = ends_by (at.FoundTimes count) (at.Rows count) (times (zeros count)) (record { is_entry = zeros_fit count; leads = refl }) (at_rows count)
 
 at_finding : (count : ℕ) → Ends (at.Finding count)
-at_finding count = ends_by (at.Finding count) (at.Rows count) (finding findings.Unsettled) (record { is_entry = tt; leads = refl }) (at_rows count)
+at_finding count = ends_by (at.Finding count) (at.Rows count) (finding findings.Open) (record { is_entry = tt; leads = refl }) (at_rows count)
 
 event_in_front : (count number more : ℕ) → Ends (before_event count (number + 1) more) → Ends (at.Event count number more)
 event_in_front count number more ends =

@@ -19,13 +19,13 @@ use Rattle.requirements.specs.declared.bound.Bound.TheVariants as bounds
 use Rattle.requirements.specs.declared.verdict.Verdict.TheVariants as verdicts
 use Rattle.itv_base.specs.declared.row_kind.RowKind.TheVariants as kinds
 use Rattle.slack_report.specs.declared.words.EndWord.TheVariants as endings
-use Rattle.slack_report.specs.declared.words.FindingWord.TheVariants as findings
+use Rattle.requirements.specs.declared.consistency.Consistency.TheVariants as findings
 use Rattle.slack_report.specs.declared.words.Which.{Which}
 use Rattle.slack_report.specs.declared.words.Which.TheVariants as sorts
 use Rattle.slack_report.specs.declared.place.Place.{Place}
 use Rattle.slack_report.specs.Entry.{Entry, IsReportEntry, IsName, heading, budget, events, event, proof, finding, times, rows, row, bound, raise, verdict, slack, ending}
 use Rattle.slack_report.specs.declared.words.EndWord.{EndWord}
-use Rattle.slack_report.specs.declared.words.FindingWord.{FindingWord}
+use Rattle.requirements.specs.declared.consistency.Consistency.{Consistency}
 use Rattle.slack_report.specs.Order.{OrderStep, events_at}
 use Rattle.slack_report.specs.Reading.{step_at}
 use Rattle.slack_report.specs.Text.{entry_line, ending_word, finding_word, members_from, name_word, range_word, which_word, words_of}
@@ -50,10 +50,10 @@ members_plain [] number = tt
 members_plain (true ∷ set) number = (number_plain number, members_plain set (number + 1))
 members_plain (false ∷ set) number = members_plain set (number + 1)
 
-finding_plain : (word : FindingWord) → is_plain (finding_word word) ≡ true
+finding_plain : (word : Consistency) → is_plain (finding_word word) ≡ true
 finding_plain findings.Consistent = refl
 finding_plain findings.Inconsistent = refl
-finding_plain findings.Unsettled = refl
+finding_plain findings.Open = refl
 
 ending_plain : (word : EndWord) → is_plain (ending_word word) ≡ true
 ending_plain endings.Pass = refl

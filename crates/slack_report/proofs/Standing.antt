@@ -9,7 +9,7 @@ use Rattle.line_words.specs.Words.{◌>>=◌, Word, keyed, one, or_else}
 use Rattle.line_words.proofs.Inverts.{bind_some}
 use Rattle.requirements.specs.declared.bound.Bound.{Bound}
 use Rattle.itv_base.specs.declared.row_kind.RowKind.{RowKind}
-use Rattle.slack_report.specs.declared.words.FindingWord.{FindingWord}
+use Rattle.requirements.specs.declared.consistency.Consistency.{Consistency}
 use Rattle.slack_report.specs.declared.words.Which.{Which}
 use Rattle.slack_report.specs.declared.words.Which.TheVariants as sorts
 use Rattle.slack_report.specs.declared.place.Place.{Place}
@@ -44,7 +44,7 @@ no_proof_found : (words : List Word) → proof_in (codes "finding" ∷ words) �
 unfolding proof_in
 no_proof_found words = refl
 
-found_again : (word : FindingWord)
+found_again : (word : Consistency)
     → or_else (option_map proof (proof_in (codes "finding" ∷ finding_word word ∷ []))) (option_map finding (keyed (codes "finding") (one finding_in) (codes "finding" ∷ finding_word word ∷ []))) ≡ Some (finding word)
 found_again word = rw (no_proof_found (finding_word word ∷ [])) (ap (option_map finding) (finding_line.again word tt))
 

@@ -17,8 +17,8 @@ use Rattle.line_words.proofs.Inverts.{Inverts, bind_some, last_some, pick_some, 
 use Rattle.line_words.proofs.NumberLaws.{number_inverts}
 use Rattle.slack_report.specs.declared.words.EndWord.{EndWord}
 use Rattle.slack_report.specs.declared.words.EndWord.TheVariants as endings
-use Rattle.slack_report.specs.declared.words.FindingWord.{FindingWord}
-use Rattle.slack_report.specs.declared.words.FindingWord.TheVariants as findings
+use Rattle.requirements.specs.declared.consistency.Consistency.{Consistency}
+use Rattle.requirements.specs.declared.consistency.Consistency.TheVariants as findings
 use Rattle.slack_report.specs.Entry.{IsName}
 use Rattle.slack_report.specs.Reading.{budget_from, budget_in, ending_in, finding_in, mark_in, name_in}
 use Rattle.slack_report.specs.Text.{ending_word, finding_word, name_word}
@@ -85,16 +85,16 @@ name_inverts = record { takes = name_takes; again = name_again }
 
 -- ---- words of a list of words
 
-finding_takes : (word : Word) (found : FindingWord) → finding_in word ≡ Some found → word ≡ finding_word found
+finding_takes : (word : Word) (found : Consistency) → finding_in word ≡ Some found → word ≡ finding_word found
 finding_takes word found e =
     pick_some word (codes "consistent") findings.Consistent found _ (λ f. word ≡ finding_word f) e (λ is. is)
     (λ other. pick_some word (codes "inconsistent") findings.Inconsistent found _ (λ f. word ≡ finding_word f) other (λ is. is)
-    (λ last. last_some word (codes "unsettled") findings.Unsettled found (λ f. word ≡ finding_word f) last (λ is. is)))
+    (λ last. last_some word (codes "unsettled") findings.Open found (λ f. word ≡ finding_word f) last (λ is. is)))
 
-finding_again : (found : FindingWord) → finding_in (finding_word found) ≡ Some found
+finding_again : (found : Consistency) → finding_in (finding_word found) ≡ Some found
 finding_again findings.Consistent = refl
 finding_again findings.Inconsistent = refl
-finding_again findings.Unsettled = refl
+finding_again findings.Open = refl
 
 pub finding_inverts : Inverts finding_in finding_word (λ found. Unit {0})
 finding_inverts = record { takes = λ word found e. (finding_takes word found e, tt); again = λ found form. finding_again found }

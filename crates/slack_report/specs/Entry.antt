@@ -14,7 +14,7 @@ use Rattle.requirements.specs.declared.verdict.Verdict.{Verdict}
 use Rattle.itv_base.specs.declared.row_kind.RowKind.{RowKind}
 use Rattle.itv_base.specs.declared.row_kind.RowKind.TheVariants as kinds
 use Rattle.slack_report.specs.declared.words.EndWord.{EndWord}
-use Rattle.slack_report.specs.declared.words.FindingWord.{FindingWord}
+use Rattle.requirements.specs.declared.consistency.Consistency.{Consistency}
 use Rattle.slack_report.specs.declared.words.Which.{Which}
 
 -- a line of a report
@@ -24,7 +24,7 @@ pub data Entry : Type 0 where
   events : ℕ → Entry
   event : ℕ → Name → Entry
   proof : ProofLine → Entry
-  finding : FindingWord → Entry
+  finding : Consistency → Entry
   times : List ℤ → Entry
   rows : ℕ → Entry
   row : ℕ → RowKind → Name → Name → Entry

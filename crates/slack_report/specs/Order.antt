@@ -6,8 +6,8 @@ use Rattle.requirements.specs.declared.verdict.Verdict.{Verdict}
 use Rattle.requirements.specs.declared.verdict.Verdict.TheVariants as verdicts
 use Rattle.itv_base.specs.declared.row_kind.RowKind.{RowKind}
 use Rattle.itv_base.specs.declared.row_kind.RowKind.TheVariants as kinds
-use Rattle.slack_report.specs.declared.words.FindingWord.{FindingWord}
-use Rattle.slack_report.specs.declared.words.FindingWord.TheVariants as findings
+use Rattle.requirements.specs.declared.consistency.Consistency.{Consistency}
+use Rattle.requirements.specs.declared.consistency.Consistency.TheVariants as findings
 use Rattle.slack_report.specs.declared.words.Which.{Which}
 use Rattle.slack_report.specs.declared.words.Which.TheVariants as sorts
 use Rattle.slack_report.specs.declared.place.Place.{Place}
@@ -53,10 +53,10 @@ is_required (kinds.Req ends) = true
 abbrev pub in_row : ℕ → ℕ → ℕ → RowKind → Place
 in_row count number more kind = at.Bound (record { events = count; next = number + 1; left = more; is_required = is_required kind }) sorts.Max
 
-abbrev pub after_finding : ℕ → FindingWord → Place
+abbrev pub after_finding : ℕ → Consistency → Place
 after_finding count findings.Consistent = at.FoundTimes count
 after_finding count findings.Inconsistent = at.End
-after_finding count findings.Unsettled = at.Rows count
+after_finding count findings.Open = at.Rows count
 
 abbrev pub after_row : Spot → Place
 after_row spot = before_row spot.events spot.next spot.left

@@ -20,8 +20,8 @@ use Rattle.itv_base.specs.declared.row_kind.RowKind.{RowKind}
 use Rattle.itv_base.specs.declared.row_kind.RowKind.TheVariants as kinds
 use Rattle.slack_report.specs.declared.words.EndWord.{EndWord}
 use Rattle.slack_report.specs.declared.words.EndWord.TheVariants as endings
-use Rattle.slack_report.specs.declared.words.FindingWord.{FindingWord}
-use Rattle.slack_report.specs.declared.words.FindingWord.TheVariants as findings
+use Rattle.requirements.specs.declared.consistency.Consistency.{Consistency}
+use Rattle.requirements.specs.declared.consistency.Consistency.TheVariants as findings
 use Rattle.slack_report.specs.declared.place.Place.{Place}
 use Rattle.slack_report.specs.declared.place.Place.TheVariants as at
 use Rattle.slack_report.specs.Entry.{Entry, heading, budget, events, event, proof, finding, times, rows, row, bound, raise, verdict, slack, ending}
@@ -59,9 +59,9 @@ range_in word = do
   high ← open_in (take_while is_end_byte parted)
   when (is_word (after_while is_end_byte parted) (codes "]")) (range_from low high)
 
-abbrev pub finding_in : Word → Option FindingWord
+abbrev pub finding_in : Word → Option Consistency
 finding_in word =
-    if is_word word (codes "consistent") then Some findings.Consistent else (if is_word word (codes "inconsistent") then Some findings.Inconsistent else when (is_word word (codes "unsettled")) (Some findings.Unsettled))
+    if is_word word (codes "consistent") then Some findings.Consistent else (if is_word word (codes "inconsistent") then Some findings.Inconsistent else when (is_word word (codes "unsettled")) (Some findings.Open))
 
 abbrev pub ending_in : Word → Option EndWord
 ending_in word =

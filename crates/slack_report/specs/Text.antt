@@ -15,8 +15,8 @@ use Rattle.itv_base.specs.declared.row_kind.RowKind.{RowKind}
 use Rattle.itv_base.specs.declared.row_kind.RowKind.TheVariants as kinds
 use Rattle.slack_report.specs.declared.words.EndWord.{EndWord}
 use Rattle.slack_report.specs.declared.words.EndWord.TheVariants as endings
-use Rattle.slack_report.specs.declared.words.FindingWord.{FindingWord}
-use Rattle.slack_report.specs.declared.words.FindingWord.TheVariants as findings
+use Rattle.requirements.specs.declared.consistency.Consistency.{Consistency}
+use Rattle.requirements.specs.declared.consistency.Consistency.TheVariants as findings
 use Rattle.slack_report.specs.declared.words.Which.{Which}
 use Rattle.slack_report.specs.declared.words.Which.TheVariants as sorts
 use Rattle.slack_report.specs.Entry.{Entry, heading, budget, events, event, proof, finding, times, rows, row, bound, raise, verdict, slack, ending}
@@ -29,10 +29,10 @@ name_word name = name.part ++ (46 ∷ name.mark ∷ 64 ∷ number_text name.cycl
 abbrev pub range_word : Ends → Word
 range_word ends = 91 ∷ (end_text ends.low ++ (44 ∷ (end_text ends.high ++ (93 ∷ []))))
 
-abbrev pub finding_word : FindingWord → Word
+abbrev pub finding_word : Consistency → Word
 finding_word findings.Consistent = codes "consistent"
 finding_word findings.Inconsistent = codes "inconsistent"
-finding_word findings.Unsettled = codes "unsettled"
+finding_word findings.Open = codes "unsettled"
 
 abbrev pub ending_word : EndWord → Word
 ending_word endings.Pass = codes "pass"

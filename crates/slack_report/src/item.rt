@@ -1,9 +1,9 @@
 //! The lines of a report.
 
-use crate::words::{EndWord, FindingWord, Which};
+use crate::words::{EndWord, Which};
 use event_graph::Line;
 use itv_base::{EventName, RowKind};
-use requirements::{Bound, Slack, Verdict};
+use requirements::{Bound, Consistency, Slack, Verdict};
 
 /// A line of a report. Times, bounds and slacks are in picoseconds. Events and rows are counted from 0.
 #[derive(Clone, Copy)]
@@ -26,7 +26,7 @@ pub enum Item<'a> {
     /// A line of the proof of the finding or of the bound that comes next.
     Proof(Line<'a>),
     /// Whether some times satisfy the network.
-    Finding(FindingWord),
+    Finding(Consistency),
     /// The time of each event.
     Times(&'a [i64]),
     /// How many rows there are.

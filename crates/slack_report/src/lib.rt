@@ -31,5 +31,5 @@ pub use place::{Place, Spot};
 pub use put_words::{put_asked, put_bound_words, put_range, put_verdict_words};
 pub use read_list::{flags_in, longs_in};
 pub use report::{Report, read_report};
-pub use words::{EndWord, FindingWord, Which, which_word};
+pub use words::{EndWord, Which, which_word};
 pub use write::{LINE_ROOM, write_item};

@@ -5,9 +5,9 @@ ghost use Rattle.slack_report.specs.Order.{after_bound, after_finding, after_row
 ghost use Rattle.slack_report.specs.Step.Within.{IsSpot, IsPlaceWithin};
 
 use crate::place::{Place, Spot};
-use crate::words::{FindingWord, Which};
+use crate::words::Which;
 use itv_base::RowKind;
-use requirements::{Bound, Verdict};
+use requirements::{Bound, Consistency, Verdict};
 
 /// The place before the event with this number, or before the finding if no events are left. `left` counts this event
 /// and the events after it.
@@ -66,14 +66,14 @@ pub fn in_row(events: u32, number: u32, more: u32, kind: &RowKind) -> Place
 }
 
 /// The place after a finding.
-pub fn after_finding(events: u32, word: FindingWord) -> Place
+pub fn after_finding(events: u32, word: Consistency) -> Place
     ensures is { result ≡ after_finding events word }
     ensures within { IsPlaceWithin result }
 {
     match word {
-        FindingWord::Consistent => Place::FoundTimes { events },
-        FindingWord::Inconsistent => Place::End,
-        FindingWord::Unsettled => Place::Rows { events },
+        Consistency::Consistent => Place::FoundTimes { events },
+        Consistency::Inconsistent => Place::End,
+        Consistency::Open => Place::Rows { events },
     }
 }
 

@@ -1,9 +1,9 @@
 //! Lines of a report as they are stored.
 
-use crate::words::{EndWord, FindingWord, Which};
+use crate::words::{EndWord, Which};
 use certificate::OwnedLine;
 use itv_base::{RowKind, Text};
-use requirements::{Bound, Slack, Verdict};
+use requirements::{Bound, Consistency, Slack, Verdict};
 
 /// The name of an event.
 #[derive(Drop)]
@@ -21,7 +21,7 @@ pub enum OwnedItem {
     Events(u32),
     Event(u32, OwnedName),
     Proof(OwnedLine),
-    Finding(FindingWord),
+    Finding(Consistency),
     Times(Vec<i64>),
     Rows(u32),
     Row(u32, RowKind, OwnedName, OwnedName),

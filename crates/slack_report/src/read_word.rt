@@ -7,9 +7,10 @@ ghost use Rattle.itv_base.specs.Names.{name_view};
 ghost use Rattle.slack_report.specs.Reading.{budget_in, ending_in, finding_in, is_end_byte, mark_in, name_in, range_from, range_in};
 ghost use Rattle.slack_report.specs.Step.Cuts.{mark_of};
 
-use crate::words::{EndWord, FindingWord};
+use crate::words::EndWord;
 use itv_base::{EventName, MAX_BUDGET, MAX_CYCLES, Range, is_mark, is_name, split_name, strip};
 use line_words::{number_in, open_in};
+use requirements::Consistency;
 
 /// The number of cases that a search may close.
 pub fn budget_in(word: &str) -> Option<u64>
@@ -56,13 +57,13 @@ pub fn name_in(word: &str) -> Option<EventName<'_>>
 }
 
 /// What a search found.
-pub fn finding_in(word: &str) -> Option<FindingWord>
+pub fn finding_in(word: &str) -> Option<Consistency>
     ensures { result ≡ finding_in word.now }
 {
     match word {
-        "consistent" => Some(FindingWord::Consistent),
-        "inconsistent" => Some(FindingWord::Inconsistent),
-        "unsettled" => Some(FindingWord::Unsettled),
+        "consistent" => Some(Consistency::Consistent),
+        "inconsistent" => Some(Consistency::Inconsistent),
+        "unsettled" => Some(Consistency::Open),
         _ => None,
     }
 }

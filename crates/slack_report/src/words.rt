@@ -1,16 +1,7 @@
-//! Words of a report's lines: findings, kinds of bounds, and ends.
+//! Words of a report's lines: kinds of bounds, and ends.
 
 ghost use Rattle.std.specs.Prelude.{◌≡◌};
 ghost use Rattle.slack_report.specs.Text.{which_word};
-
-/// Whether some times satisfy the network.
-#[derive(Clone, Copy, PartialEq, Eq)]
-pub enum FindingWord {
-    Consistent,
-    Inconsistent,
-    /// The search ended before this was settled.
-    Unsettled,
-}
 
 /// Which separation of a pair is bounded: the greatest or the least.
 #[derive(Clone, Copy, PartialEq, Eq)]

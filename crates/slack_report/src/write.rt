@@ -14,12 +14,12 @@ ghost use Rattle.slack_report.specs.Text.{entry_text, members_from, which_word};
 
 use crate::item::Item;
 use crate::put_words::{put_asked, put_bound_words, put_verdict_words};
-use crate::words::{EndWord, FindingWord, Which};
+use crate::words::{EndWord, Which};
 use certificate::write_line;
 use itoa::Buffer;
 use itv_base::{EventName, PutFailed, RowKind, Sink, end_text, number_text, put_all, signed_text};
 use line_words::{LineBuffer, put_spaced, put_words};
-use requirements::{Bound, Slack, Verdict};
+use requirements::{Bound, Consistency, Slack, Verdict};
 
 /// The room of the buffer for a line, in bytes. Each line of a report on a design within the limits is shorter, since a
 /// time takes at most 21 bytes and an edge of a proof at most 23.
@@ -35,13 +35,13 @@ fn put_count<K: Sink>(word: &[u8], count: u64, sink: &mut K) -> Result<(), PutFa
     put_words(word, &[number_text(count, &mut digits).as_bytes()], sink)
 }
 
-fn put_finding<K: Sink>(word: FindingWord, sink: &mut K) -> Result<(), PutFailed>
+fn put_finding<K: Sink>(word: Consistency, sink: &mut K) -> Result<(), PutFailed>
     ensures { Puts (K.state sink.old) (K.state sink.new) (entry_text (finding word)) result }
 {
     match word {
-        FindingWord::Consistent => put_words(b"finding", &[b"consistent"], sink),
-        FindingWord::Inconsistent => put_words(b"finding", &[b"inconsistent"], sink),
-        FindingWord::Unsettled => put_words(b"finding", &[b"unsettled"], sink),
+        Consistency::Consistent => put_words(b"finding", &[b"consistent"], sink),
+        Consistency::Inconsistent => put_words(b"finding", &[b"inconsistent"], sink),
+        Consistency::Open => put_words(b"finding", &[b"unsettled"], sink),
     }
 }
 

@@ -107,7 +107,7 @@ join_between sheets join h = record {
 
 -- ---- of a design
 
-all_rules_between : (d : DesignView) → IsDesign d → All (IsRuleBetween (mark_count d.sheets)) (rules_of d)
+pub all_rules_between : (d : DesignView) → IsDesign d → All (IsRuleBetween (mark_count d.sheets)) (rules_of d)
 all_rules_between d h =
     let all : ℕ = mark_count d.sheets in
     All-append (IsRuleBetween all) (part_rules 0 d.sheets) (map (join_rule d.sheets) d.joins ++ d.rules) (part_rules_between 0 all d.sheets h.sheets (omega arith))
@@ -119,7 +119,7 @@ all_rules_between d h =
 pub kept_rules_between : (d : DesignView) → IsDesign d → All (IsRuleBetween (mark_count d.sheets)) (kept_rules d.cycles (rules_of d))
 kept_rules_between d h = All-filter (λ rule. rule_exists (d.cycles - 1) rule) (IsRuleBetween (mark_count d.sheets)) (rules_of d) (all_rules_between d h)
 
-all_rows_between : (d : DesignView) → IsDesign d → All (IsRowBetween (mark_count d.sheets)) (rows_of d)
+pub all_rows_between : (d : DesignView) → IsDesign d → All (IsRowBetween (mark_count d.sheets)) (rows_of d)
 all_rows_between d h =
     let all : ℕ = mark_count d.sheets in
     All-append (IsRowBetween all) (part_rows 0 d.sheets) d.rows (part_rows_between 0 all d.sheets h.sheets (omega arith)) (rows_between all d.rows h.rows)
@@ -137,7 +137,7 @@ few_marks d h =
 
 -- ---- joins of pins
 
-All-back : {X : Type 0} (P : X → Type 0) (xs ys : List X) → All P (xs ++ ys) → All P ys
+pub All-back : {X : Type 0} (P : X → Type 0) (xs ys : List X) → All P (xs ++ ys) → All P ys
 All-back P xs ys all = rw (drop-append_seam xs ys) at (All-drop P (length xs) (xs ++ ys) all)
 
 -- what holds of all that the elements give holds of what one element gives

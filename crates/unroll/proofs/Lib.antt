@@ -5,5 +5,6 @@ pub mod KeptLists
 pub mod OriginLists
 pub mod NameLists
 pub mod BetweenLists
+pub mod ReachLists
 pub mod DrawnSteps
 pub mod Examples

@@ -74,7 +74,7 @@ labels_count cycle part [] = refl
 labels_count cycle part (sheet ∷ sheets) =
     omega (arith, length-append (map (label_of part cycle) sheet.marks) (labels_from cycle (part + 1) sheets), length-map sheet.marks (label_of part cycle), labels_count cycle (part + 1) sheets, mark_count_cons sheet sheets)
 
-length-in_cycles : {X : Type 0} (each : ℕ → List X) (count n : ℕ) → ((cycle : ℕ) → length (each cycle) ≡ count) → length (in_cycles each n) ≡ n * count
+pub length-in_cycles : {X : Type 0} (each : ℕ → List X) (count n : ℕ) → ((cycle : ℕ) → length (each cycle) ≡ count) → length (in_cycles each n) ≡ n * count
 length-in_cycles each count zero same = omega arith
 length-in_cycles each count (suc n) same = omega (arith, length-append (in_cycles each n) (each n), length-in_cycles each count n same, same n, suc-mul n count)
 

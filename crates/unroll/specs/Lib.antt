@@ -3,5 +3,6 @@ pub mod Cycle
 pub mod Cycles
 pub mod Drawn
 pub mod Limits
+pub mod Reach
 pub mod Fault
 pub mod Step

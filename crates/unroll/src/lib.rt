@@ -14,9 +14,11 @@ mod names;
 mod network;
 mod numbered_design;
 mod origins;
+mod reach;
 mod row;
 mod rules;
 
 pub use draw::unroll;
 pub use fault::UnrollFault;
 pub use limit::{Limit, MAX_NUMBERS, MAX_SESSION_ROWS};
+pub use reach::reaches_no_further;

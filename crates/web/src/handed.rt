@@ -32,8 +32,8 @@ pub fn answer(
     }
 }
 
-// Hands over a text and the status of an outcome if there is room for the text.
-fn hand_over(outcome: Outcome, text: &[u8], out: &mut [u8], wrote: &mut u32) -> u8
+/// Hands over a text and the status of an outcome if there is room for the text.
+pub fn hand_over(outcome: Outcome, text: &[u8], out: &mut [u8], wrote: &mut u32) -> u8
     requires { wrote.old ≡ 0 }
     ensures fits { length text.now ≤ usable out.old
         → (result ≡ code_of outcome) × (wrote.new ≡ length text.now) × (take wrote.new out.new ≡ text.now) }

@@ -1,15 +1,18 @@
-//! The call that a page makes: a run on words and files that are handed over as bytes. What the run writes goes into the page's own room.
+//! The calls that a page makes: a run on words and files that are handed over as bytes, and what is said to a person after it. What they write goes
+//! into the page's own room. Nothing is claimed of what is said.
 #![tactic(auto)]
 
 mod given;
 mod handed;
+mod reason;
 
 ghost use Rattle.std.specs.Prelude.{◌≡◌, ◌≢◌};
 ghost use Rattle.web.specs.Given.{IsFit, given_of};
 ghost use Rattle.web.specs.Answered.{IsAnswered};
 
 use crate::given::{is_fit, shelf_of, texts_of};
-use crate::handed::answer;
+use crate::handed::{answer, hand_over};
+use crate::reason::reason_of;
 use itv_base::NoMemory;
 use itv_cli::Outcome;
 use std::alloc::Global;
@@ -55,6 +58,45 @@ pub extern "C" fn itv_run(
     };
     match shelf_of(alloc, names, name_sizes, files, file_sizes) {
         Ok(mut shelf) => answer(alloc, &texts, &mut shelf, out, wrote),
+        Err(NoMemory) => Outcome::NoMemory.code(),
+    }
+}
+
+/// Puts what is said to a person after a run with a status at the front of `out`, and its length in bytes into `wrote`. Each line begins with
+/// `FILE:LINE:COLUMN: ` or with `itv: `. Nothing to say is an empty text.
+///
+/// All else is as in [`itv_run`], whose run it was. The status is [`UNFIT`], [`NO_ROOM`], that of [`Outcome::NoMemory`], or else 0.
+#[unsafe(no_mangle)]
+pub extern "C" fn itv_reason(
+    alloc: Global,
+    words: &[u8],
+    word_sizes: &[u32],
+    names: &[u8],
+    name_sizes: &[u32],
+    files: &[u8],
+    file_sizes: &[u32],
+    status: u8,
+    out: &mut [u8],
+    wrote: &mut u32,
+) -> u8 {
+    *wrote = 0;
+    if !is_fit(words, word_sizes, names, name_sizes, files, file_sizes) {
+        return UNFIT;
+    }
+    let texts = match texts_of(alloc, words, word_sizes) {
+        Ok(texts) => texts,
+        Err(NoMemory) => return Outcome::NoMemory.code(),
+    };
+    let listed = match texts_of(alloc, names, name_sizes) {
+        Ok(listed) => listed,
+        Err(NoMemory) => return Outcome::NoMemory.code(),
+    };
+    let mut shelf = match shelf_of(alloc, names, name_sizes, files, file_sizes) {
+        Ok(shelf) => shelf,
+        Err(NoMemory) => return Outcome::NoMemory.code(),
+    };
+    match reason_of(alloc, &texts, status, &listed, &mut shelf) {
+        Ok(said) => hand_over(Outcome::AllPass, said.as_bytes(), out, wrote),
         Err(NoMemory) => Outcome::NoMemory.code(),
     }
 }

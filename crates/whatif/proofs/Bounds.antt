@@ -5,7 +5,7 @@ use Rattle.std.proofs.lemmas.Int.{ints}
 use Rattle.itv_base.specs.declared.names.EventId.{EventId}
 use Rattle.event_graph.specs.Bounds.{IsGreatest, IsRay}
 use Rattle.event_graph.specs.Network.{Net}
-use Rattle.event_graph.specs.Proof.{Bound, IsProof, ProofLine, closing_lines}
+use Rattle.event_graph.specs.Proof.{Bound as BoundGoal, IsProof, ProofLine, closing_lines}
 use Rattle.event_graph.specs.Reading.{AtEachSplit}
 use Rattle.event_graph.specs.Satisfying.{Satisfies}
 use Rattle.event_graph.specs.Times.{IsTime, raised, separation}
@@ -14,8 +14,8 @@ use Rattle.event_graph.proofs.SoundProofs.{proof_bounds}
 use Rattle.branch.specs.Answers.{IsGreatestAnswer}
 use Rattle.branch.specs.Needed.{IsNeededToBound}
 use Rattle.branch.specs.Work.{IsClose}
-use Rattle.branch.specs.declared.answer.GreatestAnswer.{GreatestAnswer}
-use Rattle.branch.specs.declared.answer.GreatestAnswer.TheVariants.{Closed, Unbounded, Enclosed}
+use Rattle.requirements.specs.declared.bound.Bound.{Bound}
+use Rattle.requirements.specs.declared.bound.Bound.TheVariants.{Closed, Unbounded, Within}
 use Rattle.branch.proofs.Close.{time_close}
 use Rattle.whatif.specs.declared.bound.TheConstants.{MAX_KEPT_EDGES, MAX_KEPT_LINES}
 use Rattle.event_graph.specs.declared.pair.Pair.{Pair}
@@ -37,7 +37,7 @@ raised_none (false ∷ set) (time ∷ times) = ap (λ ts. time ∷ ts) (raised_n
 ray_satisfies : (net : Net) (from to : EventId) (times : List ℤ) (set : List Bool) → IsRay net from to times set → Satisfies times net
 ray_satisfies net from to times set ray = subst (λ ts. Satisfies ts net) (raised_none set times) (ray.satisfies 0)
 
-kept_answers : (old net : Net) (budget : ℕ) (pair : Pair) (times : List ℤ) (ray : List Bool) (proof : Option (List ProofLine)) (answer : GreatestAnswer) (lines : List ProofLine)
+kept_answers : (old net : Net) (budget : ℕ) (pair : Pair) (times : List ℤ) (ray : List Bool) (proof : Option (List ProofLine)) (answer : Bound) (lines : List ProofLine)
     (leaves : ℕ) → IsGreatestAnswer (pair_search old pair budget) (left_by lines leaves times ray) answer → MayKeepAs net pair times ray proof answer
     → (others : List ProofLine) × (count : ℕ) × IsGreatestAnswer (pair_search net pair budget) (left_by others count times ray) answer
 kept_answers old net budget pair times ray (Some kept) (Closed value) lines leaves was may = (
@@ -53,20 +53,20 @@ kept_answers old net budget pair times ray (Some kept) (Closed value) lines leav
 kept_answers old net budget pair times ray None (Closed value) lines leaves was may = absurd may.0
 kept_answers old net budget pair times ray proof Unbounded lines leaves was may =
     ([], 1, record { raised = may; stopped = (pos 0, 0, record { open_case = ([], [], refl); closed = refl }, refl) })
-kept_answers old net budget pair times ray proof (Enclosed upper attained) lines leaves was may = absurd may
+kept_answers old net budget pair times ray proof (Within limit attained) lines leaves was may = absurd may
 
-kept_satisfies : (net : Net) (pair : Pair) (times : List ℤ) (ray : List Bool) (proof : Option (List ProofLine)) (answer : GreatestAnswer) → MayKeepAs net pair times ray proof answer
+kept_satisfies : (net : Net) (pair : Pair) (times : List ℤ) (ray : List Bool) (proof : Option (List ProofLine)) (answer : Bound) → MayKeepAs net pair times ray proof answer
     → Satisfies times net
 kept_satisfies net pair times ray proof (Closed value) may = may.1
 kept_satisfies net pair times ray proof Unbounded may = ray_satisfies net pair.from pair.to times ray may
-kept_satisfies net pair times ray proof (Enclosed upper attained) may = absurd may
+kept_satisfies net pair times ray proof (Within limit attained) may = absurd may
 
-kept_proof : (old net : Net) (pair : Pair) (times : List ℤ) (ray : List Bool) (proof : Option (List ProofLine)) (answer : GreatestAnswer) → KeepsProof old pair proof answer
+kept_proof : (old net : Net) (pair : Pair) (times : List ℤ) (ray : List Bool) (proof : Option (List ProofLine)) (answer : Bound) → KeepsProof old pair proof answer
     → MayKeepAs net pair times ray proof answer → KeepsProof net pair proof answer
 kept_proof old net pair times ray (Some lines) (Closed value) was may = may.0
 kept_proof old net pair times ray None (Closed value) was may = absurd may.0
 kept_proof old net pair times ray proof Unbounded was may = was
-kept_proof old net pair times ray proof (Enclosed upper attained) was may = was
+kept_proof old net pair times ray proof (Within limit attained) was may = was
 
 -- a right bound that may be kept for another network is right for it
 pub kept_right : (old net : Net) (budget : ℕ) (b : KeptBound) → IsRightBound old budget b → MayKeep net b → IsRightBound net budget b
@@ -81,27 +81,28 @@ kept_right old net budget b right may = record {
 
 -- what is kept of the lines of a closed bound, by a search that started from some times
 closed_keeps : (net : Net) (pair : Pair) (known : List ℤ) (value : ℤ) (lines : List ProofLine) (now : Option (List ProofLine))
-    → KeptOn MAX_KEPT_LINES MAX_KEPT_EDGES (Some []) lines now → IsProof net (Bound pair.from pair.to value) lines → Satisfies known net
+    → KeptOn MAX_KEPT_LINES MAX_KEPT_EDGES (Some []) lines now → IsProof net (BoundGoal pair.from pair.to value) lines → Satisfies known net
     → AtEachSplit net (IsNeededToBound net pair.from pair.to (separation known pair.from pair.to)) lines → HasProof net pair value now
 closed_keeps net pair known value lines now (inl kept) proof satisfies needed = rw kept proof
 closed_keeps net pair known value lines now (inr full) proof satisfies needed =
     let many : HasProof net pair value None = (lines, record { accepted = (value, ([], proof)); needed = (known, satisfies, needed); full = full.1 }) in
     rw full.0 many
 
-search_keeps : (net : Net) (budget : ℕ) (pair : Pair) (known times : List ℤ) (ray : List Bool) (answer : GreatestAnswer) (lines : List ProofLine) (leaves : ℕ) (now : Option (List ProofLine))
+search_keeps : (net : Net) (budget : ℕ) (pair : Pair) (known times : List ℤ) (ray : List Bool) (answer : Bound) (lines : List ProofLine) (leaves : ℕ) (now : Option (List ProofLine))
     → KeptOn MAX_KEPT_LINES MAX_KEPT_EDGES (Some []) lines now → IsGreatestAnswer (pair_search net pair budget) (left_by lines leaves times ray) answer → Satisfies known net
     → AtEachSplit net (IsNeededToBound net pair.from pair.to (separation known pair.from pair.to)) lines → KeepsProof net pair (kept_of answer now) answer
 search_keeps net budget pair known times ray (Closed value) lines leaves now kept is satisfies needed = closed_keeps net pair known value lines now kept is.proof satisfies needed
 search_keeps net budget pair known times ray Unbounded lines leaves now kept is satisfies needed = refl
-search_keeps net budget pair known times ray (Enclosed upper attained) lines leaves now kept is satisfies needed = refl
+search_keeps net budget pair known times ray (Within limit attained) lines leaves now kept is satisfies needed = refl
 
 -- only an unbounded answer says anything of the events to raise
-answers_with : (net : Net) (budget : ℕ) (pair : Pair) (times : List ℤ) (ray other : List Bool) (answer : GreatestAnswer) (lines : List ProofLine) (leaves : ℕ)
+answers_with : (net : Net) (budget : ℕ) (pair : Pair) (times : List ℤ) (ray other : List Bool) (answer : Bound) (lines : List ProofLine) (leaves : ℕ)
     → (answer ≡ Unbounded → other ≡ ray) → IsGreatestAnswer (pair_search net pair budget) (left_by lines leaves times ray) answer
     → IsGreatestAnswer (pair_search net pair budget) (left_by lines leaves times other) answer
 answers_with net budget pair times ray other (Closed value) lines leaves same is = record { greatest = is.greatest; attained = is.attained; proof = is.proof; count = is.count }
 answers_with net budget pair times ray other Unbounded lines leaves same is = rw (same refl) is
-answers_with net budget pair times ray other (Enclosed upper attained) lines leaves same is = record {
+answers_with net budget pair times ray other (Within limit None) lines leaves same is = absurd is
+answers_with net budget pair times ray other (Within limit (Some attained)) lines leaves same is = record {
   root = is.root;
   within = is.within;
   attains = is.attains;
@@ -111,18 +112,18 @@ answers_with net budget pair times ray other (Enclosed upper attained) lines lea
 }
 
 -- there are as many flags of events to raise as events
-pub ray_places : (net : Net) (budget : ℕ) (pair : Pair) (times : List ℤ) (ray : List Bool) (answer : GreatestAnswer) (lines : List ProofLine) (leaves : ℕ)
+pub ray_places : (net : Net) (budget : ℕ) (pair : Pair) (times : List ℤ) (ray : List Bool) (answer : Bound) (lines : List ProofLine) (leaves : ℕ)
     → IsGreatestAnswer (pair_search net pair budget) (left_by lines leaves times ray) answer → answer ≡ Unbounded → length ray ≡ net.events
 ray_places net budget pair times ray (Closed value) lines leaves is same = absurd (cc)
 ray_places net budget pair times ray Unbounded lines leaves is same = is.raised.count
-ray_places net budget pair times ray (Enclosed upper attained) lines leaves is same = absurd (cc)
+ray_places net budget pair times ray (Within limit attained) lines leaves is same = absurd (cc)
 
 pub known_satisfies : (net : Net) (known : Option (List ℤ)) → IsSomeAnd known (λ times. Satisfies times net) → Satisfies (unwrap_or known []) net
 known_satisfies net None h = absurd h
 known_satisfies net (Some times) h = h
 
 -- what a bound is after a search whose lines a keeper took
-pub searched_is : (net : Net) (budget leaves : ℕ) (old : KeptBound) (known times : List ℤ) (ray kept_ray : List Bool) (answer : GreatestAnswer) (begun grown last : KeeperView)
+pub searched_is : (net : Net) (budget leaves : ℕ) (old : KeptBound) (known times : List ℤ) (ray kept_ray : List Bool) (answer : Bound) (begun grown last : KeeperView)
     (lines : List ProofLine) → begun.lines ≡ Some [] → begun.line_room ≡ MAX_KEPT_LINES → begun.edge_room ≡ MAX_KEPT_EDGES → KeeperGrew begun lines grown
     → IsPairSearched net old.pair budget known (left_by lines leaves times ray) answer → (answer ≡ Unbounded → kept_ray ≡ ray)
     → last ≡ record grown { lines = kept_of answer grown.lines }
@@ -163,16 +164,16 @@ unbounded_above net from to times set value ray greatest =
     let most : separation beyond.0 from to ≤ℤ value = greatest.most beyond.0 beyond.1 in
     omega (arith, ints)
 
-agree : (net : Net) (budget other : ℕ) (pair : Pair) (times_a times_b : List ℤ) (ray_a ray_b : List Bool) (a b : GreatestAnswer) (lines_a lines_b : List ProofLine) (leaves_a leaves_b : ℕ)
+agree : (net : Net) (budget other : ℕ) (pair : Pair) (times_a times_b : List ℤ) (ray_a ray_b : List Bool) (a b : Bound) (lines_a lines_b : List ProofLine) (leaves_a leaves_b : ℕ)
     → IsGreatestAnswer (pair_search net pair budget) (left_by lines_a leaves_a times_a ray_a) a → IsGreatestAnswer (pair_search net pair other) (left_by lines_b leaves_b times_b ray_b) b
     → IsSettledAnswer a → IsSettledAnswer b → a ≡ b
 agree net budget other pair ta tb ra rb (Closed v) (Closed w) la lb na nb p q sa sb = ap (λ z. Closed z) (closed_same net pair.from pair.to v w p.greatest q.greatest)
 agree net budget other pair ta tb ra rb (Closed v) Unbounded la lb na nb p q sa sb = absurd (unbounded_above net pair.from pair.to tb rb v q.raised p.greatest)
-agree net budget other pair ta tb ra rb (Closed v) (Enclosed upper attained) la lb na nb p q sa sb = absurd sb
+agree net budget other pair ta tb ra rb (Closed v) (Within limit attained) la lb na nb p q sa sb = absurd sb
 agree net budget other pair ta tb ra rb Unbounded (Closed w) la lb na nb p q sa sb = absurd (unbounded_above net pair.from pair.to ta ra w p.raised q.greatest)
 agree net budget other pair ta tb ra rb Unbounded Unbounded la lb na nb p q sa sb = refl
-agree net budget other pair ta tb ra rb Unbounded (Enclosed upper attained) la lb na nb p q sa sb = absurd sb
-agree net budget other pair ta tb ra rb (Enclosed upper attained) b la lb na nb p q sa sb = absurd sa
+agree net budget other pair ta tb ra rb Unbounded (Within limit attained) la lb na nb p q sa sb = absurd sb
+agree net budget other pair ta tb ra rb (Within limit attained) b la lb na nb p q sa sb = absurd sa
 
 pub settled_bounds_agree : SettledBoundsAgree
 settled_bounds_agree net budget other a b right_a right_b same settled_a settled_b =

@@ -8,9 +8,9 @@ use Rattle.drawn_numbers.specs.Numbers.{with_ranges}
 use Rattle.drawn_numbers.specs.declared.cause_name.CauseName.{CauseName}
 use Rattle.event_graph.specs.Satisfying.{Satisfies}
 use Rattle.event_graph.specs.Times.{separation}
-use Rattle.branch.specs.declared.answer.GreatestAnswer.{GreatestAnswer}
-use Rattle.branch.specs.declared.answer.SearchFinding.{SearchFinding}
-use Rattle.branch.specs.declared.answer.SearchFinding.TheVariants.{Consistent, Inconsistent, Unsettled}
+use Rattle.requirements.specs.declared.bound.Bound.{Bound}
+use Rattle.requirements.specs.declared.consistency.Consistency.{Consistency}
+use Rattle.requirements.specs.declared.consistency.Consistency.TheVariants.{Consistent, Inconsistent, Open}
 use Rattle.whatif.specs.declared.change.Change.{Change}
 use Rattle.event_graph.specs.declared.pair.Pair.{Pair}
 use Rattle.whatif.specs.declared.session.TheConstants.{MAX_PAIRS}
@@ -77,7 +77,7 @@ count_bounds pairs bounds same = sym (length-map bounds (λ (b : KeptBound). b.p
 
 -- ---- bounds that were settled
 
-right_all : (old net : Net) (budget : ℕ) (was : SearchFinding) (known : List ℤ) (before now : List KeptBound) (kept searched : ℕ)
+right_all : (old net : Net) (budget : ℕ) (was : Consistency) (known : List ℤ) (before now : List KeptBound) (kept searched : ℕ)
     → AreUpdated (MayKeepFrom was net) (IsSearchedAnew net budget known) before now kept searched
     → (was ≡ Consistent → All (IsRightBound old budget) before) → All (IsRightBound net budget) now
 right_all old net budget Consistent known before now kept searched settled was_right =
@@ -86,39 +86,39 @@ right_all old net budget Consistent known before now kept searched settled was_r
 right_all old net budget Inconsistent known before now kept searched settled was_right =
     settled_all (MayKeepFrom Inconsistent net) (IsSearchedAnew net budget known) (λ a. Unit {0}) (IsRightBound net budget) before now kept searched
     (λ a may right. absurd may) (λ a b s. s.right) settled (λ k d within. tt)
-right_all old net budget Unsettled known before now kept searched settled was_right =
-    settled_all (MayKeepFrom Unsettled net) (IsSearchedAnew net budget known) (λ a. Unit {0}) (IsRightBound net budget) before now kept searched
+right_all old net budget Open known before now kept searched settled was_right =
+    settled_all (MayKeepFrom Open net) (IsSearchedAnew net budget known) (λ a. Unit {0}) (IsRightBound net budget) before now kept searched
     (λ a may right. absurd may) (λ a b s. s.right) settled (λ k d within. tt)
 
-settled_right : (old net : Net) (budget : ℕ) (was found : SearchFinding) (before now : List KeptBound) (change : Change) → AreBoundsUpdated net budget was found before now change
+settled_right : (old net : Net) (budget : ℕ) (was found : Consistency) (before now : List KeptBound) (change : Change) → AreBoundsUpdated net budget was found before now change
     → (was ≡ Consistent → All (IsRightBound old budget) before) → found ≡ Consistent → All (IsRightBound net budget) now
 settled_right old net budget was Consistent before now change settled was_right is =
     right_all old net budget was settled.0 before now change.kept change.searched settled.2 was_right
 settled_right old net budget was Inconsistent before now change settled was_right is = absurd (cc)
-settled_right old net budget was Unsettled before now change settled was_right is = absurd (cc)
+settled_right old net budget was Open before now change settled was_right is = absurd (cc)
 
-settled_pairs : (net : Net) (budget : ℕ) (was found : SearchFinding) (before now : List KeptBound) (change : Change) → AreBoundsUpdated net budget was found before now change
+settled_pairs : (net : Net) (budget : ℕ) (was found : Consistency) (before now : List KeptBound) (change : Change) → AreBoundsUpdated net budget was found before now change
     → map (λ (b : KeptBound). b.pair) now ≡ map (λ (b : KeptBound). b.pair) before
 settled_pairs net budget was Consistent before now change settled =
     settled_same (MayKeepFrom was net) (IsSearchedAnew net budget settled.0) (λ (b : KeptBound). b.pair) before now change.kept change.searched (λ a b s. s.pair) settled.2
 settled_pairs net budget was Inconsistent before now change settled = ap (map (λ (b : KeptBound). b.pair)) settled.0
-settled_pairs net budget was Unsettled before now change settled = ap (map (λ (b : KeptBound). b.pair)) settled.0
+settled_pairs net budget was Open before now change settled = ap (map (λ (b : KeptBound). b.pair)) settled.0
 
 attains : (net : Net) (budget : ℕ) (known : List ℤ) (a b : KeptBound) → IsSearchedAnew net budget known a b
     → separation known b.pair.from b.pair.to ≤ℤ separation b.times b.pair.from b.pair.to
 attains net budget known a b s = subst (λ (p : Pair). separation known p.from p.to ≤ℤ separation b.times p.from p.to) (sym s.pair) s.least
 
-settled_attains : (net : Net) (budget : ℕ) (found : SearchFinding) (before now : List KeptBound) (change : Change) → AreBoundsUpdated net budget Unsettled found before now change → found ≡ Consistent
+settled_attains : (net : Net) (budget : ℕ) (found : Consistency) (before now : List KeptBound) (change : Change) → AreBoundsUpdated net budget Open found before now change → found ≡ Consistent
     → (known : List ℤ) × Satisfies known net × All (λ (b : KeptBound). separation known b.pair.from b.pair.to ≤ℤ separation b.times b.pair.from b.pair.to) now
 settled_attains net budget Consistent before now change settled is = (
   settled.0,
   settled.1,
-  settled_all (MayKeepFrom Unsettled net) (IsSearchedAnew net budget settled.0) (λ a. Unit {0})
+  settled_all (MayKeepFrom Open net) (IsSearchedAnew net budget settled.0) (λ a. Unit {0})
       (λ (b : KeptBound). separation settled.0 b.pair.from b.pair.to ≤ℤ separation b.times b.pair.from b.pair.to) before now change.kept change.searched
       (λ a may right. absurd may) (λ a b s. attains net budget settled.0 a b s) settled.2 (λ k d within. tt),
 )
 settled_attains net budget Inconsistent before now change settled is = absurd (cc)
-settled_attains net budget Unsettled before now change settled is = absurd (cc)
+settled_attains net budget Open before now change settled is = absurd (cc)
 
 close_of : (net : Net) (budget : ℕ) (bounds : List KeptBound) → All (IsRightBound net budget) bounds → All IsCloseBound bounds
 close_of net budget bounds right = λ k d within. (right k d within).close
@@ -129,15 +129,15 @@ close_before s right is = close_of s.net s.budget s.bounds (right.bounds is)
 -- ---- sessions that are begun
 
 -- a new session is sound; its parts have several names
-pub sound_begun : (own net : Net) (budget : ℕ) (given pairs : List Pair) (found : SearchFinding) (before begun now shown : List KeptBound) (room made : ℕ) → own ≡ net → pairs ≡ given
+pub sound_begun : (own net : Net) (budget : ℕ) (given pairs : List Pair) (found : Consistency) (before begun now shown : List KeptBound) (room made : ℕ) → own ≡ net → pairs ≡ given
     → map (λ (b : KeptBound). b.pair) before ≡ both_ways given → begun ≡ before → shown ≡ now → All (IsPairOf net.events) given → length given ≤ MAX_PAIRS
-    → IsNet own → IsRightFinding own budget found → ((change : Change) × AreBoundsUpdated own budget Unsettled found begun now change) → All (HasPlaces own.events) now
+    → IsNet own → IsRightFinding own budget found → ((change : Change) × AreBoundsUpdated own budget Open found begun now change) → All (HasPlaces own.events) now
     → room ≡ made → made ≡ length own.constraints → 0 < budget
     → IsSoundSession (record { net = own; budget = budget; pairs = pairs; found = found; bounds = shown }) room
 sound_begun own net budget given pairs found before begun now shown room made is_own is_pairs same is_begun is_shown within few is_net finding settled places is_room is_made some =
     let pairs_now : map (λ (b : KeptBound). b.pair) shown ≡ both_ways pairs =
     ap (map (λ (b : KeptBound). b.pair)) is_shown
-    ∙ (settled_pairs own budget Unsettled found begun now settled.0 settled.1 ∙ (ap (map (λ (b : KeptBound). b.pair)) is_begun ∙ (same ∙ ap both_ways (sym is_pairs)))) in
+    ∙ (settled_pairs own budget Open found begun now settled.0 settled.1 ∙ (ap (map (λ (b : KeptBound). b.pair)) is_begun ∙ (same ∙ ap both_ways (sym is_pairs)))) in
     record {
       right = record {
         net = is_net;
@@ -145,7 +145,7 @@ sound_begun own net budget given pairs found before begun now shown room made is
         within = subst (All (IsPairOf own.events)) (sym is_pairs) (subst (λ (n : Net). All (IsPairOf n.events) given) (sym is_own) within);
         finding = finding;
         bounds = λ is. subst (All (IsRightBound own budget)) (sym is_shown)
-            (settled_right own own budget Unsettled found begun now settled.0 settled.1 (λ other. absurd (cc)) is);
+            (settled_right own own budget Open found begun now settled.0 settled.1 (λ other. absurd (cc)) is);
       };
       room_is = is_room ∙ is_made;
       some_budget = some;
@@ -153,8 +153,8 @@ sound_begun own net budget given pairs found before begun now shown room made is
       count = subst (λ (ps : List Pair). length ps ≤ MAX_PAIRS) (sym is_pairs) few;
     }
 
-pub attains_begun : (own : Net) (budget : ℕ) (pairs : List Pair) (found : SearchFinding) (begun now shown : List KeptBound) → shown ≡ now
-    → ((change : Change) × AreBoundsUpdated own budget Unsettled found begun now change)
+pub attains_begun : (own : Net) (budget : ℕ) (pairs : List Pair) (found : Consistency) (begun now shown : List KeptBound) → shown ≡ now
+    → ((change : Change) × AreBoundsUpdated own budget Open found begun now change)
     → AttainsKnown (record { net = own; budget = budget; pairs = pairs; found = found; bounds = shown })
 attains_begun own budget pairs found begun now shown is_shown settled is = rw is_shown (settled_attains own budget found begun now settled.0 settled.1 is)
 
@@ -178,7 +178,7 @@ two_more events pairs k bounds more a b d same places within is_a is_b places_a 
 -- ---- sessions that are edited
 
 -- a session that was edited is sound; the bounds before and after the edit have other names
-pub sound_behind : (old : SessionView) (causes : List CauseName) (range : Ends) (net : Net) (found : SearchFinding) (before now shown : List KeptBound) (change : Change) (room room_now : ℕ) → IsSoundSession old room
+pub sound_behind : (old : SessionView) (causes : List CauseName) (range : Ends) (net : Net) (found : Consistency) (before now shown : List KeptBound) (change : Change) (room room_now : ℕ) → IsSoundSession old room
     → net ≡ with_ranges old.net causes range → IsNet net → IsRightFinding net old.budget found → AreBoundsUpdated net old.budget old.found found before now change
     → room_now ≡ room → All (HasPlaces net.events) now → before ≡ old.bounds → shown ≡ now
     → IsSoundSession (record { net = net; budget = old.budget; pairs = old.pairs; found = found; bounds = shown }) room_now
@@ -207,7 +207,7 @@ sound_behind old causes range net found before now shown change room room_now so
 
 -- ---- answers
 
-pub answers_more : (bounds : List KeptBound) (k : ℕ) (answers more : List GreatestAnswer) (a : GreatestAnswer) (d : KeptBound) → k < length bounds → answers ≡ map (λ (b : KeptBound). b.answer) (take k bounds)
+pub answers_more : (bounds : List KeptBound) (k : ℕ) (answers more : List Bound) (a : Bound) (d : KeptBound) → k < length bounds → answers ≡ map (λ (b : KeptBound). b.answer) (take k bounds)
     → a ≡ (get_or bounds k d).answer → more ≡ answers ++ a ∷ [] → more ≡ map (λ (b : KeptBound). b.answer) (take (k + 1) bounds)
 answers_more bounds k answers more a d within so_far is grows =
     grows ∙ (ap (λ x. answers ++ x ∷ []) is ∙ (ap (λ xs. xs ++ (get_or bounds k d).answer ∷ []) so_far

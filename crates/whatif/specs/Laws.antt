@@ -1,15 +1,15 @@
 -- Laws of sessions.
 use Rattle.std.specs.Prelude.{◌≡◌, ℕ}
 use Rattle.event_graph.specs.Network.{Net}
-use Rattle.branch.specs.declared.answer.GreatestAnswer.{GreatestAnswer}
-use Rattle.branch.specs.declared.answer.GreatestAnswer.TheVariants.{Closed, Unbounded, Enclosed}
+use Rattle.requirements.specs.declared.bound.Bound.{Bound}
+use Rattle.requirements.specs.declared.bound.Bound.TheVariants.{Closed, Unbounded, Within}
 use Rattle.whatif.specs.Session.{IsRightBound, KeptBound}
 
 -- the answer settles the bound
-abbrev pub IsSettledAnswer : GreatestAnswer → Type 0
+abbrev pub IsSettledAnswer : Bound → Type 0
 IsSettledAnswer (Closed value) = Unit {0}
 IsSettledAnswer Unbounded = Unit {0}
-IsSettledAnswer (Enclosed upper attained) = ⊥
+IsSettledAnswer (Within limit attained) = ⊥
 
 -- Two bounds of one pair have one answer if both are right for one network and both are settled, whatever their budgets and however they came about.
 -- So a bound that was kept is the bound that a search from scratch settles.

@@ -1,8 +1,8 @@
 -- Sessions that are edited again and again.
 use Rattle.std.specs.Prelude.{◌≡◌, List, [], ◌∷◌, map}
 use Rattle.event_graph.specs.Network.{Net}
-use Rattle.branch.specs.declared.answer.GreatestAnswer.{GreatestAnswer}
-use Rattle.branch.specs.declared.answer.SearchFinding.{SearchFinding}
+use Rattle.requirements.specs.declared.bound.Bound.{Bound}
+use Rattle.requirements.specs.declared.consistency.Consistency.{Consistency}
 use Rattle.whatif.specs.declared.change.Change.{Change}
 use Rattle.drawn_networks.specs.Drawn.{Drawn}
 use Rattle.drawn_numbers.specs.Numbers.{with_ranges}
@@ -38,8 +38,8 @@ edited drawn net (e ∷ edits) = edited drawn (with_ranges net (causes_at drawn 
 -- the change, the finding and the answers of all bounds
 pub record Note : Type 0 where
   pub change : Change
-  pub found : SearchFinding
-  pub answers : List GreatestAnswer
+  pub found : Consistency
+  pub answers : List Bound
 
 abbrev pub note_of : Change → SessionView → Note
 note_of change s = record { change = change; found = s.found; answers = answers_of s.found s.bounds }

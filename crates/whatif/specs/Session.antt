@@ -3,7 +3,7 @@ use Rattle.std.specs.Prelude.{◌≡◌, ◌+◌, ◌<◌, ◌≤◌, ◌≤ℤ�
 use Rattle.itv_base.specs.Range.{Ends}
 use Rattle.event_graph.specs.Bounds.{IsRay}
 use Rattle.event_graph.specs.Network.{IsNet, Net}
-use Rattle.event_graph.specs.Proof.{Bound, IsProof, ProofLine}
+use Rattle.event_graph.specs.Proof.{Bound as BoundGoal, IsProof, ProofLine}
 use Rattle.event_graph.specs.Reading.{AtEachSplit}
 use Rattle.event_graph.specs.Satisfying.{Satisfies}
 use Rattle.event_graph.specs.Times.{separation}
@@ -11,10 +11,10 @@ use Rattle.branch.specs.Answers.{IsGreatestAnswer, Evidence, Finds, PairSearch}
 use Rattle.branch.specs.Lines.{IsAccepted}
 use Rattle.branch.specs.Needed.{IsNeededToBound, IsNeededToFind}
 use Rattle.branch.specs.Work.{IsClose}
-use Rattle.branch.specs.declared.answer.GreatestAnswer.{GreatestAnswer}
-use Rattle.branch.specs.declared.answer.GreatestAnswer.TheVariants.{Closed, Unbounded, Enclosed}
-use Rattle.branch.specs.declared.answer.SearchFinding.{SearchFinding}
-use Rattle.branch.specs.declared.answer.SearchFinding.TheVariants.{Consistent, Inconsistent, Unsettled}
+use Rattle.requirements.specs.declared.bound.Bound.{Bound}
+use Rattle.requirements.specs.declared.bound.Bound.TheVariants.{Closed, Unbounded, Within}
+use Rattle.requirements.specs.declared.consistency.Consistency.{Consistency}
+use Rattle.requirements.specs.declared.consistency.Consistency.TheVariants.{Consistent, Inconsistent, Open}
 use Rattle.certificate.specs.Scribing.{FitsTree, TreeView}
 use Rattle.drawn_numbers.specs.Numbers.{IsCauseOf, with_ranges}
 use Rattle.drawn_numbers.specs.declared.cause_name.CauseName.{CauseName}
@@ -36,17 +36,17 @@ use Rattle.whatif.specs.declared.bound.TheConstants.{MAX_KEPT_EDGES, MAX_KEPT_LI
 -- proof, if they fitted.
 pub record KeptBound : Type 0 where
   pub pair : Pair
-  pub answer : GreatestAnswer
+  pub answer : Bound
   pub times : List ℤ
   pub ray : List Bool
   pub proof : Option (List ProofLine)
 
 -- An answer may be kept for a network. A closed answer may be kept if its proof is a proof for this network and its times satisfy the network. An
 -- unbounded answer may be kept if its times and its events to raise show that the pair is unbounded in this network. No other answer may be kept.
-abbrev pub MayKeepAs : Net → Pair → List ℤ → List Bool → Option (List ProofLine) → GreatestAnswer → Type 0
-MayKeepAs net pair times ray proof (Closed value) = IsSomeAnd proof (IsProof net (Bound pair.from pair.to value)) × Satisfies times net
+abbrev pub MayKeepAs : Net → Pair → List ℤ → List Bool → Option (List ProofLine) → Bound → Type 0
+MayKeepAs net pair times ray proof (Closed value) = IsSomeAnd proof (IsProof net (BoundGoal pair.from pair.to value)) × Satisfies times net
 MayKeepAs net pair times ray proof Unbounded = IsRay net pair.from pair.to times ray
-MayKeepAs net pair times ray proof (Enclosed upper attained) = ⊥
+MayKeepAs net pair times ray proof (Within limit attained) = ⊥
 
 abbrev pub MayKeep : Net → KeptBound → Type 0
 MayKeep net b = MayKeepAs net b.pair b.times b.ray b.proof b.answer
@@ -54,20 +54,20 @@ MayKeep net b = MayKeepAs net b.pair b.times b.ray b.proof b.answer
 -- Lines of a search for a bound that do not fit the room of a proof. Reading accepts each of the lines for some value. Each split was needed beside
 -- some known times that satisfy.
 pub record AreTooMany (net : Net) (pair : Pair) (lines : List ProofLine) : Type 0 where
-  pub accepted : (value : ℤ) × IsAccepted net (Bound pair.from pair.to value) lines
+  pub accepted : (value : ℤ) × IsAccepted net (BoundGoal pair.from pair.to value) lines
   pub needed : (known : List ℤ) × Satisfies known net × AtEachSplit net (IsNeededToBound net pair.from pair.to (separation known pair.from pair.to)) lines
   pub full : FitsTree MAX_KEPT_LINES MAX_KEPT_EDGES lines → ⊥
 
 -- there is a proof that the value is not exceeded, or the lines of a search were too many to keep
 abbrev pub HasProof : Net → Pair → ℤ → Option (List ProofLine) → Type 0
-HasProof net pair value (Some lines) = IsProof net (Bound pair.from pair.to value) lines
+HasProof net pair value (Some lines) = IsProof net (BoundGoal pair.from pair.to value) lines
 HasProof net pair value None = (lines : List ProofLine) × AreTooMany net pair lines
 
 -- a closed bound has a proof, or its lines were too many to keep; no other bound keeps a proof
-abbrev pub KeepsProof : Net → Pair → Option (List ProofLine) → GreatestAnswer → Type 0
+abbrev pub KeepsProof : Net → Pair → Option (List ProofLine) → Bound → Type 0
 KeepsProof net pair proof (Closed value) = HasProof net pair value proof
 KeepsProof net pair proof Unbounded = proof ≡ None
-KeepsProof net pair proof (Enclosed upper attained) = proof ≡ None
+KeepsProof net pair proof (Within limit attained) = proof ≡ None
 
 -- the search for the greatest separation of a pair, which closes at most `budget` cases
 abbrev pub pair_search : Net → Pair → ℕ → PairSearch
@@ -92,7 +92,7 @@ pub record HasPlaces (events : ℕ) (b : KeptBound) : Type 0 where
 -- ---- a finding
 
 -- the finding is right for a network and a budget: it is what a search may find there
-abbrev pub IsRightFinding : Net → ℕ → SearchFinding → Type 0
+abbrev pub IsRightFinding : Net → ℕ → Consistency → Type 0
 IsRightFinding net budget found =
     (lines : List ProofLine) × (leaves : ℕ) × (known : Option (List ℤ)) × Finds net budget lines leaves known found × AtEachSplit net (IsNeededToFind net) lines
 
@@ -110,7 +110,7 @@ pub record SessionView : Type 0 where
   pub net : Net
   pub budget : ℕ
   pub pairs : List Pair
-  pub found : SearchFinding
+  pub found : Consistency
   pub bounds : List KeptBound
 
 -- both events of the pair have numbers below `events`
@@ -126,16 +126,16 @@ pub record IsRight (s : SessionView) : Type 0 where
   pub bounds : s.found ≡ Consistent → All (IsRightBound s.net s.budget) s.bounds
 
 -- the bound with a number, if the finding is consistent
-abbrev pub bound_at : SearchFinding → List KeptBound → ℕ → Option KeptBound
+abbrev pub bound_at : Consistency → List KeptBound → ℕ → Option KeptBound
 bound_at Consistent bounds number = slice_get bounds number
 bound_at Inconsistent bounds number = None
-bound_at Unsettled bounds number = None
+bound_at Open bounds number = None
 
 -- the answer of each bound, if the finding is consistent
-abbrev pub answers_of : SearchFinding → List KeptBound → List GreatestAnswer
+abbrev pub answers_of : Consistency → List KeptBound → List Bound
 answers_of Consistent bounds = map (λ (b : KeptBound). b.answer) bounds
 answers_of Inconsistent bounds = []
-answers_of Unsettled bounds = []
+answers_of Open bounds = []
 
 -- what is lent of a bound: its times, its events to raise and its proof
 pub record IsLent (lent : Kept) (b : KeptBound) : Type 0 where
@@ -167,17 +167,17 @@ AreUpdated May Searched (a ∷ before) (b ∷ now) kept searched =
     ⊎ ((fewer : ℕ) × (searched ≡ fewer + 1) × (May a → ⊥) × Searched a b × AreUpdated May Searched before now kept fewer)
 
 -- which bounds an edit may keep: if the finding before it was consistent, all that may be kept for the network after it, and otherwise none
-abbrev pub MayKeepFrom : SearchFinding → Net → KeptBound → Type 0
+abbrev pub MayKeepFrom : Consistency → Net → KeptBound → Type 0
 MayKeepFrom Consistent net b = MayKeep net b
 MayKeepFrom Inconsistent net b = ⊥
-MayKeepFrom Unsettled net b = ⊥
+MayKeepFrom Open net b = ⊥
 
 -- what becomes of the bounds: each is kept or searched anew if the finding is consistent now, and otherwise all stay as they are
-abbrev pub AreBoundsUpdated : Net → ℕ → SearchFinding → SearchFinding → List KeptBound → List KeptBound → Change → Type 0
+abbrev pub AreBoundsUpdated : Net → ℕ → Consistency → Consistency → List KeptBound → List KeptBound → Change → Type 0
 AreBoundsUpdated net budget was Consistent before now change =
     (known : List ℤ) × Satisfies known net × AreUpdated (MayKeepFrom was net) (IsSearchedAnew net budget known) before now change.kept change.searched
 AreBoundsUpdated net budget was Inconsistent before now change = (now ≡ before) × (change.kept ≡ 0) × (change.searched ≡ 0)
-AreBoundsUpdated net budget was Unsettled before now change = (now ≡ before) × (change.kept ≡ 0) × (change.searched ≡ 0)
+AreBoundsUpdated net budget was Open before now change = (now ≡ before) × (change.kept ≡ 0) × (change.searched ≡ 0)
 
 -- an edit of the ranges of causes: all of them get this range, and then the bounds are kept or searched once
 pub record IsEdited (old : SessionView) (causes : List CauseName) (range : Ends) (new : SessionView) (change : Change) : Type 0 where

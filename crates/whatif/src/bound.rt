@@ -3,13 +3,13 @@
 ghost use Rattle.std.specs.Prelude.{◌≡◌, ◌<◌, ◌≤ℤ◌, ◌*◌, ◌↔◌, List, [], All, IfOk, IfSome, IsSomeAnd, IsTrue, length, neg_ℤ, option_map, pos, unwrap_or};
 ghost use Rattle.std.specs.Option.{option_copied};
 ghost use Rattle.event_graph.specs.Limits.{reach_limit};
-ghost use Rattle.event_graph.specs.Proof.{Bound, IsProof, ProofLine};
+ghost use Rattle.event_graph.specs.Proof.{Bound as BoundGoal, IsProof, ProofLine};
 ghost use Rattle.event_graph.specs.Satisfying.{Satisfies};
 ghost use Rattle.event_graph.specs.Times.{separation};
 ghost use Rattle.branch.specs.Answers.{evidence};
 ghost use Rattle.branch.specs.Work.{IsClose, IsMadeFor, IsStart};
-ghost use Rattle.branch.specs.declared.answer.GreatestAnswer.TheVariants as answers;
-ghost use Rattle.branch.specs.declared.answer.SearchFinding.TheVariants as findings;
+ghost use Rattle.requirements.specs.declared.bound.Bound.TheVariants as answers;
+ghost use Rattle.requirements.specs.declared.consistency.Consistency.TheVariants as findings;
 ghost use Rattle.certificate.specs.Scribing.{TreeView};
 ghost use Rattle.whatif.specs.Session.{HasPlaces, IsLent, IsPairOf, IsSearchedAnew, MayKeep};
 ghost use Rattle.whatif.specs.Step.Bounds.{IsBetterStart, IsCloseBound, IsPairSearched, kept_of};
@@ -17,11 +17,12 @@ ghost use Rattle.whatif.specs.Step.Keeping.{KeeperGrew};
 
 use crate::keeper::Keeper;
 use crate::proving::is_proof;
-use branch::{GreatestAnswer, MAX_START, SearchFinding, Work, greatest, greatest_from};
+use branch::{MAX_START, Work, greatest, greatest_from};
 use cert_checker::{Checker, Goal};
 use certificate::TreeScribe;
 use event_graph::{Network, Pair, ScribeFailed};
 use itv_base::NoMemory;
+use requirements::{Bound, Consistency};
 use std::alloc::Global;
 use std::marker::Model;
 
@@ -44,7 +45,7 @@ pub struct Kept<'a> {
 #[derive(Drop)]
 pub struct KeptBound {
     pair: Pair,
-    answer: GreatestAnswer,
+    answer: Bound,
     times: Vec<i64>,
     ray: Vec<bool>,
     keeper: Keeper,
@@ -71,7 +72,7 @@ impl KeptBound {
         let events = events as usize;
         Ok(KeptBound {
             pair,
-            answer: GreatestAnswer::Unbounded,
+            answer: Bound::Unbounded,
             times: Vec::from_elem(alloc, 0, events)?,
             ray: Vec::from_elem(alloc, false, events)?,
             keeper: Keeper::new(alloc, MAX_KEPT_LINES, MAX_KEPT_EDGES)?,
@@ -79,7 +80,7 @@ impl KeptBound {
     }
 
     /// The answer of the search.
-    pub fn answer(&self) -> GreatestAnswer
+    pub fn answer(&self) -> Bound
         ensures { result ≡ self.now.answer }
     {
         self.answer
@@ -107,20 +108,20 @@ impl KeptBound {
     {
         let Pair { from, to } = self.pair;
         match self.answer {
-            GreatestAnswer::Closed(value) => {
+            Bound::Closed(value) => {
                 if net.broken(&self.times).is_some() {
                     return false;
                 }
                 has_proof(net, checker, self.pair, value, self.keeper.proof())
             }
-            GreatestAnswer::Unbounded => net.is_ray(&self.times, &self.ray, from, to),
-            GreatestAnswer::Enclosed { .. } => false,
+            Bound::Unbounded => net.is_ray(&self.times, &self.ray, from, to),
+            Bound::Within { .. } => false,
         }
     }
 
     /// Searches the bound anew; `was` is the finding before. The search starts from the times of the bound if they are
     /// no worse a start than the known times of the working memory, and otherwise from the known times.
-    pub fn search(&mut self, net: &Network, work: &mut Work, budget: u64, was: SearchFinding)
+    pub fn search(&mut self, net: &Network, work: &mut Work, budget: u64, was: Consistency)
         requires pair { IsPairOf net.now.events self.old.pair }
         requires places { HasPlaces net.now.events self.old }
         requires made { IsMadeFor net.now work.old }
@@ -157,7 +158,7 @@ fn search_pair(
     start: Option<&[i64]>,
     budget: u64,
     keeper: &mut Keeper,
-) -> GreatestAnswer
+) -> Bound
     requires pair { IsPairOf net.now.events pair }
     requires made { IsMadeFor net.now work.old }
     requires known { IsSomeAnd work.old.known (λ times. Satisfies times net.now) }
@@ -183,7 +184,7 @@ fn search_pair(
 }
 
 // Whether the times of a bound are no worse a start than the known times; `was` is the finding before.
-fn is_start(net: &Network, was: SearchFinding, pair: Pair, times: &[i64], known: &[i64]) -> bool
+fn is_start(net: &Network, was: Consistency, pair: Pair, times: &[i64], known: &[i64]) -> bool
     requires pair { IsPairOf net.now.events pair }
     requires places { length times.now ≡ net.now.events }
     requires known { Satisfies known.now net.now }
@@ -192,11 +193,11 @@ fn is_start(net: &Network, was: SearchFinding, pair: Pair, times: &[i64], known:
     ensures { IsTrue result → IsBetterStart net.now pair known.now times.now }
 {
     match was {
-        SearchFinding::Consistent => {
+        Consistency::Consistent => {
             is_no_worse(separation_of(times, pair), separation_of(known, pair))
                 && net.broken(times).is_none()
         }
-        SearchFinding::Inconsistent | SearchFinding::Unsettled => false,
+        Consistency::Inconsistent | Consistency::Open => false,
     }
 }
 
@@ -227,7 +228,7 @@ fn has_proof(
     proof: Option<&TreeScribe>,
 ) -> bool
     requires room { checker.old.room ≡ length net.now.constraints }
-    ensures proof { IsTrue result ↔ IsSomeAnd (option_map (λ (tree : TreeView). tree.lines) (option_copied proof.entry)) (IsProof net.now (Bound pair.from pair.to value)) }
+    ensures proof { IsTrue result ↔ IsSomeAnd (option_map (λ (tree : TreeView). tree.lines) (option_copied proof.entry)) (IsProof net.now (BoundGoal pair.from pair.to value)) }
     ensures room { checker.new.room ≡ checker.old.room }
 {
     let Some(proof) = proof else {
@@ -242,23 +243,23 @@ fn has_proof(
 }
 
 // Takes the events to raise, if the answer has any.
-fn take_ray(ray: &mut [bool], answer: GreatestAnswer, found: &[bool])
+fn take_ray(ray: &mut [bool], answer: Bound, found: &[bool])
     requires places { answer ≡ answers.Unbounded → length found.now ≡ length ray.old }
     ensures ray { answer ≡ answers.Unbounded → ray.new ≡ found.now }
     ensures places { length ray.new ≡ length ray.old }
 {
     match answer {
-        GreatestAnswer::Unbounded => ray.copy_from_slice(found),
-        GreatestAnswer::Closed(_) | GreatestAnswer::Enclosed { .. } => {}
+        Bound::Unbounded => ray.copy_from_slice(found),
+        Bound::Closed(_) | Bound::Within { .. } => {}
     }
 }
 
 // Lets the lines go if the answer has no proof.
-fn keep_by(keeper: &mut Keeper, answer: GreatestAnswer)
+fn keep_by(keeper: &mut Keeper, answer: Bound)
     ensures { keeper.new ≡ record keeper.old { lines = kept_of answer keeper.old.lines } }
 {
     match answer {
-        GreatestAnswer::Closed(_) => {}
-        GreatestAnswer::Unbounded | GreatestAnswer::Enclosed { .. } => keeper.forget(),
+        Bound::Closed(_) => {}
+        Bound::Unbounded | Bound::Within { .. } => keeper.forget(),
     }
 }

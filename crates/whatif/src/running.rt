@@ -10,10 +10,10 @@ ghost use Rattle.whatif.specs.Session.{IsEdited, IsRight};
 use crate::change::Change;
 use crate::fault::EditFault;
 use crate::session::Session;
-use branch::{GreatestAnswer, SearchFinding};
 use drawn_networks::DrawnNetwork;
 use itv_base::NoMemory;
 use range_edits::RangeEdit;
+use requirements::{Bound, Consistency};
 use std::alloc::Global;
 use std::marker::Model;
 
@@ -22,8 +22,8 @@ use std::marker::Model;
 #[derive(Drop)]
 pub struct Note {
     pub change: Change,
-    pub found: SearchFinding,
-    pub answers: Vec<GreatestAnswer>,
+    pub found: Consistency,
+    pub answers: Vec<Bound>,
 }
 
 impl Model for Note {

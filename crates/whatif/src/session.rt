@@ -5,7 +5,7 @@ ghost use Rattle.std.specs.Option.{option_copied};
 ghost use Rattle.event_graph.specs.Network.{IsNet};
 ghost use Rattle.drawn_numbers.specs.Numbers.{IsCauseOf, with_ranges};
 ghost use Rattle.branch.specs.Work.{IsMadeFor};
-ghost use Rattle.branch.specs.declared.answer.SearchFinding.TheVariants as findings;
+ghost use Rattle.requirements.specs.declared.consistency.Consistency.TheVariants as findings;
 ghost use Rattle.whatif.specs.Session.{AttainsKnown, HasPlaces, IsEditFault, IsEdited, IsKeptOf, IsPairOf, IsRight, IsRightFinding, IsSessionFault, AreBoundsUpdated, KeptBound, answers_of, both_ways, bound_at};
 ghost use Rattle.whatif.specs.Step.Bounds.{IsPairIn};
 ghost use Rattle.whatif.specs.declared.change.Change.{Change};
@@ -16,11 +16,12 @@ use crate::change::Change;
 use crate::copying::copied;
 use crate::fault::{EditFault, SessionFault};
 use crate::settling::settle_by;
-use branch::{GreatestAnswer, SearchFinding, Work};
+use branch::Work;
 use cert_checker::Checker;
 use drawn_numbers::{CauseName, set_ranges};
 use event_graph::{Network, Pair};
 use itv_base::{NoMemory, Range};
+use requirements::{Bound, Consistency};
 use std::alloc::Global;
 use std::marker::Model;
 
@@ -35,7 +36,7 @@ pub struct Session {
     net: Network,
     budget: u64,
     pairs: Vec<Pair>,
-    found: SearchFinding,
+    found: Consistency,
     // Two bounds for each pair: its own, and the bound of the reversed pair.
     bounds: Vec<KeptBound>,
     checker: Checker,
@@ -118,7 +119,7 @@ impl Session {
     }
 
     /// Whether times satisfy the network, as far as the budget allows to know.
-    pub fn finding(&self) -> SearchFinding
+    pub fn finding(&self) -> Consistency
         ensures found { result ≡ self.now.found }
         ensures right { IsRight self.now }
     {
@@ -126,7 +127,7 @@ impl Session {
     }
 
     /// The greatest separation of a pair, given its number from 0, or `None` if and only if the finding is not consistent.
-    pub fn greatest_of(&self, pair: u32) -> Option<GreatestAnswer>
+    pub fn greatest_of(&self, pair: u32) -> Option<Bound>
         requires there { pair < length self.now.pairs }
         ensures { result ≡ option_map (λ (b : KeptBound). b.answer) (bound_at self.now.found self.now.bounds (pair + pair)) }
     {
@@ -136,7 +137,7 @@ impl Session {
 
     /// The greatest separation of the reversed pair, which is minus the least separation of the pair, or `None` if and
     /// only if the finding is not consistent.
-    pub fn least_of(&self, pair: u32) -> Option<GreatestAnswer>
+    pub fn least_of(&self, pair: u32) -> Option<Bound>
         requires there { pair < length self.now.pairs }
         ensures { result ≡ option_map (λ (b : KeptBound). b.answer) (bound_at self.now.found self.now.bounds (pair + pair + 1)) }
     {
@@ -163,12 +164,12 @@ impl Session {
     }
 
     /// The answers of all bounds, two for each pair, or none if the finding is not consistent.
-    pub fn answers(&self, alloc: Global) -> Result<Vec<GreatestAnswer>, NoMemory>
+    pub fn answers(&self, alloc: Global) -> Result<Vec<Bound>, NoMemory>
         ensures { IfOk result (λ answers. answers.items ≡ answers_of self.now.found self.now.bounds) }
     {
         match self.found {
-            SearchFinding::Consistent => answers_in(alloc, &self.bounds),
-            SearchFinding::Inconsistent | SearchFinding::Unsettled => Ok(Vec::new(alloc)),
+            Consistency::Consistent => answers_in(alloc, &self.bounds),
+            Consistency::Inconsistent | Consistency::Open => Ok(Vec::new(alloc)),
         }
     }
 
@@ -178,14 +179,14 @@ impl Session {
         ensures { option_copied result ≡ bound_at self.now.found self.now.bounds number }
     {
         match self.found {
-            SearchFinding::Consistent => self.bounds.get(number),
-            SearchFinding::Inconsistent | SearchFinding::Unsettled => None,
+            Consistency::Consistent => self.bounds.get(number),
+            Consistency::Inconsistent | Consistency::Open => None,
         }
     }
 }
 
 // The answer of each bound.
-fn answers_in(alloc: Global, bounds: &[KeptBound]) -> Result<Vec<GreatestAnswer>, NoMemory>
+fn answers_in(alloc: Global, bounds: &[KeptBound]) -> Result<Vec<Bound>, NoMemory>
     ensures { IfOk result (λ answers. answers.items ≡ map (λ (b : KeptBound). b.answer) bounds.now) }
 {
     let mut answers = Vec::new(alloc);
@@ -216,7 +217,7 @@ fn begin(
     checker: &mut Checker,
     budget: u64,
     bounds: &mut [KeptBound],
-) -> Result<SearchFinding, NoMemory>
+) -> Result<Consistency, NoMemory>
     requires room { checker.old.room ≡ length net.now.constraints }
     requires budget { 0 < budget }
     requires count { length bounds.old ≤ MAX_BOUNDS }
@@ -224,12 +225,12 @@ fn begin(
     requires places { All (HasPlaces net.now.events) bounds.old }
     ensures net { OnOk result (IsNet net.now) }
     ensures finding { IfOk result (IsRightFinding net.now budget) }
-    ensures settled { IfOk result (λ found. (change : Change) × AreBoundsUpdated net.now budget findings.Unsettled found bounds.old bounds.new change) }
+    ensures settled { IfOk result (λ found. (change : Change) × AreBoundsUpdated net.now budget findings.Open found bounds.old bounds.new change) }
     ensures places { OnOk result (All (HasPlaces net.now.events) bounds.new) }
     ensures room { checker.new.room ≡ checker.old.room }
 {
     let work = Work::new(alloc, net)?;
-    let mut found = SearchFinding::Unsettled;
+    let mut found = Consistency::Open;
     settle_by(net, work, checker, budget, &mut found, bounds);
     Ok(found)
 }

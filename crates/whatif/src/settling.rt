@@ -3,16 +3,17 @@
 ghost use Rattle.std.specs.Prelude.{◌≡◌, ◌<◌, ◌≤◌, ◌↔◌, [], All, IsSomeAnd, IsTrue, length, unwrap_or};
 ghost use Rattle.event_graph.specs.Satisfying.{Satisfies};
 ghost use Rattle.branch.specs.Work.{IsMadeFor};
-ghost use Rattle.branch.specs.declared.answer.SearchFinding.TheVariants as findings;
+ghost use Rattle.requirements.specs.declared.consistency.Consistency.TheVariants as findings;
 ghost use Rattle.whatif.specs.Session.{AreUpdated, HasPlaces, IsRightFinding, IsSearchedAnew, AreBoundsUpdated, MayKeepFrom};
 ghost use Rattle.whatif.specs.Step.Bounds.{IsCloseBound, IsPairIn};
 ghost use Rattle.whatif.specs.declared.settling.TheConstants.{MAX_BOUNDS};
 
 use crate::bound::KeptBound;
 use crate::change::Change;
-use branch::{Quiet, SearchFinding, Work, find};
+use branch::{Quiet, Work, find};
 use cert_checker::Checker;
 use event_graph::{Network, ScribeFailed};
+use requirements::Consistency;
 
 /// The most bounds that a session may have.
 pub const MAX_BOUNDS: usize = 128;
@@ -24,7 +25,7 @@ pub fn settle(
     work: &mut Work,
     checker: &mut Checker,
     budget: u64,
-    found: &mut SearchFinding,
+    found: &mut Consistency,
     bounds: &mut [KeptBound],
 ) -> Change
     requires made { IsMadeFor net.now work.old }
@@ -43,8 +44,8 @@ pub fn settle(
     let now = find_times(net, work, budget);
     *found = now;
     match now {
-        SearchFinding::Consistent => settle_bounds(net, work, checker, budget, was, bounds),
-        SearchFinding::Inconsistent | SearchFinding::Unsettled => Change {
+        Consistency::Consistent => settle_bounds(net, work, checker, budget, was, bounds),
+        Consistency::Inconsistent | Consistency::Open => Change {
             kept: 0,
             searched: 0,
         },
@@ -57,7 +58,7 @@ pub fn settle_by(
     mut work: Work,
     checker: &mut Checker,
     budget: u64,
-    found: &mut SearchFinding,
+    found: &mut Consistency,
     bounds: &mut [KeptBound],
 ) -> Change
     requires made { IsMadeFor net.now work }
@@ -76,7 +77,7 @@ pub fn settle_by(
 }
 
 // Whether some times satisfy the network. If so, the times are known afterwards.
-fn find_times(net: &Network, work: &mut Work, budget: u64) -> SearchFinding
+fn find_times(net: &Network, work: &mut Work, budget: u64) -> Consistency
     requires made { IsMadeFor net.now work.old }
     requires budget { 0 < budget }
     ensures made { IsMadeFor net.now work.new }
@@ -98,7 +99,7 @@ fn settle_bounds(
     work: &mut Work,
     checker: &mut Checker,
     budget: u64,
-    was: SearchFinding,
+    was: Consistency,
     bounds: &mut [KeptBound],
 ) -> Change
     requires made { IsMadeFor net.now work.old }
@@ -129,7 +130,7 @@ fn settle_bounds(
 }
 
 // Whether a bound is kept; `was` is the finding before.
-fn keeps(net: &Network, checker: &mut Checker, was: SearchFinding, bound: &KeptBound) -> bool
+fn keeps(net: &Network, checker: &mut Checker, was: Consistency, bound: &KeptBound) -> bool
     requires pair { IsPairIn net.now.events bound.now }
     requires places { HasPlaces net.now.events bound.now }
     requires room { checker.old.room ≡ length net.now.constraints }
@@ -138,7 +139,7 @@ fn keeps(net: &Network, checker: &mut Checker, was: SearchFinding, bound: &KeptB
     ensures room { checker.new.room ≡ checker.old.room }
 {
     match was {
-        SearchFinding::Consistent => bound.may_keep(net, checker),
-        SearchFinding::Inconsistent | SearchFinding::Unsettled => false,
+        Consistency::Consistent => bound.may_keep(net, checker),
+        Consistency::Inconsistent | Consistency::Open => false,
     }
 }

@@ -4,11 +4,11 @@ use Rattle.itv_base.specs.declared.row_kind.RowKind.{RowKind}
 use Rattle.itv_base.specs.declared.row_kind.RowKind.TheVariants as kinds
 use Rattle.event_graph.specs.Network.{Net}
 use Rattle.requirements.specs.declared.bound.BothBounds.{BothBounds}
-use Rattle.slack_report.specs.declared.words.FindingWord.{FindingWord}
+use Rattle.requirements.specs.declared.consistency.Consistency.{Consistency}
 use Rattle.drawn_networks.specs.declared.row.Row.{Row}
 use Rattle.explanations.specs.Answers.{IsApart, verdict_by}
 
 -- the bounds of a row in the network apart, if its verdict rests on the order of a lane; given its bounds in the drawn network
-abbrev pub AreBoundsApart : Net → ℕ → FindingWord → Row → RowKind → BothBounds → Option BothBounds → Type 0
+abbrev pub AreBoundsApart : Net → ℕ → Consistency → Row → RowKind → BothBounds → Option BothBounds → Type 0
 AreBoundsApart apart budget word row kinds.Ask both bounds = bounds ≡ None
 AreBoundsApart apart budget word row (kinds.Req range) both bounds = IsApart apart budget word row range (verdict_by range both) bounds

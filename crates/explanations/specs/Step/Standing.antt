@@ -7,10 +7,8 @@ use Rattle.extremes.specs.Found.{IsFindingOpen}
 use Rattle.extremes.specs.Ready.{IsContradicted, IsFor}
 use Rattle.extremes.specs.Ready.{IsReady as CanSearch}
 use Rattle.extremes.specs.declared.extremes.Extremes.{Extremes}
-use Rattle.extremes.specs.declared.found.Consistency.{Consistency}
-use Rattle.extremes.specs.declared.found.Consistency.TheVariants as consistency
-use Rattle.slack_report.specs.declared.words.FindingWord.{FindingWord}
-use Rattle.slack_report.specs.declared.words.FindingWord.TheVariants as findings
+use Rattle.requirements.specs.declared.consistency.Consistency.{Consistency}
+use Rattle.requirements.specs.declared.consistency.Consistency.TheVariants as findings
 use Rattle.drawn_networks.specs.Drawn.{Drawn}
 use Rattle.explanations.specs.Answers.{IsFindingApart}
 use Rattle.explanations.specs.Apart.{net_apart}
@@ -18,34 +16,28 @@ use Rattle.explanations.specs.declared.searches.Searches.{Searches}
 use Rattle.explanations.specs.declared.desk.Apart.{Apart}
 use Rattle.explanations.specs.declared.desk.Desk.{Desk}
 
--- the word of a finding
-abbrev pub word_by : Consistency → FindingWord
-word_by consistency.Consistent = findings.Consistent
-word_by consistency.Inconsistent = findings.Inconsistent
-word_by consistency.Open = findings.Unsettled
-
 -- what is known after the search for times
-abbrev pub HasFound : Net → FindingWord → Extremes → Type 0
+abbrev pub HasFound : Net → Consistency → Extremes → Type 0
 HasFound net findings.Consistent extremes = CanSearch net extremes
 HasFound net findings.Inconsistent extremes = IsContradicted net extremes
-HasFound net findings.Unsettled extremes = IsFor net extremes × IsFindingOpen net extremes.budget
+HasFound net findings.Open extremes = IsFor net extremes × IsFindingOpen net extremes.budget
 
 -- times that a finding allows: some that satisfy, or some that meet the always-edges; an inconsistent finding allows none
-abbrev pub FindingAllows : Net → FindingWord → Type 0
+abbrev pub FindingAllows : Net → Consistency → Type 0
 FindingAllows net findings.Consistent = (times : List ℤ) × Satisfies times net
 FindingAllows net findings.Inconsistent = ⊥
-FindingAllows net findings.Unsettled = (times : List ℤ) × MeetsAlways times net
+FindingAllows net findings.Open = (times : List ℤ) × MeetsAlways times net
 
 -- nothing was searched yet
 pub record IsFresh (net : Net) (searches : Searches) : Type 0 where
   pub made : IsFor net searches.extremes
-  pub unsettled : searches.word ≡ findings.Unsettled
+  pub unsettled : searches.word ≡ findings.Open
 
 -- bounds can be found after a finding: by searches after a consistent one, and as limits after an unsettled one
-abbrev pub IsSearchableAfter : Net → FindingWord → Extremes → Type 0
+abbrev pub IsSearchableAfter : Net → Consistency → Extremes → Type 0
 IsSearchableAfter net findings.Consistent extremes = CanSearch net extremes
 IsSearchableAfter net findings.Inconsistent extremes = ⊥
-IsSearchableAfter net findings.Unsettled extremes = IsFor net extremes × ((times : List ℤ) × MeetsAlways times net)
+IsSearchableAfter net findings.Open extremes = IsFor net extremes × ((times : List ℤ) × MeetsAlways times net)
 
 abbrev pub IsSearchable : Net → Searches → Type 0
 IsSearchable net searches = IsSearchableAfter net searches.word searches.extremes
@@ -61,12 +53,12 @@ net_in net None = net
 net_in net (Some apart) = apart.net
 
 -- the finding of the network apart in some memory, or the one of the network itself where there is no such memory
-abbrev pub word_in : FindingWord → Option Apart → FindingWord
+abbrev pub word_in : Consistency → Option Apart → Consistency
 word_in word None = word
 word_in word (Some apart) = apart.searches.word
 
 -- the finding of the network apart that a desk has
-abbrev pub word_apart : Desk → FindingWord
+abbrev pub word_apart : Desk → Consistency
 word_apart desk = word_in desk.searches.word desk.apart
 
 -- searches of the network apart have this budget
@@ -81,7 +73,7 @@ pub record IsDeskFor (drawn : Drawn) (desk : Desk) : Type 0 where
   pub budget : HasSameBudget desk.searches.extremes.budget desk.apart
 
 -- the finding of the network apart is made, if this is another network; after the finding of the drawn network with this word
-abbrev pub IsSettledApart : ℕ → FindingWord → Option Apart → Type 0
+abbrev pub IsSettledApart : ℕ → Consistency → Option Apart → Type 0
 IsSettledApart budget word apart = IfSome apart (λ (a : Apart). IsFindingApart a.net budget word a.searches.word)
 
 -- findings were made in the drawn network and in the network apart; no finding is inconsistent

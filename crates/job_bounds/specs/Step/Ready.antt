@@ -8,8 +8,8 @@ use Rattle.event_graph.specs.Satisfying.{Satisfies}
 use Rattle.event_graph.specs.Times.{time_of}
 use Rattle.requirements.specs.declared.verdict.Verdict.{Verdict}
 use Rattle.slack_report.specs.declared.words.EndWord.TheVariants as endings
-use Rattle.slack_report.specs.declared.words.FindingWord.{FindingWord}
-use Rattle.slack_report.specs.declared.words.FindingWord.TheVariants as findings
+use Rattle.requirements.specs.declared.consistency.Consistency.{Consistency}
+use Rattle.requirements.specs.declared.consistency.Consistency.TheVariants as findings
 use Rattle.right_report.specs.Right.ReportState.{ReportState, at_end, at_row, at_rows, end_word, is_fail, with_bounds, with_verdict}
 use Rattle.right_report.specs.declared.tally.ReportTally.{ReportTally}
 use Rattle.job_bounds.specs.Reports.{is_pass, is_undecided}
@@ -19,10 +19,10 @@ use Rattle.job_bounds.specs.declared.tally.Tally.{Tally}
 use Rattle.job_bounds.specs.Step.Witness.{IsRoomFor}
 
 -- what a finding leaves: known times that satisfy, or, if it is unsettled, times that meet all always-edges
-abbrev pub HasFound : Net → FindingWord → Option (List ℤ) → Type 0
+abbrev pub HasFound : Net → Consistency → Option (List ℤ) → Type 0
 HasFound net findings.Consistent known = IsSomeAnd known (λ times. Satisfies times net)
 HasFound net findings.Inconsistent known = Unit {0}
-HasFound net findings.Unsettled known = (list : List ℤ) × MeetsAlways list net
+HasFound net findings.Open known = (list : List ℤ) × MeetsAlways list net
 
 -- the memory is made for a network
 pub record IsSet (net : Net) (desk : Desk) : Type 0 where
@@ -31,7 +31,7 @@ pub record IsSet (net : Net) (desk : Desk) : Type 0 where
   pub least : IsRoomFor net desk.least
 
 -- the memory is made for a network, and a finding is made
-pub record IsReady (net : Net) (word : FindingWord) (desk : Desk) : Type 0 where
+pub record IsReady (net : Net) (word : Consistency) (desk : Desk) : Type 0 where
   pub set : IsSet net desk
   pub found : HasFound net word desk.work.known
 
@@ -55,13 +55,13 @@ abbrev pub AreKnown : Net → List ℤ → Type 0
 AreKnown net list = All IsPrintedTime list × Satisfies list net × (time_of list (record { 0 = 0 }) ≡ pos 0)
 
 -- the report state after a finding and the times that come with it
-abbrev pub behind_known : FindingWord → ReportState
+abbrev pub behind_known : Consistency → ReportState
 behind_known findings.Consistent = at_rows findings.Consistent
 behind_known findings.Inconsistent = at_end endings.Inconsistent
-behind_known findings.Unsettled = at_rows findings.Unsettled
+behind_known findings.Open = at_rows findings.Open
 
 -- the report state after a finding and all rows; `count` is how many rows there are
-abbrev pub behind_rows : FindingWord → Tally → ℕ → ReportState
+abbrev pub behind_rows : Consistency → Tally → ℕ → ReportState
 behind_rows findings.Consistent tally count = at_row tally.report count []
 behind_rows findings.Inconsistent tally count = at_end (end_word tally.report)
-behind_rows findings.Unsettled tally count = at_row tally.report count []
+behind_rows findings.Open tally count = at_row tally.report count []

@@ -1,10 +1,9 @@
 -- What a search for a bound of a pair shows.
 use Rattle.std.specs.Prelude.{ℕ, ℤ, neg_ℤ, List, [], Bool, Option, unwrap_or}
-use Rattle.branch.specs.AnswerBound.{greatest_bound}
 use Rattle.branch.specs.Answers.{IsGreatestAnswer, Evidence, Finds, PairSearch}
 use Rattle.branch.specs.Needed.{IsNeededToBound, IsNeededToFind}
-use Rattle.branch.specs.declared.answer.GreatestAnswer.{GreatestAnswer}
-use Rattle.branch.specs.declared.answer.SearchFinding.{SearchFinding}
+use Rattle.requirements.specs.declared.bound.Bound.{Bound}
+use Rattle.requirements.specs.declared.consistency.Consistency.{Consistency}
 use Rattle.event_graph.specs.Network.{Net}
 use Rattle.event_graph.specs.Proof.{ProofLine}
 use Rattle.event_graph.specs.Reading.{AtEachSplit}
@@ -12,7 +11,6 @@ use Rattle.event_graph.specs.Times.{shifted, time_of}
 use Rattle.certificate.specs.Scribing.{SinkGrew, SinkWasCut}
 use Rattle.itv_base.specs.Outside.{SinkState}
 use Rattle.requirements.specs.Bounds.{HasTimes, reversed}
-use Rattle.requirements.specs.declared.bound.Bound.{Bound}
 use Rattle.slack_report.specs.declared.words.Which.{Which}
 use Rattle.slack_report.specs.declared.words.Which.TheVariants as sorts
 use Rattle.right_report.specs.Right.Following.{LineClaims}
@@ -34,17 +32,17 @@ abbrev pub search_of : Net → Pair → ℕ → PairSearch
 search_of net pair budget = record { net = net; from = pair.from; to = pair.to; budget = budget }
 
 -- the bound of a pair from the answer of the search on its searched pair
-abbrev pub bound_of : Which → GreatestAnswer → Bound
-bound_of sorts.Max answer = greatest_bound answer
-bound_of sorts.Min answer = reversed (greatest_bound answer)
+abbrev pub bound_of : Which → Bound → Bound
+bound_of sorts.Max answer = answer
+bound_of sorts.Min answer = reversed answer
 
 -- what a finding says of a network, given the lines of its search; each split of these lines was needed
-pub record FindsBy (net : Net) (budget : ℕ) (lines : List ProofLine) (leaves : ℕ) (known : Option (List ℤ)) (found : SearchFinding) : Type 0 where
+pub record FindsBy (net : Net) (budget : ℕ) (lines : List ProofLine) (leaves : ℕ) (known : Option (List ℤ)) (found : Consistency) : Type 0 where
   pub says : Finds net budget lines leaves known found
   pub needed : AtEachSplit net (IsNeededToFind net) lines
 
 -- what an answer says of a pair, given the lines of its search; each split of these lines was needed after a known separation
-pub record AnswersSearch (search : PairSearch) (known : ℤ) (left : Evidence) (answer : GreatestAnswer) : Type 0 where
+pub record AnswersSearch (search : PairSearch) (known : ℤ) (left : Evidence) (answer : Bound) : Type 0 where
   pub says : IsGreatestAnswer search left answer
   pub needed : AtEachSplit search.net (IsNeededToBound search.net search.from search.to known) left.lines
 

@@ -6,10 +6,10 @@ use Rattle.event_graph.specs.Bounds.{IsGreatest, IsUnbounded}
 use Rattle.event_graph.specs.Network.{Net}
 use Rattle.event_graph.specs.Satisfying.{Satisfies}
 use Rattle.event_graph.specs.Times.{separation}
-use Rattle.extremes.specs.declared.found.Consistency.{Consistency}
-use Rattle.extremes.specs.declared.found.Consistency.TheVariants as consistency
-use Rattle.extremes.specs.declared.found.Greatest.{Greatest}
-use Rattle.extremes.specs.declared.found.Greatest.TheVariants as greatest
+use Rattle.requirements.specs.declared.consistency.Consistency.{Consistency}
+use Rattle.requirements.specs.declared.consistency.Consistency.TheVariants as consistency
+use Rattle.extremes.specs.Found.{Greatest}
+use Rattle.requirements.specs.declared.separation.Separation.TheVariants as greatest
 use Rattle.requirements.specs.Laws.{IsMet}
 use Rattle.job_lint.specs.declared.by_order.ByOrder.{ByOrder}
 use Rattle.job_lint.specs.declared.by_order.ByOrder.TheVariants as by_order

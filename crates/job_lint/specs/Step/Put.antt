@@ -10,7 +10,7 @@ use Rattle.compose.specs.Design.{DesignView}
 use Rattle.drawn_networks.specs.Drawn.{Drawn}
 use Rattle.design_plan.specs.Notes.{is_printed_byte}
 use Rattle.design_plan.specs.Plan.{PlanView, sheets_on}
-use Rattle.lint.specs.Warnings.{warnings_of}
+use Rattle.lint.specs.declared.warning.Warning.{Warning}
 use Rattle.job_lint.specs.declared.piece.PartPlace.{PartPlace}
 use Rattle.job_lint.specs.declared.piece.Piece.{Piece}
 use Rattle.job_lint.specs.declared.piece.Piece.TheVariants as pieces
@@ -46,10 +46,11 @@ told_by plan Nothing = []
 told_by plan (One place) = told_words plan place.part.now place.origin
 told_by plan (Two first other) = both_words (place_told plan first) (place_told plan other)
 
--- the lines are the lines of the plan's design and of what is found of it
+-- the lines are lines of warnings of the plan's design, and the lines of what is found of it
 pub record AreLintLines (plan : PlanView) (design : DesignView) (network : Drawn) (budget : ℕ) (lines : List Line) : Type 0 where
   pub is_design : composed_on plan.netlist (sheets_on plan.sheets plan.netlist.parts) ≡ Ok design
+  pub warnings : List Warning
   pub found : LintFound
   pub is_found : IsLintFound network found
   pub settles : LeavesNothingOpen network budget found
-  pub are_lines : lines ≡ lines_of design network (warnings_of plan design) found
+  pub are_lines : lines ≡ lines_of design network warnings found

@@ -7,8 +7,8 @@ use Rattle.requirements.specs.declared.bound.Bound.TheVariants as bounds
 use Rattle.requirements.specs.declared.verdict.Verdict.{Verdict}
 use Rattle.requirements.specs.Slacks.{slack_of}
 use Rattle.requirements.specs.Verdicts.{verdict_of}
-use Rattle.slack_report.specs.declared.words.FindingWord.{FindingWord}
-use Rattle.slack_report.specs.declared.words.FindingWord.TheVariants as findings
+use Rattle.requirements.specs.declared.consistency.Consistency.{Consistency}
+use Rattle.requirements.specs.declared.consistency.Consistency.TheVariants as findings
 use Rattle.slack_report.specs.Entry.{Entry, heading, budget, events, event, proof, finding, times, rows, row, bound, raise, verdict, slack, ending}
 use Rattle.drawn_networks.specs.Drawn.{Drawn, name_of}
 use Rattle.drawn_networks.specs.declared.row.Row.{Row}
@@ -17,9 +17,9 @@ use Rattle.right_report.specs.declared.tally.ReportTally.{ReportTally}
 
 -- What each kind of line has to say truly of the network. Each reader of a report asks for something of its own.
 pub record LineClaims : Type 1 where
-  pub finding : List ProofLine → FindingWord → Type 0
+  pub finding : List ProofLine → Consistency → Type 0
   pub known : List ℤ → Type 0
-  pub bound : FindingWord → Row → NextBound → List ProofLine → Bound → Type 0
+  pub bound : Consistency → Row → NextBound → List ProofLine → Bound → Type 0
   pub times : Row → Bound → List ℤ → Type 0
   pub raise : Row → NextBound → List ℤ → List Bool → Type 0
   pub past : Row → Ends → Verdict → List ℤ → Type 0
@@ -28,7 +28,7 @@ pub record LineClaims : Type 1 where
 abbrev pub MayFind : LineClaims → List ProofLine → Entry → ReportState → Type 0
 MayFind claims lines line next =
     ((more : ProofLine) × (line ≡ proof more) × (next ≡ at_finding (lines ++ more ∷ [])))
-    ⊎ ((word : FindingWord) × (line ≡ finding word) × claims.finding lines word × (next ≡ behind_finding word))
+    ⊎ ((word : Consistency) × (line ≡ finding word) × claims.finding lines word × (next ≡ behind_finding word))
 
 -- a line of a proof follows, or the bound after the lines of its proof
 abbrev pub MayBound : LineClaims → CurrentRow → NextBound → List ProofLine → Entry → ReportState → Type 0
@@ -69,9 +69,9 @@ LinesLead claims drawn at (line ∷ lines) last = (next : ReportState) × MayFol
 
 -- all that one reader accepts, another reader accepts too
 pub record Implies (claims other : LineClaims) : Type 0 where
-  pub finding : (lines : List ProofLine) (word : FindingWord) → claims.finding lines word → other.finding lines word
+  pub finding : (lines : List ProofLine) (word : Consistency) → claims.finding lines word → other.finding lines word
   pub known : (list : List ℤ) → claims.known list → other.known list
-  pub bound : (found : FindingWord) (r : Row) (coming : NextBound) (lines : List ProofLine) (value : Bound) → claims.bound found r coming lines value → other.bound found r coming lines value
+  pub bound : (found : Consistency) (r : Row) (coming : NextBound) (lines : List ProofLine) (value : Bound) → claims.bound found r coming lines value → other.bound found r coming lines value
   pub times : (r : Row) (value : Bound) (list : List ℤ) → claims.times r value list → other.times r value list
   pub raise : (r : Row) (coming : NextBound) (list : List ℤ) (set : List Bool) → claims.raise r coming list set → other.raise r coming list set
   pub past : (r : Row) (range : Ends) (word : Verdict) (list : List ℤ) → claims.past r range word list → other.past r range word list

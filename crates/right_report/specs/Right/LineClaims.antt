@@ -10,8 +10,8 @@ use Rattle.requirements.specs.declared.bound.Bound.{Bound}
 use Rattle.requirements.specs.declared.bound.Bound.TheVariants as bounds
 use Rattle.requirements.specs.declared.verdict.Verdict.{Verdict}
 use Rattle.requirements.specs.declared.verdict.Verdict.TheVariants as verdicts
-use Rattle.slack_report.specs.declared.words.FindingWord.{FindingWord}
-use Rattle.slack_report.specs.declared.words.FindingWord.TheVariants as findings
+use Rattle.requirements.specs.declared.consistency.Consistency.{Consistency}
+use Rattle.requirements.specs.declared.consistency.Consistency.TheVariants as findings
 use Rattle.slack_report.specs.Entry.{Entry}
 use Rattle.drawn_networks.specs.Drawn.{AreTimes, Drawn}
 use Rattle.drawn_networks.specs.declared.row.Row.{Row}
@@ -19,10 +19,10 @@ use Rattle.right_report.specs.Right.ReportState.{ReportState, NextBound, at_head
 use Rattle.right_report.specs.Right.Following.{LineClaims, LinesLead}
 
 -- a finding is right: no times satisfy if it is inconsistent, and some times meet the always-edges if it is unsettled
-abbrev pub IsFinding : Net → FindingWord → Type 0
+abbrev pub IsFinding : Net → Consistency → Type 0
 IsFinding net findings.Consistent = Unit {0}
 IsFinding net findings.Inconsistent = IsInconsistent net
-IsFinding net findings.Unsettled = (list : List ℤ) × MeetsAlways list net
+IsFinding net findings.Open = (list : List ℤ) × MeetsAlways list net
 
 -- a closed bound is the greatest or the least separation
 abbrev pub IsClosed : Net → Row → NextBound → ℤ → Type 0
@@ -35,12 +35,12 @@ IsLimit net r greatest limit = IsRootBound net r.from r.to limit
 IsLimit net r (least_by most) limit = IsRootBound net r.to r.from (option_map neg_ℤ limit)
 
 -- a bound within limits has an attained number after a consistent finding, and none after an unsettled one
-abbrev pub HasAttained : FindingWord → Option ℤ → Type 0
+abbrev pub HasAttained : Consistency → Option ℤ → Type 0
 HasAttained findings.Consistent attained = IsSome attained
 HasAttained findings.Inconsistent attained = ⊥
-HasAttained findings.Unsettled attained = IsNone attained
+HasAttained findings.Open attained = IsNone attained
 
-abbrev pub IsBoundOf : Net → FindingWord → Row → NextBound → Bound → Type 0
+abbrev pub IsBoundOf : Net → Consistency → Row → NextBound → Bound → Type 0
 IsBoundOf net found r coming (bounds.Closed value) = (found ≡ findings.Consistent) × IsClosed net r coming value
 IsBoundOf net found r coming bounds.Unbounded = found ≡ findings.Consistent
 IsBoundOf net found r coming (bounds.Within limit attained) = IsLimit net r coming limit × HasAttained found attained

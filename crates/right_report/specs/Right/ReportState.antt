@@ -11,8 +11,8 @@ use Rattle.itv_base.specs.declared.row_kind.RowKind.{RowKind}
 use Rattle.itv_base.specs.declared.row_kind.RowKind.TheVariants as kinds
 use Rattle.slack_report.specs.declared.words.EndWord.{EndWord}
 use Rattle.slack_report.specs.declared.words.EndWord.TheVariants as endings
-use Rattle.slack_report.specs.declared.words.FindingWord.{FindingWord}
-use Rattle.slack_report.specs.declared.words.FindingWord.TheVariants as findings
+use Rattle.requirements.specs.declared.consistency.Consistency.{Consistency}
+use Rattle.requirements.specs.declared.consistency.Consistency.TheVariants as findings
 use Rattle.slack_report.specs.declared.words.Which.{Which}
 use Rattle.slack_report.specs.declared.words.Which.TheVariants as sorts
 use Rattle.drawn_networks.specs.declared.row.Row.{Row}
@@ -38,7 +38,7 @@ pub data ReportState : Type 0 where
   at_event : ℕ → List Name → ReportState
   at_finding : List ProofLine → ReportState
   at_known : ReportState
-  at_rows : FindingWord → ReportState
+  at_rows : Consistency → ReportState
   at_row : ReportTally → ℕ → List Row → ReportState
   at_bound : CurrentRow → NextBound → List ProofLine → ReportState
   at_times : CurrentRow → NextBound → Bound → ReportState
@@ -103,20 +103,20 @@ behind_past row range least most word = at_slack (with_verdict (with_bounds row.
 abbrev pub behind_verdict : CurrentRow → Ends → Bound → Bound → Verdict → ReportState
 behind_verdict row range least most word = if is_fail word then at_past row range least most else behind_past row range least most word
 
-abbrev pub tally_of : FindingWord → ReportTally
+abbrev pub tally_of : Consistency → ReportTally
 tally_of word = record { found = word; fails = false; within = false }
 
 -- the state after a finding
-abbrev pub behind_finding : FindingWord → ReportState
+abbrev pub behind_finding : Consistency → ReportState
 behind_finding findings.Consistent = at_known
 behind_finding findings.Inconsistent = at_end endings.Inconsistent
-behind_finding findings.Unsettled = at_rows findings.Unsettled
+behind_finding findings.Open = at_rows findings.Open
 
 -- the word at the end if no verdict was a fail
-abbrev pub undecided_or_pass : FindingWord → Bool → EndWord
+abbrev pub undecided_or_pass : Consistency → Bool → EndWord
 undecided_or_pass findings.Consistent within = if within then endings.Undecided else endings.Pass
 undecided_or_pass findings.Inconsistent within = endings.Inconsistent
-undecided_or_pass findings.Unsettled within = endings.Undecided
+undecided_or_pass findings.Open within = endings.Undecided
 
 -- the word at the end
 abbrev pub end_word : ReportTally → EndWord

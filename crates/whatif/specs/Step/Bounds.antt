@@ -8,16 +8,16 @@ use Rattle.event_graph.specs.Times.{separation}
 use Rattle.branch.specs.Answers.{IsGreatestAnswer, Evidence}
 use Rattle.branch.specs.Needed.{IsNeededToBound}
 use Rattle.branch.specs.Work.{IsClose, IsStart}
-use Rattle.branch.specs.declared.answer.GreatestAnswer.{GreatestAnswer}
-use Rattle.branch.specs.declared.answer.GreatestAnswer.TheVariants.{Closed, Unbounded, Enclosed}
+use Rattle.requirements.specs.declared.bound.Bound.{Bound}
+use Rattle.requirements.specs.declared.bound.Bound.TheVariants.{Closed, Unbounded, Within}
 use Rattle.event_graph.specs.declared.pair.Pair.{Pair}
 use Rattle.whatif.specs.Session.{IsPairOf, KeptBound, pair_search}
 
 -- what is kept of the lines of a search, according to its answer: the lines of a closed bound, and none of others
-abbrev pub kept_of : GreatestAnswer → Option (List ProofLine) → Option (List ProofLine)
+abbrev pub kept_of : Bound → Option (List ProofLine) → Option (List ProofLine)
 kept_of (Closed value) lines = lines
 kept_of Unbounded lines = None
-kept_of (Enclosed upper attained) lines = None
+kept_of (Within limit attained) lines = None
 
 -- both events of the pair of a bound have numbers below `events`
 abbrev pub IsPairIn : ℕ → KeptBound → Type 0
@@ -35,7 +35,7 @@ pub record IsBetterStart (net : Net) (pair : Pair) (known times : List ℤ) : Ty
   pub least : separation known pair.from pair.to ≤ℤ separation times pair.from pair.to
 
 -- what a search for the bound of a pair left. It started from satisfying times, and its times have no lesser separation than the known times.
-pub record IsPairSearched (net : Net) (pair : Pair) (budget : ℕ) (known : List ℤ) (left : Evidence) (answer : GreatestAnswer) : Type 0 where
+pub record IsPairSearched (net : Net) (pair : Pair) (budget : ℕ) (known : List ℤ) (left : Evidence) (answer : Bound) : Type 0 where
   pub start : List ℤ
   pub started : Satisfies start net
   pub answers : IsGreatestAnswer (pair_search net pair budget) left answer

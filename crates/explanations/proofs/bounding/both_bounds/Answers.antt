@@ -1,5 +1,5 @@
 use Rattle.std.proofs.Common.{ℕ, sym, subst}
-use Rattle.slack_report.specs.declared.words.FindingWord.{FindingWord}
+use Rattle.requirements.specs.declared.consistency.Consistency.{Consistency}
 use Rattle.explanations.specs.Step.Bounding.{IsGreatestFoundBy}
 use Rattle.explanations.proofs.Behind.{both_of, pair_right}
 use Rattle.explanations.proofs.bounding.both_bounds.Goals as goal
@@ -20,5 +20,5 @@ returns-clause-bounds c = λ row f t.
     (pair_right net between.extremes.budget between.word turned c.in_ok-search_pair-2.field-0 c.in_ok-search_pair-2.ensures.found) in
     let second : IsGreatestFoundBy net budget old.word turned c.bound.result =
     subst (λ (b : ℕ). IsGreatestFoundBy net b old.word turned c.bound.result) kept.budget
-    (subst (λ (w : FindingWord). IsGreatestFoundBy net between.extremes.budget w turned c.bound.result) kept.word later) in
+    (subst (λ (w : Consistency). IsGreatestFoundBy net between.extremes.budget w turned c.bound.result) kept.word later) in
     both_of net budget old.word c.args.pair turned row c.bound-greatest.result c.bound.result c.reversed-least.result c.reversed.ensures.pair c.reversed-least.ensures.bound f t first second

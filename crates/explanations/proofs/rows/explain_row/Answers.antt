@@ -3,9 +3,9 @@ use Rattle.event_graph.specs.Network.{Net}
 use Rattle.drawn_networks.specs.Drawn.{IsRowOf}
 use Rattle.requirements.specs.declared.bound.BothBounds.{BothBounds}
 use Rattle.requirements.specs.declared.bound.Bound.{Bound}
-use Rattle.explanations.specs.Answers.{bound_of}
-use Rattle.slack_report.specs.declared.words.FindingWord.{FindingWord}
-use Rattle.explanations.specs.declared.bound.BoundFound.{BoundFound}
+use Rattle.requirements.specs.Separations.{bound_of}
+use Rattle.requirements.specs.declared.consistency.Consistency.{Consistency}
+use Rattle.explanations.specs.Answers.{BoundFound}
 use Rattle.event_graph.specs.declared.pair.Pair.{Pair}
 use Rattle.explanations.specs.Step.Standing.{net_in, word_apart}
 use Rattle.explanations.specs.Step.Bounding.{IsExplained}
@@ -31,7 +31,7 @@ returns-clause-found c =
     let later : IsExplained net c.explain_greatest.new.searches.extremes.budget c.explain_greatest.new.searches.word turned searched = c.in_ok-explain_greatest.ensures.found in
     let second : IsExplained net desk.searches.extremes.budget desk.searches.word turned searched =
     subst (λ (b : ℕ). IsExplained net b desk.searches.word turned searched) kept.budget
-    (subst (λ (w : FindingWord). IsExplained net c.explain_greatest.new.searches.extremes.budget w turned searched) kept.word later) in
+    (subst (λ (w : Consistency). IsExplained net c.explain_greatest.new.searches.extremes.budget w turned searched) kept.word later) in
     row_found drawn net (net_in drawn.net desk.apart) desk.searches.extremes.budget desk.searches.word (word_apart desk) c.args.row.now turned
     c.in_ok-greatest.greatest searched c.reversed-least.result both c.in_ok-apart.apart c.network-net.ensures.network c.requires.ready.apart
     c.reversed-searched.ensures.pair c.reversed-least.ensures.found

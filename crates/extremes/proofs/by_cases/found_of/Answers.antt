@@ -11,9 +11,9 @@ returns-in_ok-times-in-Closed c = record {
       (subst (IsGreatestAnswer search left) c.in-Closed.is answer) sat close;
 }
 
-pub returns-in-Enclosed : goal.returns-in-Enclosed
-returns-in-Enclosed c = record {
+pub returns-in-Within : goal.returns-in-Within
+returns-in-Within c = record {
   found = λ search lines answer sat close.
       let left = evidence lines c.args.work.now in
-      open_found search c.in-Enclosed.upper c.in-Enclosed.attained left (subst (IsGreatestAnswer search left) c.in-Enclosed.is answer) sat close;
+      open_found search c.in-Within.limit c.in-Within.attained left (subst (IsGreatestAnswer search left) c.in-Within.is answer) sat close;
 }

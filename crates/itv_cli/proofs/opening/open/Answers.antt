@@ -1,6 +1,6 @@
 use Rattle.std.proofs.Common.{option_map, refl}
 use Rattle.design_gen.specs.Files.{design_files}
-use Rattle.command_words.specs.Task.{searched, planned, checked, fall, matrix, generated, whatif, margin}
+use Rattle.command_words.specs.Task.{searched, planned, checked, fall, files, matrix, generated, whatif, margin}
 use Rattle.itv_cli.proofs.Fetching.{opens_made, opens_shelf}
 use Rattle.itv_cli.proofs.opening.open.Goals as goal
 
@@ -27,6 +27,10 @@ returns-in-Fall-clause-opens g c =
 pub returns-in-Matrix-clause-opens : goal.returns-in-Matrix-clause-opens
 returns-in-Matrix-clause-opens g c =
     rw c.in-Matrix.is (opens_shelf (g.H.Shelf.state c.args.shelf.now) (g.H.Shelf.state c.open_matrix.new.shelf) (matrix c.in-Matrix.design.now) c.open_matrix.result refl c.open_matrix.ensures.opens)
+
+pub returns-in-Files-clause-opens : goal.returns-in-Files-clause-opens
+returns-in-Files-clause-opens g c =
+    rw c.in-Files.is (opens_shelf (g.H.Shelf.state c.args.shelf.now) (g.H.Shelf.state c.open_names.new.shelf) (files c.in-Files.design.now) c.open_names.result refl c.open_names.ensures.opens)
 
 pub returns-in-Generated-clause-opens : goal.returns-in-Generated-clause-opens
 returns-in-Generated-clause-opens g c =

@@ -12,7 +12,7 @@ pub print_times-requires-clause-ready : goal.print_times-requires-clause-ready
 print_times-requires-clause-ready g c =
     let finds = c.in_ok-found.ensures.finds in record {
       set = record { made = c.in_ok-found.ensures.made; greatest = c.requires.set.greatest; least = c.requires.set.least };
-      found = found_is c.args.net.now c.args.wanted.budget finds.0 c.find_times.new.work.leaves c.find_times.new.work.known c.in_ok-found.found c.found_word-word.result c.found_word-word.ensures.word finds.2.says;
+      found = found_is c.args.net.now c.args.wanted.budget finds.0 c.find_times.new.work.leaves c.find_times.new.work.known c.in_ok-found.found finds.2.says;
     }
 
 pub returns-in_err-found-clause-goes : goal.returns-in_err-found-clause-goes
@@ -26,8 +26,8 @@ returns-in_err-write_item-clause-goes g c = λ basis drawn number known.
     let claims = sized c.args.net.now c.args.wanted.budget c.args.wanted.cert basis in
     let finds = c.in_ok-found.ensures.finds in
     let lines = printed c.args.wanted.cert finds.0 in
-    let word = c.found_word-word.result in
-    let fact = finding_fact c.args.net.now c.args.wanted.budget c.args.wanted.cert basis finds.0 c.find_times.new.work.leaves c.find_times.new.work.known c.in_ok-found.found word c.found_word-word.ensures.word finds.2.says finds.2.needed c.in_ok-found.ensures.count.within_budget in
+    let word = c.in_ok-found.found in
+    let fact = finding_fact c.args.net.now c.args.wanted.budget c.args.wanted.cert basis finds.0 c.find_times.new.work.leaves c.find_times.new.work.known word finds.2.says finds.2.needed c.in_ok-found.ensures.count.within_budget in
     goes_up _ _ c.from_residual-in_err-write_item.result c.from_residual-in_err-write_item.ensures.0
     (stops_then (told_proof (behind_proof number lines) lines (reads_event_proof claims drawn number lines) finds.1)
     (stopped_line (behind_finding word) (finding word) (finding_may c.args.net.now c.args.wanted.budget c.args.wanted.cert basis drawn number lines word fact) c.in_err-write_item.ensures.puts))
@@ -37,8 +37,8 @@ returns-in_err-print_times-clause-goes g c = λ basis drawn number known.
     let claims = sized c.args.net.now c.args.wanted.budget c.args.wanted.cert basis in
     let finds = c.in_ok-found.ensures.finds in
     let lines = printed c.args.wanted.cert finds.0 in
-    let word = c.found_word-word.result in
-    let fact = finding_fact c.args.net.now c.args.wanted.budget c.args.wanted.cert basis finds.0 c.find_times.new.work.leaves c.find_times.new.work.known c.in_ok-found.found word c.found_word-word.ensures.word finds.2.says finds.2.needed c.in_ok-found.ensures.count.within_budget in
+    let word = c.in_ok-found.found in
+    let fact = finding_fact c.args.net.now c.args.wanted.budget c.args.wanted.cert basis finds.0 c.find_times.new.work.leaves c.find_times.new.work.known word finds.2.says finds.2.needed c.in_ok-found.ensures.count.within_budget in
     goes_up _ _ c.from_residual-in_err-print_times.result c.from_residual-in_err-print_times.ensures.0
     (stops_then (told_then (told_proof (behind_proof number lines) lines (reads_event_proof claims drawn number lines) finds.1)
     (told_line (finding word) (finding_may c.args.net.now c.args.wanted.budget c.args.wanted.cert basis drawn number lines word fact) c.in_ok-write_item.ensures.puts refl))
@@ -49,8 +49,8 @@ returns-clause-goes g c = λ basis drawn number known.
     let claims = sized c.args.net.now c.args.wanted.budget c.args.wanted.cert basis in
     let finds = c.in_ok-found.ensures.finds in
     let lines = printed c.args.wanted.cert finds.0 in
-    let word = c.found_word-word.result in
-    let fact = finding_fact c.args.net.now c.args.wanted.budget c.args.wanted.cert basis finds.0 c.find_times.new.work.leaves c.find_times.new.work.known c.in_ok-found.found word c.found_word-word.ensures.word finds.2.says finds.2.needed c.in_ok-found.ensures.count.within_budget in
+    let word = c.in_ok-found.found in
+    let fact = finding_fact c.args.net.now c.args.wanted.budget c.args.wanted.cert basis finds.0 c.find_times.new.work.leaves c.find_times.new.work.known word finds.2.says finds.2.needed c.in_ok-found.ensures.count.within_budget in
     told_then (told_then (told_proof (behind_proof number lines) lines (reads_event_proof claims drawn number lines) finds.1)
     (told_line (finding word) (finding_may c.args.net.now c.args.wanted.budget c.args.wanted.cert basis drawn number lines word fact) c.in_ok-write_item.ensures.puts refl))
     (c.in_ok-print_times.ensures.goes c.args.wanted.budget c.args.wanted.cert basis drawn (known ∙ ap printed_known c.print_times.ensures.known))

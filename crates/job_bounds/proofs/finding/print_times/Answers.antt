@@ -1,7 +1,7 @@
 use Rattle.std.proofs.Common.{◌∙◌, List, ℤ, refl, subst, sym}
 use Rattle.slack_report.specs.Entry.{times}
 use Rattle.right_report.specs.Right.ReportState.{behind_finding}
-use Rattle.slack_report.specs.declared.words.FindingWord.{FindingWord}
+use Rattle.requirements.specs.declared.consistency.Consistency.{Consistency}
 use Rattle.job_bounds.specs.Step.Ready.{AreKnown, HasFound, behind_known}
 use Rattle.job_bounds.specs.Step.Searched.{sized}
 use Rattle.job_bounds.proofs.Findings.{known_may, same_place}
@@ -9,7 +9,7 @@ use Rattle.job_bounds.proofs.WriterSteps.{goes_line, told_at, told_none}
 use Rattle.job_bounds.proofs.finding.print_times.Goals as goal
 
 pub take_known-requires-clause-known : goal.take_known-requires-clause-known
-take_known-requires-clause-known g c = subst (λ (w : FindingWord). HasFound c.args.net.now w c.args.desk.now.work.known) c.in-Consistent.is c.requires.ready.found
+take_known-requires-clause-known g c = subst (λ (w : Consistency). HasFound c.args.net.now w c.args.desk.now.work.known) c.in-Consistent.is c.requires.ready.found
 
 pub returns-in-Consistent-clause-goes : goal.returns-in-Consistent-clause-goes
 returns-in-Consistent-clause-goes g c = λ most cert basis drawn known.

@@ -1,5 +1,5 @@
 use Rattle.std.proofs.Common.{◌≡◌, drop, map}
-use Rattle.slack_report.specs.declared.words.FindingWord.TheVariants.{Consistent}
+use Rattle.requirements.specs.declared.consistency.Consistency.TheVariants.{Consistent}
 use Rattle.right_report.specs.Right.ReportState.{tally_of}
 use Rattle.right_report.specs.RowTally.{kinds_of, with_rows}
 use Rattle.job_settle.specs.Answers.{both_of}

@@ -11,5 +11,5 @@ returns-in_ok-put_proof-in-Inconsistent g c = record {
   puts = rw c.in-Inconsistent.is (puts_then _ _ _ _ _ _ c.in_ok-put_proof-in-Inconsistent.ensures.puts c.write_item-in-Inconsistent.ensures.puts);
 }
 
-pub returns-in-Spent : goal.returns-in-Spent
-returns-in-Spent g c = record { puts = rw c.in-Spent.is c.put.ensures.puts }
+pub returns-in-Open : goal.returns-in-Open
+returns-in-Open g c = record { puts = rw c.in-Open.is c.put.ensures.puts }

@@ -5,5 +5,5 @@ use Rattle.job_why.proofs.ending.ending_of.Goals as goal
 pub tally_rows-requires : goal.tally_rows-requires
 tally_rows-requires c = record { count = known_count c.args.drawn.now c.args.finding.now c.args.found.now (inl c.in-Consistent.is) c.requires.found }
 
-pub tally_rows-requires-in-Unsettled : goal.tally_rows-requires-in-Unsettled
-tally_rows-requires-in-Unsettled c = record { count = known_count c.args.drawn.now c.args.finding.now c.args.found.now (inr c.in-Unsettled.is) c.requires.found }
+pub tally_rows-requires-in-Open : goal.tally_rows-requires-in-Open
+tally_rows-requires-in-Open c = record { count = known_count c.args.drawn.now c.args.finding.now c.args.found.now (inr c.in-Open.is) c.requires.found }

@@ -2,7 +2,7 @@ use Rattle.std.proofs.Common.{◌≡◌, List, Bool, ℤ, Some, [], length, ◌�
 use Rattle.std.specs.Prelude.{unwrap_or}
 use Rattle.std.specs.Vec.{with_items}
 use Rattle.std.proofs.lemmas.List.{with_items_is}
-use Rattle.branch.specs.declared.answer.GreatestAnswer.TheVariants.{Unbounded}
+use Rattle.requirements.specs.declared.bound.Bound.TheVariants.{Unbounded}
 use Rattle.whatif.specs.Session.{IsSearchedAnew, KeptBound}
 use Rattle.whatif.specs.Step.Keeping.{KeeperView}
 use Rattle.whatif.proofs.Bounds.{searched_is}

@@ -1,0 +1,175 @@
+// Draws a sheet as WaveDrom draws it: bricks of one width, marks, and arcs with their labels. Each arc has the colour of its verdict.
+
+import { Canvas, PAD, point } from "./canvas.js";
+import { Strip, WAVE } from "./strip.js";
+import { CHARACTER, escaped, fitted, room } from "../core/texts.js";
+import { EVEN_BRICKS, runsOf } from "../core/waves.js";
+
+// A brick is as wide as WaveDrom draws it, and wider where the sheet has few of them.
+const BRICK = 40;
+const WIDEST_BRICK = 96;
+const WANTED_WIDTH = 560;
+const LANE = 44;
+const TOP = 20;
+// The places along an arc where its label may stand, and how far beside it, the best ones first.
+const ALONG = [0.5, 0.4, 0.6, 0.3, 0.7, 0.2, 0.8];
+const LABEL_PLACES = [...ALONG.map((share) => [share, 0]), ...ALONG.flatMap((share) => [[share, -14], [share, 14]])];
+// How far the arcs between the same two marks swing out beside each other.
+const APART = 16;
+const LABEL_MOST = 34 * CHARACTER;
+
+/** The drawing of a sheet as an element of SVG. `verdictOf` gives for the number of an edge the word of its colour: `pass`, `fail`, `undecided`, `ask`,
+ * `contradicts`, or an empty text. `file` is the name of the sheet's file, by which an arc is a link to its edge. */
+export function drawingOf(sheet, file, verdictOf) {
+  const grouped = sheet.lanes.some((lane) => lane.group);
+  const gutter = Math.max(...sheet.lanes.map((lane) => room(lane.title)), 0) + 2 * PAD + (grouped ? 18 : 0);
+  const brick = Math.min(Math.max(WANTED_WIDTH / sheet.bricks, BRICK), WIDEST_BRICK);
+  const canvas = new Canvas(gutter, 0, sheet.bricks, gutter + sheet.bricks * brick + PAD);
+  canvas.plain = true;
+  const top = sheet.title ? TOP + 18 : TOP;
+  const height = top + sheet.lanes.length * LANE + (sheet.foot ? 18 : 0);
+  if (sheet.title) canvas.text(canvas.width / 2, 16, fitted(sheet.title, canvas.width), "head");
+  putGrid(canvas, sheet.bricks, top, height);
+  sheet.lanes.forEach((lane, number) => putLane(canvas, lane, sheet.bricks, top + number * LANE, number));
+  putGroups(canvas, sheet.lanes, top);
+  putArcs(canvas, sheet, file, verdictOf, top);
+  putMarks(canvas, sheet.lanes, top);
+  if (sheet.foot) canvas.text(canvas.width / 2, height - 4, fitted(sheet.foot, canvas.width), "side");
+  const size = `width="${point(canvas.width)}" height="${height}" viewBox="0 0 ${point(canvas.width)} ${height}"`;
+  const places = `data-file="${escaped(file)}" data-left="${point(canvas.left)}" data-brick="${point(canvas.x(1) - canvas.x(0))}" data-top="${top}" data-lane="${LANE}" data-lanes="${sheet.lanes.length}"`;
+  const title = `The drawing of ${file || "the sheet"}`;
+  return [`<svg class="drawing" ${size} ${places} role="${file ? "group" : "img"}" aria-label="${escaped(title)}">`, `<title>${escaped(title)}</title>`, ...canvas.lines, "</svg>"].join("\n");
+}
+
+function putGrid(canvas, bricks, top, bottom) {
+  for (let brick = 0; brick <= bricks; brick++) canvas.path("grid", [[canvas.x(brick), top - 8], [canvas.x(brick), bottom - 6]]);
+}
+
+function putLane(canvas, lane, bricks, y, number) {
+  const place = `x="${point(canvas.left - PAD)}" y="${point(y + WAVE - 4)}" text-anchor="end"`;
+  canvas.put(`<text class="lane" data-lane-title="${number}" tabindex="0" role="button" aria-label="lane ${escaped(lane.title)}" ${place}>${escaped(lane.title)}</text>`);
+  if (lane.wave) new Strip(canvas, y).draw(withoutTail(runsOf({ wave: lane.wave, data: lane.data }, bricks, 1, EVEN_BRICKS), lane.wave.length));
+}
+
+/** The runs that the wave itself draws: before its first brick and after its last one nothing stands. */
+function withoutTail({ runs, gaps }, length) {
+  const kept = runs.filter((run) => run.kind !== "none" && (run.start === null || run.start < length));
+  return { runs: kept.map((run) => (run.end === null || run.end > length ? { ...run, end: length } : run)), gaps };
+}
+
+/** A bracket at the lanes of each group, with its title. */
+function putGroups(canvas, lanes, top) {
+  let first = 0;
+  lanes.forEach((lane, number) => {
+    const next = lanes[number + 1];
+    if (next && next.group === lane.group) return;
+    if (lane.group) {
+      const [high, low] = [top + first * LANE - 4, top + number * LANE + WAVE + 4];
+      canvas.path("axis", [[18, high], [14, high], [14, low], [18, low]]);
+      const title = fitted(lane.group.title, low - high);
+      const place = `translate(10 ${point((high + low) / 2)}) rotate(-90)`;
+      canvas.put(`<text class="lane side group" transform="${place}" text-anchor="middle">${escaped(title)}</text>`);
+    }
+    first = number + 1;
+  });
+}
+
+/** Where each mark of the sheet stands. */
+function marksOf(canvas, lanes, top) {
+  const places = new Map();
+  lanes.forEach((lane, number) => {
+    for (const { place, mark } of lane.marks) places.set(mark, [canvas.x(place), top + number * LANE + WAVE / 2, number, place, lane.title]);
+  });
+  return places;
+}
+
+function putMarks(canvas, lanes, top) {
+  for (const [mark, [x, y, lane, place, title]] of marksOf(canvas, lanes, top)) {
+    const at = `data-mark="${escaped(mark)}" data-lane="${lane}" data-place="${place}"`;
+    canvas.put(`<g class="handle" ${at} tabindex="0" role="button" aria-label="mark ${escaped(mark)} on ${escaped(title)}"><circle class="reach" cx="${point(x)}" cy="${point(y)}" r="9"/>`);
+    canvas.put(`<circle class="mark" cx="${point(x)}" cy="${point(y)}" r="2.6"/>`);
+    canvas.text(x - 7, y - WAVE / 2 - 2, mark, "mark");
+    canvas.put("</g>");
+  }
+}
+
+/** The two control points of a bent arc, as four numbers; undefined where its shape has none. An arc between marks that stand one below the other swings out, and so does
+ * one beside others between the same marks. */
+function controlsOf(shape, dx, dy, beside) {
+  if (shape.includes("~") && Math.abs(dx) < 1) return [BRICK + beside, dy * 0.2, BRICK + beside, dy * 0.8];
+  if (beside && !shape.includes("|")) {
+    const length = Math.hypot(dx, dy) || 1;
+    const [outX, outY] = [(-dy / length) * beside, (dx / length) * beside];
+    return [0.3 * dx + outX, 0.3 * dy + outY, 0.7 * dx + outX, 0.7 * dy + outY];
+  }
+  return { "~": [0.7 * dx, 0, 0.3 * dx, dy], "-~": [0.7 * dx, 0, dx, dy], "~-": [0, 0, 0.3 * dx, dy] }[shape];
+}
+
+/** The commands of a path from one mark to another by the shape of its edge, as WaveDrom bends it, and a place along it by a share of its length. */
+function bend(shape, [x, y], [toX, toY], beside) {
+  const [dx, dy] = [toX - x, toY - y];
+  const control = controlsOf(shape, dx, dy, beside);
+  if (control) {
+    const [ax, ay, bx, by] = control;
+    const along = (t, first, second, last) => 3 * (1 - t) ** 2 * t * first + 3 * (1 - t) * t * t * second + t ** 3 * last;
+    return { path: `c${control.map(point).join(" ")} ${point(dx)} ${point(dy)}`, at: (t) => [x + along(t, ax, bx, dx), y + along(t, ay, by, dy)] };
+  }
+  const corners = { "-|": [[dx, 0]], "|-": [[0, dy]], "-|-": [[dx / 2, 0], [dx / 2, dy]] }[shape] || [];
+  const points = [[0, 0], ...corners, [dx, dy]];
+  const at = (t) => {
+    const part = Math.min(Math.floor(t * (points.length - 1)), points.length - 2);
+    const share = t * (points.length - 1) - part;
+    const [[fromX, fromY], [endX, endY]] = [points[part], points[part + 1]];
+    return [x + fromX + share * (endX - fromX), y + fromY + share * (endY - fromY)];
+  };
+  return { path: `L${points.slice(1).map(([px, py]) => `${point(x + px)} ${point(y + py)}`).join("L")}`, at };
+}
+
+function putArcs(canvas, sheet, file, verdictOf, top) {
+  const places = marksOf(canvas, sheet.lanes, top);
+  const taken = [];
+  const counts = new Map();
+  for (const edge of sheet.edges) {
+    const [start, end] = [places.get(edge.start), places.get(edge.end)];
+    if (!start || !end) continue;
+    const pair = [edge.start, edge.end].sort().join("");
+    const count = counts.get(pair) || 0;
+    counts.set(pair, count + 1);
+    const bent = bend(edge.shape.replace(/[<>]/g, ""), start, end, count * APART * (edge.start <= edge.end ? 1 : -1));
+    const kind = edge.label.startsWith("@") ? verdictOf(edge.number) || "rule" : "comment";
+    canvas.put(`<g class="arc arc-${kind}" data-file="${escaped(file)}" data-edge="${edge.number}"><title>${escaped(edge.text)}</title>`);
+    canvas.put(`<path d="M${point(start[0])} ${point(start[1])}${bent.path}"/>`);
+    if (edge.shape.includes(">")) putHead(canvas, end, bent.at(0.9));
+    if (edge.shape.includes("<")) putHead(canvas, start, bent.at(0.1));
+    putLabel(canvas, edge.title || edge.label.replace(/^@lin /, ""), bent, taken);
+    canvas.put("</g>");
+  }
+}
+
+/** The head of an arrow at its tip, coming from a place before it. */
+function putHead(canvas, tip, from) {
+  const [x, y] = tip;
+  const [fromX, fromY] = from;
+  const length = Math.hypot(x - fromX, y - fromY) || 1;
+  const [ux, uy] = [(x - fromX) / length, (y - fromY) / length];
+  const [backX, backY] = [x - 8 * ux, y - 8 * uy];
+  canvas.path("tip", [[x, y], [backX - 3.5 * uy, backY + 3.5 * ux], [backX + 3.5 * uy, backY - 3.5 * ux]], { closed: true });
+}
+
+/** The label of an arc, where it stands over no other one if there is such a place. */
+function putLabel(canvas, text, bent, taken) {
+  const shown = fitted(text, LABEL_MOST);
+  if (!shown) return;
+  const half = room(shown) / 2 + 3;
+  const boxes = LABEL_PLACES.map(([share, aside]) => {
+    const [x, onArc] = bent.at(share);
+    const y = Math.max(onArc + aside, 8);
+    const middle = Math.min(Math.max(x, half), Math.max(canvas.width - half, half));
+    return { left: middle - half, right: middle + half, top: y - 7, bottom: y + 7, x: middle, y };
+  });
+  const isFree = (box) => taken.every((other) => box.right <= other.left || other.right <= box.left || box.bottom <= other.top || other.bottom <= box.top);
+  const box = boxes.find(isFree) || boxes[0];
+  taken.push(box);
+  canvas.put(`<rect class="label" x="${point(box.left)}" y="${point(box.top)}" width="${point(2 * half)}" height="14" rx="2"/>`);
+  canvas.text(box.x, box.y + 4, shown, "label");
+}

@@ -1,0 +1,100 @@
+"""What the tests of this folder in Python share: running a command, files of a test, and running the tests.
+
+A test is a function without arguments that asserts. `main` runs those that it is given, prints a line for each that fails, and last 'N passed, M failed'.
+"""
+import functools
+import io
+import os
+import subprocess
+import sys
+import warnings
+
+TOP = os.path.dirname(os.path.dirname(os.path.dirname(os.path.abspath(__file__))))
+
+
+def run(folder, *words, **more):
+    """What comes of a command in a folder, with more in the environment. A warning of Python ends a tool in Python."""
+    return subprocess.run(words, cwd=folder, capture_output=True, text=True, stdin=subprocess.DEVNULL, env=dict(os.environ, PYTHONWARNINGS="error", **more))
+
+
+@functools.lru_cache(None)
+def code_of(path):
+    """The code of a script in Python."""
+    with open(path, encoding="utf-8") as file:
+        return compile(file.read(), path, "exec")
+
+
+def call(folder, name, *words, **more):
+    """What comes of a small tool in a folder, with more in the environment, as `run` gives it. It runs in this process, which takes much less time than
+    one of its own. A warning of Python ends it."""
+    path, before = tool(name), (os.getcwd(), dict(os.environ), sys.argv, sys.stdout, sys.stderr, sys.path[:])
+    out, err, status = io.TextIOWrapper(io.BytesIO(), "utf-8", newline=""), io.TextIOWrapper(io.BytesIO(), "utf-8", newline=""), 0
+    try:
+        os.chdir(folder)
+        os.environ.update(more)
+        sys.argv, sys.stdout, sys.stderr = [path, *words], out, err
+        sys.path.insert(0, os.path.dirname(path))
+        with warnings.catch_warnings():
+            warnings.simplefilter("error")
+            exec(code_of(path), {"__name__": "__main__", "__file__": path})
+    except SystemExit as ended:
+        status = ended.code if isinstance(ended.code, int) else 0 if ended.code is None else 1
+    finally:
+        os.chdir(before[0])
+        os.environ.clear()
+        os.environ.update(before[1])
+        sys.argv, sys.stdout, sys.stderr, sys.path[:] = before[2:]
+    for file in (out, err):
+        file.flush()
+    return subprocess.CompletedProcess([name, *words], status, out.buffer.getvalue().decode(), err.buffer.getvalue().decode())
+
+
+def choose_program():
+    """Has all that a test runs take one program: that of ITV, or the one that the launcher runs."""
+    if not os.environ.get("ITV"):
+        done = subprocess.run([os.path.join(TOP, "itv"), "--which"], stdout=subprocess.PIPE, text=True, stdin=subprocess.DEVNULL)
+        os.environ["ITV"] = done.stdout.strip() or sys.exit("there is no program to test with")
+    return os.environ["ITV"]
+
+
+def tool(name):
+    """The path of a tool."""
+    return os.path.join(TOP, "tools", name)
+
+
+def write(folder, name, text):
+    """Writes a file, and the folders that it is in. Its path."""
+    path = os.path.join(folder, name)
+    os.makedirs(os.path.dirname(path), exist_ok=True)
+    with open(path, "w", encoding="utf-8", newline="") as file:
+        file.write(text)
+    return path
+
+
+def read(name, folder=TOP):
+    """The text of a file."""
+    with open(os.path.join(folder, name), encoding="utf-8", newline="") as file:
+        return file.read()
+
+
+def equal(found, wanted):
+    """Fails with both values if they differ."""
+    assert found == wanted, f"\n  found  {found!r}\n  wanted {wanted!r}"
+
+
+def failure(test):
+    """Why a test fails, or None if it passes."""
+    try:
+        test()
+    except Exception as error:  # a test that stops in any way has failed
+        return f"{test.__name__}: {type(error).__name__}: {error}"
+    return None
+
+
+def main(tests):
+    """Runs the tests. The exit status: 0 if all pass."""
+    failures = [text for text in map(failure, tests) if text]
+    for text in failures:
+        print(text)
+    print(f"{len(tests) - len(failures)} passed, {len(failures)} failed")
+    return 1 if failures else 0
