@@ -333,7 +333,7 @@ export class App {
   showDrawings() {
     const verdicts = this.analysis && this.analysis.report ? this.analysis.verdicts() : new Map();
     const treeOf = (name) => (this.files.find(name) ? this.files.readOf(name).tree : null);
-    const html = this.files.find(this.current) ? drawingsOf(this.current, treeOf, verdicts) : "";
+    const html = this.files.find(this.current) ? drawingsOf(this.current, treeOf, verdicts, widthOfDrawings()) : "";
     // A text that is no JSON at this moment leaves the last drawing.
     const held = this.pointing.held();
     if ((html || treeOf(this.current)) && fill(byId("drawings"), html)) this.pointing.drawn(held);
@@ -391,6 +391,7 @@ export class App {
   /** The window or a part of it has got another size. */
   resized() {
     this.answers.resize();
+    this.showDrawings();
     this.numbers.table.refresh();
     this.editor.view.refresh();
   }
@@ -401,4 +402,9 @@ export class App {
     clearTimeout(this.saying);
     this.saying = setTimeout(() => (byId("note").textContent = ""), 4000);
   }
+}
+
+/** How wide the drawings may be, in steps of 20 pixels: as wide as their part of the page without its padding, within limits. */
+function widthOfDrawings() {
+  return Math.floor(Math.min(Math.max(byId("drawings").clientWidth - 30, 300), 900) / 20) * 20;
 }

@@ -79,9 +79,7 @@ def a_finger_draws_too(page):
     """A tap on each of two marks opens the form, which takes a question by its kind; a mark is moved by a finger."""
     page.open_numbers("s.json", {"s.json": SHEET.replace('"x=.." }', '"x=..", "node": ".a" }')})
 
-    def touch(kind, *places):
-        page.browser.call("Input.dispatchTouchEvent", type=f"touch{kind}", touchPoints=[{"x": x, "y": y} for x, y in places])
-
+    touch = page.browser.touch
     for mark in "ca":
         touch("Start", page.browser.center(f"[data-mark={mark}]"))
         touch("End")
@@ -142,7 +140,7 @@ def an_edge_leads_to_its_number_and_back(page):
     assert page.browser.evaluate("document.activeElement.closest('tr').dataset.key") == "examples/cpu.json edge 0"
     assert page.browser.evaluate("document.querySelectorAll('#drawings .arc.hot').length") == 1
     assert page.browser.evaluate("document.querySelectorAll('#job g.step.hot').length") == 1
-    page.browser.mouse("Moved", page.browser.center("#job g.step[data-net]"), 0)
+    page.browser.hover("#job g.step[data-net]")
     assert page.browser.evaluate("document.querySelector('tr.hot').dataset.key") == FAST + " net 2"
     page.browser.click("tr[data-key='examples/cpu.json edge 1'] a.to-text")
     assert page.browser.evaluate("itv.view") == "text" and page.browser.evaluate("itv.editor.view.getSelection()") == '"c~>e @lin [2000,7000] tCE"'

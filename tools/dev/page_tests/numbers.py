@@ -165,8 +165,9 @@ def a_column_is_pasted(page):
     page.open_numbers(BUS)
     page.browser.click(cell("examples/cpu.json edge 0", "low"))
     before = page.text_of("examples/cpu.json")
-    paste = ("document.activeElement.dispatchEvent(new ClipboardEvent('paste', {{ bubbles: true, cancelable: true, clipboardData: (() => {{ const data = new DataTransfer(); "
-             "data.setData('text/plain', {}); return data; }})() }}))")
+    # Not each browser lets a script give a ClipboardEvent its data.
+    paste = ("(() => {{ const event = new Event('paste', {{ bubbles: true, cancelable: true }}); event.clipboardData = {{ getData: () => {} }}; "
+             "document.activeElement.dispatchEvent(event); }})()")
     page.do(paste.format(json.dumps("1.5\t7.25\n1\t6\n")))
     page.rest()
     assert page.text_of("examples/cpu.json") == before.replace("[2000,8000]", "[1500,7250]").replace("[2000,7000]", "[1000,6000]"), page.text_of("examples/cpu.json")
