@@ -21,6 +21,7 @@ import { Edited } from "./edited.js";
 import { stemOf } from "./export.js";
 import { FirstScreen } from "./first_screen.js";
 import { NumbersTab } from "./numbers_tab.js";
+import { Parts } from "./parts.js";
 
 const NANOSECONDS = { name: "ns", size: 1000 };
 
@@ -67,8 +68,11 @@ export class App {
       lightTable: (...at) => this.numbers.light(...at),
       lightText: (name, number) => this.lightText(name, number),
     });
-    this.pointing = new Pointing(byId("drawings"), byId("draw-tools"), byId("edge-form"), {
+    this.parts = new Parts(this);
+    this.pointing = new Pointing(byId("drawings"), byId("draw-tools"), { edge: byId("edge-form"), net: byId("net-form") }, {
       readOf: (file) => this.files.readOf(file),
+      board: () => this.parts.shownBoard,
+      addPart: (name) => this.parts.add(name),
       edit: (file, changes, followed) => this.editSheet(file, changes, followed),
       undo: (again) => this.edited.undo(again),
       say: (text) => this.say(text),
@@ -339,7 +343,7 @@ export class App {
     if ((html || treeOf(this.current)) && fill(byId("drawings"), html)) this.pointing.drawn(held);
   }
 
-  /** Changes a sheet as a hand did in its drawing. The netlists that have the sheet follow: `followed` has the mark or the lane that got another name, or the
+  /** Changes a file as a hand did in a drawing. The netlists that have the sheet follow: `followed` has the mark or the lane that got another name, or the
    * marks that are gone, and their lane where that is gone too. */
   editSheet(file, changes, followed) {
     const netlists = followed ? this.files.names.filter((name) => isNetlist(this.files.readOf(name).tree)) : [];
