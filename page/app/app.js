@@ -31,6 +31,9 @@ const VIEWS = [
   { id: "text", label: "text", hint: "the file as it is saved" },
 ];
 
+/** How long a character of what is said is shown, in milliseconds. */
+const READ = 70;
+
 /** What begins the value of a line of the menu of examples that unfolds a group. */
 const UNFOLD = "unfold ";
 
@@ -338,7 +341,7 @@ export class App {
     const verdicts = this.analysis && this.analysis.report ? this.analysis.verdicts() : new Map();
     const treeOf = (name) => (this.files.find(name) ? this.files.readOf(name).tree : null);
     const html = this.files.find(this.current) ? drawingsOf(this.current, treeOf, verdicts, widthOfDrawings()) : "";
-    // A text that is no JSON at this moment leaves the last drawing.
+    // A text that is not JSON at this moment leaves the last drawing.
     const held = this.pointing.held();
     if ((html || treeOf(this.current)) && fill(byId("drawings"), html)) this.pointing.drawn(held);
   }
@@ -400,11 +403,11 @@ export class App {
     this.editor.view.refresh();
   }
 
-  /** Says something for a moment beside the buttons. */
+  /** Says something above the lower edge of the page, until it can have been read. */
   say(text) {
     byId("note").textContent = text;
     clearTimeout(this.saying);
-    this.saying = setTimeout(() => (byId("note").textContent = ""), 4000);
+    this.saying = setTimeout(() => (byId("note").textContent = ""), Math.max(4000, READ * text.length));
   }
 }
 

@@ -19,7 +19,7 @@ function unpacked(id) {
   return gunzipped(fromBase64(document.getElementById(id).textContent));
 }
 
-/** Runs the script of a library, which is a module of node where `exports` are wanted of it. */
+/** Runs the script of a library, which is a module of node where `exports` are needed of it. */
 function libraryOf(source, require = null) {
   const module = { exports: {} };
   new Function("module", "exports", "require", source)(module, module.exports, require);
@@ -75,7 +75,7 @@ async function start() {
   await app.start(files);
 }
 
-/** What stands under "about this page". */
+/** What is under "about this page". */
 function aboutOf(program, licences) {
   const texts = Object.entries(licences).map(([name, text]) => `<details><summary>${escaped(name)}</summary><pre>${escapedText(text)}</pre></details>`);
   return (

@@ -1,6 +1,6 @@
 // The parts of a board: a part is added with a sheet of its own, and a sheet alone becomes a board of two.
 
-import { addPart, boardText, isFreeName, nameForSheet } from "../core/board.js";
+import { addPart, boardText, isFreeName, nameForSheet, partsIn } from "../core/board.js";
 import { isNetlist } from "../core/design.js";
 import { NEW_SHEET } from "../core/files.js";
 
@@ -32,8 +32,8 @@ export class Parts {
   add(name) {
     const { board } = this;
     const first = this.app.files.design;
-    const isGood = board ? isFreeName(board, name) : isFreeName({ value: null }, name) && nameForSheet(first) !== name;
-    if (!isGood) {
+    const others = board ? partsIn(board).map((part) => part.name) : [nameForSheet(first)];
+    if (!isFreeName(name, others)) {
       this.app.say(BAD_NAME);
       return;
     }

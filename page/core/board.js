@@ -24,11 +24,11 @@ export function boardText(parts) {
   return `{\n  "itv": 1,\n  "cycles": 2,\n  "parts": [\n${lines.join(",\n")}\n  ],\n  "nets": [],\n  "edges": []\n}\n`;
 }
 
-/** Whether a part of a netlist may have a name, which no other part has.
- * @param {Read} read
- * @param {string} name */
-export function isFreeName(read, name) {
-  return NAME.test(name) && !partsIn(read).some((part) => part.name === name);
+/** Whether a part may have a name, which none of the names of other parts is.
+ * @param {string} name
+ * @param {string[]} others */
+export function isFreeName(name, others) {
+  return NAME.test(name) && !others.includes(name);
 }
 
 /** The parts of a netlist: the name, the sheet and the grade of each, and its number.
@@ -52,7 +52,7 @@ export function partsOfSheet(read, sheet) {
  * @param {string} sheet
  * @returns {Change[] | null} */
 export function addPart(read, name, sheet) {
-  if (!isFreeName(read, name)) return null;
+  if (!isFreeName(name, partsIn(read).map((part) => part.name))) return null;
   return addTo(read, "parts", `{ "name": ${JSON.stringify(name)}, "sheet": ${JSON.stringify(sheet)} }`);
 }
 

@@ -11,7 +11,7 @@ const WIDEST_BRICK = 96;
 const WANTED_WIDTH = 640;
 const LANE = 44;
 const TOP = 20;
-// The places along an arc where its label may stand, and how far beside it, the best ones first.
+// The places along an arc where its label may be, and how far beside it, the best ones first.
 const ALONG = [0.5, 0.4, 0.6, 0.3, 0.7, 0.2, 0.8];
 const LABEL_PLACES = [...ALONG.map((share) => [share, 0]), ...ALONG.flatMap((share) => [[share, -14], [share, 14]])];
 // How far the arcs between the same two marks swing out beside each other.
@@ -54,7 +54,7 @@ function putLane(canvas, lane, bricks, y, number) {
   if (lane.wave) new Strip(canvas, y).draw(withoutTail(runsOf({ wave: lane.wave, data: lane.data }, bricks, 1, EVEN_BRICKS), lane.wave.length));
 }
 
-/** The runs that the wave itself draws: before its first brick and after its last one nothing stands. */
+/** The runs that the wave itself draws: before its first brick and after its last one there is nothing. */
 function withoutTail({ runs, gaps }, length) {
   const kept = runs.filter((run) => run.kind !== "none" && (run.start === null || run.start < length));
   return { runs: kept.map((run) => (run.end === null || run.end > length ? { ...run, end: length } : run)), gaps };
@@ -77,7 +77,7 @@ function putGroups(canvas, lanes, top) {
   });
 }
 
-/** Where each mark of the sheet stands. */
+/** Where each mark of the sheet is. */
 function marksOf(canvas, lanes, top) {
   const places = new Map();
   lanes.forEach((lane, number) => {
@@ -165,7 +165,7 @@ function putHead(canvas, tip, from) {
   canvas.path("tip", [[x, y], [backX - 3.5 * uy, backY + 3.5 * ux], [backX + 3.5 * uy, backY - 3.5 * ux]], { closed: true });
 }
 
-/** The label of an arc, where it stands over no other one if there is such a place. */
+/** The label of an arc, where it is over no other one if there is such a place. */
 function putLabel(canvas, text, bent, taken) {
   const shown = fitted(text, LABEL_MOST);
   if (!shown) return;

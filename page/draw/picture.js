@@ -45,7 +45,7 @@ export class Picture {
     this.height = this.bottom;
   }
 
-  /** The lanes that are drawn, and how many are left out: all, or those of the row and what stands next to them. */
+  /** The lanes that are drawn, and how many are left out: all, or those of the row and what is next to them. */
   chooseLanes() {
     const every = this.design.parts.flatMap(({ sheet }, part) =>
       sheet.lanes.flatMap((drawn, lane) => (drawn.wave || drawn.marks.length ? [[part, lane]] : [])),
@@ -96,7 +96,7 @@ export class Picture {
     return [this.row.low, this.row.high].map((end) => (end === null ? null : start + end));
   }
 
-  /** What is spare or missing at the side of this bound; null where that is no number. */
+  /** What is spare or missing at the side of this bound; null where that is not a number. */
   slack() {
     return this.row.slack[this.bound.which === "min" ? 0 : 1];
   }
@@ -240,7 +240,7 @@ export class Picture {
     new Strip(this.canvas, high).draw(runsOf(drawn, sheet.bricks, this.design.cycles, clockwork));
   }
 
-  /** The windows of a lane's marks that are in the view: an event and its least and greatest time, while the from-event stands where it does. */
+  /** The windows of a lane's marks that are in the view: an event and its least and greatest time, while the from-event is where it is. */
   windowsOf(lane) {
     const [origin, start] = [this.numbers.get(this.row.start), this.times.get(this.row.start)];
     return this.eventsOf(lane).flatMap(({ event }) => {
@@ -250,7 +250,7 @@ export class Picture {
     });
   }
 
-  /** Where marks may stand according to the rules without a choice. */
+  /** Where marks may be according to the rules without a choice. */
   putWindows(lane, top) {
     const windows = this.matrix ? this.windowsOf(lane) : [];
     if (!windows.length) return;
@@ -316,7 +316,7 @@ export class Picture {
     }
   }
 
-  // What stands under the lanes.
+  // What is under the lanes.
 
   /** The arrow of the separation, the steps that sum to it, and for a requirement its range and what is spare or missing: a word and what draws it. */
   rows() {

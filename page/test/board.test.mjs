@@ -53,10 +53,10 @@ test("lists that a netlist does not have are begun", () => {
 test("names of parts are those that the program takes, each once", () => {
   const read = readOf(textOf(M12));
   for (const name of ["", "CPU", "a b", "x.y", "12345678901234567", "ä"]) {
-    assert.ok(!board.isFreeName(read, name), name);
+    assert.ok(!board.isFreeName(name, ["CPU", "RAM"]), name);
     assert.equal(board.addPart(read, name, "s.json"), null, name);
   }
-  assert.ok(board.isFreeName(read, "ROM_2"));
+  assert.ok(board.isFreeName("ROM_2", ["CPU", "RAM"]));
   assert.equal(board.nameForSheet("my/cpu-sram.json"), "CPUSRAM");
   assert.equal(board.nameForSheet("..json"), "PART");
 });

@@ -40,7 +40,7 @@ test("the edge that the page takes for a row is the origin that job why prints",
   assert.ok(seen > 20, String(seen));
 });
 
-test("each value of a text stands where it is scanned, also through escapes and comments", () => {
+test("each value of a text is where it is scanned, also through escapes and comments", () => {
   const text = '// a sheet\n{ signal: [{ name: "A\\u0042", wave: \'01\' }, ["group", { "name": "C" }]], edge: ["a->b @lin [1,2]"], }';
   const value = scanned(text);
   const [first, second] = lanesOf(value.get("signal"));
@@ -67,12 +67,12 @@ test("times have one unit", () => {
     assert.equal(inUnit(number, unitFor(greatest)), wanted);
 });
 
-test("a text stands in HTML as it is, and what XML has no place for is a space", () => {
+test("a text is in HTML as it is, and what XML has no place for is a space", () => {
   assert.equal(escaped('<a href="x">&\'\u0001\ud800b'), "&lt;a href=&quot;x&quot;&gt;&amp;&#x27;  b");
   assert.equal(escaped("\u{1f600}"), "\u{1f600}");
 });
 
-// The runs of a wave: kind, start, end, whether at a mark, and text. A brick without a mark stands in proportion between its neighbours.
+// The runs of a wave: kind, start, end, whether at a mark, and text. A brick without a mark is in proportion between its neighbours.
 test("waves are read as they are drawn", () => {
   for (const [wave, times, wanted] of [
     ["0.1.", { 2: 100 }, [["low", null, 100, false, ""], ["high", 100, null, true, ""]]],

@@ -63,7 +63,7 @@ function boundCell(bound, unit) {
   return numberCell(`${limit}${bound.value === null ? "" : `<small>found ${inUnit(bound.value, unit)}</small>`}`, kind);
 }
 
-/** The cell of the worst slack, or of why it is no number; empty where no side has an end. */
+/** The cell of the worst slack, or of why it is not a number; empty where no side has an end. */
 function slackCell(entry, unit) {
   if (entry.lack) return numberCell(entry.lack, "slack");
   const slack = entry.row.leastSlack;

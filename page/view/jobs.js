@@ -1,4 +1,4 @@
-// What stands under the tab of each job.
+// What is under the tab of each job.
 
 import { nameOf } from "../core/answer.js";
 import { blocksOf, edgeLink } from "./answer_pane.js";
@@ -38,7 +38,7 @@ export function rawOf(printed, isOpen = false) {
   );
 }
 
-/** What stands under a tab, of an analysis in which this job has been run, as blocks: a name and a part of a page each. */
+/** What is under a tab, of an analysis in which this job has been run, as blocks: a name and a part of a page each. */
 export function paneOf(analysis, job) {
   const printed = analysis.texts.get(job);
   const shown = { why: whyPane, settle: settlePane, redraw: redrawPane, matrix: matrixPane, margin: marginPane }[job];
