@@ -38,6 +38,8 @@ test("two rows stay two lines, and so do rows with another verdict or of another
 test("a row without a note is called by its events, without the cycle if it is of several", () => {
   const sheet = { ...SHEET, edge: ["a->b @ask+1", "a->b @ask"] };
   const design = new Design({ itv: 1, cycles: 3, parts: [{ name: "P", sheet: "s.json" }] }, () => sheet);
-  const rows = [0, 1, 0, 1, 2].map((cycle, number) => `row ${number} ask P.a@${cycle} P.b@${cycle + (number < 2 ? 1 : 0)}\nmax ${number < 4 ? 7 : 9}\nmin 2\n`);
-  assert.deepEqual(entriesOf(design, new Report(rows.join(""))).map(({ title }) => title), ["P.A a to P.B b 1 cycle later in cycles 0 to 1", "P.A a to P.B b in cycles 0 to 1", "P.A a in cycle 2 to P.B b in cycle 2"]);
+  // The rows of a cycle are together, and a row is of the cycle of its end.
+  const rows = [[0, 0], [0, 1], [1, 1], [1, 2], [2, 2]].map(([start, end], number) => `row ${number} ask P.a@${start} P.b@${end}\nmax ${number < 4 ? 7 : 9}\nmin 2\n`);
+  const titles = entriesOf(design, new Report(rows.join(""))).map(({ title }) => title);
+  assert.deepEqual(titles, ["P.A a to P.B b in cycles 0 to 1", "P.A a to P.B b 1 cycle later in cycles 1 to 2", "P.A a in cycle 2 to P.B b in cycle 2"]);
 });
