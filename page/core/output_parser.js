@@ -230,7 +230,7 @@ export class Why {
 }
 
 /** How many places a warning of a word names, where it is not one. */
-const PLACES = { both: 2, drivers: 2, own: 2, held: 2 };
+const PLACES = { both: 2, drivers: 2, own: 2, held: 2, again: 2, tied: 2 };
 
 /**
  * A warning of job lint: its word, its line, and the edges that it names, as a part (null for the netlist) and a number for each. Free text follows

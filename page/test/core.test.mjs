@@ -2,6 +2,7 @@
 
 import assert from "node:assert/strict";
 import test from "node:test";
+import { WARNINGS } from "../core/warning_words.js";
 import { Design, Lane } from "../core/design.js";
 import { Files } from "../core/files.js";
 import { asLink, fromLink } from "../core/packing.js";
@@ -9,7 +10,7 @@ import { Report, Why } from "../core/output_parser.js";
 import { lanesOf, scanned } from "../core/places.js";
 import { escaped, inUnit, unitFor } from "../core/texts.js";
 import { Clockwork, runsOf } from "../core/waves.js";
-import { EXAMPLES, REPORTED, keptOf } from "./program.mjs";
+import { EXAMPLES, REPORTED, keptOf, textOf } from "./program.mjs";
 
 /** The design of an example, as the page reads it. */
 function designOf(name) {
@@ -112,4 +113,11 @@ test("a sheet takes the name by which the netlist calls it, and keeps its line e
   assert.deepEqual(files.missing(), ["examples/cpu.json"]);
   const file = files.find("examples/sram.json");
   assert.ok(!file.text.includes("\r") && file.saved.includes("\r\n"));
+});
+
+test("each word of a warning that the documents name has a sentence", () => {
+  const table = textOf("docs/report.md").split("\n## Warnings\n")[1].split("\n## ")[0];
+  const words = new Set([...table.matchAll(/^\| `warning (\w+)/gm)].map(([, word]) => word));
+  assert.ok(words.size > 15, String(words.size));
+  assert.deepEqual([...words].filter((word) => !Object.hasOwn(WARNINGS, word)), []);
 });

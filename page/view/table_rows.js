@@ -67,8 +67,9 @@ function roomCell(line, unit) {
 
 function wordOf(line, margin) {
   const words = margin.by < 0 ? MUST : MAY;
-  const both = line.isJoint && !line.isPeriod ? "both " : "";
-  return `${both}${words[margin.side]}`;
+  const count = line.numbers.length;
+  const all = !line.isJoint || line.isPeriod ? "" : count === 2 ? "both " : `all ${count} `;
+  return `${all}${words[margin.side]}`;
 }
 
 function endOf(margin, unit) {

@@ -262,7 +262,7 @@ def fill_form(page, form, **fields):
     """Fills fields of an open form, and takes it with Enter."""
     page.browser.wait_for(f"!document.getElementById('{form}').hidden")
     page.browser.evaluate(f"(() => {{ const form = document.getElementById('{form}'); for (const [name, value] of Object.entries({json.dumps(fields)})) form.elements[name].value = value; "
-                          "form.dispatchEvent(new Event('input', { bubbles: true })); form.querySelector('input:not([type=hidden])').focus(); })()")
+                          "form.dispatchEvent(new Event('input', { bubbles: true })); [...form.querySelectorAll('input:not([type=hidden])')].at(-1).focus(); })()")
     page.browser.key("Enter")
     page.rest()
 
