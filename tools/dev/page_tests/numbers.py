@@ -145,7 +145,7 @@ def numbers_that_are_one_text_are_one_line(page):
     # 4 delays of at most 4 ns are 16 ns of 20 ns: each may be 1 ns longer if all are.
     assert page.browser.evaluate(f"{line}.margins.up.by") == 1000, page.browser.evaluate(f"JSON.stringify({line}.margins)")
     shown = page.browser.evaluate("document.querySelector('tr[data-key=\"s.json grade g tPD\"] .room').innerText.replace(/\\s+/g, ' ')")
-    assert shown == "1 all 4 max up to 5", shown
+    assert shown == "1 all 4 up to 5", shown
 
 
 def lines_are_sorted_and_found(page):
