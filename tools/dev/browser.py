@@ -21,6 +21,14 @@ KEYS = {"Enter": (13, "Enter"), "Tab": (9, "Tab"), "Escape": (27, "Escape"), "Ar
 # How files end that a browser has not yet saved whole.
 UNFINISHED = (".crdownload", ".part", ".wkdownload")
 
+# The middle of an element. Firefox does not scroll to a part of a drawing that is as near as its drawing: there the drawing is put at the end of what is seen.
+CENTER = """(() => { const e = document.querySelector(SELECTOR);
+if (!e) return null;
+const middle = () => { const box = e.getBoundingClientRect(); return [(box.left + box.right) / 2, (box.top + box.bottom) / 2]; };
+e.scrollIntoView({ block: 'nearest' });
+if (middle()[1] >= innerHeight && e.ownerSVGElement) e.ownerSVGElement.scrollIntoView({ block: 'end' });
+return middle(); })()"""
+
 # After how many seconds without an answer a browser counts as hung.
 SILENCE = 180
 
@@ -56,8 +64,7 @@ class Browser:
 
     def center(self, selector):
         """The middle of the first element that a selector finds, which is scrolled into view."""
-        found = self.evaluate(f"(() => {{ const e = document.querySelector({json.dumps(selector)}); if (!e) return null; e.scrollIntoView({{ block: 'nearest' }}); "
-                              "const box = e.getBoundingClientRect(); return [(box.left + box.right) / 2, (box.top + box.bottom) / 2]; })()")
+        found = self.evaluate(CENTER.replace("SELECTOR", json.dumps(selector)))
         if not found:
             raise BrowserError(f"there is no {selector}")
         return found

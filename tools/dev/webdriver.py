@@ -32,6 +32,9 @@ addEventListener('unhandledrejection', event => window.thrown.push(String(event.
 class WebDriver(Browser):
     """One page by the commands of WebDriver. A browser of it gives `command`, which sends one."""
 
+    # Where the mouse is.
+    at = None
+
     def evaluate(self, script):
         """The value of a script in the page, whose promise is waited for."""
         body = ("const done = arguments[0]; (async () => window.eval(" + json.dumps(script) + "))().then(value => done({value: value === undefined ? null : value}), "
@@ -63,8 +66,10 @@ class WebDriver(Browser):
         self.act("key", [{"type": "keyDown", "value": value} for value in pressed] + [{"type": "keyUp", "value": value} for value in reversed(pressed)])
 
     def mouse(self, kind, place, count=1):
-        """An event of the mouse, `Pressed`, `Moved`, `Dragged` or `Released`, with its left button."""
-        self.act("pointer", [{"type": "pointerMove", "x": round(place[0]), "y": round(place[1]), "duration": 0}, *MOUSE[kind]])
+        """An event of the mouse, `Pressed`, `Moved`, `Dragged` or `Released`, with its left button. A move between two clicks would make them no double click."""
+        is_there = place == self.at and kind in ("Pressed", "Released")
+        self.at = place
+        self.act("pointer", [*([] if is_there else [{"type": "pointerMove", "x": round(place[0]), "y": round(place[1]), "duration": 0}]), *MOUSE[kind]])
 
     def touch(self, kind, *place):
         """An event of a finger: `Start` and `Move` have a place, `End` has none."""
@@ -111,8 +116,15 @@ class Firefox(WebDriver):
         words = [installed("firefox-esr"), "--headless", "--marionette", "-remote-allow-system-access", "--no-remote", "--profile", self.profile.name]
         self.processes = [subprocess.Popen(words, stdin=subprocess.DEVNULL, stdout=subprocess.DEVNULL, stderr=subprocess.DEVNULL,
                                            env=dict(os.environ, HOME=self.profile.name, MOZ_HEADLESS="1", MOZ_HEADLESS_WIDTH="2000", MOZ_HEADLESS_HEIGHT="1800"))]
+        self.socket, self.number, self.rest = None, 0, b""
+        try:
+            self.begin(port)
+        except BaseException:
+            self.close()
+            raise
+
+    def begin(self, port):
         self.socket = self.connected(port)
-        self.number, self.rest = 0, b""
         self.read_message()
         self.command("NewSession", "", {})
         self.command("SetTimeouts", "", {"script": SILENCE * 1000, "pageLoad": SILENCE * 1000})
@@ -138,7 +150,8 @@ class Firefox(WebDriver):
         raise BrowserError("Firefox did not answer")
 
     def close(self):
-        self.socket.close()
+        if self.socket:
+            self.socket.close()
         for process in self.processes:
             process.terminate()
             process.wait()
