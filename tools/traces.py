@@ -105,9 +105,10 @@ class Vcd(Trace):
         self.now, self.latest = 0, MOST_PICOSECONDS * self.divisor // self.factor
 
     def words(self):
-        """The words of the declarations, with the numbers of their lines."""
+        """The words of the declarations, with the numbers of their lines. `rest` are the words that follow on a line."""
         for number, line in self.lines:
-            for word in line.split():
+            self.rest = iter(line.split())
+            for word in self.rest:
                 yield number, word
         raise Fault(f"{self.name}: the file ends before $enddefinitions")
 
@@ -130,6 +131,7 @@ class Vcd(Trace):
             elif word == "$var":
                 self.declare_signal(number, inside, scopes)
             elif word == "$enddefinitions":
+                self.lines = itertools.chain([(number, " ".join(self.rest) + "\n")], self.lines)
                 return
 
     def declare_signal(self, number, words, scopes):
