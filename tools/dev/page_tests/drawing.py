@@ -361,8 +361,9 @@ def a_grade_is_chosen_in_a_menu(page):
     before = page.text_of("examples/cpu-sram-m12.json")
     menu = "document.querySelector('#grades select')"
     assert page.browser.evaluate(f"[...{menu}.options].map(option => option.text)") == ["m10", "m12", "m15"]
-    page.do(f"{menu}.value = 'm15'; {menu}.dispatchEvent(new Event('change', {{ bubbles: true }}))")
+    page.do(f"{menu}.focus(); {menu}.value = 'm15'; {menu}.dispatchEvent(new Event('change', {{ bubbles: true }}))")
     page.rest()
+    assert page.browser.evaluate(f"document.activeElement === {menu}")
     assert page.text_of("examples/cpu-sram-m12.json") == before.replace('"m12"', '"m15"')
     report = text_of("examples/cpu-sram-m15.out")
     slack = int(re.search(r"^slack (-?\d+)", report, re.M).group(1))
