@@ -1,6 +1,7 @@
 """Tests of the drawing under the hand, of what is kept, and of a designer's whole way."""
 import json
 import re
+import time
 
 from web_designs import sixteen_parts, text_of
 
@@ -304,8 +305,10 @@ def draw_board(page):
         fill_form(page, "net-form", title=name, high=most)
     page.browser.screenshot(f"{page.folder}/board.png")
     page.browser.click("[data-mode=join]")
+    # Two clicks, and no double click, which would rename the mark.
     for _ in range(2):
         page.browser.click("svg.drawing[data-file='sheet.json'] [data-mark=c]")
+        time.sleep(0.7)
     fill_form(page, "edge-form", place="board", low="8", high="8", note="125 MHz")
     board = json.loads(page.text_of("board.json"))
     assert board["nets"] == [{"name": "DATA", "pins": ["SHEET.DATA", "RX.DATA"], "delay": [0, 500]}, {"name": "CLOCK", "pins": ["SHEET.CLK", "RX.CLK"], "delay": [0, 0]}], board
