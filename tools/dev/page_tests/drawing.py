@@ -325,7 +325,7 @@ def a_designers_whole_way(page):
     page.browser.click("#job-tabs [data-id=why]")
     page.browser.wait_for("document.getElementById('job').innerText.includes('tCO')")
     page.browser.click("#job-tabs [data-id=bounds]")
-    room = "document.querySelector('tr[data-key=\"sheet.json edge 0\"] .room').innerText.replace(/\\s+/g, ' ')"
+    room = "document.querySelector('tr[data-key=\"sheet.json edge 0\"] .room').innerText.replace(/\\s+/g, ' ').trim()"
     assert page.browser.evaluate(room) == "-0.5 max at most 5.5", page.browser.evaluate(room)
     assert "117.6 MHz" in page.browser.evaluate("document.getElementById('clocks').innerText")
     edit_cell(page, "sheet.json edge 0", "high", "5.5")
