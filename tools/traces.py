@@ -379,9 +379,8 @@ def joined(signals):
     if len(signals) == 1:
         return signals[0].times, signals[0].values
     bus, now = Signal("", "", None, None), ["x"] * len(signals)
-    for time, changes in itertools.groupby(sorted((time, k, value) for k, signal in enumerate(signals) for time, value in zip(signal.times, signal.values)), lambda change: change[0]):
-        for _, k, value in changes:
-            now[k] = value
+    for time, bit, value in sorted((time, bit, value) for bit, signal in enumerate(signals) for time, value in zip(signal.times, signal.values)):
+        now[bit] = value
         bus.put(time, "".join(now))
     return bus.times, bus.values
 
