@@ -252,6 +252,8 @@ def number_of(trace, signal, text):
 
 # Comma-separated values
 
+# What a line begins with that is no row. sigrok-cli puts lines META where it converts a file.
+COMMENTS = (";", "#", "META ")
 WORDS_OF_UNITS = {"seconds": "s", "second": "s", "sec": "s", "milliseconds": "ms", "microseconds": "us", "nanoseconds": "ns", "picoseconds": "ps", "femtoseconds": "fs"}
 
 
@@ -287,7 +289,7 @@ class Table(Trace):
         for self.number, line in lines:
             if not line.endswith("\n"):
                 self.notes.append(f"{self.name}:{self.number}: the file ends within this line, which is left out")
-            elif line.strip() and line[0] not in ";#":
+            elif line.strip() and not line.startswith(COMMENTS):
                 yield line.replace("\0", "?")
 
     def next_row(self):
@@ -338,7 +340,7 @@ class Table(Trace):
 def trace_of(file, name, unit, level):
     """The trace of a file, with its signals."""
     lines = lines_of(file, name)
-    first = next(((number, line) for number, line in lines if line.strip()), None)
+    first = next(((number, line) for number, line in lines if line.strip() and not line.startswith("META ")), None)
     if first is None:
         raise Fault(f"{name} is empty")
     lines = itertools.chain([(first[0], itvlib.after("\ufeff", first[1]))], lines)
