@@ -59,8 +59,8 @@ class Trace:
         return Fault(f"{self.name}:{number}: {text}")
 
     def signal(self, path):
-        """The signal of a name, with or without its scope."""
-        found = [signal for signal in self.signals if path in (signal.path(), signal.name)]
+        """The signal of a name, with or without its scope and the range of its bits."""
+        found = [signal for signal in self.signals if RANGE.sub("", path) in (signal.path(), signal.name)]
         if not found:
             known = ", ".join(signal.path() for signal in self.signals[:20]) + (", .." if len(self.signals) > 20 else "")
             raise Fault(f"{self.name}: there is no signal '{path}'; the signals are {known or 'none'}")
@@ -85,6 +85,7 @@ def lines_of(file, name):
 
 # A value change dump
 
+RANGE = re.compile(r"\[[0-9]+:[0-9]+\]$")
 TIMESCALE = re.compile(r"(1|10|100)(s|ms|us|ns|ps|fs)")
 # Bits of VHDL as others know them: weak ones, and those that are not known.
 STRENGTHS = str.maketrans("lhuw-", "01xxx")
@@ -138,7 +139,7 @@ class Vcd(Trace):
         if len(words) < 4 or not re.fullmatch("[0-9]{1,9}", words[1]):
             raise self.fault(number, "this is not a declaration of a signal")
         # The range of a vector is no part of its name, but the number of a single bit is.
-        name = re.sub(r"\[[0-9]+:[0-9]+\]$", "", "".join(words[3:]))
+        name = RANGE.sub("", "".join(words[3:]))
         signal = Signal(".".join(scopes), name, None if words[0] in ("real", "realtime") else int(words[1]), words[2])
         # A code may have several names, all with the same values.
         first = self.codes.setdefault(signal.code, signal)
