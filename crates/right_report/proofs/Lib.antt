@@ -8,6 +8,7 @@ pub mod Findings
 pub mod Standing
 pub mod RowBounds
 pub mod RowVerdicts
+pub mod RowLines
 pub mod Refusing
 pub mod Ending
 pub mod Undecided
