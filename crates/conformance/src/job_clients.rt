@@ -31,7 +31,7 @@ ghost use Rattle.job_whatif.specs.Laws.{with_edits};
 ghost use Rattle.itv_cli.specs.Job.{turns_for};
 ghost use Rattle.job_base.specs.Ending.{answer_of};
 ghost use Rattle.conformance.specs.Clients.{AsksBounds, AsksBrief, AsksCheck, AsksConfirm, AsksFile, AsksFiles, AsksLint, AsksMargin, AsksMatrix, AsksSettle, AsksWhatif, AsksWhy, DrawnFrom, HasNoWrong, HasSafeHighs, IsLintClean, IsReportEnd, IsRightFile, IsSettledFile, IsSummaryOf, IsWritten, IsWrongFile, Makes, WroteOne, AreAlike};
-ghost use Rattle.conformance.specs.Said.{IsSoText};
+ghost use Rattle.right_report.specs.Said.{IsSoText};
 ghost use Rattle.drawn_laws.specs.Lone.{DrawsLone, IsLoneFile};
 ghost use Rattle.serde_json.specs.Data.{Data};
 ghost use Rattle.itv_base.specs.Outside.{Files};

@@ -168,11 +168,11 @@ module _ (drawn : Drawn) (number : ℕ) (r : Row) (get : slice_get drawn.rows nu
       elim (step lines here line h.0 s w h.1 ends) [
         | inl earlier ↦ further earlier (has_row lines h.0 (stands drawn here line h.0 s h.1) earlier.awaits (λ is. ends (earlier.ends ∙ is)) h.2)
         | inr at_it ↦ record {
-            current = at_it.current;
-            same = at_it.same;
-            leads = subst (λ more. LinesLead (right drawn.net) drawn (at_bound at_it.current greatest []) more at_last) (sym at_it.behind)
-                (subst (λ x. LinesLead (right drawn.net) drawn x lines at_last) at_it.leads h.2);
-          }
+          current = at_it.current;
+          same = at_it.same;
+          leads = subst (λ more. LinesLead (right drawn.net) drawn (at_bound at_it.current greatest []) more at_last) (sym at_it.behind)
+              (subst (λ x. LinesLead (right drawn.net) drawn x lines at_last) at_it.leads h.2);
+        }
       ]
     where
       further : {next : ReportState} → IsEarlier line lines next → HasRow lines → HasRow (line ∷ lines)

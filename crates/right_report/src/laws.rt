@@ -1,6 +1,7 @@
 //! Laws of right reports. The functions do nothing; what they ensure holds of all networks and all reports.
 
 ghost use Rattle.right_report.specs.Right.Order.{RightLinesKeepOrder};
+ghost use Rattle.right_report.specs.Said.{RightTextIsSo};
 ghost use Rattle.right_report.specs.Laws.{AcceptedTextIsNotRefused, AcceptedTextIsRight, BareIsRight, BareUndecidedIsBelow, CheckedHasNoWrong, CheckedIsRight, ConsistentIsSo, FailEndIsSo, ReportFailHighIsBroken, ReportFailLowIsBroken, GreatestIsRight, InconsistentEndIsSo, InconsistentIsSo, LeastIsRight, OneFirstWrong, OneRefusedLine, PassEndIsSo, ReportPassIsMet, RequirementHasVerdict, RightIsReport, RowHasGreatest, RowHasLeast, SetShowsAbove, SetShowsBelow, ShownIsRight, ShownUndecidedIsBelow, UnboundedAbove, UnboundedBelow, UnrefusedTextIsRight};
 
 /// A report that shows its numbers, by lines of proofs before them, is right.
@@ -55,6 +56,12 @@ pub fn rows_have_lines()
     ensures greatest { RowHasGreatest }
     ensures least { RowHasLeast }
     ensures verdict { RequirementHasVerdict }
+{}
+
+/// In the text of a right report that does not end with `end inconsistent` each row has its lines, and what the bounds and the
+/// verdicts say is so.
+pub fn right_text_is_so()
+    ensures { RightTextIsSo }
 {}
 
 /// If a right report says that a greatest bound is unbounded, satisfying separations of the pair exceed every number. If it says so

@@ -1,6 +1,6 @@
 -- What may be relied on in the text of a report, row by row.
-use Rattle.std.specs.Prelude.{◌≡◌, ◌==◌, ◌&&◌, ◌⊎◌, ℕ, ℤ, ◌≤ℤ◌, Bool, true, false, List, [], ◌∷◌, Option, Some, IfSome, find, slice_get, codes}
-use Rattle.std.specs.List.{after_first, before_first, flat_map}
+use Rattle.std.specs.Prelude.{◌≡◌, ◌&&◌, ℕ, ℤ, ◌≤ℤ◌, Bool, false, if◌then◌else◌, List, [], ◌∷◌, Option, Some, None, IfSome, slice_get, codes}
+use Rattle.std.specs.List.{flat_map}
 use Rattle.std.specs.Str.{bytes_eq}
 use Rattle.itv_base.specs.Numerals.{number_text}
 use Rattle.itv_base.specs.Range.{Ends}
@@ -18,9 +18,13 @@ use Rattle.requirements.specs.declared.bound.Bound.{Bound}
 use Rattle.requirements.specs.declared.bound.Bound.TheVariants.{Closed, Unbounded, Within}
 use Rattle.requirements.specs.declared.verdict.Verdict.{Verdict}
 use Rattle.requirements.specs.declared.verdict.Verdict.TheVariants.{Pass, FailHigh, FailLow, Undecided}
-use Rattle.slack_report.specs.Text.{bound_words, verdict_words}
+use Rattle.slack_report.specs.Entry.{Entry}
+use Rattle.slack_report.specs.Text.{bound_words, report_text, verdict_words}
+use Rattle.slack_report.specs.declared.words.EndWord.TheVariants as endings
 use Rattle.drawn_networks.specs.Drawn.{Drawn}
 use Rattle.drawn_networks.specs.declared.row.Row.{Row}
+use Rattle.right_report.specs.Right.LineClaims.{IsRightReport}
+use Rattle.right_report.specs.ReportContents.{end_in}
 
 -- ---- lines
 
@@ -34,9 +38,19 @@ abbrev pub begins_row : ℕ → List Word → Bool
 begins_row number [] = false
 begins_row number (first ∷ words) = bytes_eq first (codes "row") && begins (number_text number) words
 
+-- the lines after the line that begins the row with a number
+abbrev pub lines_behind : ℕ → List (List Word) → List (List Word)
+lines_behind number [] = []
+lines_behind number (line ∷ lines) = if begins_row number line then lines else lines_behind number lines
+
+-- the first line that begins with a word, up to the next row
+abbrev pub first_line : Word → List (List Word) → Option (List Word)
+first_line word [] = None
+first_line word (line ∷ lines) = if begins word line then Some line else (if begins (codes "row") line then None else first_line word lines)
+
 -- the first line of a row that begins with a word
 abbrev pub line_on : List (List Word) → ℕ → Word → Option (List Word)
-line_on lines number word = find (begins word) (before_first (begins (codes "row")) (after_first (begins_row number) lines))
+line_on lines number word = first_line word (lines_behind number lines)
 
 -- ---- what a line says
 
@@ -73,3 +87,7 @@ pub record IsSoText (drawn : Drawn) (bytes : List ℕ) : Type 0 where
       → (value : Bound) × (line_on lines number (codes "min") ≡ Some (codes "min" ∷ bound_words value)) × IsSoMin drawn.net r value
   pub verdict : (number : ℕ) (r : Row) (range : Ends) → slice_get drawn.rows number ≡ Some r → r.kind ≡ kinds.Req range
       → (word : Verdict) × (line_on lines number (codes "verdict") ≡ Some (codes "verdict" ∷ verdict_words word)) × IsSoVerdict drawn.net r range word
+
+-- a right report that does not end with `end inconsistent` says only what is so
+abbrev pub RightTextIsSo : Type 0
+RightTextIsSo = (drawn : Drawn) (lines : List Entry) → IsRightReport drawn lines → (end_in lines ≡ Some endings.Inconsistent → ⊥) → IsSoText drawn (report_text lines)
