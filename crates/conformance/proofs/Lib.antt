@@ -2,6 +2,7 @@ mod KnownFiles
 mod Faults
 mod JobEnds
 mod LongerEnds
+mod SaidEnds
 mod PlannedEnds
 mod MarginEnds
 mod Fitting

@@ -8,8 +8,6 @@ pub mod Findings
 pub mod Standing
 pub mod RowBounds
 pub mod RowVerdicts
-pub mod RowLines
-pub mod SaidLines
 pub mod Refusing
 pub mod Ending
 pub mod Undecided

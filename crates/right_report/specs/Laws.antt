@@ -9,7 +9,6 @@ use Rattle.requirements.specs.Bounds.{IsGreatestBound, IsLeastBound}
 use Rattle.requirements.specs.Laws.{IsBrokenHigh, IsBrokenLow, IsMet}
 use Rattle.requirements.specs.declared.bound.Bound.{Bound}
 use Rattle.requirements.specs.declared.bound.Bound.TheVariants as bounds
-use Rattle.requirements.specs.declared.verdict.Verdict.{Verdict}
 use Rattle.requirements.specs.declared.verdict.Verdict.TheVariants as verdicts
 use Rattle.itv_base.specs.declared.row_kind.RowKind.TheVariants as kinds
 use Rattle.slack_report.specs.declared.words.EndWord.TheVariants as endings
@@ -75,21 +74,6 @@ GreatestIsRight = (drawn : Drawn) (lines : List Entry) (number : ℕ) (r : Row) 
 abbrev pub LeastIsRight : Type 0
 LeastIsRight = (drawn : Drawn) (lines : List Entry) (number : ℕ) (r : Row) (value : Bound) → IsRightReport drawn lines → slice_get drawn.rows number ≡ Some r
     → bound_on lines number sorts.Min ≡ Some value → IsLeastBound drawn.net r.from r.to value
-
--- if a right report does not end with `end inconsistent`, each row has a greatest bound
-abbrev pub RowHasGreatest : Type 0
-RowHasGreatest = (drawn : Drawn) (lines : List Entry) (number : ℕ) (r : Row) → IsRightReport drawn lines → slice_get drawn.rows number ≡ Some r
-    → (end_in lines ≡ Some endings.Inconsistent → ⊥) → (value : Bound) × (bound_on lines number sorts.Max ≡ Some value)
-
--- each row has a least bound
-abbrev pub RowHasLeast : Type 0
-RowHasLeast = (drawn : Drawn) (lines : List Entry) (number : ℕ) (r : Row) → IsRightReport drawn lines → slice_get drawn.rows number ≡ Some r
-    → (end_in lines ≡ Some endings.Inconsistent → ⊥) → (value : Bound) × (bound_on lines number sorts.Min ≡ Some value)
-
--- each row with a requirement has a verdict
-abbrev pub RequirementHasVerdict : Type 0
-RequirementHasVerdict = (drawn : Drawn) (lines : List Entry) (number : ℕ) (r : Row) (range : Ends) → IsRightReport drawn lines → slice_get drawn.rows number ≡ Some r
-    → r.kind ≡ kinds.Req range → (end_in lines ≡ Some endings.Inconsistent → ⊥) → (word : Verdict) × (verdict_on lines number ≡ Some word)
 
 -- an unbounded greatest bound says that satisfying separations of the pair exceed every number
 abbrev pub UnboundedAbove : Type 0

@@ -8,5 +8,4 @@ pub mod Texts
 pub mod ReportContents
 pub mod Writing
 pub mod Laws
-pub mod Said
 pub mod Step

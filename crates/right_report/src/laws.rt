@@ -1,8 +1,7 @@
 //! Laws of right reports. The functions do nothing; what they ensure holds of all networks and all reports.
 
 ghost use Rattle.right_report.specs.Right.Order.{RightLinesKeepOrder};
-ghost use Rattle.right_report.specs.Said.{RightTextIsSo};
-ghost use Rattle.right_report.specs.Laws.{AcceptedTextIsNotRefused, AcceptedTextIsRight, BareIsRight, BareUndecidedIsBelow, CheckedHasNoWrong, CheckedIsRight, ConsistentIsSo, FailEndIsSo, ReportFailHighIsBroken, ReportFailLowIsBroken, GreatestIsRight, InconsistentEndIsSo, InconsistentIsSo, LeastIsRight, OneFirstWrong, OneRefusedLine, PassEndIsSo, ReportPassIsMet, RequirementHasVerdict, RightIsReport, RowHasGreatest, RowHasLeast, SetShowsAbove, SetShowsBelow, ShownIsRight, ShownUndecidedIsBelow, UnboundedAbove, UnboundedBelow, UnrefusedTextIsRight};
+ghost use Rattle.right_report.specs.Laws.{AcceptedTextIsNotRefused, AcceptedTextIsRight, BareIsRight, BareUndecidedIsBelow, CheckedHasNoWrong, CheckedIsRight, ConsistentIsSo, FailEndIsSo, ReportFailHighIsBroken, ReportFailLowIsBroken, GreatestIsRight, InconsistentEndIsSo, InconsistentIsSo, LeastIsRight, OneFirstWrong, OneRefusedLine, PassEndIsSo, ReportPassIsMet, RightIsReport, SetShowsAbove, SetShowsBelow, ShownIsRight, ShownUndecidedIsBelow, UnboundedAbove, UnboundedBelow, UnrefusedTextIsRight};
 
 /// A report that shows its numbers, by lines of proofs before them, is right.
 pub fn shown_is_right()
@@ -48,20 +47,6 @@ pub fn greatest_is_right()
 /// A least bound in a right report is right for the pair of its row.
 pub fn least_is_right()
     ensures { LeastIsRight }
-{}
-
-/// In a right report that does not end with `end inconsistent` each row has a greatest and a least bound, and each row with a
-/// requirement has a verdict.
-pub fn rows_have_lines()
-    ensures greatest { RowHasGreatest }
-    ensures least { RowHasLeast }
-    ensures verdict { RequirementHasVerdict }
-{}
-
-/// In the text of a right report that does not end with `end inconsistent` each row has its lines, and what the bounds and the
-/// verdicts say is so.
-pub fn right_text_is_so()
-    ensures { RightTextIsSo }
 {}
 
 /// If a right report says that a greatest bound is unbounded, satisfying separations of the pair exceed every number. If it says so

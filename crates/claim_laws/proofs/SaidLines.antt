@@ -29,9 +29,10 @@ use Rattle.drawn_networks.specs.declared.row.Row.{Row}
 use Rattle.right_report.specs.ReportContents.{behind_row, first_bound, first_verdict}
 use Rattle.right_report.specs.Right.ReportState.{at_last}
 use Rattle.right_report.specs.Right.LineClaims.{IsRightReport}
-use Rattle.right_report.specs.Said.{IsSoMax, IsSoMin, IsSoVerdict, RightTextIsSo, begins_row, first_line, line_on, lines_behind}
+use Rattle.claim_laws.specs.Laws.{RightTextIsSo}
+use Rattle.claim_laws.specs.Said.{IsSoMax, IsSoMin, IsSoVerdict, first_line, line_on, lines_behind}
 use Rattle.right_report.proofs.RowBounds.{greatest_is_right, least_is_right}
-use Rattle.right_report.proofs.RowLines.{requirement_has_verdict, row_has_greatest, row_has_least}
+use Rattle.claim_laws.proofs.RowLines.{requirement_has_verdict, row_has_greatest, row_has_least}
 use Rattle.right_report.proofs.RowVerdicts.{fail_high_is_broken, fail_low_is_broken, pass_is_met}
 
 -- ---- lines of words

@@ -18,13 +18,9 @@ use Rattle.requirements.specs.declared.bound.Bound.{Bound}
 use Rattle.requirements.specs.declared.bound.Bound.TheVariants.{Closed, Unbounded, Within}
 use Rattle.requirements.specs.declared.verdict.Verdict.{Verdict}
 use Rattle.requirements.specs.declared.verdict.Verdict.TheVariants.{Pass, FailHigh, FailLow, Undecided}
-use Rattle.slack_report.specs.Entry.{Entry}
-use Rattle.slack_report.specs.Text.{bound_words, report_text, verdict_words}
-use Rattle.slack_report.specs.declared.words.EndWord.TheVariants as endings
+use Rattle.slack_report.specs.Text.{bound_words, verdict_words}
 use Rattle.drawn_networks.specs.Drawn.{Drawn}
 use Rattle.drawn_networks.specs.declared.row.Row.{Row}
-use Rattle.right_report.specs.Right.LineClaims.{IsRightReport}
-use Rattle.right_report.specs.ReportContents.{end_in}
 
 -- ---- lines
 
@@ -87,7 +83,3 @@ pub record IsSoText (drawn : Drawn) (bytes : List ℕ) : Type 0 where
       → (value : Bound) × (line_on lines number (codes "min") ≡ Some (codes "min" ∷ bound_words value)) × IsSoMin drawn.net r value
   pub verdict : (number : ℕ) (r : Row) (range : Ends) → slice_get drawn.rows number ≡ Some r → r.kind ≡ kinds.Req range
       → (word : Verdict) × (line_on lines number (codes "verdict") ≡ Some (codes "verdict" ∷ verdict_words word)) × IsSoVerdict drawn.net r range word
-
--- a right report that does not end with `end inconsistent` says only what is so
-abbrev pub RightTextIsSo : Type 0
-RightTextIsSo = (drawn : Drawn) (lines : List Entry) → IsRightReport drawn lines → (end_in lines ≡ Some endings.Inconsistent → ⊥) → IsSoText drawn (report_text lines)

@@ -15,8 +15,6 @@ use Rattle.sheet.specs.Rule.{RuleView}
 use Rattle.sheet.specs.Sheet.{read_marks}
 use Rattle.unroll.specs.Cycles.{constraint_in, origins_in, row_in}
 use Rattle.drawn_networks.specs.Drawn.{Drawn}
-use Rattle.design_reading.specs.FileReading.{end_over, ready}
-use Rattle.design_reading.specs.Design.{design_at}
 
 -- the file with a name is a text that reads as this JSON tree, and the tree is an object without the key `itv`
 pub record IsLoneFile (files : Files) (name : List ℕ) (tree : Data) : Type 0 where
@@ -49,8 +47,3 @@ pub record DrawsLone (tree : Data) (drawn : Drawn) : Type 0 where
   pub links : List Link
   pub has_links : links_of plain marks edges ≡ Ok links
   pub is_drawn : drawn ≡ lone_drawn marks (order_rules (lanes_in signal) ++ link_rules links) (link_rows links)
-
--- if the design of a lone sheet is read, the network is the one that the tree draws
-abbrev pub LoneIsRead : Type 0
-LoneIsRead = (files : Files) (name : List ℕ) (tree : Data) (drawn : Drawn) → IsLoneFile files name tree → end_over files (design_at name) ≡ ready drawn
-    → DrawsLone tree drawn
