@@ -1,5 +1,5 @@
 -- What a lone sheet draws.
-use Rattle.std.proofs.Common.{◌≡◌, ◌+◌, ◌*◌, ◌≤◌, ◌&&◌, ℕ, Bool, true, false, cond, if◌then◌else◌, nat_lt, List, [], ◌∷◌, ◌++◌, length, map, take, Option, Some, None, Ok, ok_or, refl, sym, ap, subst, ◌∙◌, inl, inr, arith, codes}
+use Rattle.std.proofs.Common.{◌≡◌, ◌+◌, ◌*◌, ◌≤◌, ◌&&◌, ℕ, Bool, true, false, cond, if◌then◌else◌, nat_lt, List, [], ◌∷◌, ◌++◌, length, map, take, Option, Some, None, Result, Ok, ok_or, refl, sym, ap, subst, ◌∙◌, inl, inr, arith, codes}
 use Rattle.std.specs.Prelude.{is_none, is_some, option_map}
 use Rattle.std.specs.List.{cons_option, filter_map}
 use Rattle.std.proofs.lemmas.Bool.{ltb-false}
@@ -74,7 +74,7 @@ bytes_are shelf files name bytes read known is (inr (front, has, comes)) =
     whole_by shelf FILE_LIMIT bytes front read (nat_lt FILE_LIMIT (length front)) refl (front_by shelf.files files name front bytes (FILE_LIMIT + 1) known is has) comes
 
 ok_tree : (o : Option Data) (tree other : Data) → o ≡ Some tree → ok_or o NotJson ≡ Ok other → tree ≡ other
-ok_tree o tree other is gives = same_Some tree other (sym is ∙ ok_gave o NotJson other gives)
+ok_tree o tree other is got = same_Some tree other (sym is ∙ ok_gave o NotJson other got)
 
 -- the tree of the file
 tree_is : (shelf : ShelfState) (files : Files) (name : List ℕ) (tree other : Data) → shelf.files ≡ Some files → IsLoneFile files name tree → RunsTo shelf (tree_in (File 0) name) (ready other) → tree ≡ other
@@ -192,6 +192,18 @@ module _ (found : sheet.SheetView) where
 
 -- ---- the law
 
+abbrev IsDrawing : DiagramView → Result DiagramView DiagramFault → Type 0
+IsDrawing c result = Ok c ≡ result
+
+abbrev IsSheet : sheet.SheetView → Result sheet.SheetView SheetFault → Type 0
+IsSheet c result = Ok c ≡ result
+
+drawing_field : {X : Type 0} (f : DiagramView → X) (c d : DiagramView) → IsDrawing c (Ok d) → f c ≡ f d
+drawing_field f c d is = let same : c ≡ d = cc is in ap f same
+
+sheet_field : {X : Type 0} (f : sheet.SheetView → X) (c d : sheet.SheetView) → IsSheet c (Ok d) → f c ≡ f d
+sheet_field f c d is = let same : c ≡ d = cc is in ap f same
+
 pub lone_is_read : LoneIsRead
 unfolding drawn_at unrolled sheet_of
 lone_is_read shelf files name tree drawn known lone comes =
@@ -234,11 +246,5 @@ lone_is_read shelf files name tree drawn known lone comes =
           is_drawn = net_is ∙ parts marks_are (ap (λ lanes. order_rules lanes ++ link_rules links) lanes_are ∙ rules_are) rows_are;
         }
       where
-        drawing_field : {X : Type 0} (f : DiagramView → X) (c d : DiagramView) → Ok {E = DiagramFault} c ≡ Ok d → f c ≡ f d
-        drawing_field f c d e = let same : c ≡ d = cc e in ap f same
-
-        sheet_field : {X : Type 0} (f : sheet.SheetView → X) (c d : sheet.SheetView) → Ok {E = SheetFault} c ≡ Ok d → f c ≡ f d
-        sheet_field f c d e = let same : c ≡ d = cc e in ap f same
-
         parts : {marks more : List Mark} {rules others : List RuleView} {rows last : List SheetRow} → marks ≡ more → rules ≡ others → rows ≡ last → lone_drawn more others last ≡ lone_drawn marks rules rows
         parts {marks} {more} {rules} {others} {rows} {last} m r w = rw (m, r, w) refl
