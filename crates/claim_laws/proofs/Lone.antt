@@ -39,7 +39,7 @@ use Rattle.unroll.specs.Limits.{counts_of, first_passed, unrolled}
 use Rattle.design_reading.specs.declared.refusal_place.RefusalPlace.TheVariants.{Design, File}
 use Rattle.design_reading.specs.declared.refusal.Refusal.TheVariants.{Diagram, Joins, Limits, NotJson, Sheet, TooLong}
 use Rattle.design_reading.specs.FileReading.{RunsTo, at, file_at, gives, ready, refuses}
-use Rattle.design_reading.specs.Design.{design_at, drawn_at, lone_at, netlist_at, plan_at, tree_at, tree_in, tree_of, tree_planned}
+use Rattle.design_reading.specs.Design.{drawn_at, lone_at, netlist_at, plan_at, tree_at, tree_in, tree_of, tree_planned}
 use Rattle.design_reading.specs.Step.Lone.{lone_plan, plain_key, plain_sheet_at}
 use Rattle.design_reading.proofs.LoneSheets.{lone_is}
 use Rattle.design_reading.proofs.Opens.{at_gave, gave, opening_then}
@@ -104,9 +104,11 @@ record IsSheetOf (tree : Data) (found : sheet.SheetView) : Type 0 where
 sheet_read : (shelf : ShelfState) (name : List ℕ) (tree : Data) (plan : PlanView) → RunsTo shelf (lone_at name tree) (ready plan) → (found : sheet.SheetView) × (lone_plan name found ≡ plan) × IsSheetOf tree found
 sheet_read shelf name tree plan comes =
     let (found, first, rest) = opening_then shelf (plain_sheet_at (File 0) tree) (λ sheet. gives (lone_plan name sheet)) plan (subst (λ o. RunsTo shelf o (ready plan)) (lone_is name tree) comes) in
-    let (drawing, one, two) = opening_then shelf (at (File 0) (λ why. Diagram why) (diagram_of tree)) (λ drawing. at (File 0) (λ why. Sheet why) (sheet_of plain drawing)) found first in
-    (found, gave shelf (lone_plan name found) plan rest,
-      record { drawing = drawing; drawn = at_gave shelf (File 0) (λ why. Diagram why) _ drawing one; read = at_gave shelf (File 0) (λ why. Sheet why) _ found two })
+    let (drawing, one, two) = opening_then shelf (at (File 0) (λ why. Diagram why) (diagram_of tree)) (λ drawing. at (File 0) (λ why. Sheet why) (sheet_of plain drawing)) found first in (
+      found,
+      gave shelf (lone_plan name found) plan rest,
+      record { drawing = drawing; drawn = at_gave shelf (File 0) (λ why. Diagram why) _ drawing one; read = at_gave shelf (File 0) (λ why. Sheet why) _ found two },
+    )
 
 -- ---- the network
 

@@ -16,14 +16,14 @@ use Rattle.itv_base.specs.declared.row_kind.RowKind.{RowKind}
 use Rattle.itv_base.specs.declared.row_kind.RowKind.TheVariants.{Ask, Req}
 use Rattle.slack_report.specs.declared.words.EndWord.TheVariants as endings
 use Rattle.slack_report.specs.declared.words.Which.TheVariants.{Max, Min}
-use Rattle.slack_report.specs.Entry.{Entry, heading, budget, events, event, proof, finding, times, rows, row, bound, raise, verdict, slack, ending}
+use Rattle.slack_report.specs.Entry.{Entry, heading, budget, events, event, proof, finding, times, rows, row, bound, raise, verdict, slack}
 use Rattle.drawn_networks.specs.Drawn.{Drawn, name_of}
 use Rattle.drawn_networks.specs.declared.row.Row.{Row}
 use Rattle.right_report.specs.Right.ReportState.{ReportState, NextBound, CurrentRow, at_heading, at_budget, at_events, at_event, at_finding, at_known, at_rows, at_row, at_bound, at_times, at_raise, at_verdict, at_past, at_slack, at_end, at_last, behind_bound, behind_finding, behind_past, behind_times, behind_verdict, bounded, tally_of, greatest, judged, least_by, which_of}
 use Rattle.right_report.specs.Right.LineClaims.{IsRightReport, right}
 use Rattle.right_report.specs.Right.Following.{MayBound, MayFind, MayFollow, LinesLead}
 use Rattle.claim_laws.specs.Laws.{RowHasGreatest, RowHasLeast, RequirementHasVerdict}
-use Rattle.right_report.specs.ReportContents.{behind_row, bound_on, end_in, first_bound, first_verdict, verdict_on}
+use Rattle.right_report.specs.ReportContents.{behind_row, end_in, first_bound, first_verdict}
 use Rattle.right_report.proofs.RowBounds.{IsBeforeMax, IsBeforeMin, before_min_bound, before_min_times}
 use Rattle.right_report.proofs.Standing.{Stands, next_row, stands}
 

@@ -1,5 +1,5 @@
 -- What may be relied on in the text of a right report.
-use Rattle.std.proofs.Common.{◌≡◌, ◌==◌, ◌++◌, ℕ, ℤ, ◌≤ℤ◌, Bool, true, false, if◌then◌else◌, List, [], ◌∷◌, map, Option, Some, None, IfSome, slice_get, refl, sym, ap, subst, ◌∙◌, eq-eqb, codes, arith}
+use Rattle.std.proofs.Common.{◌≡◌, ◌==◌, ◌++◌, ℕ, Bool, true, false, if◌then◌else◌, List, [], ◌∷◌, map, Some, None, slice_get, refl, sym, ap, subst, ◌∙◌, eq-eqb, codes, arith}
 use Rattle.std.specs.List.{flat_map}
 use Rattle.std.specs.Str.{bytes_eq}
 use Rattle.std.proofs.lemmas.Bool.{eqb-true}
@@ -12,7 +12,6 @@ use Rattle.itv_base.specs.Range.{Ends}
 use Rattle.itv_base.specs.declared.row_kind.RowKind.TheVariants.{Req}
 use Rattle.event_graph.specs.Network.{Net}
 use Rattle.event_graph.specs.Proof.{Loop, Path, Split}
-use Rattle.event_graph.specs.Satisfying.{Satisfies}
 use Rattle.event_graph.proofs.ByEdges.{satisfying_meets_always}
 use Rattle.line_words.specs.Lines.{ended, line_of}
 use Rattle.line_words.specs.Words.{Word}

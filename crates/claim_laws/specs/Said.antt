@@ -4,7 +4,6 @@ use Rattle.std.specs.List.{flat_map}
 use Rattle.std.specs.Str.{bytes_eq}
 use Rattle.itv_base.specs.Numerals.{number_text}
 use Rattle.itv_base.specs.Range.{Ends}
-use Rattle.itv_base.specs.declared.names.EventId.{EventId}
 use Rattle.itv_base.specs.declared.row_kind.RowKind.TheVariants as kinds
 use Rattle.event_graph.specs.Bounds.{IsGreatest, IsLeast, IsUnbounded}
 use Rattle.event_graph.specs.Network.{Net}
