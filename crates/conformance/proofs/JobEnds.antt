@@ -1,5 +1,5 @@
 -- What the ends of runs of one job say over known files.
-use Rattle.std.proofs.Common.{◌≡◌, ◌∙◌, ◌+◌, ◌≤◌, ℕ, Bool, true, false, List, ◌∷◌, length, take, Option, Some, None, ◌⊎◌, inl, inr, refl, sym, ap, subst, arith, nat_lt, codes, if◌then◌else◌, Result, Ok, slice_get}
+use Rattle.std.proofs.Common.{◌≡◌, ◌∙◌, ◌+◌, ◌≤◌, ℕ, Bool, true, false, List, ◌∷◌, length, take, Option, Some, None, ◌⊎◌, inl, inr, refl, sym, ap, subst, arith, nat_lt, codes, if◌then◌else◌, Result, Ok}
 use Rattle.std.proofs.lemmas.Bool.{ltb-false}
 use Rattle.std.proofs.lemmas.List.{length-take, take_all}
 use Rattle.std.proofs.lemmas.List.Elements.{All-head, All-tail}
@@ -13,19 +13,16 @@ use Rattle.design_gen.specs.Files.{design_files}
 use Rattle.job_base.specs.Ending.{answer_of}
 use Rattle.job_base.specs.declared.answer.Answer.{Answer}
 use Rattle.job_base.specs.declared.answer.Answer.TheVariants as answers
-use Rattle.slack_report.specs.Entry.{Entry}
-use Rattle.slack_report.specs.Text.{report_text}
 use Rattle.slack_report.specs.declared.words.EndWord.{EndWord}
 use Rattle.slack_report.specs.declared.words.EndWord.TheVariants as endings
 use Rattle.right_report.specs.Laws.{AllMet, SomeBroken, SomeSatisfy}
 use Rattle.right_report.specs.Right.ReportState.{at_last}
-use Rattle.right_report.specs.Right.LineClaims.{BeginsRightReport, IsRightReport}
+use Rattle.right_report.specs.Right.LineClaims.{BeginsRightReport}
 use Rattle.right_report.specs.ReportContents.{end_in}
 use Rattle.right_report.specs.Texts.{IsAcceptedText, IsRefusedText}
 use Rattle.right_report.proofs.Ending.{fail_end_is_so, inconsistent_end_is_so, pass_end_is_so}
 use Rattle.right_report.proofs.Refusing.{accepted_text_is_right, one_refused_line}
 use Rattle.drawn_networks.specs.Drawn.{Drawn}
-use Rattle.drawn_networks.specs.declared.row.Row.{Row}
 use Rattle.drawn_laws.proofs.Designs.{drawn_names_have_form, drawn_ranges_have_form}
 use Rattle.design_reading.specs.declared.refusal_place.RefusalPlace.{RefusalPlace}
 use Rattle.design_reading.specs.declared.refusal_place.RefusalPlace.TheVariants.{Edits, Report}
