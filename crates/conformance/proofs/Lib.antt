@@ -8,3 +8,4 @@ mod MarginEnds
 mod Fitting
 mod Redrawn
 pub mod OwnReports
+pub mod AllNumbers
