@@ -1,10 +1,6 @@
 -- The numbers of a drawing are all.
-use Rattle.std.proofs.Common.{◌≡◌, ◌∙◌, ◌==◌, ◌&&◌, ◌||◌, ℕ, Bool, true, false, if◌then◌else◌, List, [], ◌∷◌, ◌++◌, All, map, fold, refl, ap, subst, eq-eqb}
+use Rattle.std.proofs.Common.{◌≡◌, ◌∙◌, ◌||◌, ℕ, Bool, true, false, if◌then◌else◌, List, [], ◌∷◌, ◌++◌, All, map, fold, refl, eq-eqb}
 use Rattle.std.specs.Prelude.{zip}
-use Rattle.std.specs.List.{list_any}
-use Rattle.std.specs.Str.{bytes_eq}
-use Rattle.std.proofs.lemmas.List.{map-append}
-use Rattle.std.proofs.lemmas.List.Folds.{list_any-append}
 use Rattle.std.proofs.lemmas.List.Elements.{All-cons, All-nil, All-weaker}
 use Rattle.std.proofs.lemmas.Slice.Eq.{bytes_eq-Decides}
 use Rattle.origin.specs.declared.origin.Origin.{Origin}
@@ -14,8 +10,7 @@ use Rattle.event_graph.specs.declared.cause.Cause.{Cause}
 use Rattle.itv_base.specs.Range.{Ends}
 use Rattle.drawn_networks.specs.Drawn.{Drawn, name_of}
 use Rattle.drawn_numbers.specs.Numbers.{draws}
-use Rattle.drawn_numbers.specs.declared.drawn_number.DrawnNumber.{DrawnNumber}
-use Rattle.moves.specs.Listed.{number_by, numbers_of, with_cause, with_causes}
+use Rattle.moves.specs.Listed.{number_by, with_cause, with_causes}
 use Rattle.moves.specs.Moving.{any_draws}
 use Rattle.moves.specs.declared.number_seen.NumberSeen.{NumberSeen}
 use Rattle.conformance.specs.Laws.{IsListed, NumbersAreAll}
@@ -107,5 +102,5 @@ numbers_are_all drawn =
     fold_brings (λ (drew : Constraint × List Origin) seen. All (λ (at : Cause × Origin). IsListed seen (name_of drawn drew.0.target).part at.1) (zip drew.0.causes drew.1)) (with_causes drawn)
     (constraint_brings drawn)
     (λ drew seen next is. All-weaker (λ (at : Cause × Origin). IsListed seen (name_of drawn drew.0.target).part at.1)
-        (λ (at : Cause × Origin). IsListed (with_causes drawn seen next) (name_of drawn drew.0.target).part at.1) (λ at listed. one_keeps drawn (name_of drawn drew.0.target).part at.1 seen next listed) (zip drew.0.causes drew.1) is)
+    (λ (at : Cause × Origin). IsListed (with_causes drawn seen next) (name_of drawn drew.0.target).part at.1) (λ at listed. one_keeps drawn (name_of drawn drew.0.target).part at.1 seen next listed) (zip drew.0.causes drew.1) is)
     [] (zip drawn.net.constraints drawn.origins)
