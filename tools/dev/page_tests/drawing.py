@@ -217,7 +217,9 @@ def rows_that_are_alike_are_one_line(page):
     board = {"itv": 1, "cycles": 1, "parts": [{"name": name, "sheet": "s.json"} for name in "ABCD"], "nets": [], "edges": []}
     page.open_files("board.json", {"board.json": json.dumps(board), "s.json": json.dumps(sheet)})
     lines = "[...document.querySelectorAll('table.rows tbody tr')].filter(line => line.offsetParent !== null).length"
-    assert page.browser.evaluate(lines) == 1 and "4 of 4" in page.sentence(), page.sentence()
+    for width in (500, 1280):
+        page.browser.resize(width, 900)
+        assert page.browser.evaluate(lines) == 1 and "4 of 4" in page.sentence(), (width, page.sentence())
     page.browser.click("button.unfold")
     assert page.browser.evaluate(lines) == 4 and page.browser.evaluate("document.activeElement.getAttribute('aria-expanded')") == "true"
     page.browser.evaluate("document.querySelector('tbody.alike a').click()")
