@@ -1,0 +1,12 @@
+use Rattle.std.proofs.Common.{◌≡◌, take}
+use Rattle.std.specs.Prelude.{fold}
+use Rattle.std.specs.Int.{int_min}
+use Rattle.event_graph.specs.declared.cause.Cause.{Cause}
+use Rattle.job_measure.specs.declared.spare.TheConstants.{FAR}
+use Rattle.job_measure.specs.Looks.{times_of}
+use Rattle.job_measure.specs.Spare.{least_on}
+use Rattle.job_measure.proofs.spare.least_on.Given as goal
+
+-- the least of the causes so far
+abbrev pub invariant-loop-cause : goal.invariant-loop-cause
+invariant-loop-cause l = l.least ≡ least_on l.side (times_of l.run) l.target (take l.cause-index l.causes)
