@@ -19,9 +19,12 @@ times_of run = map (λ time. unwrap_or time (pos 0)) run
 abbrev pub is_seen : Run → EventId → Bool
 is_seen run event = option_map_or is_some (slice_get run event.0) false
 
+abbrev pub are_seen : Run → List Cause → Bool
+are_seen run causes = list_all (λ (cause : Cause). is_seen run cause.event) causes
+
 -- all events of the constraint were seen in the run
 abbrev pub is_shown : Run → Constraint → Bool
-is_shown run c = is_seen run c.target && list_all (λ (cause : Cause). is_seen run cause.event) c.causes
+is_shown run c = is_seen run c.target && are_seen run c.causes
 
 -- how long after its first cause the target comes
 abbrev pub apart : List ℤ → EventId → List Cause → ℤ
@@ -34,10 +37,13 @@ look_at run c =
     if is_shown run c then Some (record { spare = spare (times_of run) c; least = apart (times_of run) c.target c.causes; greatest = apart (times_of run) c.target c.causes }) else None
 
 -- two looks of one run as one: the less spare, and the least and the greatest separation
+abbrev pub joined : Look → Look → Look
+joined a b = record { spare = int_min a.spare b.spare; least = int_min a.least b.least; greatest = int_max a.greatest b.greatest }
+
 abbrev pub both : Option Look → Option Look → Option Look
 both None other = other
 both (Some a) None = Some a
-both (Some a) (Some b) = Some (record { spare = int_min a.spare b.spare; least = int_min a.least b.least; greatest = int_max a.greatest b.greatest })
+both (Some a) (Some b) = Some (joined a b)
 
 -- what a run shows of some constraints, as one; none if it shows none of them
 abbrev pub looks : Run → List Constraint → Option Look

@@ -1,6 +1,6 @@
 //! The constraints of a network with the headings of the rules that draw them.
 
-ghost use Rattle.std.specs.Prelude.{◌≡◌, ◌<◌, IfOk, Some, length, slice_get};
+ghost use Rattle.std.specs.Prelude.{◌≡◌, ◌+◌, ◌<◌, ◌∷◌, IfOk, Some, drop, length, slice_get};
 ghost use Rattle.std.specs.List.{list_any};
 ghost use Rattle.line_words.specs.Words.{is_word};
 ghost use Rattle.job_measure.specs.Lines.{Headed, headed, under};
@@ -34,11 +34,22 @@ pub fn headed_in(alloc: Global, drawn: &DrawnNetwork) -> Result<Vec<Headed>, NoM
 {
     let mut all: Vec<Headed> = Vec::new(alloc);
     for number in 0..drawn.network().len() {
-        let rule = Rule::of(alloc, drawn.network(), number)?;
-        let heading = rule_heading(alloc, drawn, &rule, origins_of(drawn, number))?;
-        all.push(Headed { heading, rule })?;
+        all.push(headed_at(alloc, drawn, number)?)?;
     }
     Ok(all)
+}
+
+// The constraint of a number with its heading.
+fn headed_at(alloc: Global, drawn: &DrawnNetwork, number: u32) -> Result<Headed, NoMemory>
+    requires there { number < length drawn.now.net.constraints }
+    ensures { IfOk result (λ h. headed drawn.now (drop number drawn.now.net.constraints) (drop number drawn.now.origins)
+        ≡ h ∷ headed drawn.now (drop (number + 1) drawn.now.net.constraints) (drop (number + 1) drawn.now.origins)) }
+{
+    let net = drawn.network();
+    net.is_whole();
+    let rule = Rule::of(alloc, net, number)?;
+    let heading = rule_heading(alloc, drawn, &rule, origins_of(drawn, number))?;
+    Ok(Headed { heading, rule })
 }
 
 // What draws the causes of a constraint of the network.
@@ -62,8 +73,14 @@ pub fn under(alloc: Global, heading: &[u8], all: &[Headed]) -> Result<Vec<Rule>,
     Ok(rules)
 }
 
-/// Whether a constraint has this heading.
-pub fn has_heading(heading: &[u8], some: &[Headed]) -> bool
+/// Whether one of some constraints has the heading of another.
+pub fn is_known(one: &Headed, some: &[Headed]) -> bool
+    ensures known { result ≡ list_any (λ (h : Headed). is_word h.heading one.now.heading) some.now }
+{
+    has_heading(&one.heading, some)
+}
+
+fn has_heading(heading: &[u8], some: &[Headed]) -> bool
     ensures has { result ≡ list_any (λ (h : Headed). is_word h.heading heading.now) some.now }
 {
     some.iter().any(|one| one.heading.as_slice() == heading)

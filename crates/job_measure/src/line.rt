@@ -6,7 +6,7 @@ ghost use Rattle.drawn_networks.specs.Drawn.{IsRowOf};
 ghost use Rattle.job_measure.specs.Lines.{is_linear, is_required, lines_of, range_of, row_line, row_lines, rule_line, rule_lines};
 ghost use Rattle.job_measure.specs.Step.{IsRunWithin, IsTolerance};
 
-use crate::headed::{Headed, has_heading, headed_in, under};
+use crate::headed::{Headed, headed_in, is_known, under};
 use crate::heading::row_heading;
 use crate::rule::Rule;
 use crate::tally::{Tally, tally_of};
@@ -87,7 +87,7 @@ fn add_rule(
         ≡ lines.old.items ++ rule_lines within runs.now all.now (take k all.now) (drop k all.now)) }
 {
     let one = &all[k];
-    if has_heading(&one.heading, &all[..k]) {
+    if is_known(one, &all[..k]) {
         return Ok(());
     }
     lines.push(rule_line(alloc, within, runs, all, one)?)?;

@@ -1,7 +1,7 @@
 //! What a run shows.
 
 ghost use Rattle.std.specs.Prelude.{◌≡◌};
-ghost use Rattle.job_measure.specs.Looks.{apart, both, is_seen, is_shown, look_at, looks, times_of};
+ghost use Rattle.job_measure.specs.Looks.{apart, are_seen, both, is_seen, is_shown, joined, look_at, looks, times_of};
 ghost use Rattle.job_measure.specs.Step.{IsRunWithin};
 
 use crate::rule::Rule;
@@ -48,11 +48,18 @@ fn both(one: Option<Look>, other: Option<Look>) -> Option<Look>
     match (one, other) {
         (None, _) => other,
         (Some(_), None) => one,
-        (Some(a), Some(b)) => Some(Look {
-            spare: a.spare.min(b.spare),
-            least: a.least.min(b.least),
-            greatest: a.greatest.max(b.greatest),
-        }),
+        (Some(a), Some(b)) => Some(joined(a, b)),
+    }
+}
+
+// Two looks as one.
+fn joined(a: Look, b: Look) -> Look
+    ensures { result ≡ joined a b }
+{
+    Look {
+        spare: a.spare.min(b.spare),
+        least: a.least.min(b.least),
+        greatest: a.greatest.max(b.greatest),
     }
 }
 
@@ -75,7 +82,14 @@ fn look_at(run: &[Option<i64>], rule: &Rule) -> Option<Look>
 fn is_shown(run: &[Option<i64>], rule: &Rule) -> bool
     ensures { result ≡ is_shown run.now rule.now }
 {
-    is_seen(run, rule.target) && rule.causes.iter().all(|cause| is_seen(run, cause.event))
+    is_seen(run, rule.target) && are_seen(run, rule.causes.as_slice())
+}
+
+// Whether the events of all causes were seen.
+fn are_seen(run: &[Option<i64>], causes: &[Cause]) -> bool
+    ensures { result ≡ are_seen run.now causes.now }
+{
+    causes.iter().all(|cause| is_seen(run, cause.event))
 }
 
 // How long after its first cause a target comes.

@@ -4,13 +4,14 @@ ghost use Rattle.std.specs.Prelude.{◌≡◌, ◌++◌, All, IfOk, OnOk};
 ghost use Rattle.std.specs.List.{flat_map};
 ghost use Rattle.measured_times.specs.Runs.{IsRunFor};
 ghost use Rattle.job_base.specs.JobWrote.{Answered, JobWrote};
-ghost use Rattle.job_measure.specs.Measure.{AnswersMeasure, measure_text};
+ghost use Rattle.job_measure.specs.Measure.{AnswersMeasure, ending_text, head_text, measure_text};
 ghost use Rattle.job_measure.specs.Text.{line_text};
 ghost use Rattle.job_measure.specs.Step.{IsRunWithin, IsTolerance};
 
 use crate::ending::{all_verdict, answer_by};
 use crate::line::{Line, lines_of};
 use crate::line_text::{add_line, add_verdict};
+use crate::tally::Verdict;
 use crate::unseen::add_unseen;
 use drawn_networks::DrawnNetwork;
 use itv_base::{NoMemory, Sink};
@@ -33,14 +34,36 @@ pub fn write_measure<K: Sink>(
     ensures works { JobWrote (AnswersMeasure drawn.now within runs.now) (Answered (AnswersMeasure drawn.now within runs.now))
         (K.state sink.old) (K.state sink.new) result }
 {
-    let runs = runs.as_slice();
-    let lines = lines_of(alloc, drawn, within, runs)?;
-    let text = text_of(alloc, drawn, within, runs, &lines)?;
-    sink.put(&text)?;
-    Ok(answer_by(all_verdict(&lines)))
+    let decided = decided(alloc, drawn, within, runs.as_slice())?;
+    sink.put(&decided.text)?;
+    Ok(decided.answer)
 }
 
-// The whole text.
+// The whole text, and the answer of the job.
+#[derive(Drop)]
+struct Decision {
+    text: Vec<u8>,
+    answer: Answer,
+}
+
+fn decided(
+    alloc: Global,
+    drawn: &DrawnNetwork,
+    within: u64,
+    runs: &[Run],
+) -> Result<Decision, NoMemory>
+    requires within { IsTolerance within }
+    requires runs { All IsRunWithin runs.now }
+    ensures { IfOk result (λ t. AnswersMeasure drawn.now within runs.now t.answer t.text.items) }
+{
+    let lines = lines_of(alloc, drawn, within, runs)?;
+    let text = text_of(alloc, drawn, within, runs, &lines)?;
+    Ok(Decision {
+        text,
+        answer: answer_by(all_verdict(&lines)),
+    })
+}
+
 fn text_of(
     alloc: Global,
     drawn: &DrawnNetwork,
@@ -51,17 +74,30 @@ fn text_of(
     ensures { IfOk result (λ text. text.items ≡ measure_text drawn.now within runs.now lines.now) }
 {
     let mut text = Vec::new(alloc);
-    add_piece(&mut text, b"itv measure 1\nwithin")?;
-    add_number(&mut text, within)?;
-    add_piece(&mut text, b"\nruns")?;
-    add_number(&mut text, runs.len() as u64)?;
-    add_piece(&mut text, b"\n")?;
+    add_head(&mut text, within, runs.len() as u64)?;
     add_lines(&mut text, lines)?;
     add_unseen(&mut text, drawn, runs)?;
-    add_piece(&mut text, b"end")?;
-    add_verdict(&mut text, all_verdict(lines))?;
-    add_piece(&mut text, b"\n")?;
+    add_ending(&mut text, all_verdict(lines))?;
     Ok(text)
+}
+
+// Adds the heading, the tolerance and the number of runs.
+fn add_head(text: &mut Vec<u8>, within: u64, count: u64) -> Result<(), NoMemory>
+    ensures { OnOk result (text.new.items ≡ text.old.items ++ head_text within count) }
+{
+    add_piece(text, b"itv measure 1\nwithin")?;
+    add_number(text, within)?;
+    add_piece(text, b"\nruns")?;
+    add_number(text, count)?;
+    add_piece(text, b"\n")
+}
+
+fn add_ending(text: &mut Vec<u8>, verdict: Verdict) -> Result<(), NoMemory>
+    ensures { OnOk result (text.new.items ≡ text.old.items ++ ending_text verdict) }
+{
+    add_piece(text, b"end")?;
+    add_verdict(text, verdict)?;
+    add_piece(text, b"\n")
 }
 
 fn add_lines(text: &mut Vec<u8>, lines: &[Line]) -> Result<(), NoMemory>

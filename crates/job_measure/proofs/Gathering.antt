@@ -1,0 +1,150 @@
+-- Lists and texts that are gathered piece by piece: what was gathered stands before what is left.
+use Rattle.std.proofs.Common.{◌≡◌, ◌+◌, ◌<◌, ◌≤◌, ℕ, Bool, true, false, cond, if◌then◌else◌, List, [], ◌∷◌, ◌++◌, length, map, filter, take, drop, get_or, Option, Some, slice_get, unwrap_or, refl, sym, ap, subst, ◌∙◌, append_assoc, append-nil}
+use Rattle.std.specs.List.{list_any}
+use Rattle.std.specs.Option.{option_and_then, option_map_or}
+use Rattle.std.proofs.lemmas.List.{drop_all, map-append}
+use Rattle.std.proofs.lemmas.List.Sums.{filter-append}
+use Rattle.std.proofs.lemmas.Option.{get_or_from_slice_get, slice_get-get_or, slice_get_within}
+use Rattle.itv_base.proofs.Lists.{drop-read, take_get}
+use Rattle.itv_base.specs.Names.{Name}
+use Rattle.origin.specs.declared.origin.Origin.{Origin}
+use Rattle.event_graph.specs.Network.{Constraint, IsConstraint, IsNet, Net, cause_at}
+use Rattle.event_graph.specs.declared.cause.Cause.{Cause}
+use Rattle.drawn_networks.specs.Drawn.{Drawn, name_of, nameless}
+use Rattle.drawn_networks.specs.declared.row.Row.{Row}
+use Rattle.line_words.specs.Words.{is_word}
+use Rattle.measured_times.specs.Runs.{Run}
+use Rattle.job_measure.specs.Headings.{rule_heading}
+use Rattle.job_measure.specs.Step.{causes_at}
+use Rattle.job_measure.specs.Lines.{Headed, Line, headed, row_line, row_lines, rule_line, rule_lines, under}
+use Rattle.job_measure.specs.Text.{unseen_count, unseen_line, unseen_text}
+
+-- an element more
+pub goes_on : {A : Type 0} (front rest others total : List A) (x : A) → front ++ rest ≡ total → rest ≡ x ∷ others → (front ++ x ∷ []) ++ others ≡ total
+goes_on front rest others total x so_far is = append_assoc front (x ∷ []) others ∙ (ap (λ r. front ++ r) (sym is) ∙ so_far)
+
+-- a piece more
+pub goes_on_by : {A : Type 0} (front piece rest others total : List A) → front ++ rest ≡ total → rest ≡ piece ++ others → (front ++ piece) ++ others ≡ total
+goes_on_by front piece rest others total so_far is = append_assoc front piece others ∙ (ap (λ r. front ++ r) (sym is) ∙ so_far)
+
+-- nothing is left
+pub is_whole : {A : Type 0} (front rest total : List A) → front ++ rest ≡ total → rest ≡ [] → front ≡ total
+is_whole front rest total so_far is = sym (append-nil front) ∙ (ap (λ r. front ++ r) (sym is) ∙ so_far)
+
+-- an element that is there
+pub read_at : {A : Type 0} (xs : List A) (k : ℕ) (x : A) → k < length xs → x ≡ get_or xs k x → slice_get xs k ≡ Some x
+read_at xs k x h is = slice_get-get_or xs k x h ∙ ap (λ y. Some y) (sym is)
+
+-- ---- constraints
+
+cause_by : (o : Option Constraint) (k : ℕ) (cause : Cause) → option_and_then (λ (c : Constraint). slice_get c.causes k) o ≡ Some cause
+    → slice_get (option_map_or (λ (c : Constraint). c.causes) o []) k ≡ Some cause
+cause_by None k cause h = absurd (cc h)
+cause_by (Some c) k cause h = h
+
+-- a cause more
+pub cause_more : (net : Net) (number k : ℕ) (cause : Cause) (old new : List Cause) → cause_at net number k ≡ Some cause → old ≡ take k (causes_at net number) → new ≡ old ++ cause ∷ []
+    → new ≡ take (k + 1) (causes_at net number)
+cause_more net number k cause old new at so_far grows =
+    grows ∙ (ap (λ r. r ++ cause ∷ []) so_far ∙ sym (take_get (causes_at net number) k cause (cause_by (slice_get net.constraints number) k cause at)))
+
+pub headed_more : (drawn : Drawn) (constraints : List Constraint) (origins : List (List Origin)) (k : ℕ) (c : Constraint) (drew : List Origin) → slice_get constraints k ≡ Some c
+    → slice_get origins k ≡ Some drew → headed drawn (drop k constraints) (drop k origins)
+    ≡ record { heading = rule_heading drawn c drew; constraint = c } ∷ headed drawn (drop (k + 1) constraints) (drop (k + 1) origins)
+headed_more drawn constraints origins k c drew at drawn_by = rw (drop-read constraints k c at, drop-read origins k drew drawn_by) refl
+
+-- the constraint of a network that is equal to another one
+pub constraint_at : (net own : Net) (k : ℕ) (c : Constraint) → own ≡ net → IsNet own → slice_get own.constraints k ≡ Some c → IsConstraint net.events c
+constraint_at net own k c same whole at =
+    let within : k < length own.constraints = slice_get_within own.constraints k c at in
+    let is : get_or own.constraints k c ≡ c = get_or_from_slice_get own.constraints k c c at in
+    subst (λ (n : Net). IsConstraint n.events c) same (subst (IsConstraint own.events) is (whole.constraints k c within))
+
+pub headed_at : (drawn : Drawn) (own : Net) (k : ℕ) (c : Constraint) (drew : List Origin) (heading : List ℕ) → own ≡ drawn.net → slice_get own.constraints k ≡ Some c
+    → slice_get drawn.origins k ≡ Some drew → heading ≡ rule_heading drawn c drew → headed drawn (drop k drawn.net.constraints) (drop k drawn.origins)
+    ≡ record { heading = heading; constraint = c } ∷ headed drawn (drop (k + 1) drawn.net.constraints) (drop (k + 1) drawn.origins)
+headed_at drawn own k c drew heading same at drawn_by is =
+    let here : slice_get drawn.net.constraints k ≡ Some c = subst (λ (n : Net). slice_get n.constraints k ≡ Some c) same at in
+    headed_more drawn drawn.net.constraints drawn.origins k c drew here drawn_by
+    ∙ ap (λ h. record { heading = h; constraint = c } ∷ headed drawn (drop (k + 1) drawn.net.constraints) (drop (k + 1) drawn.origins)) (sym is)
+
+none_headed : (drawn : Drawn) (constraints : List Constraint) (origins : List (List Origin)) → constraints ≡ [] → headed drawn constraints origins ≡ []
+none_headed drawn constraints origins is = ap (λ cs. headed drawn cs origins) is
+
+pub headed_none : (drawn : Drawn) (constraints : List Constraint) (origins : List (List Origin)) (k : ℕ) → length constraints ≤ k → headed drawn (drop k constraints) (drop k origins) ≡ []
+headed_none drawn constraints origins k h = none_headed drawn (drop k constraints) (drop k origins) (drop_all k constraints h)
+
+-- the constraints with a heading among some and one more
+pub under_more : (heading : List ℕ) (all : List Headed) (k : ℕ) (h : Headed) → slice_get all k ≡ Some h
+    → under heading (take (k + 1) all) ≡ under heading (take k all) ++ (if is_word h.heading heading then h.constraint ∷ [] else [])
+under_more heading all k h at = ap (under heading) (take_get all k h at) ∙ (ap (map (λ (o : Headed). o.constraint)) (filter-append (λ (o : Headed). is_word o.heading heading) (take k all) (h ∷ []))
+    ∙ (map-append (λ (o : Headed). o.constraint) (filter (λ (o : Headed). is_word o.heading heading) (take k all)) (filter (λ (o : Headed). is_word o.heading heading) (h ∷ []))
+    ∙ ap (λ r. under heading (take k all) ++ r) (last (is_word h.heading heading) refl)))
+  where
+    last : (b : Bool) → is_word h.heading heading ≡ b → map (λ (o : Headed). o.constraint) (filter (λ (o : Headed). is_word o.heading heading) (h ∷ [])) ≡ cond b (h.constraint ∷ []) []
+    last true is = rw is refl
+    last false is = rw is refl
+
+pub under_one : (heading : List ℕ) (all : List Headed) (k : ℕ) (h : Headed) (old new : List Constraint) → slice_get all k ≡ Some h → is_word h.heading heading ≡ true
+    → old ≡ under heading (take k all) → new ≡ old ++ h.constraint ∷ [] → new ≡ under heading (take (k + 1) all)
+under_one heading all k h old new at is so_far grows =
+    grows ∙ (ap (λ r. r ++ h.constraint ∷ []) so_far ∙ sym (under_more heading all k h at ∙ ap (λ b. under heading (take k all) ++ cond b (h.constraint ∷ []) []) is))
+
+pub under_other : (heading : List ℕ) (all : List Headed) (k : ℕ) (h : Headed) (old : List Constraint) → slice_get all k ≡ Some h → is_word h.heading heading ≡ false
+    → old ≡ under heading (take k all) → old ≡ under heading (take (k + 1) all)
+under_other heading all k h old at is so_far =
+    so_far ∙ sym (under_more heading all k h at ∙ (ap (λ b. under heading (take k all) ++ cond b (h.constraint ∷ []) []) is ∙ append-nil (under heading (take k all))))
+
+-- ---- lines
+
+module _ (within : ℕ) (runs : List Run) (all : List Headed) (k : ℕ) (h : Headed) (at : slice_get all k ≡ Some h) where
+  has_before : Bool
+  has_before = list_any (λ (b : Headed). is_word b.heading h.heading) (take k all)
+
+  pub rules_more : rule_lines within runs all (take k all) (drop k all)
+      ≡ (if list_any (λ (b : Headed). is_word b.heading h.heading) (take k all) then [] else rule_line within runs all h ∷ []) ++ rule_lines within runs all (take (k + 1) all) (drop (k + 1) all)
+  rules_more = rw (drop-read all k h at, take_get all k h at) refl
+
+  pub rule_known : (old : List Line) → list_any (λ (b : Headed). is_word b.heading h.heading) (take k all) ≡ true
+      → old ++ rule_lines within runs all (take (k + 1) all) (drop (k + 1) all) ≡ old ++ rule_lines within runs all (take k all) (drop k all)
+  rule_known old is =
+      ap (λ r. old ++ r) (sym (rules_more ∙ ap (λ b. cond b [] (rule_line within runs all h ∷ []) ++ rule_lines within runs all (take (k + 1) all) (drop (k + 1) all)) is))
+
+  pub rule_new : (old new : List Line) → list_any (λ (b : Headed). is_word b.heading h.heading) (take k all) ≡ false → new ≡ old ++ rule_line within runs all h ∷ []
+      → new ++ rule_lines within runs all (take (k + 1) all) (drop (k + 1) all) ≡ old ++ rule_lines within runs all (take k all) (drop k all)
+  rule_new old new is grows =
+      ap (λ r. r ++ rule_lines within runs all (take (k + 1) all) (drop (k + 1) all)) grows
+      ∙ goes_on old (rule_lines within runs all (take k all) (drop k all)) (rule_lines within runs all (take (k + 1) all) (drop (k + 1) all)) _ (rule_line within runs all h) refl
+      (rules_more ∙ ap (λ b. cond b [] (rule_line within runs all h ∷ []) ++ rule_lines within runs all (take (k + 1) all) (drop (k + 1) all)) is)
+
+pub no_rules : (within : ℕ) (runs : List Run) (all before others : List Headed) → others ≡ [] → rule_lines within runs all before others ≡ []
+no_rules within runs all before others is = ap (rule_lines within runs all before) is
+
+pub row_more : (drawn : Drawn) (within : ℕ) (runs : List Run) (rows : List Row) (k : ℕ) (row : Row) → slice_get rows k ≡ Some row
+    → row_lines drawn within runs k (drop k rows) ≡ row_line drawn within runs k row ∷ row_lines drawn within runs (k + 1) (drop (k + 1) rows)
+row_more drawn within runs rows k row at = ap (row_lines drawn within runs k) (drop-read rows k row at)
+
+pub no_row : (drawn : Drawn) (within : ℕ) (runs : List Run) (rows : List Row) (k : ℕ) → length rows ≤ k → row_lines drawn within runs k (drop k rows) ≡ []
+no_row drawn within runs rows k h = ap (row_lines drawn within runs k) (drop_all k rows h)
+
+-- ---- events
+
+pub unseen_more : (drawn : Drawn) (runs : List Run) (k : ℕ) → k < length drawn.names
+    → unseen_text runs k (drop k drawn.names) ≡ unseen_line (name_of drawn (record { 0 = k })) (unseen_count runs k) ++ unseen_text runs (k + 1) (drop (k + 1) drawn.names)
+unseen_more drawn runs k h =
+    let at : slice_get drawn.names k ≡ Some (get_or drawn.names k nameless) = slice_get-get_or drawn.names k nameless h in
+    let name : name_of drawn (record { 0 = k }) ≡ get_or drawn.names k nameless = ap (λ o. unwrap_or o nameless) at in
+    ap (unseen_text runs k) (drop-read drawn.names k (get_or drawn.names k nameless) at)
+    ∙ ap (λ n. unseen_line n (unseen_count runs k) ++ unseen_text runs (k + 1) (drop (k + 1) drawn.names)) (sym name)
+
+pub unseen_goes : (drawn : Drawn) (runs : List Run) (k count : ℕ) (name : Name) (old new total : List ℕ) → k < length drawn.names
+    → old ++ unseen_text runs k (drop k drawn.names) ≡ total → name ≡ name_of drawn (record { 0 = k }) → count ≡ unseen_count runs k → new ≡ old ++ unseen_line name count
+    → new ++ unseen_text runs (k + 1) (drop (k + 1) drawn.names) ≡ total
+unseen_goes drawn runs k count name old new total h so_far named counted grows =
+    let piece : unseen_line name count ≡ unseen_line (name_of drawn (record { 0 = k })) (unseen_count runs k) = ap (λ n. unseen_line n count) named ∙ ap (unseen_line (name_of drawn (record { 0 = k }))) counted in
+    ap (λ t. t ++ unseen_text runs (k + 1) (drop (k + 1) drawn.names)) (grows ∙ ap (λ p. old ++ p) piece)
+    ∙ goes_on_by old (unseen_line (name_of drawn (record { 0 = k })) (unseen_count runs k)) (unseen_text runs k (drop k drawn.names)) (unseen_text runs (k + 1) (drop (k + 1) drawn.names)) total
+    so_far (unseen_more drawn runs k h)
+
+pub no_event : (runs : List Run) (names : List Name) (k : ℕ) → length names ≤ k → unseen_text runs k (drop k names) ≡ []
+no_event runs names k h = ap (unseen_text runs k) (drop_all k names h)
