@@ -1,9 +1,9 @@
 -- Lists and texts that are gathered piece by piece: what was gathered stands before what is left.
-use Rattle.std.proofs.Common.{◌≡◌, ◌+◌, ◌<◌, ◌≤◌, ℕ, Bool, true, false, cond, if◌then◌else◌, List, [], ◌∷◌, ◌++◌, length, map, filter, take, drop, get_or, Option, Some, slice_get, unwrap_or, refl, sym, ap, subst, ◌∙◌, append_assoc, append-nil}
+use Rattle.std.proofs.Common.{◌≡◌, ◌+◌, ◌<◌, ◌≤◌, ℕ, Bool, true, false, cond, if◌then◌else◌, List, [], ◌∷◌, ◌++◌, length, map, filter, take, drop, get_or, Option, Some, None, slice_get, unwrap_or, refl, sym, ap, subst, ◌∙◌, append_assoc, append-nil}
 use Rattle.std.specs.List.{list_any}
 use Rattle.std.specs.Option.{option_and_then, option_map_or}
 use Rattle.std.proofs.lemmas.List.{drop_all, map-append}
-use Rattle.std.proofs.lemmas.List.Sums.{filter-append}
+use Rattle.std.proofs.lemmas.List.Elements.{filter-append}
 use Rattle.std.proofs.lemmas.Option.{get_or_from_slice_get, slice_get-get_or, slice_get_within}
 use Rattle.itv_base.proofs.Lists.{drop-read, take_get}
 use Rattle.itv_base.specs.Names.{Name}
@@ -13,10 +13,10 @@ use Rattle.event_graph.specs.declared.cause.Cause.{Cause}
 use Rattle.drawn_networks.specs.Drawn.{Drawn, name_of, nameless}
 use Rattle.drawn_networks.specs.declared.row.Row.{Row}
 use Rattle.line_words.specs.Words.{is_word}
-use Rattle.measured_times.specs.Runs.{Run}
+use Rattle.measured_times.specs.Runs.{MeasuredRun}
 use Rattle.job_measure.specs.Headings.{rule_heading}
 use Rattle.job_measure.specs.Step.{causes_at}
-use Rattle.job_measure.specs.Lines.{Headed, Line, headed, row_line, row_lines, rule_line, rule_lines, under}
+use Rattle.job_measure.specs.Lines.{Headed, RunLine, headed, line_of_row, lines_of_rows, rule_line, rule_lines, under}
 use Rattle.job_measure.specs.Text.{unseen_count, unseen_line, unseen_text}
 
 -- an element more
@@ -97,7 +97,7 @@ under_other heading all k h old at is so_far =
 
 -- ---- lines
 
-module _ (within : ℕ) (runs : List Run) (all : List Headed) (k : ℕ) (h : Headed) (at : slice_get all k ≡ Some h) where
+module _ (within : ℕ) (runs : List MeasuredRun) (all : List Headed) (k : ℕ) (h : Headed) (at : slice_get all k ≡ Some h) where
   has_before : Bool
   has_before = list_any (λ (b : Headed). is_word b.heading h.heading) (take k all)
 
@@ -105,31 +105,31 @@ module _ (within : ℕ) (runs : List Run) (all : List Headed) (k : ℕ) (h : Hea
       ≡ (if list_any (λ (b : Headed). is_word b.heading h.heading) (take k all) then [] else rule_line within runs all h ∷ []) ++ rule_lines within runs all (take (k + 1) all) (drop (k + 1) all)
   rules_more = rw (drop-read all k h at, take_get all k h at) refl
 
-  pub rule_known : (old : List Line) → list_any (λ (b : Headed). is_word b.heading h.heading) (take k all) ≡ true
+  pub rule_known : (old : List RunLine) → list_any (λ (b : Headed). is_word b.heading h.heading) (take k all) ≡ true
       → old ++ rule_lines within runs all (take (k + 1) all) (drop (k + 1) all) ≡ old ++ rule_lines within runs all (take k all) (drop k all)
   rule_known old is =
       ap (λ r. old ++ r) (sym (rules_more ∙ ap (λ b. cond b [] (rule_line within runs all h ∷ []) ++ rule_lines within runs all (take (k + 1) all) (drop (k + 1) all)) is))
 
-  pub rule_new : (old new : List Line) → list_any (λ (b : Headed). is_word b.heading h.heading) (take k all) ≡ false → new ≡ old ++ rule_line within runs all h ∷ []
+  pub rule_new : (old new : List RunLine) → list_any (λ (b : Headed). is_word b.heading h.heading) (take k all) ≡ false → new ≡ old ++ rule_line within runs all h ∷ []
       → new ++ rule_lines within runs all (take (k + 1) all) (drop (k + 1) all) ≡ old ++ rule_lines within runs all (take k all) (drop k all)
   rule_new old new is grows =
       ap (λ r. r ++ rule_lines within runs all (take (k + 1) all) (drop (k + 1) all)) grows
       ∙ goes_on old (rule_lines within runs all (take k all) (drop k all)) (rule_lines within runs all (take (k + 1) all) (drop (k + 1) all)) _ (rule_line within runs all h) refl
       (rules_more ∙ ap (λ b. cond b [] (rule_line within runs all h ∷ []) ++ rule_lines within runs all (take (k + 1) all) (drop (k + 1) all)) is)
 
-pub no_rules : (within : ℕ) (runs : List Run) (all before others : List Headed) → others ≡ [] → rule_lines within runs all before others ≡ []
+pub no_rules : (within : ℕ) (runs : List MeasuredRun) (all before others : List Headed) → others ≡ [] → rule_lines within runs all before others ≡ []
 no_rules within runs all before others is = ap (rule_lines within runs all before) is
 
-pub row_more : (drawn : Drawn) (within : ℕ) (runs : List Run) (rows : List Row) (k : ℕ) (row : Row) → slice_get rows k ≡ Some row
-    → row_lines drawn within runs k (drop k rows) ≡ row_line drawn within runs k row ∷ row_lines drawn within runs (k + 1) (drop (k + 1) rows)
-row_more drawn within runs rows k row at = ap (row_lines drawn within runs k) (drop-read rows k row at)
+pub row_more : (drawn : Drawn) (within : ℕ) (runs : List MeasuredRun) (rows : List Row) (k : ℕ) (row : Row) → slice_get rows k ≡ Some row
+    → lines_of_rows drawn within runs k (drop k rows) ≡ line_of_row drawn within runs k row ∷ lines_of_rows drawn within runs (k + 1) (drop (k + 1) rows)
+row_more drawn within runs rows k row at = ap (lines_of_rows drawn within runs k) (drop-read rows k row at)
 
-pub no_row : (drawn : Drawn) (within : ℕ) (runs : List Run) (rows : List Row) (k : ℕ) → length rows ≤ k → row_lines drawn within runs k (drop k rows) ≡ []
-no_row drawn within runs rows k h = ap (row_lines drawn within runs k) (drop_all k rows h)
+pub no_row : (drawn : Drawn) (within : ℕ) (runs : List MeasuredRun) (rows : List Row) (k : ℕ) → length rows ≤ k → lines_of_rows drawn within runs k (drop k rows) ≡ []
+no_row drawn within runs rows k h = ap (lines_of_rows drawn within runs k) (drop_all k rows h)
 
 -- ---- events
 
-pub unseen_more : (drawn : Drawn) (runs : List Run) (k : ℕ) → k < length drawn.names
+pub unseen_more : (drawn : Drawn) (runs : List MeasuredRun) (k : ℕ) → k < length drawn.names
     → unseen_text runs k (drop k drawn.names) ≡ unseen_line (name_of drawn (record { 0 = k })) (unseen_count runs k) ++ unseen_text runs (k + 1) (drop (k + 1) drawn.names)
 unseen_more drawn runs k h =
     let at : slice_get drawn.names k ≡ Some (get_or drawn.names k nameless) = slice_get-get_or drawn.names k nameless h in
@@ -137,7 +137,7 @@ unseen_more drawn runs k h =
     ap (unseen_text runs k) (drop-read drawn.names k (get_or drawn.names k nameless) at)
     ∙ ap (λ n. unseen_line n (unseen_count runs k) ++ unseen_text runs (k + 1) (drop (k + 1) drawn.names)) (sym name)
 
-pub unseen_goes : (drawn : Drawn) (runs : List Run) (k count : ℕ) (name : Name) (old new total : List ℕ) → k < length drawn.names
+pub unseen_goes : (drawn : Drawn) (runs : List MeasuredRun) (k count : ℕ) (name : Name) (old new total : List ℕ) → k < length drawn.names
     → old ++ unseen_text runs k (drop k drawn.names) ≡ total → name ≡ name_of drawn (record { 0 = k }) → count ≡ unseen_count runs k → new ≡ old ++ unseen_line name count
     → new ++ unseen_text runs (k + 1) (drop (k + 1) drawn.names) ≡ total
 unseen_goes drawn runs k count name old new total h so_far named counted grows =
@@ -146,5 +146,5 @@ unseen_goes drawn runs k count name old new total h so_far named counted grows =
     ∙ goes_on_by old (unseen_line (name_of drawn (record { 0 = k })) (unseen_count runs k)) (unseen_text runs k (drop k drawn.names)) (unseen_text runs (k + 1) (drop (k + 1) drawn.names)) total
     so_far (unseen_more drawn runs k h)
 
-pub no_event : (runs : List Run) (names : List Name) (k : ℕ) → length names ≤ k → unseen_text runs k (drop k names) ≡ []
+pub no_event : (runs : List MeasuredRun) (names : List Name) (k : ℕ) → length names ≤ k → unseen_text runs k (drop k names) ≡ []
 no_event runs names k h = ap (unseen_text runs k) (drop_all k names h)

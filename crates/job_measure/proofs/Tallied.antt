@@ -7,13 +7,13 @@ use Rattle.std.proofs.lemmas.List.Elements.{All-nil, All-push, All-weaker}
 use Rattle.std.proofs.lemmas.List.Sums.{sum_by_push}
 use Rattle.itv_base.proofs.Integers.{le_from_no_test}
 use Rattle.event_graph.specs.Network.{Constraint}
-use Rattle.measured_times.specs.Runs.{Run}
-use Rattle.job_measure.specs.declared.look.Look.{Look}
+use Rattle.measured_times.specs.Runs.{MeasuredRun}
+use Rattle.job_measure.specs.declared.look.RunLook.{RunLook}
 use Rattle.job_measure.specs.declared.tally.Found.{Found}
-use Rattle.job_measure.specs.declared.tally.Tally.{Tally}
+use Rattle.job_measure.specs.declared.tally.RunTally.{RunTally}
 use Rattle.job_measure.specs.Looks.{looks}
-use Rattle.job_measure.specs.Tally.{first_if, found_in, is_broken, is_near, less, more, no_runs, one_if, tally, with_look}
-use Rattle.job_measure.specs.Laws.{IsFirst, IsGreatestOf, IsLeastOf, IsTally, TalliesAreCounts, shows, value_of}
+use Rattle.job_measure.specs.Tally.{first_if, found_in, is_broken, is_close, less, more, no_runs, one_if, tally, with_look}
+use Rattle.job_measure.specs.Laws.{IsFirstRun, IsGreatestOf, IsLeastOf, IsRunTally, TalliesAreCounts, shows, value_of}
 
 -- ---- a list with one more element
 
@@ -62,15 +62,15 @@ module _ {X : Type 0} (test : X → Bool) (xs : List X) (y : X) where
 
   -- an element that does not meet the test
   first_same : (first : Option ℕ) → test y ≡ false → IsFirstIn xs first → IsFirstIn (xs ++ y ∷ []) first
-  first_same None no h = first_none false no h.0
-  first_same (Some number) no h =
+  first_same None misses h = first_none false misses h.0
+  first_same (Some number) misses h =
       let (k, is, at, earlier) = h.1 in
       (tt, (k, is, stays_at (λ x. test x ≡ true) y xs k at, subst (All (λ x. test x ≡ false)) (sym (front_same (λ x. test x ≡ true) y xs k at)) earlier))
 
 -- ---- the least and the greatest
 
 -- what an order has to have
-record IsOrder (is_less : ℤ → ℤ → Bool) (Le Lt : ℤ → ℤ → Type 0) : Type 0 where
+pub record IsOrder (is_less : ℤ → ℤ → Bool) (Le Lt : ℤ → ℤ → Type 0) : Type 0 where
   pub same : (a : ℤ) → Le a a
   pub less_le : (a b c : ℤ) → is_less a b ≡ true → Le b c → Lt a c
   pub less : (a c : ℤ) → Lt a c → Le a c
@@ -170,17 +170,17 @@ more_is (Some old) found = refl
 
 module _ (within : ℕ) (constraints : List Constraint) where
   -- a run more
-  tally_with : (runs : List Run) (run : Run) (t : Tally) (o : Option Look) → looks run constraints ≡ o → IsTally within constraints runs t
-      → IsTally within constraints (runs ++ run ∷ []) (with_look within t (length runs + 1) o)
+  tally_with : (runs : List MeasuredRun) (run : MeasuredRun) (t : RunTally) (o : Option RunLook) → looks run constraints ≡ o → IsRunTally within constraints runs t
+      → IsRunTally within constraints (runs ++ run ∷ []) (with_look within t (length runs + 1) o)
   tally_with runs run t None is h =
-      let none_shown : (test : Look → Bool) → shows constraints test run ≡ false = λ test. ap (λ o. option_map_or test o false) is in
-      let none_valued : (f : Look → ℤ) → value_of f constraints run ≡ None = λ f. ap (option_map f) is in
-      let counted : (p : Run → Bool) (n : ℕ) → n ≡ count_by p runs → p run ≡ false → n ≡ count_by p (runs ++ run ∷ []) =
-      λ p n e no. e ∙ (sym (add-zero (count_by p runs)) ∙ sym (count_push p runs run ∙ ap (λ b. count_by p runs + one_if b) no)) in
+      let none_shown : (test : RunLook → Bool) → shows constraints test run ≡ false = λ test. ap (λ o. option_map_or test o false) is in
+      let none_valued : (f : RunLook → ℤ) → value_of f constraints run ≡ None = λ f. ap (option_map f) is in
+      let counted : (p : MeasuredRun → Bool) (n : ℕ) → n ≡ count_by p runs → p run ≡ false → n ≡ count_by p (runs ++ run ∷ []) =
+      λ p n e misses. e ∙ (sym (add-zero (count_by p runs)) ∙ sym (count_push p runs run ∙ ap (λ b. count_by p runs + one_if b) misses)) in
       record {
         seen = counted (λ r. is_some (looks r constraints)) t.runs h.seen (ap is_some is);
         broken = counted (shows constraints (λ look. is_broken within look.spare)) t.broken h.broken (none_shown (λ look. is_broken within look.spare));
-        near = counted (shows constraints (λ look. is_near within look.spare)) t.near h.near (none_shown (λ look. is_near within look.spare));
+        near = counted (shows constraints (λ look. is_close within look.spare)) t.near h.near (none_shown (λ look. is_close within look.spare));
         first = first_same (shows constraints (λ look. is_broken within look.spare)) runs run t.first (none_shown (λ look. is_broken within look.spare)) h.first;
         slack = best_none int_lt (λ a b. a ≤ℤ b) (λ a b. a <ℤ b) least_order (value_of (λ look. look.spare) constraints) runs run t.slack (none_valued (λ look. look.spare)) h.slack;
         least = best_none int_lt (λ a b. a ≤ℤ b) (λ a b. a <ℤ b) least_order (value_of (λ look. look.least) constraints) runs run t.least (none_valued (λ look. look.least)) h.least;
@@ -188,15 +188,15 @@ module _ (within : ℕ) (constraints : List Constraint) where
             (none_valued (λ look. look.greatest)) h.greatest;
       }
   tally_with runs run t (Some look) is h =
-      let shown : (test : Look → Bool) → shows constraints test run ≡ test look = λ test. ap (λ o. option_map_or test o false) is in
-      let valued : (f : Look → ℤ) → value_of f constraints run ≡ Some (f look) = λ f. ap (option_map f) is in
-      let counted : (p : Run → Bool) (b : Bool) (n : ℕ) → n ≡ count_by p runs → p run ≡ b → n + one_if b ≡ count_by p (runs ++ run ∷ []) =
+      let shown : (test : RunLook → Bool) → shows constraints test run ≡ test look = λ test. ap (λ o. option_map_or test o false) is in
+      let valued : (f : RunLook → ℤ) → value_of f constraints run ≡ Some (f look) = λ f. ap (option_map f) is in
+      let counted : (p : MeasuredRun → Bool) (b : Bool) (n : ℕ) → n ≡ count_by p runs → p run ≡ b → n + one_if b ≡ count_by p (runs ++ run ∷ []) =
       λ p b n e same. ap (λ m. m + one_if b) e ∙ sym (count_push p runs run ∙ ap (λ c. count_by p runs + one_if c) same) in
       record {
         seen = counted (λ r. is_some (looks r constraints)) true t.runs h.seen (ap is_some is);
         broken = counted (shows constraints (λ look. is_broken within look.spare)) (is_broken within look.spare) t.broken h.broken (shown (λ look. is_broken within look.spare));
-        near = counted (shows constraints (λ look. is_near within look.spare)) (is_near within look.spare) t.near h.near (shown (λ look. is_near within look.spare));
-        first = subst (λ b. IsFirst (shows constraints (λ look. is_broken within look.spare)) (runs ++ run ∷ []) (first_if b t.first (length runs + 1)))
+        near = counted (shows constraints (λ look. is_close within look.spare)) (is_close within look.spare) t.near h.near (shown (λ look. is_close within look.spare));
+        first = subst (λ b. IsFirstRun (shows constraints (λ look. is_broken within look.spare)) (runs ++ run ∷ []) (first_if b t.first (length runs + 1)))
             (shown (λ look. is_broken within look.spare)) (first_more (shows constraints (λ look. is_broken within look.spare)) runs run t.first h.first);
         slack = subst (IsLeastOf (value_of (λ look. look.spare) constraints) (runs ++ run ∷ [])) (less_is t.slack (found_in (length runs + 1) look.spare))
             (best_some int_lt (λ a b. a ≤ℤ b) (λ a b. a <ℤ b) least_order (value_of (λ look. look.spare) constraints) runs run t.slack look.spare (valued (λ look. look.spare)) h.slack);
@@ -207,23 +207,23 @@ module _ (within : ℕ) (constraints : List Constraint) where
             (valued (λ look. look.greatest)) h.greatest);
       }
 
-  gone_with : (run : ℕ) (t : Tally) (o : Option Look) → (with_look within t run o).gone ≡ run
+  gone_with : (run : ℕ) (t : RunTally) (o : Option RunLook) → (with_look within t run o).gone ≡ run
   gone_with run t None = refl
   gone_with run t (Some look) = refl
 
-  tallies : (runs others : List Run) (t : Tally) → t.gone ≡ length runs → IsTally within constraints runs t
-      → IsTally within constraints (runs ++ others) (fold (λ (t : Tally) run. with_look within t (t.gone + 1) (looks run constraints)) t others)
-  tallies runs [] t gone h = subst (λ rs. IsTally within constraints rs t) (sym (append-nil runs)) h
+  tallies : (runs others : List MeasuredRun) (t : RunTally) → t.gone ≡ length runs → IsRunTally within constraints runs t
+      → IsRunTally within constraints (runs ++ others) (fold (λ (t : RunTally) run. with_look within t (t.gone + 1) (looks run constraints)) t others)
+  tallies runs [] t gone h = subst (λ rs. IsRunTally within constraints rs t) (sym (append-nil runs)) h
   tallies runs (run ∷ others) t gone h =
       let number : t.gone + 1 ≡ length runs + 1 = ap (λ n. n + 1) gone in
-      let next : Tally = with_look within t (t.gone + 1) (looks run constraints) in
-      let own : IsTally within constraints (runs ++ run ∷ []) next =
-      subst (λ n. IsTally within constraints (runs ++ run ∷ []) (with_look within t n (looks run constraints))) (sym number) (tally_with runs run t (looks run constraints) refl h) in
+      let next : RunTally = with_look within t (t.gone + 1) (looks run constraints) in
+      let own : IsRunTally within constraints (runs ++ run ∷ []) next =
+      subst (λ n. IsRunTally within constraints (runs ++ run ∷ []) (with_look within t n (looks run constraints))) (sym number) (tally_with runs run t (looks run constraints) refl h) in
       let so_many : next.gone ≡ length (runs ++ run ∷ []) = gone_with (t.gone + 1) t (looks run constraints) ∙ (number ∙ sym (length-append runs (run ∷ []))) in
-      subst (λ rs. IsTally within constraints rs (fold (λ (t : Tally) run. with_look within t (t.gone + 1) (looks run constraints)) next others)) (append_assoc runs (run ∷ []) others)
+      subst (λ rs. IsRunTally within constraints rs (fold (λ (t : RunTally) run. with_look within t (t.gone + 1) (looks run constraints)) next others)) (append_assoc runs (run ∷ []) others)
       (tallies (runs ++ run ∷ []) others next so_many own)
 
-  nothing : IsTally within constraints [] no_runs
+  nothing : IsRunTally within constraints [] no_runs
   nothing = record {
     seen = refl;
     broken = refl;

@@ -16,7 +16,7 @@ use Rattle.event_graph.specs.Satisfying.{HoldsAs, IsAfter, IsBefore}
 use Rattle.event_graph.specs.Times.{time_of}
 use Rattle.job_measure.specs.declared.spare.TheConstants.{FAR}
 use Rattle.job_measure.specs.Spare.{least_on, most_on, spare_as, spare_on}
-use Rattle.job_measure.specs.Laws.{KeptRulesHold, widened_cause}
+use Rattle.job_measure.specs.Laws.{KeptRulesHold, loosened_cause}
 
 -- ---- the less and the greater
 
@@ -126,72 +126,72 @@ not_so_low : (by : ℤ) → by <ℤ FAR → neg_ℤ by ≤ℤ neg_ℤ FAR → �
 not_so_low by near h = absurd (omega (arith, ints))
 
 module _ (times : List ℤ) (target : EventId) (by : ℤ) (far : neg_ℤ FAR <ℤ by) (near : by <ℤ FAR) where
-  all_low : (cs : List Cause) → neg_ℤ by ≤ℤ least_on Lower times target cs → All (IsAfter times target) (map (widened_cause by) cs)
+  all_low : (cs : List Cause) → neg_ℤ by ≤ℤ least_on Lower times target cs → All (IsAfter times target) (map (loosened_cause by) cs)
   all_low cs h =
-      let each : AllByRecursion (λ (c : Cause). IsAfter times target (widened_cause by c)) cs =
-      each_more (λ (c : Cause). neg_ℤ by ≤ℤ spare_on Lower times target c) (λ (c : Cause). IsAfter times target (widened_cause by c)) cs
+      let each : AllByRecursion (λ (c : Cause). IsAfter times target (loosened_cause by c)) cs =
+      each_more (λ (c : Cause). neg_ℤ by ≤ℤ spare_on Lower times target c) (λ (c : Cause). IsAfter times target (loosened_cause by c)) cs
       (λ c k. low_kept (time_of times c.event) (time_of times target) by c.range.low k) (each_at_least (spare_on Lower times target) (neg_ℤ by) FAR cs h).1 in
-      All-from_recursion (IsAfter times target) (map (widened_cause by) cs) (each_of (widened_cause by) (IsAfter times target) cs each)
+      All-from_recursion (IsAfter times target) (map (loosened_cause by) cs) (each_of (loosened_cause by) (IsAfter times target) cs each)
 
-  low_all : (cs : List Cause) → All (IsAfter times target) (map (widened_cause by) cs) → neg_ℤ by ≤ℤ least_on Lower times target cs
+  low_all : (cs : List Cause) → All (IsAfter times target) (map (loosened_cause by) cs) → neg_ℤ by ≤ℤ least_on Lower times target cs
   low_all cs h =
       let each : AllByRecursion (λ (c : Cause). neg_ℤ by ≤ℤ spare_on Lower times target c) cs =
-      each_more (λ (c : Cause). IsAfter times target (widened_cause by c)) (λ (c : Cause). neg_ℤ by ≤ℤ spare_on Lower times target c) cs
+      each_more (λ (c : Cause). IsAfter times target (loosened_cause by c)) (λ (c : Cause). neg_ℤ by ≤ℤ spare_on Lower times target c) cs
       (λ c k. low_keeps (time_of times c.event) (time_of times target) by c.range.low far k)
-      (of_each (widened_cause by) (IsAfter times target) cs (recursion_from_All (IsAfter times target) (map (widened_cause by) cs) h)) in
+      (of_each (loosened_cause by) (IsAfter times target) cs (recursion_from_All (IsAfter times target) (map (loosened_cause by) cs) h)) in
       at_least_each (spare_on Lower times target) (neg_ℤ by) FAR cs (omega (arith, ints)) each
 
-  all_high : (cs : List Cause) → neg_ℤ by ≤ℤ least_on Upper times target cs → All (IsBefore times target) (map (widened_cause by) cs)
+  all_high : (cs : List Cause) → neg_ℤ by ≤ℤ least_on Upper times target cs → All (IsBefore times target) (map (loosened_cause by) cs)
   all_high cs h =
-      let each : AllByRecursion (λ (c : Cause). IsBefore times target (widened_cause by c)) cs =
-      each_more (λ (c : Cause). neg_ℤ by ≤ℤ spare_on Upper times target c) (λ (c : Cause). IsBefore times target (widened_cause by c)) cs
+      let each : AllByRecursion (λ (c : Cause). IsBefore times target (loosened_cause by c)) cs =
+      each_more (λ (c : Cause). neg_ℤ by ≤ℤ spare_on Upper times target c) (λ (c : Cause). IsBefore times target (loosened_cause by c)) cs
       (λ c k. high_kept (time_of times c.event) (time_of times target) by c.range.high k) (each_at_least (spare_on Upper times target) (neg_ℤ by) FAR cs h).1 in
-      All-from_recursion (IsBefore times target) (map (widened_cause by) cs) (each_of (widened_cause by) (IsBefore times target) cs each)
+      All-from_recursion (IsBefore times target) (map (loosened_cause by) cs) (each_of (loosened_cause by) (IsBefore times target) cs each)
 
-  high_all : (cs : List Cause) → All (IsBefore times target) (map (widened_cause by) cs) → neg_ℤ by ≤ℤ least_on Upper times target cs
+  high_all : (cs : List Cause) → All (IsBefore times target) (map (loosened_cause by) cs) → neg_ℤ by ≤ℤ least_on Upper times target cs
   high_all cs h =
       let each : AllByRecursion (λ (c : Cause). neg_ℤ by ≤ℤ spare_on Upper times target c) cs =
-      each_more (λ (c : Cause). IsBefore times target (widened_cause by c)) (λ (c : Cause). neg_ℤ by ≤ℤ spare_on Upper times target c) cs
+      each_more (λ (c : Cause). IsBefore times target (loosened_cause by c)) (λ (c : Cause). neg_ℤ by ≤ℤ spare_on Upper times target c) cs
       (λ c k. high_keeps (time_of times c.event) (time_of times target) by c.range.high far k)
-      (of_each (widened_cause by) (IsBefore times target) cs (recursion_from_All (IsBefore times target) (map (widened_cause by) cs) h)) in
+      (of_each (loosened_cause by) (IsBefore times target) cs (recursion_from_All (IsBefore times target) (map (loosened_cause by) cs) h)) in
       at_least_each (spare_on Upper times target) (neg_ℤ by) FAR cs (omega (arith, ints)) each
 
   past_far : (P : Cause → Type 0) (cs : List Cause) → (neg_ℤ by ≤ℤ neg_ℤ FAR) ⊎ SomeOf P cs → SomeOf P cs
   past_far P cs (inl h) = absurd (not_so_low by near h)
   past_far P cs (inr some) = some
 
-  any_low : (cs : List Cause) → neg_ℤ by ≤ℤ most_on Lower times target cs → Any (IsAfter times target) (map (widened_cause by) cs)
+  any_low : (cs : List Cause) → neg_ℤ by ≤ℤ most_on Lower times target cs → Any (IsAfter times target) (map (loosened_cause by) cs)
   any_low cs h =
-      any_of (widened_cause by) (IsAfter times target) cs
-      (some_more (λ (c : Cause). neg_ℤ by ≤ℤ spare_on Lower times target c) (λ (c : Cause). IsAfter times target (widened_cause by c)) cs
+      any_of (loosened_cause by) (IsAfter times target) cs
+      (some_more (λ (c : Cause). neg_ℤ by ≤ℤ spare_on Lower times target c) (λ (c : Cause). IsAfter times target (loosened_cause by c)) cs
       (λ c k. low_kept (time_of times c.event) (time_of times target) by c.range.low k)
       (past_far (λ (c : Cause). neg_ℤ by ≤ℤ spare_on Lower times target c) cs (some_at_least (spare_on Lower times target) (neg_ℤ by) (neg_ℤ FAR) cs h)))
 
-  low_any : (cs : List Cause) → Any (IsAfter times target) (map (widened_cause by) cs) → neg_ℤ by ≤ℤ most_on Lower times target cs
+  low_any : (cs : List Cause) → Any (IsAfter times target) (map (loosened_cause by) cs) → neg_ℤ by ≤ℤ most_on Lower times target cs
   low_any cs h =
       at_least_some (spare_on Lower times target) (neg_ℤ by) (neg_ℤ FAR) cs
-      (some_more (λ (c : Cause). IsAfter times target (widened_cause by c)) (λ (c : Cause). neg_ℤ by ≤ℤ spare_on Lower times target c) cs
-      (λ c k. low_keeps (time_of times c.event) (time_of times target) by c.range.low far k) (some_of (widened_cause by) (IsAfter times target) cs h))
+      (some_more (λ (c : Cause). IsAfter times target (loosened_cause by c)) (λ (c : Cause). neg_ℤ by ≤ℤ spare_on Lower times target c) cs
+      (λ c k. low_keeps (time_of times c.event) (time_of times target) by c.range.low far k) (some_of (loosened_cause by) (IsAfter times target) cs h))
 
-  any_high : (cs : List Cause) → neg_ℤ by ≤ℤ most_on Upper times target cs → Any (IsBefore times target) (map (widened_cause by) cs)
+  any_high : (cs : List Cause) → neg_ℤ by ≤ℤ most_on Upper times target cs → Any (IsBefore times target) (map (loosened_cause by) cs)
   any_high cs h =
-      any_of (widened_cause by) (IsBefore times target) cs
-      (some_more (λ (c : Cause). neg_ℤ by ≤ℤ spare_on Upper times target c) (λ (c : Cause). IsBefore times target (widened_cause by c)) cs
+      any_of (loosened_cause by) (IsBefore times target) cs
+      (some_more (λ (c : Cause). neg_ℤ by ≤ℤ spare_on Upper times target c) (λ (c : Cause). IsBefore times target (loosened_cause by c)) cs
       (λ c k. high_kept (time_of times c.event) (time_of times target) by c.range.high k)
       (past_far (λ (c : Cause). neg_ℤ by ≤ℤ spare_on Upper times target c) cs (some_at_least (spare_on Upper times target) (neg_ℤ by) (neg_ℤ FAR) cs h)))
 
-  high_any : (cs : List Cause) → Any (IsBefore times target) (map (widened_cause by) cs) → neg_ℤ by ≤ℤ most_on Upper times target cs
+  high_any : (cs : List Cause) → Any (IsBefore times target) (map (loosened_cause by) cs) → neg_ℤ by ≤ℤ most_on Upper times target cs
   high_any cs h =
       at_least_some (spare_on Upper times target) (neg_ℤ by) (neg_ℤ FAR) cs
-      (some_more (λ (c : Cause). IsBefore times target (widened_cause by c)) (λ (c : Cause). neg_ℤ by ≤ℤ spare_on Upper times target c) cs
-      (λ c k. high_keeps (time_of times c.event) (time_of times target) by c.range.high far k) (some_of (widened_cause by) (IsBefore times target) cs h))
+      (some_more (λ (c : Cause). IsBefore times target (loosened_cause by c)) (λ (c : Cause). neg_ℤ by ≤ℤ spare_on Upper times target c) cs
+      (λ c k. high_keeps (time_of times c.event) (time_of times target) by c.range.high far k) (some_of (loosened_cause by) (IsBefore times target) cs h))
 
-  kept_holds : (kind : RuleKind) (cs : List Cause) → neg_ℤ by ≤ℤ spare_as kind times target cs → HoldsAs kind times target (map (widened_cause by) cs)
+  kept_holds : (kind : RuleKind) (cs : List Cause) → neg_ℤ by ≤ℤ spare_as kind times target cs → HoldsAs kind times target (map (loosened_cause by) cs)
   kept_holds Lin cs h = let p = min_parts (neg_ℤ by) (least_on Lower times target cs) (least_on Upper times target cs) h in (all_low cs p.0, all_high cs p.1)
   kept_holds Late cs h = let p = min_parts (neg_ℤ by) (least_on Lower times target cs) (most_on Upper times target cs) h in (all_low cs p.0, any_high cs p.1)
   kept_holds Early cs h = let p = min_parts (neg_ℤ by) (most_on Lower times target cs) (least_on Upper times target cs) h in (all_high cs p.1, any_low cs p.0)
 
-  holds_kept : (kind : RuleKind) (cs : List Cause) → HoldsAs kind times target (map (widened_cause by) cs) → neg_ℤ by ≤ℤ spare_as kind times target cs
+  holds_kept : (kind : RuleKind) (cs : List Cause) → HoldsAs kind times target (map (loosened_cause by) cs) → neg_ℤ by ≤ℤ spare_as kind times target cs
   holds_kept Lin cs h = min_from (neg_ℤ by) (least_on Lower times target cs) (least_on Upper times target cs) (low_all cs h.0) (high_all cs h.1)
   holds_kept Late cs h = min_from (neg_ℤ by) (least_on Lower times target cs) (most_on Upper times target cs) (low_all cs h.0) (high_any cs h.1)
   holds_kept Early cs h = min_from (neg_ℤ by) (most_on Lower times target cs) (least_on Upper times target cs) (low_any cs h.1) (high_all cs h.0)

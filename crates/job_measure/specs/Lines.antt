@@ -11,8 +11,8 @@ use Rattle.event_graph.specs.Network.{Constraint, linear}
 use Rattle.drawn_networks.specs.Drawn.{Drawn}
 use Rattle.drawn_networks.specs.declared.row.Row.{Row}
 use Rattle.line_words.specs.Words.{is_word}
-use Rattle.measured_times.specs.Runs.{Run}
-use Rattle.job_measure.specs.declared.tally.Tally.{Tally}
+use Rattle.measured_times.specs.Runs.{MeasuredRun}
+use Rattle.job_measure.specs.declared.tally.RunTally.{RunTally}
 use Rattle.job_measure.specs.Headings.{row_heading, rule_heading}
 use Rattle.job_measure.specs.Tally.{tally}
 
@@ -22,16 +22,16 @@ pub record Headed : Type 0 where
   pub constraint : Constraint
 
 -- a line: what it is about, whether separations are printed, whether it is judged, and what the runs show
-pub record Line : Type 0 where
+pub record RunLine : Type 0 where
   pub heading : List ℕ
   pub has_separations : Bool
   pub is_judged : Bool
-  pub tally : Tally
+  pub tally : RunTally
 
-abbrev pub is_linear : RuleKind → Bool
-is_linear Lin = true
-is_linear Late = false
-is_linear Early = false
+abbrev pub is_linear_kind : RuleKind → Bool
+is_linear_kind Lin = true
+is_linear_kind Late = false
+is_linear_kind Early = false
 
 -- ---- rules
 
@@ -45,41 +45,41 @@ headed drawn (c ∷ constraints) (drew ∷ origins) = record { heading = rule_he
 abbrev pub under : List ℕ → List Headed → List Constraint
 under heading all = map (λ (h : Headed). h.constraint) (filter (λ (h : Headed). is_word h.heading heading) all)
 
-abbrev pub rule_line : ℕ → List Run → List Headed → Headed → Line
+abbrev pub rule_line : ℕ → List MeasuredRun → List Headed → Headed → RunLine
 rule_line within runs all h =
-    record { heading = h.heading; has_separations = is_linear h.constraint.kind; is_judged = true; tally = tally within (under h.heading all) runs }
+    record { heading = h.heading; has_separations = is_linear_kind h.constraint.kind; is_judged = true; tally = tally within (under h.heading all) runs }
 
 -- a line for each heading, where its first constraint is; the constraints `before` come before the others
-abbrev pub rule_lines : ℕ → List Run → List Headed → List Headed → List Headed → List Line
+abbrev pub rule_lines : ℕ → List MeasuredRun → List Headed → List Headed → List Headed → List RunLine
 rule_lines within runs all before [] = []
 rule_lines within runs all before (h ∷ others) =
     (if list_any (λ (b : Headed). is_word b.heading h.heading) before then [] else rule_line within runs all h ∷ []) ++ rule_lines within runs all (before ++ h ∷ []) others
 
 -- ---- rows
 
-abbrev pub is_required : RowKind → Bool
-is_required kinds.Ask = false
-is_required (kinds.Req range) = true
+abbrev pub is_demand : RowKind → Bool
+is_demand kinds.Ask = false
+is_demand (kinds.Req range) = true
 
 -- the range of a row; a question has a range with open ends
 abbrev pub range_of : RowKind → Ends
 range_of kinds.Ask = record { low = None; high = None }
 range_of (kinds.Req range) = range
 
-abbrev pub row_line : Drawn → ℕ → List Run → ℕ → Row → Line
-row_line drawn within runs number row = record {
+abbrev pub line_of_row : Drawn → ℕ → List MeasuredRun → ℕ → Row → RunLine
+line_of_row drawn within runs number row = record {
   heading = row_heading drawn number row;
   has_separations = true;
-  is_judged = is_required row.kind;
+  is_judged = is_demand row.kind;
   tally = tally within (linear row.from row.to (range_of row.kind) ∷ []) runs;
 }
 
-abbrev pub row_lines : Drawn → ℕ → List Run → ℕ → List Row → List Line
-row_lines drawn within runs number [] = []
-row_lines drawn within runs number (row ∷ rows) = row_line drawn within runs number row ∷ row_lines drawn within runs (number + 1) rows
+abbrev pub lines_of_rows : Drawn → ℕ → List MeasuredRun → ℕ → List Row → List RunLine
+lines_of_rows drawn within runs number [] = []
+lines_of_rows drawn within runs number (row ∷ rows) = line_of_row drawn within runs number row ∷ lines_of_rows drawn within runs (number + 1) rows
 
 -- ---- all
 
-abbrev pub lines_of : Drawn → ℕ → List Run → List Line
+abbrev pub lines_of : Drawn → ℕ → List MeasuredRun → List RunLine
 lines_of drawn within runs =
-    rule_lines within runs (headed drawn drawn.net.constraints drawn.origins) [] (headed drawn drawn.net.constraints drawn.origins) ++ row_lines drawn within runs 0 drawn.rows
+    rule_lines within runs (headed drawn drawn.net.constraints drawn.origins) [] (headed drawn drawn.net.constraints drawn.origins) ++ lines_of_rows drawn within runs 0 drawn.rows

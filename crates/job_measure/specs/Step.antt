@@ -4,12 +4,12 @@ use Rattle.std.specs.Option.{option_map_or}
 use Rattle.itv_base.specs.declared.names.EventId.{EventId}
 use Rattle.event_graph.specs.declared.cause.Cause.{Cause}
 use Rattle.event_graph.specs.Network.{Constraint, Net}
-use Rattle.measured_times.specs.Runs.{Run, is_time_within}
-use Rattle.job_measure.specs.declared.tally.Tally.{Tally}
+use Rattle.measured_times.specs.Runs.{MeasuredRun, is_time_within}
+use Rattle.job_measure.specs.declared.tally.RunTally.{RunTally}
 
 -- a separation of measured times
-abbrev pub IsApart : ℤ → Type 0
-IsApart value = (neg_ℤ (pos 2_000_000_000_000_000_000) ≤ℤ value) × (value ≤ℤ pos 2_000_000_000_000_000_000)
+abbrev pub IsTimesApart : ℤ → Type 0
+IsTimesApart value = (neg_ℤ (pos 2_000_000_000_000_000_000) ≤ℤ value) × (value ≤ℤ pos 2_000_000_000_000_000_000)
 
 -- the causes of the constraint with a number, if it is there
 abbrev pub causes_at : Net → ℕ → List Cause
@@ -20,11 +20,11 @@ abbrev pub IsTolerance : ℕ → Type 0
 IsTolerance within = within ≤ 10_000_000_000_000
 
 -- the times of the run are within their limit
-abbrev pub IsRunWithin : Run → Type 0
+abbrev pub IsRunWithin : MeasuredRun → Type 0
 IsRunWithin run = All (λ time. IsTrue (is_time_within time)) run
 
 -- a tally of so many runs has no greater count
-pub record CountsUpTo (count : ℕ) (t : Tally) : Type 0 where
+pub record CountsUpTo (count : ℕ) (t : RunTally) : Type 0 where
   pub gone : t.gone ≤ count
   pub runs : t.runs ≤ count
   pub broken : t.broken ≤ count

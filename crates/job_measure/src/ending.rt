@@ -2,74 +2,74 @@
 
 ghost use Rattle.std.specs.Prelude.{◌≡◌};
 ghost use Rattle.std.specs.List.{list_any};
-ghost use Rattle.job_measure.specs.Measure.{all_verdict, answer_by, fails, falls_short, is_fail, is_pass};
+ghost use Rattle.job_measure.specs.Measure.{all_verdict, answer_by, fails, falls_short, is_failing, is_passing};
 
-use crate::line::Line;
-use crate::tally::Verdict;
+use crate::line::RunLine;
+use crate::tally::RunVerdict;
 use job_base::Answer;
 
 /// The verdict on all lines that are judged.
-pub fn all_verdict(lines: &[Line]) -> Verdict
+pub fn all_verdict(lines: &[RunLine]) -> RunVerdict
     ensures verdict { result ≡ all_verdict lines.now }
 {
     if some_fail(lines) {
-        Verdict::Fail
+        RunVerdict::Fail
     } else if some_fall_short(lines) {
-        Verdict::Near
+        RunVerdict::Near
     } else {
-        Verdict::Pass
+        RunVerdict::Pass
     }
 }
 
-fn some_fail(lines: &[Line]) -> bool
+fn some_fail(lines: &[RunLine]) -> bool
     ensures { result ≡ list_any fails lines.now }
 {
     lines.iter().any(|line| fails(line))
 }
 
-fn some_fall_short(lines: &[Line]) -> bool
+fn some_fall_short(lines: &[RunLine]) -> bool
     ensures { result ≡ list_any falls_short lines.now }
 {
     lines.iter().any(|line| falls_short(line))
 }
 
-fn fails(line: &Line) -> bool
+fn fails(line: &RunLine) -> bool
     ensures { result ≡ fails line.now }
 {
-    line.is_judged && is_fail(line.tally.verdict())
+    line.is_judged && is_failing(line.tally.verdict())
 }
 
-fn falls_short(line: &Line) -> bool
+fn falls_short(line: &RunLine) -> bool
     ensures { result ≡ falls_short line.now }
 {
-    line.is_judged && !is_pass(line.tally.verdict())
+    line.is_judged && !is_passing(line.tally.verdict())
 }
 
-fn is_fail(verdict: Verdict) -> bool
-    ensures { result ≡ is_fail verdict }
+fn is_failing(verdict: RunVerdict) -> bool
+    ensures { result ≡ is_failing verdict }
 {
     match verdict {
-        Verdict::Fail => true,
-        Verdict::Pass | Verdict::Near | Verdict::Unseen => false,
+        RunVerdict::Fail => true,
+        RunVerdict::Pass | RunVerdict::Near | RunVerdict::Unseen => false,
     }
 }
 
-fn is_pass(verdict: Verdict) -> bool
-    ensures { result ≡ is_pass verdict }
+fn is_passing(verdict: RunVerdict) -> bool
+    ensures { result ≡ is_passing verdict }
 {
     match verdict {
-        Verdict::Pass => true,
-        Verdict::Fail | Verdict::Near | Verdict::Unseen => false,
+        RunVerdict::Pass => true,
+        RunVerdict::Fail | RunVerdict::Near | RunVerdict::Unseen => false,
     }
 }
 
 /// What the job answers.
-pub fn answer_by(verdict: Verdict) -> Answer
+pub fn answer_by(verdict: RunVerdict) -> Answer
     ensures { result ≡ answer_by verdict }
 {
     match verdict {
-        Verdict::Pass => Answer::AllPass,
-        Verdict::Fail => Answer::SomeFail,
-        Verdict::Near | Verdict::Unseen => Answer::Undecided,
+        RunVerdict::Pass => Answer::AllPass,
+        RunVerdict::Fail => Answer::SomeFail,
+        RunVerdict::Near | RunVerdict::Unseen => Answer::Undecided,
     }
 }

@@ -6,7 +6,7 @@ ghost use Rattle.line_words.specs.Words.{is_word};
 ghost use Rattle.job_measure.specs.Lines.{Headed, headed, under};
 
 use crate::heading::rule_heading;
-use crate::rule::Rule;
+use crate::rule::RuleCopy;
 use drawn_networks::DrawnNetwork;
 use itv_base::NoMemory;
 use origin::Origin;
@@ -17,7 +17,7 @@ use std::marker::Model;
 #[derive(Drop)]
 pub struct Headed {
     pub heading: Vec<u8>,
-    pub rule: Rule,
+    pub rule: RuleCopy,
 }
 
 impl Model for Headed {
@@ -47,7 +47,7 @@ fn headed_at(alloc: Global, drawn: &DrawnNetwork, number: u32) -> Result<Headed,
 {
     let net = drawn.network();
     net.is_whole();
-    let rule = Rule::of(alloc, net, number)?;
+    let rule = RuleCopy::of(alloc, net, number)?;
     let heading = rule_heading(alloc, drawn, &rule, origins_of(drawn, number))?;
     Ok(Headed { heading, rule })
 }
@@ -61,10 +61,10 @@ fn origins_of(drawn: &DrawnNetwork, number: u32) -> &[Origin]
 }
 
 /// The constraints with this heading, in order.
-pub fn under(alloc: Global, heading: &[u8], all: &[Headed]) -> Result<Vec<Rule>, NoMemory>
+pub fn under(alloc: Global, heading: &[u8], all: &[Headed]) -> Result<Vec<RuleCopy>, NoMemory>
     ensures under { IfOk result (λ rules. rules.items ≡ under heading.now all.now) }
 {
-    let mut rules: Vec<Rule> = Vec::new(alloc);
+    let mut rules: Vec<RuleCopy> = Vec::new(alloc);
     for one in all {
         if one.heading.as_slice() == heading {
             rules.push(one.rule.copied(alloc)?)?;

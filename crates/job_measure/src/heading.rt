@@ -12,7 +12,7 @@ ghost use Rattle.drawn_networks.specs.Drawn.{IsRowOf};
 ghost use Rattle.event_graph.specs.Network.{IsConstraint};
 ghost use Rattle.job_measure.specs.Headings.{from_words, kind_word, mark_word, row_heading, rule_heading};
 
-use crate::rule::Rule;
+use crate::rule::RuleCopy;
 use drawn_networks::{DrawnNetwork, Row};
 use event_graph::Cause;
 use itoa::Buffer;
@@ -25,7 +25,7 @@ use std::alloc::Global;
 pub fn rule_heading(
     alloc: Global,
     drawn: &DrawnNetwork,
-    rule: &Rule,
+    rule: &RuleCopy,
     origins: &[Origin],
 ) -> Result<Vec<u8>, NoMemory>
     requires rule { IsConstraint drawn.now.net.events rule.now }

@@ -7,14 +7,14 @@ ghost use Rattle.itv_base.specs.Numerals.{end_text, number_text};
 ghost use Rattle.line_words.specs.Lines.{spaced};
 ghost use Rattle.job_measure.specs.Text.{found_words, judged_words, line_text, separation_words, slack_words, verdict_word};
 
-use crate::line::Line;
+use crate::line::RunLine;
 use crate::spare::FAR;
-use crate::tally::{Found, Tally, Verdict};
+use crate::tally::{Found, RunTally, RunVerdict};
 use itv_base::NoMemory;
 use slack_report::{add_number, add_piece, add_signed, add_spaced};
 
 /// Adds a line with its end.
-pub fn add_line(text: &mut Vec<u8>, line: &Line) -> Result<(), NoMemory>
+pub fn add_line(text: &mut Vec<u8>, line: &RunLine) -> Result<(), NoMemory>
     ensures added { OnOk result (text.new.items ≡ text.old.items ++ line_text line.now) }
 {
     add_piece(text, line.heading.as_slice())?;
@@ -25,7 +25,11 @@ pub fn add_line(text: &mut Vec<u8>, line: &Line) -> Result<(), NoMemory>
     add_piece(text, b"\n")
 }
 
-fn add_separations(text: &mut Vec<u8>, has_separations: bool, tally: &Tally) -> Result<(), NoMemory>
+fn add_separations(
+    text: &mut Vec<u8>,
+    has_separations: bool,
+    tally: &RunTally,
+) -> Result<(), NoMemory>
     ensures { OnOk result (text.new.items ≡ text.old.items ++ flat_map spaced (separation_words has_separations tally.now)) }
 {
     if !has_separations {
@@ -35,7 +39,7 @@ fn add_separations(text: &mut Vec<u8>, has_separations: bool, tally: &Tally) -> 
     add_found(text, b"greatest", tally.greatest)
 }
 
-fn add_judged(text: &mut Vec<u8>, is_judged: bool, tally: &Tally) -> Result<(), NoMemory>
+fn add_judged(text: &mut Vec<u8>, is_judged: bool, tally: &RunTally) -> Result<(), NoMemory>
     ensures { OnOk result (text.new.items ≡ text.old.items ++ flat_map spaced (judged_words is_judged tally.now)) }
 {
     if !is_judged {
@@ -47,7 +51,7 @@ fn add_judged(text: &mut Vec<u8>, is_judged: bool, tally: &Tally) -> Result<(), 
     add_verdict(text, tally.verdict())
 }
 
-fn add_counts(text: &mut Vec<u8>, tally: &Tally) -> Result<(), NoMemory>
+fn add_counts(text: &mut Vec<u8>, tally: &RunTally) -> Result<(), NoMemory>
     ensures { OnOk result (text.new.items ≡ text.old.items ++ (spaced (codes "broken") ++ (spaced (number_text tally.now.broken)
         ++ (spaced (codes "near") ++ spaced (number_text tally.now.near))))) }
 {
@@ -117,13 +121,13 @@ fn add_run(text: &mut Vec<u8>, run: u64) -> Result<(), NoMemory>
 }
 
 /// Adds a space and the word of a verdict.
-pub fn add_verdict(text: &mut Vec<u8>, verdict: Verdict) -> Result<(), NoMemory>
+pub fn add_verdict(text: &mut Vec<u8>, verdict: RunVerdict) -> Result<(), NoMemory>
     ensures added { OnOk result (text.new.items ≡ text.old.items ++ spaced (verdict_word verdict)) }
 {
     match verdict {
-        Verdict::Pass => add_spaced(text, b"pass"),
-        Verdict::Near => add_spaced(text, b"near"),
-        Verdict::Fail => add_spaced(text, b"fail"),
-        Verdict::Unseen => add_spaced(text, b"unseen"),
+        RunVerdict::Pass => add_spaced(text, b"pass"),
+        RunVerdict::Near => add_spaced(text, b"near"),
+        RunVerdict::Fail => add_spaced(text, b"fail"),
+        RunVerdict::Unseen => add_spaced(text, b"unseen"),
     }
 }

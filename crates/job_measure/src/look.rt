@@ -1,17 +1,18 @@
 //! What a run shows.
 
 ghost use Rattle.std.specs.Prelude.{◌≡◌};
-ghost use Rattle.job_measure.specs.Looks.{apart, are_seen, both, is_seen, is_shown, joined, look_at, looks, times_of};
+ghost use Rattle.std.specs.Int.{int_max, int_min};
+ghost use Rattle.job_measure.specs.Looks.{apart, are_seen, both, was_seen, is_shown, joined, look_at, looks, times_of};
 ghost use Rattle.job_measure.specs.Step.{IsRunWithin};
 
-use crate::rule::Rule;
+use crate::rule::RuleCopy;
 use crate::spare::{separation, spare_as};
 use event_graph::Cause;
 use itv_base::EventId;
 
 /// What a run shows of constraints, in picoseconds.
 #[derive(Clone, Copy)]
-pub struct Look {
+pub struct RunLook {
     /// By how much they are kept; below 0 if one is broken.
     pub spare: i64,
     /// The least separation of a target from its first cause.
@@ -21,7 +22,7 @@ pub struct Look {
 }
 
 /// What a run shows of constraints, or none if it shows none of them.
-pub fn looks(run: &[Option<i64>], rules: &[Rule]) -> Option<Look>
+pub fn looks(run: &[Option<i64>], rules: &[RuleCopy]) -> Option<RunLook>
     requires within { IsRunWithin run.now }
     ensures looks { result ≡ looks run.now rules.now }
 {
@@ -33,8 +34,8 @@ pub fn looks(run: &[Option<i64>], rules: &[Rule]) -> Option<Look>
 }
 
 /// Whether an event was seen in a run.
-pub fn is_seen(run: &[Option<i64>], event: EventId) -> bool
-    ensures seen { result ≡ is_seen run.now event }
+pub fn was_seen(run: &[Option<i64>], event: EventId) -> bool
+    ensures seen { result ≡ was_seen run.now event }
 {
     match run.get(event.0 as usize) {
         Some(time) => time.is_some(),
@@ -42,7 +43,7 @@ pub fn is_seen(run: &[Option<i64>], event: EventId) -> bool
     }
 }
 
-fn both(one: Option<Look>, other: Option<Look>) -> Option<Look>
+fn both(one: Option<RunLook>, other: Option<RunLook>) -> Option<RunLook>
     ensures { result ≡ both one other }
 {
     match (one, other) {
@@ -53,18 +54,30 @@ fn both(one: Option<Look>, other: Option<Look>) -> Option<Look>
 }
 
 // Two looks as one.
-fn joined(a: Look, b: Look) -> Look
+fn joined(a: RunLook, b: RunLook) -> RunLook
     ensures { result ≡ joined a b }
 {
-    Look {
-        spare: a.spare.min(b.spare),
-        least: a.least.min(b.least),
-        greatest: a.greatest.max(b.greatest),
+    RunLook {
+        spare: lesser(a.spare, b.spare),
+        least: lesser(a.least, b.least),
+        greatest: greater(a.greatest, b.greatest),
     }
 }
 
+fn lesser(a: i64, b: i64) -> i64
+    ensures { result ≡ int_min a b }
+{
+    a.min(b)
+}
+
+fn greater(a: i64, b: i64) -> i64
+    ensures { result ≡ int_max a b }
+{
+    a.max(b)
+}
+
 // What a run shows of a constraint, or none if some of its events was not seen.
-fn look_at(run: &[Option<i64>], rule: &Rule) -> Option<Look>
+fn look_at(run: &[Option<i64>], rule: &RuleCopy) -> Option<RunLook>
     requires within { IsRunWithin run.now }
     ensures { result ≡ look_at run.now rule.now }
 {
@@ -72,24 +85,24 @@ fn look_at(run: &[Option<i64>], rule: &Rule) -> Option<Look>
         return None;
     }
     let apart = apart(run, rule.target, rule.causes.as_slice());
-    Some(Look {
+    Some(RunLook {
         spare: spare_as(run, rule.kind, rule.target, rule.causes.as_slice()),
         least: apart,
         greatest: apart,
     })
 }
 
-fn is_shown(run: &[Option<i64>], rule: &Rule) -> bool
+fn is_shown(run: &[Option<i64>], rule: &RuleCopy) -> bool
     ensures { result ≡ is_shown run.now rule.now }
 {
-    is_seen(run, rule.target) && are_seen(run, rule.causes.as_slice())
+    was_seen(run, rule.target) && are_seen(run, rule.causes.as_slice())
 }
 
 // Whether the events of all causes were seen.
 fn are_seen(run: &[Option<i64>], causes: &[Cause]) -> bool
     ensures { result ≡ are_seen run.now causes.now }
 {
-    causes.iter().all(|cause| is_seen(run, cause.event))
+    causes.iter().all(|cause| was_seen(run, cause.event))
 }
 
 // How long after its first cause a target comes.

@@ -12,13 +12,13 @@ use std::marker::Model;
 
 /// A constraint: its kind, its target and its causes.
 #[derive(Drop)]
-pub struct Rule {
+pub struct RuleCopy {
     pub kind: RuleKind,
     pub target: EventId,
     pub causes: Vec<Cause>,
 }
 
-impl Model for Rule {
+impl Model for RuleCopy {
     ghost use Rattle.event_graph.specs.Network.{Constraint};
 
     ghost Value = { Constraint };
@@ -26,17 +26,17 @@ impl Model for Rule {
     ghost view = { λ c. record { kind = c.kind; target = c.target; causes = c.causes.items } };
 }
 
-impl Rule {
+impl RuleCopy {
     ghost use Rattle.event_graph.specs.Network.{linear};
 
     /// A copy of a constraint that is there.
-    pub fn of(alloc: Global, net: &Network, number: u32) -> Result<Rule, NoMemory>
+    pub fn of(alloc: Global, net: &Network, number: u32) -> Result<RuleCopy, NoMemory>
         requires there { number < length net.now.constraints }
         ensures copy { IfOk result (λ rule. slice_get net.now.constraints number ≡ Some rule) }
     {
         let kind: RuleKind = net.kind(number);
         let causes = causes_of(alloc, net, number)?;
-        Ok(Rule {
+        Ok(RuleCopy {
             kind,
             target: net.target(number),
             causes,
@@ -44,12 +44,17 @@ impl Rule {
     }
 
     /// The constraint that the separation of two events lies in a range.
-    pub fn linear(alloc: Global, from: EventId, to: EventId, range: Range) -> Result<Rule, NoMemory>
+    pub fn linear(
+        alloc: Global,
+        from: EventId,
+        to: EventId,
+        range: Range,
+    ) -> Result<RuleCopy, NoMemory>
         ensures linear { IfOk result (λ rule. rule ≡ linear from to range) }
     {
         let mut causes = Vec::new(alloc);
         causes.push(Cause { event: from, range })?;
-        Ok(Rule {
+        Ok(RuleCopy {
             kind: RuleKind::Lin,
             target: to,
             causes,
@@ -57,12 +62,12 @@ impl Rule {
     }
 
     /// A copy.
-    pub fn copied(&self, alloc: Global) -> Result<Rule, NoMemory>
+    pub fn copied(&self, alloc: Global) -> Result<RuleCopy, NoMemory>
         ensures copy { IfOk result (λ rule. rule ≡ self.now) }
     {
         let kind: RuleKind = self.kind;
         let causes = Vec::from_slice(alloc, self.causes.as_slice())?;
-        Ok(Rule {
+        Ok(RuleCopy {
             kind,
             target: self.target,
             causes,

@@ -5,7 +5,7 @@ ghost use Rattle.event_graph.specs.Times.{separation, time_of};
 ghost use Rattle.measured_times.specs.declared.run.TheConstants.{MAX_TIME};
 ghost use Rattle.job_measure.specs.Looks.{times_of};
 ghost use Rattle.job_measure.specs.Spare.{least_on, most_on, spare_as, spare_on};
-ghost use Rattle.job_measure.specs.Step.{IsApart, IsRunWithin};
+ghost use Rattle.job_measure.specs.Step.{IsTimesApart, IsRunWithin};
 
 use event_graph::Cause;
 use itv_base::{EventId, RuleKind, Side};
@@ -38,7 +38,7 @@ pub fn spare_as(run: &[Option<i64>], kind: RuleKind, target: EventId, causes: &[
 pub fn separation(run: &[Option<i64>], from: EventId, to: EventId) -> i64
     requires within { IsRunWithin run.now }
     ensures value { result ≡ separation (times_of run.now) from to }
-    ensures apart { IsApart result }
+    ensures apart { IsTimesApart result }
 {
     since(time_of(run, from), time_of(run, to))
 }
@@ -105,7 +105,7 @@ fn since(origin: i64, time: i64) -> i64
     requires low { neg_ℤ MAX_TIME ≤ℤ time }
     requires high { time ≤ℤ MAX_TIME }
     ensures value { result ≡ time -ℤ origin }
-    ensures apart { IsApart result }
+    ensures apart { IsTimesApart result }
 {
     time - origin
 }

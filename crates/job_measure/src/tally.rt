@@ -1,12 +1,12 @@
 //! What some runs show.
 
 ghost use Rattle.std.specs.Prelude.{◌≡◌, ◌≤◌, ◌^◌, All};
-ghost use Rattle.job_measure.specs.Tally.{first_if, found_in, is_broken, is_near, less, more, no_runs, one_if, tally, verdict_of, with_look};
+ghost use Rattle.job_measure.specs.Tally.{first_if, found_in, is_broken, is_close, less, more, no_runs, one_if, tally, verdict_of, with_look};
 ghost use Rattle.job_measure.specs.Step.{CountsUpTo, IsRunWithin, IsTolerance};
 
-use crate::look::{Look, looks};
-use crate::rule::Rule;
-use measured_times::Run;
+use crate::look::{RunLook, looks};
+use crate::rule::RuleCopy;
+use measured_times::MeasuredRun;
 
 /// A number of picoseconds, and the first run that shows it.
 #[derive(Clone, Copy)]
@@ -17,7 +17,7 @@ pub struct Found {
 
 /// What the runs that were gone through show of the constraints of a rule, or of a row.
 #[derive(Clone, Copy)]
-pub struct Tally {
+pub struct RunTally {
     /// How many runs were gone through. Runs are numbered from 1, so this is also the number of the last.
     pub gone: u64,
     /// In how many runs all events of a constraint were seen.
@@ -38,7 +38,7 @@ pub struct Tally {
 
 /// What the runs say of a rule or a requirement.
 #[derive(Clone, Copy, PartialEq, Eq)]
-pub enum Verdict {
+pub enum RunVerdict {
     /// Seen, and kept with the tolerance to spare in each run that shows it.
     Pass,
     /// Kept, but in some run not with the tolerance to spare.
@@ -49,30 +49,30 @@ pub enum Verdict {
     Unseen,
 }
 
-impl Tally {
+impl RunTally {
     /// What the runs say.
-    pub fn verdict(&self) -> Verdict
+    pub fn verdict(&self) -> RunVerdict
         ensures verdict { result ≡ verdict_of self.now }
     {
         if 0 < self.broken {
-            Verdict::Fail
+            RunVerdict::Fail
         } else if 0 < self.near {
-            Verdict::Near
+            RunVerdict::Near
         } else if 0 < self.runs {
-            Verdict::Pass
+            RunVerdict::Pass
         } else {
-            Verdict::Unseen
+            RunVerdict::Unseen
         }
     }
 }
 
 /// What runs show of constraints.
-pub fn tally_of(within: u64, rules: &[Rule], runs: &[Run]) -> Tally
+pub fn tally_of(within: u64, rules: &[RuleCopy], runs: &[MeasuredRun]) -> RunTally
     requires within { IsTolerance within }
     requires runs { All IsRunWithin runs.now }
     ensures tally { result ≡ tally within rules.now runs.now }
 {
-    let mut tally = Tally {
+    let mut tally = RunTally {
         gone: 0,
         runs: 0,
         broken: 0,
@@ -89,20 +89,20 @@ pub fn tally_of(within: u64, rules: &[Rule], runs: &[Run]) -> Tally
 }
 
 // A tally with what the next run shows.
-fn with_look(within: u64, tally: Tally, run: u64, look: Option<Look>) -> Tally
+fn with_look(within: u64, tally: RunTally, run: u64, look: Option<RunLook>) -> RunTally
     requires within { IsTolerance within }
     requires room { CountsUpTo (2 ^ 63) tally }
     ensures with { result ≡ with_look within tally run look }
 {
     let Some(look) = look else {
-        return Tally { gone: run, ..tally };
+        return RunTally { gone: run, ..tally };
     };
     let is_broken = is_broken(within, look.spare);
-    Tally {
+    RunTally {
         gone: run,
         runs: tally.runs + 1,
         broken: tally.broken + one_if(is_broken),
-        near: tally.near + one_if(is_near(within, look.spare)),
+        near: tally.near + one_if(is_close(within, look.spare)),
         first: first_if(is_broken, tally.first, run),
         slack: less(tally.slack, found_in(run, look.spare)),
         least: less(tally.least, found_in(run, look.least)),
@@ -125,9 +125,9 @@ fn is_broken(within: u64, spare: i64) -> bool
     spare < -(within as i64)
 }
 
-fn is_near(within: u64, spare: i64) -> bool
+fn is_close(within: u64, spare: i64) -> bool
     requires within { IsTolerance within }
-    ensures { result ≡ is_near within spare }
+    ensures { result ≡ is_close within spare }
 {
     !is_broken(within, spare) && spare < within as i64
 }

@@ -5,14 +5,18 @@ ghost use Rattle.itv_base.specs.Names.{name_view};
 ghost use Rattle.job_measure.specs.Text.{unseen_count, unseen_line, unseen_text};
 
 use crate::heading::add_name;
-use crate::look::is_seen;
+use crate::look::was_seen;
 use drawn_networks::DrawnNetwork;
 use itv_base::{EventId, EventName, NoMemory};
-use measured_times::Run;
+use measured_times::MeasuredRun;
 use slack_report::{add_number, add_piece};
 
 /// Adds a line for each event that some run does not show.
-pub fn add_unseen(text: &mut Vec<u8>, drawn: &DrawnNetwork, runs: &[Run]) -> Result<(), NoMemory>
+pub fn add_unseen(
+    text: &mut Vec<u8>,
+    drawn: &DrawnNetwork,
+    runs: &[MeasuredRun],
+) -> Result<(), NoMemory>
     ensures added { OnOk result (text.new.items ≡ text.old.items ++ unseen_text runs.now 0 drawn.now.names) }
 {
     for number in 0..drawn.network().events() {
@@ -23,11 +27,11 @@ pub fn add_unseen(text: &mut Vec<u8>, drawn: &DrawnNetwork, runs: &[Run]) -> Res
 }
 
 // How many runs do not show an event.
-fn unseen_count(runs: &[Run], event: u32) -> u64
+fn unseen_count(runs: &[MeasuredRun], event: u32) -> u64
     ensures { result ≡ unseen_count runs.now event }
 {
     runs.iter()
-        .filter(|run| !is_seen(run.as_slice(), EventId(event)))
+        .filter(|run| !was_seen(run.as_slice(), EventId(event)))
         .count() as u64
 }
 

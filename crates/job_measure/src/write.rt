@@ -9,14 +9,14 @@ ghost use Rattle.job_measure.specs.Text.{line_text};
 ghost use Rattle.job_measure.specs.Step.{IsRunWithin, IsTolerance};
 
 use crate::ending::{all_verdict, answer_by};
-use crate::line::{Line, lines_of};
+use crate::line::{RunLine, lines_of};
 use crate::line_text::{add_line, add_verdict};
-use crate::tally::Verdict;
+use crate::tally::RunVerdict;
 use crate::unseen::add_unseen;
 use drawn_networks::DrawnNetwork;
 use itv_base::{NoMemory, Sink};
 use job_base::{Answer, Unanswered};
-use measured_times::{Run, Runs};
+use measured_times::{MeasuredRun, MeasuredRuns};
 use slack_report::{add_number, add_piece};
 use std::alloc::Global;
 
@@ -26,7 +26,7 @@ pub fn write_measure<K: Sink>(
     alloc: Global,
     drawn: &DrawnNetwork,
     within: u64,
-    runs: &Runs,
+    runs: &MeasuredRuns,
     sink: &mut K,
 ) -> Result<Answer, Unanswered>
     requires within { IsTolerance within }
@@ -34,7 +34,22 @@ pub fn write_measure<K: Sink>(
     ensures works { JobWrote (AnswersMeasure drawn.now within runs.now) (Answered (AnswersMeasure drawn.now within runs.now))
         (K.state sink.old) (K.state sink.new) result }
 {
-    let decided = decided(alloc, drawn, within, runs.as_slice())?;
+    write_runs(alloc, drawn, within, runs.as_slice(), sink)
+}
+
+fn write_runs<K: Sink>(
+    alloc: Global,
+    drawn: &DrawnNetwork,
+    within: u64,
+    runs: &[MeasuredRun],
+    sink: &mut K,
+) -> Result<Answer, Unanswered>
+    requires within { IsTolerance within }
+    requires runs { All IsRunWithin runs.now }
+    ensures works { JobWrote (AnswersMeasure drawn.now within runs.now) (Answered (AnswersMeasure drawn.now within runs.now))
+        (K.state sink.old) (K.state sink.new) result }
+{
+    let decided = decided(alloc, drawn, within, runs)?;
     sink.put(&decided.text)?;
     Ok(decided.answer)
 }
@@ -50,7 +65,7 @@ fn decided(
     alloc: Global,
     drawn: &DrawnNetwork,
     within: u64,
-    runs: &[Run],
+    runs: &[MeasuredRun],
 ) -> Result<Decision, NoMemory>
     requires within { IsTolerance within }
     requires runs { All IsRunWithin runs.now }
@@ -68,8 +83,8 @@ fn text_of(
     alloc: Global,
     drawn: &DrawnNetwork,
     within: u64,
-    runs: &[Run],
-    lines: &[Line],
+    runs: &[MeasuredRun],
+    lines: &[RunLine],
 ) -> Result<Vec<u8>, NoMemory>
     ensures { IfOk result (λ text. text.items ≡ measure_text drawn.now within runs.now lines.now) }
 {
@@ -92,7 +107,7 @@ fn add_head(text: &mut Vec<u8>, within: u64, count: u64) -> Result<(), NoMemory>
     add_piece(text, b"\n")
 }
 
-fn add_ending(text: &mut Vec<u8>, verdict: Verdict) -> Result<(), NoMemory>
+fn add_ending(text: &mut Vec<u8>, verdict: RunVerdict) -> Result<(), NoMemory>
     ensures { OnOk result (text.new.items ≡ text.old.items ++ ending_text verdict) }
 {
     add_piece(text, b"end")?;
@@ -100,7 +115,7 @@ fn add_ending(text: &mut Vec<u8>, verdict: Verdict) -> Result<(), NoMemory>
     add_piece(text, b"\n")
 }
 
-fn add_lines(text: &mut Vec<u8>, lines: &[Line]) -> Result<(), NoMemory>
+fn add_lines(text: &mut Vec<u8>, lines: &[RunLine]) -> Result<(), NoMemory>
     ensures { OnOk result (text.new.items ≡ text.old.items ++ flat_map line_text lines.now) }
 {
     for line in lines {

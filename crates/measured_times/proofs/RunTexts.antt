@@ -20,7 +20,7 @@ use Rattle.line_words.proofs.Plain.{ArePlain, end_plain, line_is_text, map_plain
 use Rattle.measured_times.specs.declared.fault.TimesFault.{TimesFault}
 use Rattle.measured_times.specs.declared.fault.TimesFault.TheVariants.{Line}
 use Rattle.measured_times.specs.declared.run.TheConstants.{MAX_TIME}
-use Rattle.measured_times.specs.Runs.{IsRunFor, Run, is_memory, is_time_within, run_at, run_in, run_judged, runs_from, time_in}
+use Rattle.measured_times.specs.Runs.{IsRunFor, MeasuredRun, is_memory, is_time_within, run_at, run_in, run_judged, runs_from, time_in}
 use Rattle.measured_times.specs.Laws.{RunLinesAreRead, run_line}
 
 -- ---- words
@@ -50,7 +50,7 @@ time_inverts = record {
 times_invert : Inverts (many time_in) (map end_text) (All IsWithin)
 times_invert = many_inverts time_in end_text IsWithin time_inverts
 
-abbrev counted : ℕ → List Word → Option Run
+abbrev counted : ℕ → List Word → Option MeasuredRun
 counted events words = when (eqb (length words) events) (many time_in words)
 
 run_inverts : (events : ℕ) → Inverts (counted events) (map end_text) (IsRunFor events)
@@ -70,26 +70,26 @@ line_inverts events = keyed_inverts (codes "times") (counted events) (map end_te
 
 -- ---- lines
 
-judged_takes : (n : ℕ) (o : Option Run) (run : Run) → run_judged n o ≡ Ok run → o ≡ Some run
+judged_takes : (n : ℕ) (o : Option MeasuredRun) (run : MeasuredRun) → run_judged n o ≡ Ok run → o ≡ Some run
 judged_takes n None run e = absurd (cc e)
 judged_takes n (Some other) run e = let same : other ≡ run = cc e in ap (λ r. Some r) same
 
-text_takes : (events n : ℕ) (line : List ℕ) (b : Bool) (run : Run) → ◌≡◌ {A = Result Run TimesFault} (if b then run_judged n (run_in events (split_words line)) else Err (Line n)) (Ok run)
+text_takes : (events n : ℕ) (line : List ℕ) (b : Bool) (run : MeasuredRun) → ◌≡◌ {A = Result MeasuredRun TimesFault} (if b then run_judged n (run_in events (split_words line)) else Err (Line n)) (Ok run)
     → run_in events (split_words line) ≡ Some run
 text_takes events n line true run e = judged_takes n (run_in events (split_words line)) run e
 text_takes events n line false run e = absurd (cc e)
 
 -- what is read of a line is the run that the line spells
-pub run_takes : (events n : ℕ) (line : List ℕ) (run : Run) → run_at events n line ≡ Ok run → (line ≡ run_line run) × IsRunFor events run
+pub run_takes : (events n : ℕ) (line : List ℕ) (run : MeasuredRun) → run_at events n line ≡ Ok run → (line ≡ run_line run) × IsRunFor events run
 run_takes events n line run e =
     let t = (line_inverts events).takes (split_words line) run (text_takes events n line (is_utf8 line) run e) in
     (sym (join_with_byte-slice_split 32 line) ∙ ap line_of t.0, t.1)
 
-words_plain : (run : Run) → ArePlain (codes "times" ∷ map end_text run)
+words_plain : (run : MeasuredRun) → ArePlain (codes "times" ∷ map end_text run)
 words_plain run = (refl, map_plain end_text end_plain run)
 
 -- the line that spells a run is read as this run
-pub run_again : (events n : ℕ) (line : List ℕ) (run : Run) → (line ≡ run_line run) × IsRunFor events run → run_at events n line ≡ Ok run
+pub run_again : (events n : ℕ) (line : List ℕ) (run : MeasuredRun) → (line ≡ run_line run) × IsRunFor events run → run_at events n line ≡ Ok run
 run_again events n line run is =
     let words : List Word = codes "times" ∷ map end_text run in
     let text : is_utf8 (run_line run) ≡ true = is_utf8-from_IsUtf8 (run_line run) (line_is_text words (words_plain run)) in
@@ -99,26 +99,26 @@ run_again events n line run is =
 
 -- ---- the runs of a file
 
-judged_more : (events n : ℕ) (line : List ℕ) (o : Result Run TimesFault) (r : Result (List Run) TimesFault) (runs : List Run) → run_at events n line ≡ o
-    → (o >>= λ first. r >>= λ others. Ok (first ∷ others)) ≡ Ok runs → ((others : List Run) → r ≡ Ok others → All (IsRunFor events) others) → All (IsRunFor events) runs
+judged_more : (events n : ℕ) (line : List ℕ) (o : Result MeasuredRun TimesFault) (r : Result (List MeasuredRun) TimesFault) (runs : List MeasuredRun) → run_at events n line ≡ o
+    → (o >>= λ first. r >>= λ others. Ok (first ∷ others)) ≡ Ok runs → ((others : List MeasuredRun) → r ≡ Ok others → All (IsRunFor events) others) → All (IsRunFor events) runs
 judged_more events n line (Ok run) (Ok others) runs is h all =
     let same : run ∷ others ≡ runs = cc in
     subst (All (IsRunFor events)) same (All-cons (IsRunFor events) run others (run_takes events n line run is).1 (all others refl))
 judged_more events n line (Ok run) (Err fault) runs is h all = absurd (cc)
 judged_more events n line (Err fault) r runs is h all = absurd (cc)
 
-none_for : (events n : ℕ) (b : Bool) (runs : List Run) → ◌≡◌ {A = Result (List Run) TimesFault} (if b then Ok [] else Err (Line n)) (Ok runs) → All (IsRunFor events) runs
+none_for : (events n : ℕ) (b : Bool) (runs : List MeasuredRun) → ◌≡◌ {A = Result (List MeasuredRun) TimesFault} (if b then Ok [] else Err (Line n)) (Ok runs) → All (IsRunFor events) runs
 none_for events n true runs h = let same : [] ≡ runs = cc in subst (All (IsRunFor events)) same (λ k d within. absurd (omega arith))
 none_for events n false runs h = absurd (cc)
 
 -- each run that was read is one of a network with so many events
-pub runs_for : (events n : ℕ) (lines : List (List ℕ)) (runs : List Run) → runs_from events n lines ≡ Ok runs → All (IsRunFor events) runs
+pub runs_for : (events n : ℕ) (lines : List (List ℕ)) (runs : List MeasuredRun) → runs_from events n lines ≡ Ok runs → All (IsRunFor events) runs
 runs_for events n [] runs h = let same : [] ≡ runs = cc in subst (All (IsRunFor events)) same (λ k d within. absurd (omega arith))
 runs_for events n (rest ∷ []) runs h = none_for events n (length rest == 0) runs h
 runs_for events n (line ∷ next ∷ lines) runs h =
     judged_more events n line (run_at events n line) (runs_from events (n + 1) (next ∷ lines)) runs refl h (runs_for events (n + 1) (next ∷ lines))
 
-pub read_for : (events : ℕ) (lines : List (List ℕ)) (result : Result (List Run) TimesFault) → AgreesWith is_memory (λ (runs : List Run). runs) result (runs_from events 1 lines)
+pub read_for : (events : ℕ) (lines : List (List ℕ)) (result : Result (List MeasuredRun) TimesFault) → AgreesWith is_memory (λ (runs : List MeasuredRun). runs) result (runs_from events 1 lines)
     → IfOk result (All (IsRunFor events))
 read_for events lines (Ok runs) read = runs_for events 1 lines runs read
 read_for events lines (Err fault) read = tt

@@ -8,7 +8,7 @@ ghost use Rattle.measured_times.specs.Runs.{IsRunFor, is_memory, runs_from, runs
 
 use crate::fault::TimesFault;
 use crate::line::read_run;
-use crate::run::{Run, Runs};
+use crate::run::{MeasuredRun, MeasuredRuns};
 use line_words::cut_line;
 use std::alloc::Global;
 
@@ -21,7 +21,7 @@ const _: () = prove!(MAX_TIMES_BYTES == 64 * 1_024 * 1_024);
 /// event in order, its time in whole picoseconds, at most [`MAX_TIME`](crate::MAX_TIME) in absolute value, or `*` if it was not seen. One
 /// space is between two words. A file of no bytes has no runs. The first of these faults is reported: the file is too long, or a line is not
 /// the text of a run, and then the first such line. Bytes after the last line end are a line that is not the text of a run.
-pub fn read_times(alloc: Global, events: u32, bytes: &[u8]) -> Result<Runs, TimesFault>
+pub fn read_times(alloc: Global, events: u32, bytes: &[u8]) -> Result<MeasuredRuns, TimesFault>
     ensures read { AgreesWith is_memory (λ runs. runs) result (runs_of events bytes.now) }
     ensures for_events { IfOk result (All (IsRunFor events)) }
 {
@@ -32,10 +32,10 @@ pub fn read_times(alloc: Global, events: u32, bytes: &[u8]) -> Result<Runs, Time
 }
 
 // The runs of any number of bytes.
-fn read_lines(alloc: Global, events: u32, bytes: &[u8]) -> Result<Runs, TimesFault>
+fn read_lines(alloc: Global, events: u32, bytes: &[u8]) -> Result<MeasuredRuns, TimesFault>
     ensures { AgreesWith is_memory (λ runs. runs) result (runs_from events 1 (slice_split is_feed bytes.now)) }
 {
-    let mut runs: Vec<Run> = Vec::new(alloc);
+    let mut runs: Vec<MeasuredRun> = Vec::new(alloc);
     let mut rest = bytes;
     while let Some((line, behind)) = cut_line(rest) {
         let run = read_run(alloc, events, runs.len() as u64 + 1, line)?;
@@ -45,5 +45,5 @@ fn read_lines(alloc: Global, events: u32, bytes: &[u8]) -> Result<Runs, TimesFau
     if !rest.is_empty() {
         return Err(TimesFault::Line(runs.len() as u64 + 1));
     }
-    Ok(Runs::from(runs))
+    Ok(MeasuredRuns::from(runs))
 }

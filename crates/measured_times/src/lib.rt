@@ -12,4 +12,4 @@ mod run;
 pub use fault::TimesFault;
 pub use file::{MAX_TIMES_BYTES, read_times};
 pub use laws::run_lines_are_read;
-pub use run::{MAX_TIME, Run, Runs};
+pub use run::{MAX_TIME, MeasuredRun, MeasuredRuns};

@@ -7,14 +7,14 @@ ghost use Rattle.line_words.specs.Words.{many, split_words};
 ghost use Rattle.measured_times.specs.Runs.{is_memory, run_at, run_in, run_judged, time_in};
 
 use crate::fault::TimesFault;
-use crate::run::{Run, is_time_within};
+use crate::run::{MeasuredRun, is_time_within};
 use itv_base::{Listing, NoMemory};
 use line_words::{behind_word, open_in, split_words};
 use std::alloc::Global;
 
 /// The run on the line of a number, counted from 1, of a network with so many events. Bytes that are no text are refused as a line that is
 /// not the text of a run.
-pub fn read_run(alloc: Global, events: u32, n: u64, line: &[u8]) -> Result<Run, TimesFault>
+pub fn read_run(alloc: Global, events: u32, n: u64, line: &[u8]) -> Result<MeasuredRun, TimesFault>
     ensures { AgreesWith is_memory (λ run. run) result (run_at events n line.now) }
 {
     match str::from_utf8(line) {
@@ -24,7 +24,7 @@ pub fn read_run(alloc: Global, events: u32, n: u64, line: &[u8]) -> Result<Run, 
 }
 
 // The run of a line that is a text.
-fn run_in(alloc: Global, events: u32, n: u64, text: &str) -> Result<Run, TimesFault>
+fn run_in(alloc: Global, events: u32, n: u64, text: &str) -> Result<MeasuredRun, TimesFault>
     ensures { AgreesWith is_memory (λ run. run) result (run_judged n (run_in events (split_words text.now))) }
 {
     let words = split_words(alloc, text)?;
@@ -35,7 +35,7 @@ fn run_in(alloc: Global, events: u32, n: u64, text: &str) -> Result<Run, TimesFa
 }
 
 // The run of the words of a line, or none if they are not the words of a run.
-fn run_of(alloc: Global, events: u32, words: &[&str]) -> Result<Option<Run>, NoMemory>
+fn run_of(alloc: Global, events: u32, words: &[&str]) -> Result<Option<MeasuredRun>, NoMemory>
     ensures { IfOk result (λ run. run ≡ run_in events (texts words.now)) }
 {
     let Some(words) = behind_word(words, "times") else {

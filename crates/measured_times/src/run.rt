@@ -11,10 +11,10 @@ pub const MAX_TIME: i64 = 1_000_000_000_000_000_000;
 const _: () = prove!(MAX_TIME == 1_000_000_000 * 1_000_000_000);
 
 /// The times of the events of a network in one run, in picoseconds and in the order of the events; `None` is an event that was not seen.
-pub type Run = Listing<Option<i64>>;
+pub type MeasuredRun = Listing<Option<i64>>;
 
 /// Runs in the order of their lines.
-pub type Runs = Listing<Run>;
+pub type MeasuredRuns = Listing<MeasuredRun>;
 
 /// Whether a time is within its limit. An event that was not seen has no time that could be beyond it.
 pub(crate) fn is_time_within(time: Option<i64>) -> bool

@@ -9,7 +9,7 @@ use crate::writing::{bytes_of, put_bytes};
 use drawn_networks::DrawnNetwork;
 use itv_base::SinkMem;
 use job_measure::write_measure;
-use measured_times::{Run, Runs, read_times};
+use measured_times::{MeasuredRun, MeasuredRuns, read_times};
 use std::alloc::Global;
 
 /// Writes the runs of a file, or its fault. The row has a number of events and the text of the file.
@@ -41,7 +41,7 @@ fn put_read(alloc: Global, events: u32, bytes: &[u8], out: &mut Out) {
     }
 }
 
-fn put_runs(runs: &[Run], out: &mut Out) {
+fn put_runs(runs: &[MeasuredRun], out: &mut Out) {
     for run in runs {
         out.put(" :");
         put_times(run.as_slice(), out);
@@ -87,7 +87,7 @@ fn put_measured(alloc: Global, drawn: &DrawnNetwork, within: u32, bytes: &[u8], 
     }
 }
 
-fn put_text(alloc: Global, drawn: &DrawnNetwork, within: u32, runs: &Runs, out: &mut Out)
+fn put_text(alloc: Global, drawn: &DrawnNetwork, within: u32, runs: &MeasuredRuns, out: &mut Out)
     requires { All (IsRunFor drawn.now.net.events) runs.now }
 {
     match SinkMem::new(alloc, 10_000) {
