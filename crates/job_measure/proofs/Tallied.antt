@@ -1,5 +1,5 @@
 -- The counts of a tally count the runs, and its numbers are attained in the runs that they name and exceeded in none.
-use Rattle.std.proofs.Common.{◌≡◌, ◌+◌, ◌<◌, ℕ, zero, suc, ℤ, ◌≤ℤ◌, ◌<ℤ◌, Bool, true, false, not, ◌&&◌, cond, if◌then◌else◌, int_lt, List, [], ◌∷◌, ◌++◌, length, take, All, Option, Some, None, IfSome, IfNone, IsSomeAnd, option_map, is_some, slice_get, refl, sym, ap, subst, ◌∙◌, arith, append_assoc, append-nil, add-zero, count_by, length-append}
+use Rattle.std.proofs.Common.{◌≡◌, ◌+◌, ℕ, zero, suc, ℤ, ◌≤ℤ◌, ◌<ℤ◌, Bool, true, false, cond, if◌then◌else◌, int_lt, List, [], ◌∷◌, ◌++◌, length, take, All, Option, Some, None, IfSome, IfNone, IsSomeAnd, option_map, is_some, slice_get, refl, sym, ap, subst, ◌∙◌, arith, append_assoc, append-nil, add-zero, count_by, length-append}
 use Rattle.std.specs.Prelude.{fold}
 use Rattle.std.specs.Option.{option_map_or}
 use Rattle.std.proofs.lemmas.Int.{ints}
@@ -12,7 +12,7 @@ use Rattle.job_measure.specs.declared.look.RunLook.{RunLook}
 use Rattle.job_measure.specs.declared.tally.Found.{Found}
 use Rattle.job_measure.specs.declared.tally.RunTally.{RunTally}
 use Rattle.job_measure.specs.Looks.{looks}
-use Rattle.job_measure.specs.Tally.{first_if, found_in, is_broken, is_close, less, more, no_runs, one_if, tally, with_look}
+use Rattle.job_measure.specs.Tally.{first_if, found_in, is_broken, is_close, less, more, no_runs, one_if, with_look}
 use Rattle.job_measure.specs.Laws.{IsFirstRun, IsGreatestOf, IsLeastOf, IsRunTally, TalliesAreCounts, shows, value_of}
 
 -- ---- a list with one more element

@@ -1,5 +1,5 @@
 -- The spare of a constraint says how far its ends may be moved inward, or have to be moved outward, so that it holds.
-use Rattle.std.proofs.Common.{◌≡◌, ◌<◌, ◌⊎◌, ◌↔◌, inl, inr, ℕ, zero, suc, ℤ, pos, neg_ℤ, ◌+ℤ◌, ◌-ℤ◌, ◌≤ℤ◌, ◌<ℤ◌, List, [], ◌∷◌, length, map, get_or, All, Any, Option, Some, None, IfSome, option_map, refl, sym, ap, subst, ◌∙◌, arith}
+use Rattle.std.proofs.Common.{◌⊎◌, inl, inr, zero, suc, ℤ, neg_ℤ, ◌+ℤ◌, ◌-ℤ◌, ◌≤ℤ◌, ◌<ℤ◌, List, [], ◌∷◌, map, All, Any, Option, Some, None, IfSome, option_map, refl, sym, subst, arith}
 use Rattle.std.specs.Prelude.{fold}
 use Rattle.std.specs.Int.{int_max, int_min}
 use Rattle.std.specs.List.{AllByRecursion}
@@ -11,7 +11,6 @@ use Rattle.itv_base.specs.declared.names.RuleKind.{RuleKind}
 use Rattle.itv_base.specs.declared.names.RuleKind.TheVariants.{Lin, Late, Early}
 use Rattle.itv_base.specs.declared.names.Side.TheVariants.{Lower, Upper}
 use Rattle.event_graph.specs.declared.cause.Cause.{Cause}
-use Rattle.event_graph.specs.Network.{Constraint}
 use Rattle.event_graph.specs.Satisfying.{HoldsAs, IsAfter, IsBefore}
 use Rattle.event_graph.specs.Times.{time_of}
 use Rattle.job_measure.specs.declared.spare.TheConstants.{FAR}

@@ -1,5 +1,5 @@
 -- What the numbers of job measure mean. These are laws: they follow from the definitions of the text.
-use Rattle.std.specs.Prelude.{◌≡◌, ◌+◌, ℕ, ℤ, neg_ℤ, ◌+ℤ◌, ◌-ℤ◌, ◌≤ℤ◌, ◌<ℤ◌, ◌↔◌, Bool, true, false, List, map, length, take, count_by, All, Option, Some, None, IfSome, IfNone, IsSomeAnd, option_map, is_some, slice_get}
+use Rattle.std.specs.Prelude.{◌≡◌, ◌+◌, ℕ, ℤ, neg_ℤ, ◌+ℤ◌, ◌-ℤ◌, ◌≤ℤ◌, ◌<ℤ◌, ◌↔◌, Bool, true, false, List, map, take, count_by, All, Option, Some, None, IfSome, IfNone, IsSomeAnd, option_map, is_some, slice_get}
 use Rattle.std.specs.Option.{option_map_or}
 use Rattle.event_graph.specs.declared.cause.Cause.{Cause}
 use Rattle.event_graph.specs.Network.{Constraint}

@@ -1,9 +1,8 @@
 -- What job measure answers and writes.
-use Rattle.std.specs.Prelude.{◌≡◌, ℕ, Bool, true, false, not, ◌&&◌, if◌then◌else◌, List, [], ◌∷◌, ◌++◌, codes, length}
+use Rattle.std.specs.Prelude.{◌≡◌, ℕ, Bool, true, false, not, ◌&&◌, if◌then◌else◌, List, ◌++◌, codes, length}
 use Rattle.std.specs.List.{flat_map, list_any}
 use Rattle.itv_base.specs.Numerals.{number_text}
 use Rattle.line_words.specs.Lines.{spaced}
-use Rattle.line_words.specs.Words.{Word}
 use Rattle.drawn_networks.specs.Drawn.{Drawn}
 use Rattle.job_base.specs.declared.answer.Answer.{Answer}
 use Rattle.job_base.specs.declared.answer.Answer.TheVariants.{AllPass, SomeFail, Undecided}

@@ -1,5 +1,5 @@
 -- By how much times keep a constraint: each of its ends that is not open may be moved inward by so much, and it still holds.
-use Rattle.std.specs.Prelude.{ℤ, ◌-ℤ◌, neg_ℤ, List, option_map, fold}
+use Rattle.std.specs.Prelude.{ℤ, ◌-ℤ◌, neg_ℤ, List, fold}
 use Rattle.std.specs.Int.{int_max, int_min}
 use Rattle.std.specs.Option.{option_map_or}
 use Rattle.itv_base.specs.declared.names.EventId.{EventId}

@@ -1,7 +1,6 @@
 -- Words of contracts within this crate.
 use Rattle.std.specs.Prelude.{◌≤◌, ℕ, ◌≤ℤ◌, ℤ, pos, neg_ℤ, List, [], slice_get, All, IsTrue}
 use Rattle.std.specs.Option.{option_map_or}
-use Rattle.itv_base.specs.declared.names.EventId.{EventId}
 use Rattle.event_graph.specs.declared.cause.Cause.{Cause}
 use Rattle.event_graph.specs.Network.{Constraint, Net}
 use Rattle.measured_times.specs.Runs.{MeasuredRun, is_time_within}

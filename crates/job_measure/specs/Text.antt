@@ -1,5 +1,5 @@
 -- The text of job measure.
-use Rattle.std.specs.Prelude.{◌+◌, ◌==◌, ℕ, ℤ, int_lt, Bool, not, if◌then◌else◌, List, [], ◌∷◌, ◌++◌, codes, length, count_by, Option, Some, None}
+use Rattle.std.specs.Prelude.{◌+◌, ◌==◌, ℕ, int_lt, Bool, not, if◌then◌else◌, List, [], ◌∷◌, ◌++◌, codes, count_by, Option, Some, None}
 use Rattle.std.specs.List.{flat_map}
 use Rattle.std.specs.Option.{option_map_or}
 use Rattle.itv_base.specs.Names.{Name}
@@ -7,8 +7,6 @@ use Rattle.itv_base.specs.Numerals.{end_text, number_text, signed_text}
 use Rattle.line_words.specs.Lines.{spaced}
 use Rattle.line_words.specs.Words.{Word}
 use Rattle.slack_report.specs.Text.{name_word}
-use Rattle.drawn_networks.specs.Drawn.{Drawn}
-use Rattle.job_base.specs.declared.answer.Answer.{Answer}
 use Rattle.measured_times.specs.Runs.{MeasuredRun}
 use Rattle.job_measure.specs.declared.spare.TheConstants.{FAR}
 use Rattle.job_measure.specs.declared.tally.Found.{Found}

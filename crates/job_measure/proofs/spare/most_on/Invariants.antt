@@ -1,8 +1,4 @@
 use Rattle.std.proofs.Common.{◌≡◌, take}
-use Rattle.std.specs.Prelude.{fold}
-use Rattle.std.specs.Int.{int_max}
-use Rattle.event_graph.specs.declared.cause.Cause.{Cause}
-use Rattle.job_measure.specs.declared.spare.TheConstants.{FAR}
 use Rattle.job_measure.specs.Looks.{times_of}
 use Rattle.job_measure.specs.Spare.{most_on}
 use Rattle.job_measure.proofs.spare.most_on.Given as goal
