@@ -1,9 +1,7 @@
 -- Lists and texts that are gathered piece by piece: what was gathered stands before what is left.
-use Rattle.std.proofs.Common.{◌≡◌, ◌+◌, ◌<◌, ◌≤◌, ℕ, Bool, true, false, cond, if◌then◌else◌, List, [], ◌∷◌, ◌++◌, length, map, filter, take, drop, get_or, Option, Some, None, slice_get, unwrap_or, refl, sym, ap, subst, ◌∙◌, append_assoc, append-nil}
+use Rattle.std.proofs.Common.{◌≡◌, ◌+◌, ◌<◌, ℕ, true, false, cond, if◌then◌else◌, List, [], ◌∷◌, ◌++◌, length, take, drop, get_or, Option, Some, None, slice_get, unwrap_or, refl, sym, ap, subst, ◌∙◌, append_assoc}
 use Rattle.std.specs.List.{list_any}
 use Rattle.std.specs.Option.{option_and_then, option_map_or}
-use Rattle.std.proofs.lemmas.List.{drop_all, map-append}
-use Rattle.std.proofs.lemmas.List.Elements.{filter-append}
 use Rattle.std.proofs.lemmas.Option.{get_or_from_slice_get, slice_get-get_or, slice_get_within}
 use Rattle.itv_base.proofs.Lists.{drop-read, take_get}
 use Rattle.itv_base.specs.Names.{Name}
@@ -11,12 +9,11 @@ use Rattle.origin.specs.declared.origin.Origin.{Origin}
 use Rattle.event_graph.specs.Network.{Constraint, IsConstraint, IsNet, Net, cause_at}
 use Rattle.event_graph.specs.declared.cause.Cause.{Cause}
 use Rattle.drawn_networks.specs.Drawn.{Drawn, name_of, nameless}
-use Rattle.drawn_networks.specs.declared.row.Row.{Row}
 use Rattle.line_words.specs.Words.{is_word}
 use Rattle.measured_times.specs.Runs.{MeasuredRun}
 use Rattle.job_measure.specs.Headings.{rule_heading}
 use Rattle.job_measure.specs.Step.{causes_at}
-use Rattle.job_measure.specs.Lines.{Headed, RunLine, headed, line_of_row, lines_of_rows, rule_line, rule_lines, under}
+use Rattle.job_measure.specs.Lines.{Headed, RunLine, headed, rule_line, rule_lines}
 use Rattle.job_measure.specs.Text.{unseen_count, unseen_line, unseen_text}
 
 -- an element more
@@ -26,10 +23,6 @@ goes_on front rest others total x so_far is = append_assoc front (x ∷ []) othe
 -- a piece more
 pub goes_on_by : {A : Type 0} (front piece rest others total : List A) → front ++ rest ≡ total → rest ≡ piece ++ others → (front ++ piece) ++ others ≡ total
 goes_on_by front piece rest others total so_far is = append_assoc front piece others ∙ (ap (λ r. front ++ r) (sym is) ∙ so_far)
-
--- nothing is left
-pub is_whole : {A : Type 0} (front rest total : List A) → front ++ rest ≡ total → rest ≡ [] → front ≡ total
-is_whole front rest total so_far is = sym (append-nil front) ∙ (ap (λ r. front ++ r) (sym is) ∙ so_far)
 
 -- an element that is there
 pub read_at : {A : Type 0} (xs : List A) (k : ℕ) (x : A) → k < length xs → x ≡ get_or xs k x → slice_get xs k ≡ Some x
@@ -68,39 +61,9 @@ headed_at drawn own k c drew heading same at drawn_by is =
     headed_more drawn drawn.net.constraints drawn.origins k c drew here drawn_by
     ∙ ap (λ h. record { heading = h; constraint = c } ∷ headed drawn (drop (k + 1) drawn.net.constraints) (drop (k + 1) drawn.origins)) (sym is)
 
-none_headed : (drawn : Drawn) (constraints : List Constraint) (origins : List (List Origin)) → constraints ≡ [] → headed drawn constraints origins ≡ []
-none_headed drawn constraints origins is = ap (λ cs. headed drawn cs origins) is
-
-pub headed_none : (drawn : Drawn) (constraints : List Constraint) (origins : List (List Origin)) (k : ℕ) → length constraints ≤ k → headed drawn (drop k constraints) (drop k origins) ≡ []
-headed_none drawn constraints origins k h = none_headed drawn (drop k constraints) (drop k origins) (drop_all k constraints h)
-
--- the constraints with a heading among some and one more
-pub under_more : (heading : List ℕ) (all : List Headed) (k : ℕ) (h : Headed) → slice_get all k ≡ Some h
-    → under heading (take (k + 1) all) ≡ under heading (take k all) ++ (if is_word h.heading heading then h.constraint ∷ [] else [])
-under_more heading all k h at = ap (under heading) (take_get all k h at) ∙ (ap (map (λ (o : Headed). o.constraint)) (filter-append (λ (o : Headed). is_word o.heading heading) (take k all) (h ∷ []))
-    ∙ (map-append (λ (o : Headed). o.constraint) (filter (λ (o : Headed). is_word o.heading heading) (take k all)) (filter (λ (o : Headed). is_word o.heading heading) (h ∷ []))
-    ∙ ap (λ r. under heading (take k all) ++ r) (last (is_word h.heading heading) refl)))
-  where
-    last : (b : Bool) → is_word h.heading heading ≡ b → map (λ (o : Headed). o.constraint) (filter (λ (o : Headed). is_word o.heading heading) (h ∷ [])) ≡ cond b (h.constraint ∷ []) []
-    last true is = rw is refl
-    last false is = rw is refl
-
-pub under_one : (heading : List ℕ) (all : List Headed) (k : ℕ) (h : Headed) (old new : List Constraint) → slice_get all k ≡ Some h → is_word h.heading heading ≡ true
-    → old ≡ under heading (take k all) → new ≡ old ++ h.constraint ∷ [] → new ≡ under heading (take (k + 1) all)
-under_one heading all k h old new at is so_far grows =
-    grows ∙ (ap (λ r. r ++ h.constraint ∷ []) so_far ∙ sym (under_more heading all k h at ∙ ap (λ b. under heading (take k all) ++ cond b (h.constraint ∷ []) []) is))
-
-pub under_other : (heading : List ℕ) (all : List Headed) (k : ℕ) (h : Headed) (old : List Constraint) → slice_get all k ≡ Some h → is_word h.heading heading ≡ false
-    → old ≡ under heading (take k all) → old ≡ under heading (take (k + 1) all)
-under_other heading all k h old at is so_far =
-    so_far ∙ sym (under_more heading all k h at ∙ (ap (λ b. under heading (take k all) ++ cond b (h.constraint ∷ []) []) is ∙ append-nil (under heading (take k all))))
-
 -- ---- lines
 
 module _ (within : ℕ) (runs : List MeasuredRun) (all : List Headed) (k : ℕ) (h : Headed) (at : slice_get all k ≡ Some h) where
-  has_before : Bool
-  has_before = list_any (λ (b : Headed). is_word b.heading h.heading) (take k all)
-
   pub rules_more : rule_lines within runs all (take k all) (drop k all)
       ≡ (if list_any (λ (b : Headed). is_word b.heading h.heading) (take k all) then [] else rule_line within runs all h ∷ []) ++ rule_lines within runs all (take (k + 1) all) (drop (k + 1) all)
   rules_more = rw (drop-read all k h at, take_get all k h at) refl
@@ -116,16 +79,6 @@ module _ (within : ℕ) (runs : List MeasuredRun) (all : List Headed) (k : ℕ) 
       ap (λ r. r ++ rule_lines within runs all (take (k + 1) all) (drop (k + 1) all)) grows
       ∙ goes_on old (rule_lines within runs all (take k all) (drop k all)) (rule_lines within runs all (take (k + 1) all) (drop (k + 1) all)) _ (rule_line within runs all h) refl
       (rules_more ∙ ap (λ b. cond b [] (rule_line within runs all h ∷ []) ++ rule_lines within runs all (take (k + 1) all) (drop (k + 1) all)) is)
-
-pub no_rules : (within : ℕ) (runs : List MeasuredRun) (all before others : List Headed) → others ≡ [] → rule_lines within runs all before others ≡ []
-no_rules within runs all before others is = ap (rule_lines within runs all before) is
-
-pub row_more : (drawn : Drawn) (within : ℕ) (runs : List MeasuredRun) (rows : List Row) (k : ℕ) (row : Row) → slice_get rows k ≡ Some row
-    → lines_of_rows drawn within runs k (drop k rows) ≡ line_of_row drawn within runs k row ∷ lines_of_rows drawn within runs (k + 1) (drop (k + 1) rows)
-row_more drawn within runs rows k row at = ap (lines_of_rows drawn within runs k) (drop-read rows k row at)
-
-pub no_row : (drawn : Drawn) (within : ℕ) (runs : List MeasuredRun) (rows : List Row) (k : ℕ) → length rows ≤ k → lines_of_rows drawn within runs k (drop k rows) ≡ []
-no_row drawn within runs rows k h = ap (lines_of_rows drawn within runs k) (drop_all k rows h)
 
 -- ---- events
 
@@ -145,6 +98,3 @@ unseen_goes drawn runs k count name old new total h so_far named counted grows =
     ap (λ t. t ++ unseen_text runs (k + 1) (drop (k + 1) drawn.names)) (grows ∙ ap (λ p. old ++ p) piece)
     ∙ goes_on_by old (unseen_line (name_of drawn (record { 0 = k })) (unseen_count runs k)) (unseen_text runs k (drop k drawn.names)) (unseen_text runs (k + 1) (drop (k + 1) drawn.names)) total
     so_far (unseen_more drawn runs k h)
-
-pub no_event : (runs : List MeasuredRun) (names : List Name) (k : ℕ) → length names ≤ k → unseen_text runs k (drop k names) ≡ []
-no_event runs names k h = ap (unseen_text runs k) (drop_all k names h)
