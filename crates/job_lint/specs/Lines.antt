@@ -171,12 +171,9 @@ lines_of d network warnings found =
 
 -- ---- lines that are meant
 
--- the note of an edge of a sheet or of the netlist ends with `(meant)`; nothing else can say so
+-- the note of an edge of a sheet or of the netlist, or the name of the net of a pin, ends with `(meant)`; a lane has no note
 abbrev pub is_meant : PlanView → List ℕ → Origin → Bool
-is_meant plan part (drawn.Edge n) = ends_with nat_eq (plan_note plan part (drawn.Edge n)) (codes "(meant)")
-is_meant plan part (drawn.Wire n) = ends_with nat_eq (plan_note plan part (drawn.Wire n)) (codes "(meant)")
-is_meant plan part (drawn.Lane n) = false
-is_meant plan part (drawn.Pin net pin) = false
+is_meant plan part origin = ends_with nat_eq (plan_note plan part origin) (codes "(meant)")
 
 abbrev pub is_spot_meant : PlanView → DesignView → DrawnPlace → Bool
 is_spot_meant plan d spot = is_meant plan (part_word d spot.part) spot.origin
@@ -184,18 +181,19 @@ is_spot_meant plan d spot = is_meant plan (part_word d spot.part) spot.origin
 abbrev pub is_place_meant : PlanView → Drawn → DrawnAt → Bool
 is_place_meant plan network at = is_meant plan (event_part network at.event) at.origin
 
--- an edge that a warning is about is meant
+-- an edge or a net that a warning is about is meant
 abbrev pub is_about_meant : PlanView → DesignView → About → Bool
 is_about_meant plan d (abouts.Place place) = is_spot_meant plan d place
 is_about_meant plan d (abouts.Two first other) = is_spot_meant plan d first || is_spot_meant plan d other
 is_about_meant plan d (abouts.Follows mark by) = is_spot_meant plan d by
 is_about_meant plan d (abouts.Driven mark by edge) = is_meant plan (part_word d mark.part) edge
+is_about_meant plan d (abouts.Net net) = is_meant plan [] (drawn.Pin net 0)
 is_about_meant plan d about = false
 
 abbrev pub is_warning_meant : PlanView → DesignView → Warning → Bool
 is_warning_meant plan d warning = can_be_meant warning.word && is_about_meant plan d warning.about
 
--- a line is silenced: an edge that it is about is meant
+-- a line is silenced: an edge or a net that it is about is meant
 abbrev pub is_silenced : PlanView → DesignView → Drawn → Line → Bool
 is_silenced plan d network (Drawing warning) = is_warning_meant plan d warning
 is_silenced plan d network (Narrow at side weight only) = is_place_meant plan network at
