@@ -1,5 +1,5 @@
 -- Which lines job lint has, according to the warnings of the drawing and to what the searches find.
-use Rattle.std.specs.Prelude.{ℕ, ℤ, ◌+◌, ◌==◌, ◌&&◌, ◌||◌, Bool, true, false, if◌then◌else◌, List, [], ◌∷◌, ◌++◌, Option, Some, None, option_and_then, unwrap_or, slice_get, codes, map, nat_eq, count_by}
+use Rattle.std.specs.Prelude.{ℕ, ℤ, ◌+◌, ◌==◌, ◌&&◌, ◌||◌, Bool, true, false, if◌then◌else◌, List, [], ◌∷◌, ◌++◌, Option, Some, None, option_and_then, unwrap_or, slice_get, codes, is_some, map, nat_eq, count_by}
 use Rattle.std.specs.List.{ends_with, flat_map, list_all, list_any}
 use Rattle.std.specs.Option.{option_map_or}
 use Rattle.std.specs.Str.{bytes_eq}
@@ -7,6 +7,8 @@ use Rattle.itv_base.specs.declared.names.EdgeName.{EdgeName}
 use Rattle.itv_base.specs.declared.names.EventId.{EventId}
 use Rattle.itv_base.specs.declared.names.Side.{Side}
 use Rattle.itv_base.specs.declared.names.Side.TheVariants.{Lower, Upper}
+use Rattle.itv_base.specs.declared.row_kind.RowKind.{RowKind}
+use Rattle.itv_base.specs.declared.row_kind.RowKind.TheVariants as kinds
 use Rattle.event_graph.specs.declared.edge.Edge.{Edge}
 use Rattle.origin.specs.declared.origin.Origin.{Origin}
 use Rattle.origin.specs.declared.origin.Origin.TheVariants as drawn
@@ -97,9 +99,17 @@ is_by_order by_order.Yes = true
 is_by_order by_order.No = false
 is_by_order by_order.Open = false
 
--- the answer of a row rests on the order of a lane: a chain behind one of its bounds uses it, or its requirement passes because of that order alone
-abbrev pub rests_on_order : Drawn → RowSeen → Bool
-rests_on_order network found = goes_over network found.greatest || (goes_over network found.least || is_by_order found.passes)
+-- a bound of a row is judged: of a question both are, and of a requirement those on whose side it has an end
+abbrev pub is_judged : Side → RowKind → Bool
+is_judged side kinds.Ask = true
+is_judged Upper (kinds.Req range) = is_some range.high
+is_judged Lower (kinds.Req range) = is_some range.low
+
+-- The answer of a row rests on the order of a lane: a chain for a bound of it that is judged uses it, or its requirement passes because of that order
+-- alone.
+abbrev pub rests_on_order : Drawn → Row → RowSeen → Bool
+rests_on_order network row found =
+    (is_judged Upper row.kind && goes_over network found.greatest) || ((is_judged Lower row.kind && goes_over network found.least) || is_by_order found.passes)
 
 abbrev pub row_place : Row → DrawnAt
 row_place row = record { event = row.from; origin = row.origin }
@@ -107,7 +117,7 @@ row_place row = record { event = row.from; origin = row.origin }
 -- the line of a row: its answer rests on the order of a lane; or else, a search for it was left open
 abbrev pub row_line : Drawn → ℕ → Row → RowSeen → List Line
 row_line network number row found =
-    if rests_on_order network found then Order number (row_place row) ∷ [] else (if is_row_open found then OpenRow number (row_place row) ∷ [] else [])
+    if rests_on_order network row found then Order number (row_place row) ∷ [] else (if is_row_open found then OpenRow number (row_place row) ∷ [] else [])
 
 -- the lines of rows; the first row has this number
 abbrev pub row_lines : Drawn → ℕ → List Row → List RowSeen → List Line
