@@ -1,4 +1,5 @@
-//! Warnings of marks that follow a clock, where a search decides. No definition describes which of them are left out: nobody relies on it as true, so tests try it.
+//! Warnings of marks that follow a clock, where a search decides. No definition describes which of them are left out: nobody relies on it as true, so
+//! tests try it.
 
 ghost use Rattle.std.specs.Prelude.{◌≡◌, ◌<◌, ◌≤◌, IfOk};
 ghost use Rattle.extremes.specs.Ready.{IsReady};

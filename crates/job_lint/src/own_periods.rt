@@ -1,4 +1,5 @@
-//! Requirements whose judged chain counts a period of their first mark in. No definition describes this warning: nobody relies on it as true, so tests try it.
+//! Requirements whose judged chain counts a period of their first mark in. No definition describes this warning: nobody relies on it as true, so tests
+//! try it.
 
 use crate::parts::event_part;
 use compose::Design;
@@ -9,8 +10,8 @@ use lint::{About, DrawnPlace, Warning, WarningWord};
 use origin::Origin;
 use requirements::Separation;
 
-/// Puts a warning of its edge at the end for each requirement between two marks whose judged chain begins or ends with the own period of its first mark: without
-/// the period it would be about one cycle, as a hold is. A row that several cycles have gives one warning. What is found of each row is given. The answer
+/// Puts a warning of its edge at the end for each requirement between two marks whose judged chain begins or ends with the own period of its first mark:
+/// without the period it would be about one cycle, as a hold is. A row that several cycles have gives one warning. What is found of each row is given. The answer
 /// is `NoMemory` if memory runs out.
 pub fn push_own_periods(
     warnings: &mut Vec<Warning>,
