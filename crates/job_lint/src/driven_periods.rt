@@ -9,7 +9,7 @@ use crate::parts::{mark_name, part_word};
 use crate::turns::run_turns;
 use compose::{Design, DesignMark};
 use drawn_networks::{DrawnNetwork, Row};
-use event_graph::Network;
+use event_graph::{Network, PushFault};
 use explanations::RowFound;
 use extremes::Extremes;
 use itv_base::{EventId, MAX_CONSTRAINTS, NoMemory};
@@ -79,7 +79,7 @@ fn is_idle(
         return Ok(false);
     };
     let events = events_of(alloc, mark, drawn, design)?;
-    match with_period(alloc, drawn.network(), &events, period)? {
+    match with_period(alloc, drawn.network(), &events, &period)? {
         Some(net) => has_bounds(alloc, &net, found, drawn, budget),
         None => Ok(false),
     }
@@ -110,23 +110,65 @@ fn with_period(
     alloc: Global,
     net: &Network,
     events: &[EventId],
-    period: Period,
+    period: &Period,
 ) -> Result<Option<Network>, NoMemory> {
-    let Some(mut copy) = copied(alloc, net)? else {
-        return Ok(None);
-    };
-    for from in 0..events.len() {
-        if let Some(to) = event_after(events, from, period.shift) {
-            let from = events[from];
-            if copy.events() <= from.0 || copy.events() <= to.0 {
-                return Ok(None);
-            }
-            if copy.push_linear(alloc, from, to, period.range).is_err() {
-                return Ok(None);
-            }
-        }
+    match copied(alloc, net)? {
+        Some(copy) => Ok(put_in(alloc, copy, events, period)),
+        None => Ok(None),
     }
-    Ok(Some(copy))
+}
+
+// The same, given a copy of the network.
+fn put_in(alloc: Global, copy: Network, events: &[EventId], period: &Period) -> Option<Network> {
+    let mut copy = copy;
+    if put_periods(alloc, &mut copy, events, period).is_ok() {
+        Some(copy)
+    } else {
+        drop(copy);
+        None
+    }
+}
+
+// Puts the period between the events of a mark at the end of a network.
+fn put_periods(
+    alloc: Global,
+    net: &mut Network,
+    events: &[EventId],
+    period: &Period,
+) -> Result<(), PushFault> {
+    for from in 0..events.len() {
+        put_from(alloc, net, events, from, period)?;
+    }
+    Ok(())
+}
+
+// Puts the period from one of the events of a mark at the end of a network, if it leads to another one.
+fn put_from(
+    alloc: Global,
+    net: &mut Network,
+    events: &[EventId],
+    from: usize,
+    period: &Period,
+) -> Result<(), PushFault> {
+    match (events.get(from), event_after(events, from, period.shift)) {
+        (Some(from), Some(to)) => put_period(alloc, net, *from, to, period),
+        _ => Ok(()),
+    }
+}
+
+// Puts the period between two events at the end of a network, if they are there.
+fn put_period(
+    alloc: Global,
+    net: &mut Network,
+    from: EventId,
+    to: EventId,
+    period: &Period,
+) -> Result<(), PushFault> {
+    if from.0 < net.events() && to.0 < net.events() {
+        net.push_linear(alloc, from, to, period.range)
+    } else {
+        Ok(())
+    }
 }
 
 // The event so many cycles after another one, if there is one.
