@@ -3,6 +3,7 @@ use Rattle.std.specs.Prelude.{ℕ, ℤ, ◌+◌, ◌==◌, ◌&&◌, ◌||◌, B
 use Rattle.std.specs.List.{ends_with, flat_map, list_all, list_any}
 use Rattle.std.specs.Option.{option_map_or}
 use Rattle.std.specs.Str.{bytes_eq}
+use Rattle.itv_base.specs.Range.{Ends}
 use Rattle.itv_base.specs.declared.names.EdgeName.{EdgeName}
 use Rattle.itv_base.specs.declared.names.EventId.{EventId}
 use Rattle.itv_base.specs.declared.names.Side.{Side}
@@ -99,11 +100,15 @@ is_by_order by_order.Yes = true
 is_by_order by_order.No = false
 is_by_order by_order.Open = false
 
+-- a range has an end on a side
+abbrev pub has_end : Side → Ends → Bool
+has_end Upper range = is_some range.high
+has_end Lower range = is_some range.low
+
 -- a bound of a row is judged: of a question both are, and of a requirement those on whose side it has an end
 abbrev pub is_judged : Side → RowKind → Bool
 is_judged side kinds.Ask = true
-is_judged Upper (kinds.Req range) = is_some range.high
-is_judged Lower (kinds.Req range) = is_some range.low
+is_judged side (kinds.Req range) = has_end side range
 
 -- The answer of a row rests on the order of a lane: a chain for a bound of it that is judged uses it, or its requirement passes because of that order
 -- alone.

@@ -3,14 +3,14 @@
 ghost use Rattle.std.specs.Prelude.{◌≡◌};
 ghost use Rattle.std.specs.List.{list_any};
 ghost use Rattle.job_lint.specs.Found.{is_order_open, is_pair_open, is_row_open};
-ghost use Rattle.job_lint.specs.Lines.{goes_over, is_by_order, is_judged, is_lane_edge, rests_on_order};
+ghost use Rattle.job_lint.specs.Lines.{goes_over, has_end, is_by_order, is_judged, is_lane_edge, rests_on_order};
 
 use crate::by_order::ByOrder;
 use crate::ends::origin_at;
 use crate::pair_seen::PairSeen;
 use crate::row_seen::RowSeen;
 use drawn_networks::{DrawnNetwork, Row};
-use itv_base::{EdgeName, RowKind, Side};
+use itv_base::{EdgeName, Range, RowKind, Side};
 
 /// Whether a chain for a bound of a row that is judged goes over the order of a lane, or its requirement passes because of that order alone.
 pub fn rests_on_order(drawn: &DrawnNetwork, row: &Row, found: &RowSeen) -> bool
@@ -25,10 +25,19 @@ pub fn rests_on_order(drawn: &DrawnNetwork, row: &Row, found: &RowSeen) -> bool
 fn is_judged(side: Side, kind: RowKind) -> bool
     ensures { result ≡ is_judged side kind }
 {
-    match (side, kind) {
-        (_, RowKind::Ask) => true,
-        (Side::Upper, RowKind::Req(range)) => range.high().is_some(),
-        (Side::Lower, RowKind::Req(range)) => range.low().is_some(),
+    match kind {
+        RowKind::Ask => true,
+        RowKind::Req(range) => has_end(side, range),
+    }
+}
+
+// Whether a range has an end on a side.
+fn has_end(side: Side, range: Range) -> bool
+    ensures { result ≡ has_end side range }
+{
+    match side {
+        Side::Upper => range.high().is_some(),
+        Side::Lower => range.low().is_some(),
     }
 }
 
