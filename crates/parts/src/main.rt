@@ -1,5 +1,5 @@
 //! Calls of the parts of the program, one by one: standard input has cases, and each row of a case is a call whose answer is printed.
-//! `docs/parts.md` has the form of the cases. Nothing here compares an answer: the file `stdout` of the crate has what is wanted.
+//! `docs/cases.md` has the form of the cases. Nothing here compares an answer: the file `stdout` of the crate has the expected answers.
 //! The answer is `unfit` if a row does not have the form that its verb wants, or if memory runs out.
 #![tactic(auto)]
 
@@ -13,6 +13,7 @@ mod edit_files;
 mod explaining;
 mod falls;
 mod labels;
+mod measured;
 mod networks;
 mod out;
 mod proof_lines;
@@ -146,6 +147,8 @@ fn answer_row(alloc: Global, verb: &str, subject: &str, row: &str, out: &mut Out
         "raise" => verdicts::raise(row, out),
         "lanes" => closures::lanes(alloc, row, out),
         "edits" => edit_files::edits(alloc, subject, row, out),
+        "times" => measured::times(alloc, row, out),
+        "measure" => measured::measure(alloc, subject, row, out),
         "no memory" => networks::no_memory(out),
         _ => answer_row_over(alloc, verb, subject, row, out),
     }
