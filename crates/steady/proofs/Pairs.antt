@@ -1,6 +1,6 @@
 -- What is found of a pair of events on a side.
-use Rattle.std.proofs.Common.{◌≡◌, ℤ, pos, negsuc, neg_ℤ, ◌-ℤ◌, ◌≤ℤ◌, ◌<ℤ◌, Bool, true, false, List, arith, to_z, of_z, w64, FitsSigned}
-use Rattle.std.proofs.lemmas.Int.{ints, to_z-of_z}
+use Rattle.std.proofs.Common.{◌≡◌, ℤ, neg_ℤ, ◌-ℤ◌, ◌≤ℤ◌, ◌<ℤ◌, Bool, true, false, List, arith}
+use Rattle.std.proofs.lemmas.Int.{ints}
 use Rattle.itv_base.proofs.Integers.{le_from_no_test, lt_from_test}
 use Rattle.itv_base.specs.declared.names.EventId.{EventId}
 use Rattle.itv_base.specs.declared.names.Side.{Side}
@@ -56,13 +56,3 @@ not_past_further Lower value other apart past h = let less : other <ℤ value = 
 pub not_past_before : (side : Side) (value other apart : ℤ) → is_past side value other ≡ false → IsNotPast side other apart → IsNotPast side value apart
 not_past_before Upper value other apart past h = let most : other ≤ℤ value = le_from_no_test value other past in omega (arith, ints, most, h)
 not_past_before Lower value other apart past h = let least : value ≤ℤ other = le_from_no_test other value past in omega (arith, ints, least, h)
-
--- ---- numbers of the code
-
-fits_time : (z : ℤ) → IsTime z → FitsSigned w64 z
-fits_time (pos n) h = record { sfits = omega (arith, ints) }
-fits_time (negsuc n) h = record { sfits = omega (arith, ints) }
-
--- a time that is written and read again
-pub same_time : (z : ℤ) → IsTime z → to_z w64 (of_z w64 z) ≡ z
-same_time z h = to_z-of_z w64 z (fits_time z h)

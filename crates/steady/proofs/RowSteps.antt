@@ -7,6 +7,7 @@ use Rattle.std.proofs.lemmas.List.Elements.{All-push}
 use Rattle.itv_base.specs.declared.names.Side.{Side}
 use Rattle.event_graph.specs.Edges.{cause_choices}
 use Rattle.event_graph.specs.Network.{Net}
+use Rattle.event_graph.proofs.MovingOn.{read_time}
 use Rattle.extremes.specs.Ready.{IsReady}
 use Rattle.extremes.specs.declared.extremes.Extremes.{Extremes}
 use Rattle.sheet.specs.declared.row.SheetRow.{SheetRow}
@@ -20,7 +21,6 @@ use Rattle.steady.specs.declared.found.RunBound.TheVariants as bounds
 use Rattle.steady.specs.declared.design_run.DesignRun.{DesignRun}
 use Rattle.steady.specs.declared.found.RowFound.{RowFound}
 use Rattle.steady.specs.declared.rows.Steadying.{Steadying}
-use Rattle.steady.proofs.Pairs.{same_time}
 
 pub zip_push : {A B : Type 0} (R : A → B → Type 0) (xs : List A) (ys : List B) (x : A) (y : B) → AllZip R xs ys → R x y → AllZip R (xs ++ x ∷ []) (ys ++ y ∷ [])
 zip_push R [] [] x y before is = (is, tt)
@@ -81,4 +81,4 @@ closed_bound side run row net found value times steady drawn is furthest attaine
     let start : ℕ = run.from + row.shift in
     let there : IsFurthestIn side net run.marks row start run.cycles value times.items = subst (IsFurthest side net run.marks row start run.cycles) is furthest in
     let here : IsFurthestIn side run.drawn.net run.marks row start run.cycles value times.items = subst (λ (n : Net). IsFurthestIn side n run.marks row start run.cycles value times.items) drawn there in
-    ((times.items, subst (λ (z : ℤ). IsFurthestIn side run.drawn.net run.marks row start run.cycles z times.items) (sym (same_time value there.extreme.within)) here), attained)
+    ((times.items, subst (λ (z : ℤ). IsFurthestIn side run.drawn.net run.marks row start run.cycles z times.items) (sym (read_time value there.extreme.within)) here), attained)
