@@ -77,7 +77,7 @@ pub fn command<'a>(alloc: Global) -> Result<Command<'a>, AllocError>
             alloc,
             "budget",
             MAX_BUDGET,
-            "Cases that each search may close, lines of each derivation, or thousands of turns [default: 100000]",
+            "The effort of each search, in a unit that depends on the job [default: 100000]",
         ))?
         .arg(flag(alloc, "cert", "Write proofs into the report"))?
         .arg(flag(
@@ -102,7 +102,7 @@ pub fn command<'a>(alloc: Global) -> Result<Command<'a>, AllocError>
             alloc,
             "together",
             "LIST",
-            "The numbers that job margin moves as one, with commas between, as \"wire 0,net 1,CPU edge 3\"",
+            "The numbers that job margin moves together, separated by commas: \"wire 0,net 1,CPU edge 3\"",
         ))?
         .arg(design_argument(alloc))
 }

@@ -44,12 +44,12 @@ pub const JOBS: [JobWord; 14] = [
     JobWord {
         name: "why",
         needs: JobNeeds::Design,
-        about: "Prints the bounds with the edges of the drawing that hold them, or the rules that contradict each other",
+        about: "Prints each bound with the edges that determine it, or the rules that contradict each other",
     },
     JobWord {
         name: "brief",
         needs: JobNeeds::Design,
-        about: "Prints each question and requirement on one line, the worst first; rows of several cycles that say the same are one line",
+        about: "Prints each question and requirement on one line, the worst first; equal rows of several cycles are one line",
     },
     JobWord {
         name: "lint",
@@ -69,7 +69,7 @@ pub const JOBS: [JobWord; 14] = [
     JobWord {
         name: "settle",
         needs: JobNeeds::Design,
-        about: "Bounds each question and requirement exactly, whatever the rules, also where the search by cases gives up",
+        about: "Bounds each question and requirement exactly, also if the search by cases gives up",
     },
     JobWord {
         name: "confirm",
@@ -94,12 +94,12 @@ pub const JOBS: [JobWord; 14] = [
     JobWord {
         name: "matrix",
         needs: JobNeeds::Design,
-        about: "Prints the bounds of all pairs of events that the rules without a choice give",
+        about: "Prints the bounds between all pairs of events, from the rules without a choice",
     },
     JobWord {
         name: "files",
         needs: JobNeeds::Design,
-        about: "Prints the files that the design is made of, one on each line, in the order in which they are read",
+        about: "Prints the files that make up the design, one per line, in the order in which they are read",
     },
     JobWord {
         name: "self",

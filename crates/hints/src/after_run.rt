@@ -11,7 +11,7 @@ use refusal_hints::{
 use std::alloc::Global;
 
 // What is said if a reading does not show why something was refused.
-const REFUSED: &str = "docs/drawing.md says under \"Refusals\" what this line means";
+const REFUSED: &str = "docs/format.md says under \"Refusals\" what this line means";
 
 /// What is said to a person after the run of these words that ended with this status. Each line begins with the place that it is about, as
 /// `FILE:LINE:COLUMN: `, or else with `itv: `. The text is empty if there is nothing to say. The status 10 stands for words that the system did not give.
@@ -44,9 +44,9 @@ pub fn said_after<H: Shelf, L: NameLook>(
 // How many bytes the files of a design may have together that was answered: more are not read again.
 const MOST_READ: u64 = 100_000;
 
-const REPORT: &str = "docs/report.md says under \"Checking a report\" when a line is wrong";
+const REPORT: &str = "docs/jobs.md says under \"check\" when a line is refused";
 
-const NO_TEXT: &str = "a word is not UTF-8, such as a file name in Latin-1: rename the file";
+const NO_TEXT: &str = "an argument is not UTF-8, such as a file name in Latin-1: rename the file";
 
 // Puts a line about no file.
 fn put_plain(hint: &mut Hint, says: &str) {
@@ -59,7 +59,7 @@ fn put_words(hint: &mut Hint, words: &Texts) {
     hint.begin();
     match words_fault(words) {
         Some(fault) => put_words_fault(hint, fault),
-        None => hint.put("the words are not understood"),
+        None => hint.put("the command line is not understood"),
     }
     hint.put("; usage: itv [OPTIONS] DESIGN, and itv --help says more");
 }

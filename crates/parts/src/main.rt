@@ -1,5 +1,5 @@
 //! Calls of the parts of the program, one by one: standard input has cases, and each row of a case is a call whose answer is printed.
-//! `docs/parts.md` has the form of the cases. Nothing here compares an answer: the file `stdout` of the crate has what is wanted.
+//! `docs/cases.md` has the form of the cases. Nothing here compares an answer: the file `stdout` of the crate has the expected answers.
 //! The answer is `unfit` if a row does not have the form that its verb wants, or if memory runs out.
 #![tactic(auto)]
 

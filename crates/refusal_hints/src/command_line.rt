@@ -16,7 +16,7 @@ pub enum WordsFault<'a> {
     NoValue(WordsOption),
     /// The value of this option is no number that it takes.
     NoNumber(&'a str, WordsOption),
-    /// The option stands twice.
+    /// The option is given twice.
     Twice(WordsOption),
     /// There are two designs, and the first may be the name of a job.
     OneTooMany { first: &'a str, word: &'a str },
@@ -82,17 +82,16 @@ pub fn put_words_fault(hint: &mut Hint, fault: WordsFault<'_>) {
         WordsFault::NoOption(word) => put_no_option(hint, word),
         WordsFault::OfLauncher(word) => put_both(hint, word, OF_LAUNCHER),
         WordsFault::NoJob(word) => put_no_job(hint, word),
-        WordsFault::NoValue(option) => put_both(hint, option.word(), " wants a value behind it"),
+        WordsFault::NoValue(option) => put_both(hint, option.word(), " needs a value"),
         WordsFault::NoNumber(word, option) => put_no_number(hint, word, option),
-        WordsFault::Twice(option) => put_both(hint, option.word(), " stands twice"),
+        WordsFault::Twice(option) => put_both(hint, option.word(), " is given twice"),
         WordsFault::OneTooMany { first, word } => put_one_too_many(hint, first, word),
         WordsFault::Lacks(job) => put_lacks(hint, job),
         WordsFault::NoDesign => hint.put("the DESIGN is missing"),
     }
 }
 
-const OF_LAUNCHER: &str =
-    " is an option of the launcher itv, and stands in front of all other words";
+const OF_LAUNCHER: &str = " is an option of the launcher itv, and must come first";
 
 fn put_both(hint: &mut Hint, subject: &str, says: &str) {
     hint.put(subject);
@@ -120,7 +119,7 @@ fn put_jobs(hint: &mut Hint) {
 
 fn put_no_number(hint: &mut Hint, word: &str, option: WordsOption) {
     hint.put_quoted(word);
-    hint.put(" is no whole number from 1 to ");
+    hint.put(" is not a whole number from 1 to ");
     hint.put_number(option.most());
     hint.put(" for ");
     hint.put(option.word());

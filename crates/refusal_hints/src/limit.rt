@@ -17,9 +17,9 @@ pub fn put_too_many(hint: &mut Hint, limit: Limit, count: u128) {
     hint.put_count(count);
     hint.put(" ");
     hint.put(words_of(limit));
-    hint.put(", and ");
+    hint.put(" (limit ");
     put_grouped(hint, limit.most());
-    hint.put(" are the limit");
+    hint.put(")");
 }
 
 // Puts a number below 10^15 with commas between its groups of three digits.
@@ -47,8 +47,8 @@ fn put_group(hint: &mut Hint, group: u64) {
 // What is limited.
 fn words_of(limit: Limit) -> &'static str {
     match limit {
-        Limit::Events => "events, which are its marks over all parts and cycles",
-        Limit::Constraints => "rules, with those of lanes and nets, over all cycles",
+        Limit::Events => "events, counting the marks of all parts in all cycles",
+        Limit::Constraints => "rules over all cycles, counting those of lanes and nets",
         Limit::Rows => "questions and requirements over all cycles",
         Limit::Cells => "events times rows",
         Limit::SearchCells => "events times rules of several causes",
