@@ -79,7 +79,7 @@ def read(name, folder=TOP):
 
 def equal(found, wanted):
     """Fails with both values if they differ."""
-    assert found == wanted, f"\n  found  {found!r}\n  wanted {wanted!r}"
+    assert found == wanted, f"\n  found    {found!r}\n  expected {wanted!r}"
 
 
 def failure(test):
