@@ -154,7 +154,7 @@ is_narrow_spot d network narrow spot = list_any (is_about network (part_word d s
 -- lines of ends say what the warning would say: it is of two rules into one mark, and a line is about one of the two
 abbrev pub said_by : DesignView → Drawn → List Line → WarningWord → About → Bool
 said_by d network narrow words.Both (abouts.Two first other) = is_narrow_spot d network narrow first || is_narrow_spot d network narrow other
-said_by d network narrow word about = false
+said_by d network narrow _ about = false
 
 abbrev pub is_said : DesignView → Drawn → List Line → Warning → Bool
 is_said d network narrow warning = said_by d network narrow warning.word warning.about
