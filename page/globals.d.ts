@@ -9,6 +9,7 @@ declare class DecompressionStream extends TransformStream {
 }
 
 interface Window {
+  itvStart: { page: string; sayUnfit: (error: unknown) => void };
   CodeMirror: any;
   itv: any;
 }

@@ -151,7 +151,7 @@ export class Answers {
   /** Says that the search was ended. */
   showStopped() {
     this.hideProgress();
-    // What stands below is the answer to an earlier text.
+    // What is below is the answer to an earlier text.
     byId("job").classList.add("stale");
     const sentence = byId("sentence");
     sentence.className = "undecided";

@@ -21,6 +21,7 @@ import { Edited } from "./edited.js";
 import { stemOf } from "./export.js";
 import { FirstScreen } from "./first_screen.js";
 import { NumbersTab } from "./numbers_tab.js";
+import { Parts } from "./parts.js";
 
 const NANOSECONDS = { name: "ns", size: 1000 };
 
@@ -29,6 +30,9 @@ const VIEWS = [
   { id: "numbers", label: "numbers", hint: "all times of the design as a table" },
   { id: "text", label: "text", hint: "the file as it is saved" },
 ];
+
+/** How long a character of what is said is shown, in milliseconds. */
+const READ = 70;
 
 /** What begins the value of a line of the menu of examples that unfolds a group. */
 const UNFOLD = "unfold ";
@@ -67,8 +71,11 @@ export class App {
       lightTable: (...at) => this.numbers.light(...at),
       lightText: (name, number) => this.lightText(name, number),
     });
-    this.pointing = new Pointing(byId("drawings"), byId("draw-tools"), byId("edge-form"), {
+    this.parts = new Parts(this);
+    this.pointing = new Pointing(byId("drawings"), byId("draw-tools"), { edge: byId("edge-form"), net: byId("net-form") }, {
       readOf: (file) => this.files.readOf(file),
+      board: () => this.parts.shownBoard,
+      addPart: (name) => this.parts.add(name),
       edit: (file, changes, followed) => this.editSheet(file, changes, followed),
       undo: (again) => this.edited.undo(again),
       say: (text) => this.say(text),
@@ -333,13 +340,13 @@ export class App {
   showDrawings() {
     const verdicts = this.analysis && this.analysis.report ? this.analysis.verdicts() : new Map();
     const treeOf = (name) => (this.files.find(name) ? this.files.readOf(name).tree : null);
-    const html = this.files.find(this.current) ? drawingsOf(this.current, treeOf, verdicts) : "";
-    // A text that is no JSON at this moment leaves the last drawing.
+    const html = this.files.find(this.current) ? drawingsOf(this.current, treeOf, verdicts, widthOfDrawings()) : "";
+    // A text that is not JSON at this moment leaves the last drawing.
     const held = this.pointing.held();
     if ((html || treeOf(this.current)) && fill(byId("drawings"), html)) this.pointing.drawn(held);
   }
 
-  /** Changes a sheet as a hand did in its drawing. The netlists that have the sheet follow: `followed` has the mark or the lane that got another name, or the
+  /** Changes a file as a hand did in a drawing. The netlists that have the sheet follow: `followed` has the mark or the lane that got another name, or the
    * marks that are gone, and their lane where that is gone too. */
   editSheet(file, changes, followed) {
     const netlists = followed ? this.files.names.filter((name) => isNetlist(this.files.readOf(name).tree)) : [];
@@ -391,14 +398,20 @@ export class App {
   /** The window or a part of it has got another size. */
   resized() {
     this.answers.resize();
+    this.showDrawings();
     this.numbers.table.refresh();
     this.editor.view.refresh();
   }
 
-  /** Says something for a moment beside the buttons. */
+  /** Says something above the lower edge of the page, until it can have been read. */
   say(text) {
     byId("note").textContent = text;
     clearTimeout(this.saying);
-    this.saying = setTimeout(() => (byId("note").textContent = ""), 4000);
+    this.saying = setTimeout(() => (byId("note").textContent = ""), Math.max(4000, READ * text.length));
   }
+}
+
+/** How wide the drawings may be, in steps of 20 pixels: as wide as their part of the page without its padding, within limits. */
+function widthOfDrawings() {
+  return Math.floor(Math.min(Math.max(byId("drawings").clientWidth - 30, 300), 900) / 20) * 20;
 }

@@ -6,20 +6,14 @@ import { Runner } from "./runner.js";
 import { escaped, escapedText } from "../core/texts.js";
 
 const FIRST = "examples/cpu-sram-fast.json";
-// The first browsers that have all that the page uses. The documents say the same, which tools/dev/test-release compares.
-const BROWSERS = "Chrome 111, Firefox 119 or Safari 16.4";
-
-/** The text of the page as it was loaded. It is taken before the page changes itself. */
-function textOfPage() {
-  return `<!DOCTYPE html>\n${document.documentElement.outerHTML}\n`;
-}
+const { page, sayUnfit } = window.itvStart;
 
 /** The bytes that an element holds in gzip and base64. */
 function unpacked(id) {
   return gunzipped(fromBase64(document.getElementById(id).textContent));
 }
 
-/** Runs the script of a library, which is a module of node where `exports` are wanted of it. */
+/** Runs the script of a library, which is a module of node where `exports` are needed of it. */
 function libraryOf(source, require = null) {
   const module = { exports: {} };
   new Function("module", "exports", "require", source)(module, module.exports, require);
@@ -39,15 +33,6 @@ function codeMirrorOf(sources) {
   return window.CodeMirror;
 }
 
-/** What a browser gets to read that can't run the program. */
-function sayUnfit(error) {
-  document.getElementById("starting")?.remove();
-  const sentence = document.getElementById("sentence");
-  sentence.className = "fail";
-  sentence.textContent = `✗ This browser cannot run itv. It needs ${BROWSERS}, or a later version.`;
-  document.getElementById("of").textContent = String(error);
-}
-
 /** The files that the page opens with: those of the address or those that it was saved with, which are its own, or else the first example. */
 async function firstFiles(examples) {
   const linked = /^#design=(.+)$/.exec(location.hash);
@@ -60,7 +45,6 @@ async function firstFiles(examples) {
 }
 
 async function start() {
-  const page = textOfPage();
   const [bytes, packed] = await Promise.all([unpacked("wasm"), unpacked("packed")]);
   const { codemirror, json5, examples, licences } = JSON.parse(new TextDecoder().decode(packed));
   const runner = new Runner(document.getElementById("worker").textContent, await WebAssembly.compile(bytes));
@@ -75,7 +59,7 @@ async function start() {
   await app.start(files);
 }
 
-/** What stands under "about this page". */
+/** What is under "about this page". */
 function aboutOf(program, licences) {
   const texts = Object.entries(licences).map(([name, text]) => `<details><summary>${escaped(name)}</summary><pre>${escapedText(text)}</pre></details>`);
   return (

@@ -1,6 +1,6 @@
 // Edits of the texts, those that are typed and those that the page makes, as steps in one order over all files.
 //
-// CodeMirror keeps the steps of each file. Here stands which file's turn it is when the last step is taken back.
+// CodeMirror keeps the steps of each file. This says which file's turn it is when the last step is taken back.
 
 export class Edited {
   /** `onChange` is called when a text has changed. */

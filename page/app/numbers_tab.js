@@ -2,9 +2,11 @@
 // follows.
 
 import { wordsOf } from "../core/analysis.js";
+import { gradesIn, setGrade } from "../core/board.js";
 import { changeOf, endsAt, linesOf, togetherOf } from "../core/numbers.js";
 import { UNITS } from "../core/texts.js";
 import { clocksOf } from "../view/clocks.js";
+import { GradesMenu } from "../view/grades_menu.js";
 import { Slide } from "../view/slide.js";
 import { NumbersTable } from "../view/table.js";
 import { byId } from "./elements.js";
@@ -22,7 +24,7 @@ export class NumbersTab {
     this.resting = 0;
     /** How often the margins of an answer were found. */
     this.margined = 0;
-    byId("numbers").innerHTML = '<div id="table" class="table-part"></div><div id="slide" class="slide" hidden></div>';
+    byId("numbers").innerHTML = '<div id="grades" class="grades" hidden></div><div id="table" class="table-part"></div><div id="slide" class="slide" hidden></div>';
     this.table = new NumbersTable(byId("table"), {
       set: (list, merge) => this.set(list, merge),
       show: (line) => app.goToText(line.places[0]),
@@ -32,6 +34,10 @@ export class NumbersTab {
       slide: (line, side) => this.slide.open(line, side),
       choose: (line, side) => this.slide.follow(line, side),
       useUnit: (name) => app.useUnit(UNITS.find((unit) => unit.name === name)),
+    });
+    this.grades = new GradesMenu(byId("grades"), (number, grade) => {
+      const { design } = app.files;
+      app.edited.change(design, setGrade(app.files.readOf(design), number, grade) || []);
     });
     this.slide = new Slide(byId("slide"), {
       set: (key, side, number, merge) => this.set([{ line: this.lineOf(key), side, number }], merge),
@@ -83,6 +89,8 @@ export class NumbersTab {
     if (!this.app.shows("numbers")) return;
     this.lines = linesOf(analysis, (name) => this.app.files.readOf(name), this.lines);
     this.table.show(this.lines, this.app.unit);
+    const { files } = this.app;
+    this.grades.show(gradesIn(files.readOf(files.design), (name) => files.readOf(name)));
     this.slide.update();
     const isKnown = !this.lines.some((line) => line.isOld);
     if (isKnown || !analysis.report) byId("clocks").innerHTML = analysis.report ? clocksOf(this.lines, analysis.unit) : "";

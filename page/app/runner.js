@@ -1,5 +1,8 @@
 // Runs of the program, one after another in a worker. A run that is going on can be ended at once; what waits after it is then dropped.
 
+// After how long a spare worker is begun anew, in milliseconds: when the next answer is there, as a rule.
+const SPARE_AFTER = 250;
+
 /** A run that was ended before its answer came. */
 export class Ended extends Error {}
 
@@ -11,14 +14,26 @@ export class Runner {
     this.number = 0;
     this.waiting = [];
     this.current = null;
-    this.start();
+    this.worker = this.begun();
+    this.spare = this.begun();
   }
 
-  start() {
-    this.worker = new Worker(this.url);
-    this.worker.onmessage = ({ data }) => this.take(data);
-    this.worker.onerror = (event) => this.take({ number: this.number, status: null, text: "", fault: event.message });
-    this.worker.postMessage({ module: this.module });
+  /** A worker that has the program. */
+  begun() {
+    const worker = new Worker(this.url);
+    worker.onmessage = ({ data }) => worker === this.worker && this.take(data);
+    worker.onerror = (event) => worker === this.worker && this.take({ number: this.number, status: null, text: "", fault: event.message });
+    worker.postMessage({ module: this.module });
+    return worker;
+  }
+
+  /** Ends the worker. The spare one takes its place at once, so that the next run does not wait until a worker has begun. */
+  change() {
+    this.worker.terminate();
+    this.worker = this.spare || this.begun();
+    this.spare = null;
+    clearTimeout(this.beginning);
+    this.beginning = setTimeout(() => (this.spare = this.spare || this.begun()), SPARE_AFTER);
   }
 
   /** Runs the program on words and files, which are texts by their names. The promise gives the status, the text, and the reason of a refusal. It is refused
@@ -52,13 +67,10 @@ export class Runner {
     this.next();
   }
 
-  /** Ends the run that is going on and drops those that wait. The worker is made anew only where it was at work. */
+  /** Ends the run that is going on and drops those that wait. The worker is changed only if it was at work. */
   end() {
     const dropped = [...(this.current ? [this.current] : []), ...this.waiting];
-    if (this.current) {
-      this.worker.terminate();
-      this.start();
-    }
+    if (this.current) this.change();
     this.current = null;
     this.waiting = [];
     for (const { reject } of dropped) reject(new Ended());

@@ -115,7 +115,7 @@ export class Analysis {
     this.warnings = warnings;
   }
 
-  /** Finds the times between which each mark may stand, where the design is not too large for that. Whether there are any. */
+  /** Finds the times between which each mark may be, where the design is not too large for that. Whether there are any. */
   async findWindows() {
     if (!this.report.rows.length || this.report.events.length > MOST_EVENTS_OF_WINDOWS) return false;
     const { status, text } = await this.run("matrix");
@@ -180,7 +180,7 @@ export class Analysis {
     return verdicts;
   }
 
-  /** The name of the file in which the edges of a part stand, given by its number; of the netlist where that is null. */
+  /** The name of the file in which the edges of a part are, given by its number; of the netlist where that is null. */
   fileOf(part) {
     return part === null || this.design.alone ? this.name : this.design.parts[part].file;
   }

@@ -21,7 +21,7 @@ export function rangesOf(numbers) {
 }
 
 /** A row of the report beside the row of the drawing that it answers, with the rows of other cycles that say the same. It is called by its note or its
- * parameter and its cycles, or else by its events, and by the speed grade of its part. */
+ * parameter and its cycles, or else by its events; by its part, if several parts have its sheet; and by the speed grade of its part. */
 export class Entry {
   constructor(design, row, drawn) {
     this.row = row;
@@ -32,11 +32,21 @@ export class Entry {
     this.design = design;
   }
 
-  /** The name without the cycles, with the speed grade of the part after it where it has one. */
+  /** The name without the cycles, with the speed grade of the part after it if it has one. */
   get name() {
     const part = this.drawn.part === null ? null : this.design.parts[this.drawn.part];
-    const name = this.drawn.edge.title || `${this.design.eventTitle(this.row.start)} to ${this.design.eventTitle(this.row.end)}`;
+    const { title } = this.drawn.edge;
+    const name = title ? `${title}${part && isShared(this.design, part) ? ` of ${part.name}` : ""}` : this.eventsText;
     return part && part.grade ? `${name} (${part.grade})` : name;
+  }
+
+  /** The row by its two events, without their cycles if it is of several. */
+  get eventsText() {
+    const [start, end] = [this.row.start, this.row.end].map((event) => this.design.eventTitle(event));
+    if (this.cycles.length === 1) return `${start} to ${end}`;
+    const { shift } = this.drawn.edge;
+    const later = shift ? ` ${shift} cycle${shift > 1 ? "s" : ""} later` : "";
+    return `${start} to ${end}`.replace(/ in cycle \d+(?= to |$)/g, "") + later;
   }
 
   /** The cycles in words; empty where the name has the cycle or there is one cycle alone. */
@@ -50,7 +60,7 @@ export class Entry {
     return this.cyclesText ? `${this.name} in ${this.cyclesText}` : this.name;
   }
 
-  /** Why its worst slack is no number: nothing bounds its broken side, or a search that ended too early. Null where it is a number. */
+  /** Why its worst slack is not a number: nothing bounds its broken side, or a search that ended too early. Null where it is a number. */
   get lack() {
     const broken = this.row.brokenBound;
     if (broken && broken.kind === "unbounded") return "unbounded";
@@ -76,6 +86,11 @@ export class Entry {
     if (high === null) return low === null && this.row.low === null ? "max" : "min";
     return low === null || high < low ? "max" : "min";
   }
+}
+
+/** Whether other parts have the sheet of a part too. */
+function isShared(design, part) {
+  return part.file !== null && design.parts.some((other) => other !== part && other.file === part.file);
 }
 
 function compareRanks(first, second) {

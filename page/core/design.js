@@ -16,7 +16,7 @@ function isObject(value) {
   return value !== null && typeof value === "object" && !Array.isArray(value);
 }
 
-/** The elements of a list; none where it is no list. */
+/** The elements of a list; none where it is not a list. */
 function listOf(value) {
   return Array.isArray(value) ? value : [];
 }

@@ -33,8 +33,9 @@ function indentOf(read, place) {
   return /^[ \t]*/.exec(line)[0];
 }
 
-/** Puts an item at the end of a list: on a line of its own, unless the items before are on one line. */
-function appended(read, list, text) {
+/** Puts an item at the end of a list: on a line of its own, unless the items before are on one line.
+ * @returns {Change[]} */
+export function appended(read, list, text) {
   const [before, last] = list.items.slice(-2);
   if (!before) {
     const indent = indentOf(read, list.start);
@@ -72,8 +73,9 @@ export function withoutItems(read, list, numbers) {
   });
 }
 
-/** Puts a member into an object, after the value of another member or else at its end. */
-function member(object, key, text, after) {
+/** Puts a member into an object, after the value of another member or else at its end.
+ * @returns {Change} */
+export function member(object, key, text, after) {
   const last = object.members[object.members.length - 1];
   const value = object.get(after) || (last && last.value);
   const at = value ? value.end : object.start + 1;
@@ -224,10 +226,20 @@ export function removeEdge(read, number) {
 
 /** The text of an edge from its parts: its marks, its kind, the cycles between them, its ends in picoseconds (null for an open one) and its note.
  * @param {{ start: string, end: string, kind: string, shift: number, low: number | null, high: number | null, note: string }} edge */
-export function edgeText({ start, end, kind, shift, low, high, note }) {
-  const shape = kind === "req" || kind === "ask" ? "->" : "~>";
+export function edgeText(edge) {
+  const shape = edge.kind === "req" || edge.kind === "ask" ? "->" : "~>";
+  return `${edge.start}${shape}${edge.end} ${labelText(edge)}`;
+}
+
+/** The same of an edge of a netlist, whose marks have the names of their parts before them.
+ * @param {{ start: string, end: string, kind: string, shift: number, low: number | null, high: number | null, note: string }} edge */
+export function wireText(edge) {
+  return `${edge.start} ${edge.end} ${labelText(edge)}`;
+}
+
+function labelText({ kind, shift, low, high, note }) {
   const range = kind === "ask" ? "" : ` [${[low, high].map((side) => side ?? "*").join(",")}]`;
-  return `${start}${shape}${end} @${kind}${shift ? `+${shift}` : ""}${range}${note ? ` ${note}` : ""}`;
+  return `@${kind}${shift ? `+${shift}` : ""}${range}${note ? ` ${note}` : ""}`;
 }
 
 // Levels.

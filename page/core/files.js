@@ -68,7 +68,7 @@ export class Read {
     return this.value.at({ edge: "edge", wire: "edges", net: "nets" }[way.what], way.number);
   }
 
-  /** Where an edge stands in the text. */
+  /** Where an edge is in the text. */
   edgePlace(number) {
     const { start, end } = this.value.at(isNetlist(this.tree) ? "edges" : "edge", number);
     return { start, end };
@@ -152,7 +152,7 @@ export class Files {
     return [this.design, ...(read && read.tree ? sheetNames(read.tree) : [])];
   }
 
-  /** The files of the run as strict texts by their names. A file that is no JSON is given unchanged. */
+  /** The files of the run as strict texts by their names. A file that is not JSON is given unchanged. */
   texts() {
     const texts = {};
     for (const name of new Set(this.ofRun())) {

@@ -1,7 +1,7 @@
-// The numbers of a design: each range that is drawn, where it stands in the text, and what the program printed of it.
+// The numbers of a design: each range that is drawn, where it is in the text, and what the program printed of it.
 //
 // What a range is, how far it may be moved and whether it passes are the program's words, from its report and job margin. The page finds the place of the
-// two ends in the text. Where what stands there is not what the program printed, the line can't be edited.
+// two ends in the text. Where what is there is not what the program printed, the line can't be edited.
 
 import { Margin } from "./output_parser.js";
 import { isTime } from "./typed.js";
@@ -45,8 +45,8 @@ function labelStart(text, spaces) {
   return place;
 }
 
-/** The two ends of a range as they stand in a text now. `way` is what is drawn: an edge of a sheet, a wire or a net of a netlist by its number, or a
- * parameter of a grade. Null where no range stands there. */
+/** The two ends of a range as they are in a text now. `way` is what is drawn: an edge of a sheet, a wire or a net of a netlist by its number, or a
+ * parameter of a grade. Null where no range is there. */
 export function endsAt(read, way) {
   if (!read || !read.value) return null;
   if (way.what === "grade") return endsInList(read.value.at("itv_grades", way.grade, way.parameter));
@@ -61,7 +61,7 @@ export function changeOf(end, number) {
   return { start: end.start, end: end.end, text: number === null ? end.open : String(number) };
 }
 
-/** One line of the numbers: a range that stands at one place in the text, or the period of a clock that stands at several. */
+/** One line of the numbers: a range that is at one place in the text, or the period of a clock that is at several. */
 export class Line {
   /** `place` is a file, a way and the ends there; `drawn` is what the drawing says of the range. */
   constructor(key, place, drawn) {
@@ -181,7 +181,7 @@ export function linesOf(analysis, readOf, before = []) {
   return lines;
 }
 
-/** Lines of an answer before as they stand in the text now, without what was said of them. */
+/** Lines of an answer before as they are in the text now, without what was said of them. */
 function foundAgain(before, readOf) {
   return before.filter((line) => {
     const ends = line.places.map(({ file, way }) => endsAt(readOf(file), way));
@@ -210,7 +210,7 @@ function drawnLines(analysis, readOf) {
   return [...lines.values()];
 }
 
-/** Where a range stands; of an edge with a parameter that is the parameter of the part's grade. Null where there is none. */
+/** Where a range is; of an edge with a parameter that is the parameter of the part's grade. Null where there is none. */
 function placeOf({ file, way, grade }, readOf) {
   const ends = endsAt(readOf(file), way);
   if (!ends) return null;

@@ -75,7 +75,7 @@ export class Row {
   }
 }
 
-/** A report of job bounds or a text of job settle, or what stands before its end. */
+/** A report of job bounds or a text of job settle, or what is before its end. */
 export class Report {
   constructor(text) {
     this.job = this.finding = this.end = this.times = this.last = null;
@@ -135,7 +135,7 @@ export class Matrix {
     this.rows = lines.filter((line) => line.startsWith("row ")).map((line) => line.split(" ").slice(1).map(numberOf));
   }
 
-  /** The times between which an event stands where another one stands at 0; null where a side is open or there is one time alone. */
+  /** The times between which an event is where another one is at 0; null where a side is open or there is one time alone. */
   window(origin, event) {
     if (!this.rows.length) return null;
     const low = this.rows[event][origin];
@@ -183,7 +183,7 @@ export function marginsOf(text) {
   return margins.filter((margin) => margin.isRead && margin.by !== null).sort((a, b) => a.by - b.by);
 }
 
-/** Where a rule is drawn: `kind` is `edge`, `lane`, `net` or `wire`, with its number; `text` are these words, and `note` is what stands after them. */
+/** Where a rule is drawn: `kind` is `edge`, `lane`, `net` or `wire`, with its number; `text` are these words, and `note` is what is after them. */
 export class Origin {
   constructor(words) {
     const line = words.join(" ");
@@ -230,7 +230,7 @@ export class Why {
 }
 
 /** How many places a warning of a word names, where it is not one. */
-const PLACES = { both: 2, drivers: 2, own: 2, held: 2 };
+const PLACES = { both: 2, drivers: 2, own: 2, held: 2, again: 2, tied: 2 };
 
 /**
  * A warning of job lint: its word, its line, and the edges that it names, as a part (null for the netlist) and a number for each. Free text follows
@@ -248,7 +248,7 @@ export class Warning {
   }
 }
 
-/** The edges among so many places at the front of words. An edge without a part stands beside a mark, and is of the mark's part. */
+/** The edges among so many places at the front of words. An edge without a part is beside a mark, and is of the mark's part. */
 function edgesOf(words, part, count) {
   if (count === 0) return [];
   const isNumber = (word) => /^\d+$/.test(word || "");

@@ -1,4 +1,4 @@
-// Where a refusal stands: in which file, and where in its text. Why it is refused are the words of the program.
+// Where a refusal is: in which file, and where in its text. Why it is refused are the words of the program.
 
 import { isNetlist, sheetNames } from "./design.js";
 import { lanesOf } from "./places.js";
@@ -9,7 +9,7 @@ function laneValue(file, number, key) {
   return lane ? lane.get(key) || lane : file.value.at("signal");
 }
 
-/** The marks of the lane in which a mark stands for the second time. */
+/** The marks of the lane in which a mark is for the second time. */
 function secondMark(file, mark) {
   let seen = 0;
   for (const lane of lanesOf(file.value.get("signal"))) {
@@ -25,7 +25,7 @@ const GRADES = (file) => file.value.at("itv_grades");
 const PARTS = (file) => file.value.at("parts");
 const WHOLE = (file) => file.value;
 
-// For each fault of a file where it stands, from the file and the words after the fault's name.
+// For each fault of a file where it is, from the file and the words after the fault's name.
 const OF_FILE = {
   NoSignal: (file) => file.value.at("signal"),
   EdgesNotList: (file) => file.value.at(isNetlist(file.tree) ? "edges" : "edge"),
@@ -56,7 +56,7 @@ const OF_FILE = {
 
 const PIN = (file, [net, pin]) => file.value.at("nets", Number(net), "pins", Number(pin));
 
-// For each fault of the joins where it stands in the design's own file.
+// For each fault of the joins where it is in the design's own file.
 const OF_DESIGN = { NoPart: PIN, NoPin: PIN, MarkCounts: PIN, KindsDiffer: PIN, WireNoPart: EDGE, WireNoMark: EDGE, TooManyCauses: EDGE };
 
 /** The places in a netlist's text that name a sheet. */
@@ -65,7 +65,7 @@ export function sheetPlaces(file, name) {
   return (parts ? parts.items : []).map((part) => part.get("sheet")).filter((sheet) => sheet && sheet.text === name);
 }
 
-/** Where the fault stands that a line of the program names: the number of a file, and a part of its text. A fault of a whole file stands at its beginning.
+/** Where the fault is that a line of the program names: the number of a file, and a part of its text. A fault of a whole file is at its beginning.
  * Null for a line that names none.
  *
  * `files` are what was read of the files of the run: the design, and then its sheets. */
@@ -82,7 +82,7 @@ export function placeOfFault(line, files) {
   return { file: number, start: value.start, end: value === file.value ? value.start + 1 : value.end };
 }
 
-/** Where the name of a sheet stands that is not there; its name comes too. */
+/** Where the name of a sheet is that is not there; its name comes too. */
 function placeOfMissing(number, files) {
   const sheet = number ? sheetNames(files[0].tree)[number - 1] : "";
   const place = number ? sheetPlaces(files[0], sheet)[0] : files[0].value;

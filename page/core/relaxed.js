@@ -21,7 +21,7 @@ function readRelaxed(text, json5) {
 
 /** Refuses a number that JSON can't write. */
 function finite(key, value) {
-  if (typeof value === "number" && !Number.isFinite(value)) throw new Error(`${value} is not a JSON number: an open end is * in a label and null in a net`);
+  if (typeof value === "number" && !Number.isFinite(value)) throw new Error(`${value} is not a number of JSON: an open end is * in a label and null in a net`);
   return value;
 }
 
@@ -38,5 +38,5 @@ function saidOf(text, place, error) {
   const char = text[place];
   if (place >= text.length || /invalid end/.test(error.message)) return "The text ends too early: a bracket or a quote is not closed.";
   if (char === "\n") return "The line ends within a text: a quote is not closed.";
-  return `'${char}' is not allowed here: a comma, a colon or a quote may be missing before it.`;
+  return `'${char}' is not expected here: a comma, a colon or a quote may be missing before it.`;
 }

@@ -13,7 +13,7 @@ export function escaped(text) {
     .replace(/[&<>"']/g, (char) => ENTITIES[char]);
 }
 
-/** A text of several lines as it may stand in HTML. */
+/** A text of several lines as it may be in HTML. */
 export function escapedText(text) {
   return text.split("\n").map(escaped).join("\n");
 }

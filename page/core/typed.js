@@ -33,3 +33,11 @@ export function readTyped(text, size) {
   const number = Number(`${sign}${whole || "0"}${rest.padEnd(places, "0")}`);
   return isTime(number) ? { number: number || 0 } : { fault: `"${text}" is more than 10 s` };
 }
+
+/** Why two ends that were typed are no range: an empty text where they are one.
+ * @param {{ number?: number | null, fault?: string }} low
+ * @param {{ number?: number | null, fault?: string }} high */
+export function rangeFault(low, high) {
+  if (low.fault || high.fault) return low.fault || high.fault;
+  return low.number !== null && high.number !== null && low.number > high.number ? "min is above max" : "";
+}

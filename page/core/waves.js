@@ -57,7 +57,7 @@ export class Clockwork {
 /** Bricks of one width, as WaveDrom draws them: a brick begins at its number, and each is drawn as a mark is. */
 export const EVEN_BRICKS = { width: 1, isMark: () => true, at: (place) => place };
 
-/** Where the bricks of all lanes stand: by the mean times of their marks, which are given as places and times. */
+/** Where the bricks of all lanes are: by the mean times of their marks, which are given as places and times. */
 export function guideOf(points) {
   const times = new Map();
   for (const [place, time] of points) times.set(place, [...(times.get(place) || []), time]);
@@ -66,7 +66,7 @@ export function guideOf(points) {
 
 /** The bricks of a wave over all cycles: a character, whether it begins anew, and whether it has a gap, for each.
  *
- * After its last brick a wave stays as it is, and a clock stands still. */
+ * After its last brick a wave stays as it is, and a clock is still. */
 function bricksOf(wave, bricks, cycles) {
   const drawn = [];
   let now = "x";
@@ -138,7 +138,7 @@ function endClock(runs, end) {
   runs.push({ kind: last.kind === "rise" ? "low" : "high", char: "", start: end, end: null, marked: false, text: "" });
 }
 
-/** Puts an edge without a mark that stands alone between two marked edges of a lane of levels in the middle between them: so a clock of which the
+/** Puts an edge without a mark that is alone between two marked edges of a lane of levels in the middle between them: so a clock of which the
  * drawing marks one edge falls in the middle of its period. Past the last marked edge it comes half of the last period later. */
 function halveClock(runs) {
   if (!runs.every(({ kind }) => kind === "low" || kind === "high" || kind === "none")) return;

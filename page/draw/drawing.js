@@ -5,25 +5,28 @@ import { Strip, WAVE } from "./strip.js";
 import { CHARACTER, escaped, fitted, room } from "../core/texts.js";
 import { EVEN_BRICKS, runsOf } from "../core/waves.js";
 
-// A brick is as wide as WaveDrom draws it, and wider where the sheet has few of them.
+// A brick is as wide as WaveDrom draws it, and wider if the drawing has room for that.
 const BRICK = 40;
 const WIDEST_BRICK = 96;
-const WANTED_WIDTH = 560;
+const WANTED_WIDTH = 640;
 const LANE = 44;
 const TOP = 20;
-// The places along an arc where its label may stand, and how far beside it, the best ones first.
+// The places along an arc where its label may be, and how far beside it, the best ones first.
 const ALONG = [0.5, 0.4, 0.6, 0.3, 0.7, 0.2, 0.8];
 const LABEL_PLACES = [...ALONG.map((share) => [share, 0]), ...ALONG.flatMap((share) => [[share, -14], [share, 14]])];
 // How far the arcs between the same two marks swing out beside each other.
 const APART = 16;
 const LABEL_MOST = 34 * CHARACTER;
+/** How far the loop of an arc from a mark to itself goes. */
+const LOOP = 26;
 
 /** The drawing of a sheet as an element of SVG. `verdictOf` gives for the number of an edge the word of its colour: `pass`, `fail`, `undecided`, `ask`,
- * `contradicts`, or an empty text. `file` is the name of the sheet's file, by which an arc is a link to its edge. */
-export function drawingOf(sheet, file, verdictOf) {
+ * `contradicts`, or an empty text. `file` is the name of the sheet's file, by which an arc is a link to its edge. It fits into `width` pixels if its bricks are
+ * wide enough then. */
+export function drawingOf(sheet, file, verdictOf, width = WANTED_WIDTH) {
   const grouped = sheet.lanes.some((lane) => lane.group);
   const gutter = Math.max(...sheet.lanes.map((lane) => room(lane.title)), 0) + 2 * PAD + (grouped ? 18 : 0);
-  const brick = Math.min(Math.max(WANTED_WIDTH / sheet.bricks, BRICK), WIDEST_BRICK);
+  const brick = Math.min(Math.max((width - gutter - 2 * PAD) / sheet.bricks, BRICK), WIDEST_BRICK);
   const canvas = new Canvas(gutter, 0, sheet.bricks, gutter + sheet.bricks * brick + PAD);
   canvas.plain = true;
   const top = sheet.title ? TOP + 18 : TOP;
@@ -51,7 +54,7 @@ function putLane(canvas, lane, bricks, y, number) {
   if (lane.wave) new Strip(canvas, y).draw(withoutTail(runsOf({ wave: lane.wave, data: lane.data }, bricks, 1, EVEN_BRICKS), lane.wave.length));
 }
 
-/** The runs that the wave itself draws: before its first brick and after its last one nothing stands. */
+/** The runs that the wave itself draws: before its first brick and after its last one there is nothing. */
 function withoutTail({ runs, gaps }, length) {
   const kept = runs.filter((run) => run.kind !== "none" && (run.start === null || run.start < length));
   return { runs: kept.map((run) => (run.end === null || run.end > length ? { ...run, end: length } : run)), gaps };
@@ -74,7 +77,7 @@ function putGroups(canvas, lanes, top) {
   });
 }
 
-/** Where each mark of the sheet stands. */
+/** Where each mark of the sheet is. */
 function marksOf(canvas, lanes, top) {
   const places = new Map();
   lanes.forEach((lane, number) => {
@@ -93,10 +96,16 @@ function putMarks(canvas, lanes, top) {
   }
 }
 
-/** The two control points of a bent arc, as four numbers; undefined where its shape has none. An arc between marks that stand one below the other swings out, and so does
- * one beside others between the same marks. */
+/** The two control points of a bent arc, as four numbers; undefined if its shape has none. An arc from a mark to itself is a loop. An arc between marks one below
+ * the other swings out if it is curved or passes other lanes, and so does one beside others between the same marks. */
 function controlsOf(shape, dx, dy, beside) {
-  if (shape.includes("~") && Math.abs(dx) < 1) return [BRICK + beside, dy * 0.2, BRICK + beside, dy * 0.8];
+  const isUpright = Math.abs(dx) < 1;
+  if (isUpright && Math.abs(dy) < 1) return [LOOP + beside, -LOOP, LOOP + beside, LOOP];
+  if (isUpright && shape.includes("~")) return [BRICK + beside, dy * 0.2, BRICK + beside, dy * 0.8];
+  if (isUpright && shape === "-" && Math.abs(dy) > 1.5 * LANE) {
+    const out = beside + Math.min(Math.abs(dy) / 6, BRICK);
+    return [out, dy * 0.2, out, dy * 0.8];
+  }
   if (beside && !shape.includes("|")) {
     const length = Math.hypot(dx, dy) || 1;
     const [outX, outY] = [(-dy / length) * beside, (dx / length) * beside];
@@ -156,7 +165,7 @@ function putHead(canvas, tip, from) {
   canvas.path("tip", [[x, y], [backX - 3.5 * uy, backY + 3.5 * ux], [backX + 3.5 * uy, backY - 3.5 * ux]], { closed: true });
 }
 
-/** The label of an arc, where it stands over no other one if there is such a place. */
+/** The label of an arc, where it is over no other one if there is such a place. */
 function putLabel(canvas, text, bent, taken) {
   const shown = fitted(text, LABEL_MOST);
   if (!shown) return;
@@ -164,7 +173,7 @@ function putLabel(canvas, text, bent, taken) {
   const boxes = LABEL_PLACES.map(([share, aside]) => {
     const [x, onArc] = bent.at(share);
     const y = Math.max(onArc + aside, 8);
-    const middle = Math.min(Math.max(x, half), Math.max(canvas.width - half, half));
+    const middle = Math.max(Math.min(x, canvas.width - half), canvas.left + half);
     return { left: middle - half, right: middle + half, top: y - 7, bottom: y + 7, x: middle, y };
   });
   const isFree = (box) => taken.every((other) => box.right <= other.left || other.right <= box.left || box.bottom <= other.top || other.bottom <= box.top);

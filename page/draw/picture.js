@@ -45,7 +45,7 @@ export class Picture {
     this.height = this.bottom;
   }
 
-  /** The lanes that are drawn, and how many are left out: all, or those of the row and what stands next to them. */
+  /** The lanes that are drawn, and how many are left out: all, or those of the row and what is next to them. */
   chooseLanes() {
     const every = this.design.parts.flatMap(({ sheet }, part) =>
       sheet.lanes.flatMap((drawn, lane) => (drawn.wave || drawn.marks.length ? [[part, lane]] : [])),
@@ -96,7 +96,7 @@ export class Picture {
     return [this.row.low, this.row.high].map((end) => (end === null ? null : start + end));
   }
 
-  /** What is spare or missing at the side of this bound; null where that is no number. */
+  /** What is spare or missing at the side of this bound; null where that is not a number. */
   slack() {
     return this.row.slack[this.bound.which === "min" ? 0 : 1];
   }
@@ -129,25 +129,40 @@ export class Picture {
 
   // The scale.
 
-  /** The step of the scale, 1, 2 or 5 with zeros after it, so wide that its numbers have room. */
-  tickStep() {
+  /** The least step of a scale whose numbers have room. */
+  leastStep() {
     const widest = Math.max(80, ...[this.canvas.low, this.canvas.high].map((time) => room(tickText(Math.round(time), this.unit)) + 16));
-    const least = (widest * (this.canvas.high - this.canvas.low)) / (this.canvas.right - this.canvas.left);
+    return (widest * (this.canvas.high - this.canvas.low)) / (this.canvas.right - this.canvas.left);
+  }
+
+  /** The step of the scale: 1, 2 or 5 with zeros after it. If two numbers have no place at such a step, it is another digit with zeros after it. */
+  tickStep() {
+    const least = this.leastStep();
     let step = 1;
     while (step < least) step = String(step)[0] === "2" ? (step * 5) / 2 : step * 2;
-    return step;
+    if (this.ticks(step).filter(({ isNamed }) => isNamed).length > 1) return step;
+    const ten = 10 ** Math.max(Math.floor(Math.log10(least)), 0);
+    return Math.ceil(least / ten) * ten;
+  }
+
+  /** The times of a scale with this step, where they are, and whether their numbers have a place there. */
+  ticks(step) {
+    const { left, low, high } = this.canvas;
+    const ticks = [];
+    for (let time = Math.ceil(low / step) * step; time <= high; time += step) {
+      const [x, label] = [this.canvas.x(time), tickText(time, this.unit)];
+      ticks.push({ time, x, label, isNamed: x - room(label) / 2 >= left - PAD && x + room(label) / 2 <= this.width });
+    }
+    return ticks;
   }
 
   putScale(y) {
-    const [left, right, step] = [this.canvas.left, this.canvas.right, this.tickStep()];
+    const { left, right } = this.canvas;
     this.canvas.path("axis", [[left, y], [right, y]]);
     if (this.leftOut) this.canvas.text(left - PAD - 4, y + 18, `+${this.leftOut} lanes`, "side", "end");
-    for (let time = Math.ceil(this.canvas.low / step) * step; time <= this.canvas.high; time += step) {
-      const [x, label] = [this.canvas.x(time), tickText(time, this.unit)];
+    for (const { time, x, label, isNamed } of this.ticks(this.tickStep())) {
       this.canvas.path("grid", [[x, PAD], [x, y + 5]]);
-      if (x - room(label) / 2 >= left - PAD && x + room(label) / 2 <= this.width) {
-        this.canvas.put(`<text class="scale" data-ps="${time}" x="${point(x)}" y="${y + 18}" text-anchor="middle">${label}</text>`);
-      }
+      if (isNamed) this.canvas.put(`<text class="scale" data-ps="${time}" x="${point(x)}" y="${y + 18}" text-anchor="middle">${label}</text>`);
     }
   }
 
@@ -225,7 +240,7 @@ export class Picture {
     new Strip(this.canvas, high).draw(runsOf(drawn, sheet.bricks, this.design.cycles, clockwork));
   }
 
-  /** The windows of a lane's marks that are in the view: an event and its least and greatest time, while the from-event stands where it does. */
+  /** The windows of a lane's marks that are in the view: an event and its least and greatest time, while the from-event is where it is. */
   windowsOf(lane) {
     const [origin, start] = [this.numbers.get(this.row.start), this.times.get(this.row.start)];
     return this.eventsOf(lane).flatMap(({ event }) => {
@@ -235,7 +250,7 @@ export class Picture {
     });
   }
 
-  /** Where marks may stand according to the rules without a choice. */
+  /** Where marks may be according to the rules without a choice. */
   putWindows(lane, top) {
     const windows = this.matrix ? this.windowsOf(lane) : [];
     if (!windows.length) return;
@@ -301,7 +316,7 @@ export class Picture {
     }
   }
 
-  // What stands under the lanes.
+  // What is under the lanes.
 
   /** The arrow of the separation, the steps that sum to it, and for a requirement its range and what is spare or missing: a word and what draws it. */
   rows() {

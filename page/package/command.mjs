@@ -1,7 +1,7 @@
 #!/usr/bin/env node
 // `node command.mjs WORDS` prints what the program prints of these words, with its exit status. The module is itv.wasm beside this file.
 //
-// The program of the module opens no file. So the files that the words name are read first, and the sheets of a netlist by the names that stand in it.
+// The program of the module opens no file. So the files that the words name are read first, and the sheets of a netlist by the names in it.
 
 import { readFile } from "node:fs/promises";
 import { writeSync } from "node:fs";
@@ -22,7 +22,7 @@ async function filesOf(words) {
   return files;
 }
 
-/** The names of the sheets that a file names; none where it is no netlist. */
+/** The names of the sheets that a file names; none where it is not a netlist. */
 function sheetsIn(bytes) {
   try {
     return sheetNames(JSON.parse(new TextDecoder().decode(bytes)));

@@ -2,6 +2,7 @@
 
 import assert from "node:assert/strict";
 import test from "node:test";
+import { WARNINGS } from "../core/warning_words.js";
 import { Design, Lane } from "../core/design.js";
 import { Files } from "../core/files.js";
 import { asLink, fromLink } from "../core/packing.js";
@@ -9,7 +10,7 @@ import { Report, Why } from "../core/output_parser.js";
 import { lanesOf, scanned } from "../core/places.js";
 import { escaped, inUnit, unitFor } from "../core/texts.js";
 import { Clockwork, runsOf } from "../core/waves.js";
-import { EXAMPLES, REPORTED, keptOf } from "./program.mjs";
+import { EXAMPLES, REPORTED, keptOf, textOf } from "./program.mjs";
 
 /** The design of an example, as the page reads it. */
 function designOf(name) {
@@ -40,7 +41,7 @@ test("the edge that the page takes for a row is the origin that job why prints",
   assert.ok(seen > 20, String(seen));
 });
 
-test("each value of a text stands where it is scanned, also through escapes and comments", () => {
+test("each value of a text is where it is scanned, also through escapes and comments", () => {
   const text = '// a sheet\n{ signal: [{ name: "A\\u0042", wave: \'01\' }, ["group", { "name": "C" }]], edge: ["a->b @lin [1,2]"], }';
   const value = scanned(text);
   const [first, second] = lanesOf(value.get("signal"));
@@ -67,12 +68,12 @@ test("times have one unit", () => {
     assert.equal(inUnit(number, unitFor(greatest)), wanted);
 });
 
-test("a text stands in HTML as it is, and what XML has no place for is a space", () => {
+test("a text is in HTML as it is, and what XML has no place for is a space", () => {
   assert.equal(escaped('<a href="x">&\'\u0001\ud800b'), "&lt;a href=&quot;x&quot;&gt;&amp;&#x27;  b");
   assert.equal(escaped("\u{1f600}"), "\u{1f600}");
 });
 
-// The runs of a wave: kind, start, end, whether at a mark, and text. A brick without a mark stands in proportion between its neighbours.
+// The runs of a wave: kind, start, end, whether at a mark, and text. A brick without a mark is in proportion between its neighbours.
 test("waves are read as they are drawn", () => {
   for (const [wave, times, wanted] of [
     ["0.1.", { 2: 100 }, [["low", null, 100, false, ""], ["high", 100, null, true, ""]]],
@@ -112,4 +113,11 @@ test("a sheet takes the name by which the netlist calls it, and keeps its line e
   assert.deepEqual(files.missing(), ["examples/cpu.json"]);
   const file = files.find("examples/sram.json");
   assert.ok(!file.text.includes("\r") && file.saved.includes("\r\n"));
+});
+
+test("each word of a warning that the documents name has a sentence", () => {
+  const table = textOf("docs/report.md").split("\n## Warnings\n")[1].split("\n## ")[0];
+  const words = new Set([...table.matchAll(/^\| `warning (\w+)/gm)].map(([, word]) => word));
+  assert.ok(words.size > 15, String(words.size));
+  assert.deepEqual([...words].filter((word) => !Object.hasOwn(WARNINGS, word)), []);
 });

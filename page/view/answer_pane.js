@@ -4,6 +4,7 @@ import { SIGNS, alikeOf, nameOf } from "../core/answer.js";
 import { checksumOf } from "../core/packing.js";
 import { svgOf } from "../draw/picture.js";
 import { laneChoiceOf } from "./lane_choice.js";
+import { WARNINGS } from "../core/warning_words.js";
 import { demandedText, escaped, escapedText, inUnit } from "../core/texts.js";
 
 const LEGEND = [
@@ -14,25 +15,6 @@ const LEGEND = [
   ['<rect class="spare" x="2" y="1" width="20" height="14"/>', "spare"],
   ['<rect class="missing" x="2" y="1" width="20" height="14"/>', "missing"],
 ];
-
-const WARNINGS = {
-  comment: "a comment that looks like a rule",
-  word: "a comment that begins with the word of a rule: the @ may be missing",
-  note: "a note that looks like a part of the range",
-  key: "an ignored key that looks like a misspelt one",
-  never: "a rule or a row that is in no cycle",
-  single: "a latest or earliest rule with one cause: with several such rules into one mark the shortest decides",
-  both: "two rules into one mark, both of which bind",
-  narrow: "an end of a range that no times attain: some other rule is tighter",
-  drivers: "two nets that drive one pin, both of which bind",
-  own: "a net into a pin that its own sheet has a rule for",
-  held: "a driven mark that its own sheet holds from below: a requirement may be meant",
-  period: "periods of one clock that may not be meant",
-  unit: "a number that is very small beside the others: the unit may be wrong",
-  order: "an answer that rests on the order of a lane",
-  open: "a search was left open",
-  rows: "nothing is asked",
-};
 
 /** A link to an edge, whose text is shown: of the sheet of a part, or of the netlist where the part is null. */
 export function edgeLink(design, part, number) {
@@ -63,7 +45,7 @@ function boundCell(bound, unit) {
   return numberCell(`${limit}${bound.value === null ? "" : `<small>found ${inUnit(bound.value, unit)}</small>`}`, kind);
 }
 
-/** The cell of the worst slack, or of why it is no number; empty where no side has an end. */
+/** The cell of the worst slack, or of why it is not a number; empty where no side has an end. */
 function slackCell(entry, unit) {
   if (entry.lack) return numberCell(entry.lack, "slack");
   const slack = entry.row.leastSlack;

@@ -98,7 +98,7 @@ export class Editor {
     this.lines = [];
   }
 
-  /** Puts marks: each has where it begins and ends in the text, its kind (`fail`, `pass`, `undecided`, `warning`), what it says, and whether that stands
+  /** Puts marks: each has where it begins and ends in the text, its kind (`fail`, `pass`, `undecided`, `warning`), what it says, and whether that is
    * below its line. */
   setMarks(marks) {
     const shown = JSON.stringify([this.name, marks]);

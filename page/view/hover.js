@@ -23,7 +23,7 @@ export class Hover {
     else this.lightAt(element.dataset.file || this.page.design(), "edge", Number(element.dataset.edge));
   }
 
-  /** Lights what stands at a place of the text: a file and a way; nothing where it is null. A parameter of a grade lights nothing else. */
+  /** Lights what is at a place of the text: a file and a way; nothing where it is null. A parameter of a grade lights nothing else. */
   light(place) {
     if (!place || place.way.what === "grade") this.lightAt(null, "", 0);
     else this.lightAt(place.file, place.way.what === "net" ? "net" : "edge", place.way.number);

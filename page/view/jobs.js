@@ -1,4 +1,4 @@
-// What stands under the tab of each job.
+// What is under the tab of each job.
 
 import { nameOf } from "../core/answer.js";
 import { blocksOf, edgeLink } from "./answer_pane.js";
@@ -38,7 +38,7 @@ export function rawOf(printed, isOpen = false) {
   );
 }
 
-/** What stands under a tab, of an analysis in which this job has been run, as blocks: a name and a part of a page each. */
+/** What is under a tab, of an analysis in which this job has been run, as blocks: a name and a part of a page each. */
 export function paneOf(analysis, job) {
   const printed = analysis.texts.get(job);
   const shown = { why: whyPane, settle: settlePane, redraw: redrawPane, matrix: matrixPane, margin: marginPane }[job];
@@ -138,11 +138,12 @@ function matrixPane(analysis, printed) {
   );
 }
 
-/** The drawings of a file: of a sheet the sheet, and of a netlist each of its sheets. `treeOf` gives the tree of a file, or null. */
-export function drawingsOf(name, treeOf, verdicts) {
+/** The drawings of a file, for a part of the page of so many pixels: of a sheet the sheet, and of a netlist each of its sheets. `treeOf` gives the tree of a
+ * file, or null. */
+export function drawingsOf(name, treeOf, verdicts, width) {
   const tree = treeOf(name);
   if (!tree || typeof tree !== "object" || Array.isArray(tree)) return "";
-  const draw = (file, sheetTree) => drawingOf(new Sheet(sheetTree), file, (number) => (verdicts.get(file) || new Map()).get(number) || "");
+  const draw = (file, sheetTree) => drawingOf(new Sheet(sheetTree), file, (number) => (verdicts.get(file) || new Map()).get(number) || "", width);
   if (!isNetlist(tree)) return draw(name, tree);
   const parts = Array.isArray(tree.parts) ? tree.parts.filter((part) => part && typeof part.sheet === "string") : [];
   const files = [...new Set(parts.map((part) => part.sheet))];

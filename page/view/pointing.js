@@ -1,8 +1,8 @@
-// The drawing under the hand: marks are picked, joined, moved, renamed and taken away, levels are clicked, lanes are added. All of it is edits of the text.
+// The drawing under the hand: marks are moved, renamed and taken away, levels are clicked, lanes are added. All of it is edits of the text.
 
-import { addEdge, addLane, addMark, laneName, marksOfLane, moveMark, placeOfMark, removeEdge, removeLane, removeMark, renameLane, renameMark, setLevel } from "../core/edits.js";
-import { EdgeForm } from "./edge_form.js";
+import { addLane, addMark, laneName, marksOfLane, moveMark, removeEdge, removeLane, removeMark, renameLane, renameMark, setLevel } from "../core/edits.js";
 import { askFor } from "./field.js";
+import { Joining } from "./joining.js";
 
 /** How far the hand moves before it counts as a drag, in pixels. */
 const STILL = 5;
@@ -12,24 +12,25 @@ const TOOLS =
   '<span class="modes" role="group" aria-label="what a click does">' +
   '<button type="button" class="small" data-mode="join" aria-pressed="true" title="click a mark, then another one: a rule or a requirement from the first to the second; drag a mark to move it">join marks</button>' +
   '<button type="button" class="small" data-mode="mark" aria-pressed="false" title="click where a transition is">add marks</button>' +
-  '<button type="button" class="small" data-mode="level" aria-pressed="false" title="click a brick: low, high, unknown, value, floating">draw levels</button></span>' +
-  '<button type="button" class="small" data-act="lane">add a lane</button><button type="button" class="small" data-act="delete" title="takes the mark, arrow or lane away that was clicked last">delete</button>' +
+  '<button type="button" class="small" data-mode="level" aria-pressed="false" title="click a brick: low, high, unknown, value, floating">draw levels</button>' +
+  '<button type="button" class="small" data-mode="net" aria-pressed="false" title="click the lane that drives, then a lane of another part that it drives: a net of the board">join lanes</button></span>' +
+  '<button type="button" class="small" data-act="lane">add a lane</button><button type="button" class="small" data-act="part" title="a part of a board, with a sheet of its own; of a sheet alone it makes a board">add a part</button><button type="button" class="small" data-act="delete" title="takes the mark, arrow or lane away that was clicked last">delete</button>' +
   '<button type="button" class="small" data-act="undo" title="takes the last edit back, in whichever file it was (Ctrl-Z)">undo</button>';
 
 export class Pointing {
-  /** `box` has the drawings, `tools` gets the buttons, and `form` is the form of an edge. `page` has `readOf(file)`; `edit(file, changes, followed)` takes
-   * changes of a sheet, and what has changed in it for the netlists to follow; `undo(again)`, `say(text)` and `unit()`. */
-  constructor(box, tools, form, page) {
+  /** `box` has the drawings, `tools` gets the buttons, and `forms` are those of an edge and of a net. `page` has `readOf(file)`; `board()`, what was read of the
+   * netlist whose drawings are shown, or null; `edit(file, changes, followed)` takes changes of a file, and what has changed in a sheet for the netlists to
+   * follow; `addPart(name)`, `undo(again)`, `say(text)` and `unit()`. */
+  constructor(box, tools, forms, page) {
     this.box = box;
     this.tools = tools;
     this.page = page;
     this.mode = "join";
-    this.picked = null;
     /** The lane or the arrow that was clicked last.
      * @type {any} */
     this.chosen = null;
     this.drag = null;
-    this.form = new EdgeForm(form, () => this.unpick());
+    this.joining = new Joining(forms, { ...page, change: (...of) => this.change(...of) }, () => this.show());
     tools.innerHTML = TOOLS;
     tools.hidden = false;
     this.listen();
@@ -72,7 +73,7 @@ export class Pointing {
     const mark = event.target.closest("[data-mark]");
     const arrow = mark ? null : event.target.closest("[data-edge]");
     if (arrow) {
-      this.picked = null;
+      this.joining.picked = null;
       this.chosen = { file: svg.dataset.file, edge: Number(arrow.dataset.edge), text: arrow.textContent };
       this.show();
       return;
@@ -101,7 +102,8 @@ export class Pointing {
     const at = this.placeOf(event, drag.svg);
     const isStill = Math.hypot(event.clientX - drag.x, event.clientY - drag.y) <= STILL;
     if (drag.element && drag.isMoved) this.moveTo(file, drag.element.dataset.mark, at.lane, at.near);
-    else if (drag.element) this.pick(file, drag.element.dataset.mark);
+    else if (at.lane >= 0 && isStill && this.mode === "net") this.joining.pickLane(file, at.lane);
+    else if (drag.element) this.joining.pickMark(file, drag.element.dataset.mark);
     else if (at.lane >= 0 && isStill) this.clickLane(file, at);
   }
 
@@ -116,35 +118,6 @@ export class Pointing {
     this.show();
   }
 
-  /** Picks a mark; the second one that is picked begins an edge from the first to it. */
-  pick(file, mark) {
-    const first = this.picked;
-    if (first && first.file === file && first.mark === mark) this.picked = null;
-    else if (first && first.file === file) this.join(file, first.mark, mark);
-    else {
-      this.picked = { file, mark };
-      this.page.say(`mark ${mark} is picked: pick another one to join them; Delete takes it away, and a double click renames it`);
-    }
-    this.show();
-  }
-
-  /** Asks for an edge between two marks. */
-  join(file, start, end) {
-    const read = this.page.readOf(file);
-    if (!read || !read.value) return;
-    const endOf = (mark) => {
-      const place = placeOfMark(read, mark);
-      return { mark, title: (place && laneName(read, place.lane)) || "" };
-    };
-    const take = (text) => this.change(file, (now) => addEdge(now, text), "the text of this file can't be edited now");
-    this.form.open({ start: endOf(start), end: endOf(end), unit: this.page.unit(), take });
-  }
-
-  unpick() {
-    this.picked = null;
-    this.show();
-  }
-
   // Names.
 
   rename(target) {
@@ -152,7 +125,8 @@ export class Pointing {
     const lane = target.closest("[data-lane-title]");
     const svg = target.closest("svg.drawing");
     if (!svg || (!mark && !lane)) return;
-    this.picked = null;
+    this.joining.close();
+    this.joining.picked = null;
     if (mark) this.renameMark(svg.dataset.file, mark);
     else this.renameLane(svg.dataset.file, lane);
   }
@@ -185,7 +159,7 @@ export class Pointing {
     const isUndo = (event.ctrlKey || event.metaKey) && event.key.toLowerCase() === "z";
     const isAgain = (event.ctrlKey || event.metaKey) && event.key.toLowerCase() === "y";
     if (isUndo || isAgain) this.page.undo(isAgain || event.shiftKey);
-    else if (event.key === "Escape") this.picked = null;
+    else if (event.key === "Escape") this.joining.picked = null;
     else return false;
     return true;
   }
@@ -193,7 +167,7 @@ export class Pointing {
   keyAtMark(event, file, element) {
     const { mark, lane, place } = element.dataset;
     const [step, across] = [{ ArrowLeft: -1, ArrowRight: 1 }[event.key], { ArrowUp: -1, ArrowDown: 1 }[event.key]];
-    if (event.key === "Enter" || event.key === " ") this.pick(file, mark);
+    if (event.key === "Enter" || event.key === " ") this.joining.pickMark(file, mark);
     else if (event.key === "Delete") this.removeMark(file, mark);
     else if (event.key === "F2") this.rename(element);
     else if (step) this.moveTo(file, mark, Number(lane), Number(place) + step);
@@ -204,6 +178,7 @@ export class Pointing {
 
   keyAtLane(event, file, element) {
     if (event.key === "F2") this.rename(element);
+    else if (event.key === "Enter" && this.mode === "net") this.joining.pickLane(file, Number(element.dataset.laneTitle));
     else if (event.key === "Delete") this.removeLane(file, Number(element.dataset.laneTitle));
     else return false;
     return true;
@@ -225,7 +200,9 @@ export class Pointing {
     if (!button) return;
     const { mode, act } = button.dataset;
     if (mode) this.mode = mode;
+    if (mode) this.joining.picked = null;
     if (act === "lane") this.addLane(button);
+    if (act === "part") askFor(button, "the name of the new part", "", (name) => this.page.addPart(name));
     if (act === "undo") this.page.undo(false);
     if (act === "delete") this.removeChosen();
     this.show();
@@ -238,9 +215,10 @@ export class Pointing {
   }
 
   removeChosen() {
-    const { picked, chosen } = this;
-    this.picked = this.chosen = null;
-    if (picked) this.removeMark(picked.file, picked.mark);
+    const { chosen } = this;
+    const { picked } = this.joining;
+    this.joining.picked = this.chosen = null;
+    if (picked && picked.mark !== undefined) this.removeMark(picked.file, picked.mark);
     else if (chosen && chosen.edge !== undefined) this.change(chosen.file, (read) => removeEdge(read, chosen.edge), "");
     else if (chosen) this.removeLane(chosen.file, chosen.lane);
     else this.page.say("click a mark, an arrow or the name of a lane first");
@@ -251,12 +229,16 @@ export class Pointing {
   /** Shows what is picked and chosen. */
   show() {
     for (const element of this.box.querySelectorAll(".picked, .chosen")) element.classList.remove("picked", "chosen");
-    const { picked, chosen } = this;
-    const mark = picked && this.elementOf(picked.file, "mark", picked.mark);
+    const { chosen } = this;
+    const { picked } = this.joining;
+    const mark = picked && (picked.mark === undefined ? this.elementOf(picked.file, "laneTitle", String(picked.lane)) : this.elementOf(picked.file, "mark", picked.mark));
     const other = chosen && (chosen.edge === undefined ? this.elementOf(chosen.file, "laneTitle", String(chosen.lane)) : this.arrowOf(chosen));
     if (mark) mark.classList.add("picked");
     if (other) other.classList.add("chosen");
     else this.chosen = null;
+    const isBoard = this.page.board() !== null;
+    if (!isBoard && this.mode === "net") this.mode = "join";
+    this.tools.querySelector("[data-mode=net]").hidden = !isBoard;
     for (const button of this.tools.querySelectorAll("[data-mode]")) button.setAttribute("aria-pressed", String(button.dataset.mode === this.mode));
   }
 

@@ -15,7 +15,7 @@ const PAGE = 10;
 
 const FRAME =
   '<div class="numbers-bar"><label>find <input type="search" class="find" size="12"></label> <label>in <select class="unit"></select></label>' +
-  '<span class="count remark" role="status"></span><span class="hint remark">type to change · Enter · Ctrl-V pastes a column · Ctrl-Z takes back · Alt-↓ tries values</span></div>' +
+  '<span class="count remark" role="status"></span><span class="hint remark">type to change · Ctrl-Z takes back · Alt-↓ tries values</span></div>' +
   '<div class="numbers-box"><table role="grid" class="numbers" aria-label="the numbers of the design" tabindex="-1"><thead><tr role="row" aria-rowindex="1"></tr></thead>' +
   "<tbody></tbody></table></div>";
 

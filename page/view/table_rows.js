@@ -15,7 +15,7 @@ const COLUMNS = [
 export const EDITED = ["low", "high"];
 const ENDS = { low: "min", high: "max" };
 
-// What stands beside a margin before the number that the end may be, or has to be where a requirement fails.
+// What is beside a margin before the number that the end may be, or has to be where a requirement fails.
 const MAY = { low: "min down to", high: "max up to", down: "down to", up: "up to" };
 const MUST = { low: "min at least", high: "max at most", down: "at least", up: "at most" };
 const SIGNS = { pass: "✓", fail: "✗", undecided: "?" };
@@ -67,8 +67,9 @@ function roomCell(line, unit) {
 
 function wordOf(line, margin) {
   const words = margin.by < 0 ? MUST : MAY;
-  const both = line.isJoint && !line.isPeriod ? "both " : "";
-  return `${both}${words[margin.side]}`;
+  const count = line.numbers.length;
+  const all = !line.isJoint || line.isPeriod ? "" : count === 2 ? "both " : `all ${count} `;
+  return `${all}${words[margin.side]}`;
 }
 
 function endOf(margin, unit) {

@@ -52,6 +52,9 @@
       if (!node.data.trim() || node.parentElement.closest("title, desc, script, style, defs, .table-box, pre, select, .drawing")) continue;
       const fold = node.parentElement.closest("details:not([open])");
       if (fold && !node.parentElement.closest("summary")) continue;
+      // At a small width the sentence is at the lower edge of the window, over what is scrolled there.
+      const sentence = node.parentElement.closest("#sentence");
+      if (sentence && getComputedStyle(sentence).position === "fixed") continue;
       // At a small width the head of the table is for screen readers alone.
       if (head && getComputedStyle(head).position === "absolute") continue;
       const range = document.createRange();

@@ -138,6 +138,20 @@ NETS = {
 
 
 # A report whose rows pass, fail with a slack, pass closely, are left open by the budget, fail beyond it, fail unbounded, and ask.
+
+
+def sixteen_parts():
+    """Sixteen parts of one sheet in a row, each with a requirement: the name of the netlist, and its files."""
+    names = "ABCDEFGHIJKLMNOP"
+    lanes = [("CLK", "p.", "c"), ("IN", "x=", ".i"), ("OUT", "x.=", "..o")]
+    sheet = {"signal": [{"name": name, "wave": wave, "node": node} for name, wave, node in lanes],
+             "edge": ["c->c @lin+1 [20000,20000] clock", "i~>o @lin [300,900] tPD", "o->c @req+1 [1500,*] tSU"]}
+    nets = [{"name": f"{first}{second}", "pins": [f"{first}.OUT", f"{second}.IN"], "delay": [100, 300]} for first, second in zip(names, names[1:])]
+    nets.append({"name": "CLOCK", "pins": [f"{name}.CLK" for name in names], "delay": [0, 0]})
+    board = {"itv": 1, "cycles": 2, "parts": [{"name": name, "sheet": "stage.json"} for name in names], "nets": nets, "edges": ["A.c A.i @lin [500,1000] tCO"]}
+    return "board.json", {"board.json": json.dumps(board, indent=1), "stage.json": json.dumps(sheet, indent=1)}
+
+
 ROWS = """itv report 1
 budget 9
 events 2

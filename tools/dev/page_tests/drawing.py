@@ -1,5 +1,8 @@
 """Tests of the drawing under the hand, of what is kept, and of a designer's whole way."""
 import json
+import re
+
+from web_designs import sixteen_parts, text_of
 
 SHEET = """{
   "signal": [
@@ -14,9 +17,10 @@ SHEET = """{
 FAST = "examples/cpu-sram-fast.json"
 
 
-def at(page, lane, place):
-    """Where a brick of a lane is on the page."""
-    return page.browser.evaluate(f"(() => {{ const svg = document.querySelector('svg.drawing'), data = svg.dataset, put = new DOMPoint(+data.left + {place} * +data.brick, "
+def at(page, lane, place, file=""):
+    """Where a brick of a lane is on the page, in the drawing of a file or else in the first one."""
+    drawing = f"svg.drawing[data-file^={json.dumps(file)}]" if file else "svg.drawing"
+    return page.browser.evaluate(f"(() => {{ const svg = document.querySelector({json.dumps(drawing)}), data = svg.dataset, put = new DOMPoint(+data.left + {place} * +data.brick, "
                                  f"+data.top + {lane} * +data.lane + 9).matrixTransform(svg.getScreenCTM()); return [put.x, put.y]; }})()")
 
 
@@ -79,9 +83,7 @@ def a_finger_draws_too(page):
     """A tap on each of two marks opens the form, which takes a question by its kind; a mark is moved by a finger."""
     page.open_numbers("s.json", {"s.json": SHEET.replace('"x=.." }', '"x=..", "node": ".a" }')})
 
-    def touch(kind, *places):
-        page.browser.call("Input.dispatchTouchEvent", type=f"touch{kind}", touchPoints=[{"x": x, "y": y} for x, y in places])
-
+    touch = page.browser.touch
     for mark in "ca":
         touch("Start", page.browser.center(f"[data-mark={mark}]"))
         touch("End")
@@ -142,7 +144,7 @@ def an_edge_leads_to_its_number_and_back(page):
     assert page.browser.evaluate("document.activeElement.closest('tr').dataset.key") == "examples/cpu.json edge 0"
     assert page.browser.evaluate("document.querySelectorAll('#drawings .arc.hot').length") == 1
     assert page.browser.evaluate("document.querySelectorAll('#job g.step.hot').length") == 1
-    page.browser.mouse("Moved", page.browser.center("#job g.step[data-net]"), 0)
+    page.browser.hover("#job g.step[data-net]")
     assert page.browser.evaluate("document.querySelector('tr.hot').dataset.key") == FAST + " net 2"
     page.browser.click("tr[data-key='examples/cpu.json edge 1'] a.to-text")
     assert page.browser.evaluate("itv.view") == "text" and page.browser.evaluate("itv.editor.view.getSelection()") == '"c~>e @lin [2000,7000] tCE"'
@@ -256,28 +258,66 @@ def no_work_is_lost(page):
     page.browser.evaluate("for (const file of itv.files.list) file.changed = false; itv.draft.keep()")
 
 
+def fill_form(page, form, **fields):
+    """Fills fields of an open form, and takes it with Enter."""
+    page.browser.wait_for(f"!document.getElementById('{form}').hidden")
+    page.browser.evaluate(f"(() => {{ const form = document.getElementById('{form}'); for (const [name, value] of Object.entries({json.dumps(fields)})) form.elements[name].value = value; "
+                          "form.dispatchEvent(new Event('input', { bubbles: true })); [...form.querySelectorAll('input:not([type=hidden])')].at(-1).focus(); })()")
+    page.browser.key("Enter")
+    page.rest()
+
+
+def edit_cell(page, line, side, typed):
+    page.browser.click(f"#numbers tr[data-key={json.dumps(line)}] td[data-side={side}]")
+    page.browser.keys(typed)
+    page.browser.key("Enter")
+    page.rest()
+
+
 def a_designers_whole_way(page):
-    """Start my own drawing, a second sheet, a net, numbers in ns, a fail, its reason, the margin, the repaired number, a link that opens with the answer."""
+    """All by the hand: start my own drawing, a second part, a net, the clock, numbers in ns, a fail, its reason, the margin, the repaired number, and a link
+    that opens with the answer."""
     page.do("document.getElementById('start-own').click()")
-    assert "2.0 ns" in page.browser.evaluate("document.querySelector('table.rows').innerText").replace("\u00a0", " ")
-    chip = {"signal": [{"name": "CLK", "wave": "p", "node": "c"}, {"name": "D", "wave": "x=", "node": ".d"}], "edge": ["c~>d @lin [1000,6000] tCO"]}
-    taker = {"signal": [{"name": "CLK", "wave": "p", "node": "c"}, {"name": "D", "wave": "x=", "node": ".d"}], "edge": ["d->c @req+1 [2000,*] tSU"]}
-    board = {"itv": 1, "cycles": 2, "parts": [{"name": "A", "sheet": "a.json"}, {"name": "B", "sheet": "b.json"}],
-             "nets": [{"name": "DATA", "pins": ["A.D", "B.D"], "delay": [0, 500]}, {"name": "CLOCK", "pins": ["A.CLK", "B.CLK"], "delay": [0, 0]}],
-             "edges": ["A.c A.c @lin+1 [8000,8000] 125 MHz"]}
-    page.open_numbers("board.json", {"board.json": json.dumps(board, indent=1), "a.json": json.dumps(chip, indent=1), "b.json": json.dumps(taker, indent=1)})
+    page.browser.evaluate("itv.showView('numbers')")
+    edit_cell(page, "sheet.json edge 0", "low", "1")
+    edit_cell(page, "sheet.json edge 0", "high", "6 ns")
+    page.browser.click("[data-act=part]")
+    fill_field(page, "RX")
+    assert json.loads(page.text_of("board.json"))["parts"] == [{"name": "SHEET", "sheet": "sheet.json"}, {"name": "RX", "sheet": "rx.json"}], page.text_of("board.json")
+    # The second part requires its data before its next clock edge, and drives nothing.
+    page.browser.click("#file-tabs [data-id='rx.json']")
+    for _ in range(2):
+        page.browser.evaluate("document.querySelector('#drawings .arc[data-edge=\"0\"]').dispatchEvent(new PointerEvent('pointerdown', { bubbles: true, button: 0 }))")
+        page.browser.click("[data-act=delete]")
+        page.rest()
+    for mark in "dc":
+        page.browser.click(f"svg.drawing [data-mark={mark}]")
+    fill_form(page, "edge-form", kind="req", low="2", shift="1", note="tSU")
+    assert json.loads(page.text_of("rx.json"))["edge"] == ["d->c @req+1 [2000,*] tSU"], page.text_of("rx.json")
+    # The board: two nets, and the clock from its mark to itself.
+    page.browser.click("#file-tabs [data-id='board.json']")
+    page.browser.click("[data-mode=net]")
+    for lane, name, most in ((1, "DATA", "0.5"), (0, "CLOCK", "0")):
+        for file in ("sheet.json", "rx.json"):
+            page.browser.click(at(page, lane, 0.3, file))
+        fill_form(page, "net-form", title=name, high=most)
+    page.browser.screenshot(f"{page.folder}/board.png")
+    page.browser.click("[data-mode=join]")
+    for _ in range(2):
+        page.browser.click("svg.drawing[data-file='sheet.json'] [data-mark=c]")
+    fill_form(page, "edge-form", place="board", low="8", high="8", note="125 MHz")
+    board = json.loads(page.text_of("board.json"))
+    assert board["nets"] == [{"name": "DATA", "pins": ["SHEET.DATA", "RX.DATA"], "delay": [0, 500]}, {"name": "CLOCK", "pins": ["SHEET.CLK", "RX.CLK"], "delay": [0, 0]}], board
+    assert board["edges"] == ["SHEET.c SHEET.c @lin+1 [8000,8000] 125 MHz"], board
     # 8 ns less 6 and 0.5 and 2 are 0.5 ns too little.
     assert page.sentence() == "✗ tSU fails by 0.5 ns in cycle 1. 0 of 1 requirement passes.", page.sentence()
     page.browser.click("#job-tabs [data-id=why]")
     page.browser.wait_for("document.getElementById('job').innerText.includes('tCO')")
     page.browser.click("#job-tabs [data-id=bounds]")
-    room = "document.querySelector('tr[data-key=\"a.json edge 0\"] .room').innerText.replace(/\\s+/g, ' ')"
+    room = "document.querySelector('tr[data-key=\"sheet.json edge 0\"] .room').innerText.replace(/\\s+/g, ' ')"
     assert page.browser.evaluate(room) == "-0.5 max at most 5.5", page.browser.evaluate(room)
     assert "117.6 MHz" in page.browser.evaluate("document.getElementById('clocks').innerText")
-    page.browser.click('#numbers tr[data-key="a.json edge 0"] td[data-side=high]')
-    page.browser.keys("5.5")
-    page.browser.key("Enter")
-    page.rest()
+    edit_cell(page, "sheet.json edge 0", "high", "5.5")
     assert page.sentence() == "✓ 1 of 1 requirement passes. The least slack is 0.0 ns: tSU in cycle 1.", page.sentence()
     link = page.browser.evaluate("exportModule.linkWith(itv.files.packed())")
     page.browser.evaluate("window.onbeforeunload = null; for (const file of itv.files.list) file.changed = false; itv.draft.keep()")
@@ -286,5 +326,45 @@ def a_designers_whole_way(page):
     page.load()
 
 
+def marks_of_two_parts_are_joined(page):
+    """An edge of the board between marks of two drawings, which undo takes back; with two parts of one sheet the form asks for the parts."""
+    page.open_numbers(FAST)
+    before = page.text_of(FAST)
+    page.browser.click("svg.drawing[data-file='examples/cpu.json'] [data-mark=e]")
+    page.browser.click("svg.drawing[data-file='examples/sram.json'] [data-mark=q]")
+    fill_form(page, "edge-form", kind="req", low="*", high="30", note="select to data")
+    assert json.loads(page.text_of(FAST))["edges"][1:] == ["CPU.e RAM.q @req [*,30000] select to data"], page.text_of(FAST)
+    assert "2 of 3 requirements pass" in page.sentence(), page.sentence()
+    page.browser.evaluate("itv.edited.undo()")
+    page.rest()
+    assert page.text_of(FAST) == before
+    page.open_numbers(*sixteen_parts())
+    for mark in "ic":
+        page.browser.click(f"svg.drawing [data-mark={mark}]")
+    fill_form(page, "edge-form", place="board", kind="ask", first="B", second="C")
+    assert json.loads(page.text_of("board.json"))["edges"][-1] == "B.i C.c @ask", page.text_of("board.json")
+    page.browser.evaluate("itv.edited.undo()")
+    page.rest()
+
+
+def a_grade_is_chosen_in_a_menu(page):
+    """The slower grade fails by the numbers of its data sheet, and the first one is back by undo."""
+    page.open_numbers("examples/cpu-sram-m12.json")
+    before = page.text_of("examples/cpu-sram-m12.json")
+    menu = "document.querySelector('#grades select')"
+    assert page.browser.evaluate(f"[...{menu}.options].map(option => option.text)") == ["m10", "m12", "m15"]
+    page.do(f"{menu}.value = 'm15'; {menu}.dispatchEvent(new Event('change', {{ bubbles: true }}))")
+    page.rest()
+    assert page.text_of("examples/cpu-sram-m12.json") == before.replace('"m12"', '"m15"')
+    report = text_of("examples/cpu-sram-m15.out")
+    slack = int(re.search(r"^slack (-?\d+)", report, re.M).group(1))
+    assert f"fails by {-slack / 1000} ns" in page.sentence(), (slack, page.sentence())
+    assert page.browser.evaluate("document.querySelector('tr[data-key*=\"grade m15 tAA\"]') !== null")
+    page.browser.evaluate("itv.edited.undo()")
+    page.rest()
+    assert page.text_of("examples/cpu-sram-m12.json") == before and page.browser.evaluate(f"{menu}.value") == "m12"
+
+
 TESTS = [a_rule_is_drawn_by_the_hand, a_finger_draws_too, a_netlist_follows_its_sheets, what_was_clicked_is_deleted, an_edge_leads_to_its_number_and_back, diagrams_are_zoomed, lanes_are_chosen, answers_are_compared,
-         older_files_are_compared, rows_that_are_alike_are_one_line, no_work_is_lost, a_designers_whole_way]
+         older_files_are_compared, rows_that_are_alike_are_one_line, no_work_is_lost, a_designers_whole_way, marks_of_two_parts_are_joined,
+         a_grade_is_chosen_in_a_menu]

@@ -145,7 +145,7 @@ def numbers_that_are_one_text_are_one_line(page):
     # 4 delays of at most 4 ns are 16 ns of 20 ns: each may be 1 ns longer if all are.
     assert page.browser.evaluate(f"{line}.margins.up.by") == 1000, page.browser.evaluate(f"JSON.stringify({line}.margins)")
     shown = page.browser.evaluate("document.querySelector('tr[data-key=\"s.json grade g tPD\"] .room').innerText.replace(/\\s+/g, ' ')")
-    assert shown == "1 both up to 5", shown
+    assert shown == "1 all 4 up to 5", shown
 
 
 def lines_are_sorted_and_found(page):
@@ -165,8 +165,9 @@ def a_column_is_pasted(page):
     page.open_numbers(BUS)
     page.browser.click(cell("examples/cpu.json edge 0", "low"))
     before = page.text_of("examples/cpu.json")
-    paste = ("document.activeElement.dispatchEvent(new ClipboardEvent('paste', {{ bubbles: true, cancelable: true, clipboardData: (() => {{ const data = new DataTransfer(); "
-             "data.setData('text/plain', {}); return data; }})() }}))")
+    # Not each browser lets a script give a ClipboardEvent its data.
+    paste = ("(() => {{ const event = new Event('paste', {{ bubbles: true, cancelable: true }}); event.clipboardData = {{ getData: () => {} }}; "
+             "document.activeElement.dispatchEvent(event); }})()")
     page.do(paste.format(json.dumps("1.5\t7.25\n1\t6\n")))
     page.rest()
     assert page.text_of("examples/cpu.json") == before.replace("[2000,8000]", "[1500,7250]").replace("[2000,7000]", "[1000,6000]"), page.text_of("examples/cpu.json")

@@ -1,0 +1,30 @@
+// What the words of job lint's warnings mean.
+
+/** A sentence for each word of a warning. */
+export const WARNINGS = {
+  comment: "a comment that looks like a rule",
+  word: "a comment that begins with the word of a rule: the @ may be missing",
+  note: "a note that looks like a part of the range",
+  key: "an ignored key that looks like a misspelt one",
+  never: "a rule or a row that is in no cycle",
+  single: "a latest or earliest rule with one cause: with several such rules into one mark the shortest decides",
+  both: "two rules into one mark, both of which bind",
+  narrow: "an end of a range that no times attain: some other rule is tighter",
+  drivers: "two nets that drive one pin, both of which bind",
+  own: "a net into a pin that its own sheet has a rule for",
+  held: "a driven mark that its own sheet holds from below: a requirement may be meant",
+  period: "periods of one clock that may not be meant",
+  unit: "a number that is very small beside the others: the unit may be wrong",
+  order: "an answer that rests on the order of a lane",
+  open: "a search was left open",
+  rows: "nothing is asked",
+  arrows: "edges with labels, none of which is a rule, a requirement or a question",
+  contradiction: "the rules contradict each other",
+  again: "two edges with the same text",
+  wave: "a mark after the end of its wave",
+  kinds: "an edge of the board from a rise to a fall, or from a fall to a rise",
+  self: "a net from a part to itself",
+  delay: "a net without a delay, while most nets have one",
+  before: "a requirement from a mark of the driver, before the net",
+  tied: "two marks that are bounded to each other and have different periods",
+};
