@@ -59,8 +59,8 @@ class Trace:
         return Fault(f"{self.name}:{number}: {text}")
 
     def signal(self, path):
-        """The signal of a name, with or without its scope."""
-        found = [signal for signal in self.signals if path in (signal.path(), signal.name)]
+        """The signal of a name, with or without its scope and the range of its bits."""
+        found = [signal for signal in self.signals if RANGE.sub("", path) in (signal.path(), signal.name)]
         if not found:
             known = ", ".join(signal.path() for signal in self.signals[:20]) + (", .." if len(self.signals) > 20 else "")
             raise Fault(f"{self.name}: there is no signal '{path}'; the signals are {known or 'none'}")
@@ -85,6 +85,7 @@ def lines_of(file, name):
 
 # A value change dump
 
+RANGE = re.compile(r"\[[0-9]+:[0-9]+\]$")
 TIMESCALE = re.compile(r"(1|10|100)(s|ms|us|ns|ps|fs)")
 # Bits of VHDL as others know them: weak ones, and those that are not known.
 STRENGTHS = str.maketrans("lhuw-", "01xxx")
@@ -138,7 +139,7 @@ class Vcd(Trace):
         if len(words) < 4 or not re.fullmatch("[0-9]{1,9}", words[1]):
             raise self.fault(number, "this is not a declaration of a signal")
         # The range of a vector is no part of its name, but the number of a single bit is.
-        name = re.sub(r"\[[0-9]+:[0-9]+\]$", "", "".join(words[3:]))
+        name = RANGE.sub("", "".join(words[3:]))
         signal = Signal(".".join(scopes), name, None if words[0] in ("real", "realtime") else int(words[1]), words[2])
         # A code may have several names, all with the same values.
         first = self.codes.setdefault(signal.code, signal)
@@ -252,6 +253,8 @@ def number_of(trace, signal, text):
 
 # Comma-separated values
 
+# What a line begins with that is no row. sigrok-cli puts lines META where it converts a file.
+COMMENTS = (";", "#", "META ")
 WORDS_OF_UNITS = {"seconds": "s", "second": "s", "sec": "s", "milliseconds": "ms", "microseconds": "us", "nanoseconds": "ns", "picoseconds": "ps", "femtoseconds": "fs"}
 
 
@@ -287,7 +290,7 @@ class Table(Trace):
         for self.number, line in lines:
             if not line.endswith("\n"):
                 self.notes.append(f"{self.name}:{self.number}: the file ends within this line, which is left out")
-            elif line.strip() and line[0] not in ";#":
+            elif line.strip() and not line.startswith(COMMENTS):
                 yield line.replace("\0", "?")
 
     def next_row(self):
@@ -338,7 +341,7 @@ class Table(Trace):
 def trace_of(file, name, unit, level):
     """The trace of a file, with its signals."""
     lines = lines_of(file, name)
-    first = next(((number, line) for number, line in lines if line.strip()), None)
+    first = next(((number, line) for number, line in lines if line.strip() and not line.startswith("META ")), None)
     if first is None:
         raise Fault(f"{name} is empty")
     lines = itertools.chain([(first[0], itvlib.after("\ufeff", first[1]))], lines)
@@ -379,9 +382,8 @@ def joined(signals):
     if len(signals) == 1:
         return signals[0].times, signals[0].values
     bus, now = Signal("", "", None, None), ["x"] * len(signals)
-    for time, changes in itertools.groupby(sorted((time, k, value) for k, signal in enumerate(signals) for time, value in zip(signal.times, signal.values)), lambda change: change[0]):
-        for _, k, value in changes:
-            now[k] = value
+    for time, bit, value in sorted((time, bit, value) for bit, signal in enumerate(signals) for time, value in zip(signal.times, signal.values)):
+        now[bit] = value
         bus.put(time, "".join(now))
     return bus.times, bus.values
 

@@ -91,3 +91,11 @@ export function demandedText(row, unit) {
 export function counted(count, word) {
   return `${grouped(count)} ${word}${count === 1 ? "" : "s"}`;
 }
+
+/** A bound in a unit: a number, `unbounded`, or `not known` if the search ended too early.
+ * @param {{ kind: string, value: number | null }} bound
+ * @param {{ name: string, size: number }} unit */
+export function boundText({ kind, value }, unit) {
+  if (kind === "number") return inUnit(value, unit);
+  return kind === "unbounded" ? "unbounded" : "not known";
+}

@@ -48,7 +48,8 @@ export class Signal {
 
 /** The whole lines of a text, and whether there is a line without its end. */
 function linesOf(text) {
-  const lines = text.replace(/^\ufeff/, "").split("\n");
+  // sigrok-cli puts lines META where it converts a file.
+  const lines = text.replace(/^\ufeff/, "").replace(/^META .*$/gm, "").split("\n");
   const isCut = lines.pop() !== "";
   return { lines, isCut };
 }
@@ -268,7 +269,7 @@ function takeColumn(signal, times, cells, levels) {
 export function traceOf(text, unit = null, levels = null) {
   const { lines, isCut } = linesOf(text);
   if (!text.trim()) throw new TraceFault("it is empty");
-  const trace = /^\s*\$/.test(text.replace(/^\ufeff/, "")) ? dumped(lines, unit, levels) : tabled(lines, unit, levels);
+  const trace = /^\s*\$/.test(lines.join("\n")) ? dumped(lines, unit, levels) : tabled(lines, unit, levels);
   if (isCut) trace.notes.push("the file ends within its last line, which is left out");
   return trace;
 }

@@ -5,7 +5,7 @@ import { checksumOf } from "../core/packing.js";
 import { svgOf } from "../draw/picture.js";
 import { laneChoiceOf } from "./lane_choice.js";
 import { WARNINGS } from "../core/warning_words.js";
-import { demandedText, escaped, escapedText, inUnit } from "../core/texts.js";
+import { boundText, demandedText, escaped, escapedText, inUnit } from "../core/texts.js";
 
 const LEGEND = [
   ['<circle class="mark" cx="12" cy="8" r="2.6"/>', "a mark, at its time in this case"],
@@ -24,8 +24,8 @@ export function edgeLink(design, part, number) {
   return `<a class="edge" href="#" data-file="${escaped(file)}" data-edge="${number}"><code class="name">${escaped(edge.text)}</code></a>`;
 }
 
-/** A link to what draws a rule; without a link where it is a lane or a net. */
-function originLink(design, origin, end) {
+/** A link to what draws a rule that ends at an event; without a link if it is a lane or a net. */
+export function originLink(design, origin, end) {
   const part = origin.kind === "wire" ? null : end.split(".")[0];
   const isEdge = origin.kind === "wire" || origin.kind === "edge";
   return (isEdge && edgeLink(design, part, origin.number)) || `<code class="name">${escaped(design.originText(origin, end))}</code>`;
@@ -39,8 +39,7 @@ function numberCell(text, kind = "") {
 /** The cell of a bound: a number, or what is known in its place. */
 function boundCell(bound, unit) {
   const kind = bound.which === "min" ? "least" : "greatest";
-  if (bound.kind === "number") return numberCell(inUnit(bound.value, unit), kind);
-  if (bound.kind !== "within") return numberCell(bound.kind === "spent" ? "not known" : "unbounded", kind);
+  if (bound.kind !== "within") return numberCell(boundText(bound, unit), kind);
   const limit = bound.limit === null ? "no limit known" : `${bound.which === "max" ? "at most" : "at least"} ${inUnit(bound.limit, unit)}`;
   return numberCell(`${limit}${bound.value === null ? "" : `<small>found ${inUnit(bound.value, unit)}</small>`}`, kind);
 }
@@ -156,8 +155,7 @@ function placeholder(entry, which) {
 function otherTitle(facts, entry, which) {
   const bound = entry.row.bounds[which];
   const word = which === "min" ? "least" : "greatest";
-  const value = bound.kind === "number" ? inUnit(bound.value, facts.unit) : bound.kind === "unbounded" ? "unbounded" : "not known";
-  return `the other side, ${word}: ${value}`;
+  return `the other side, ${word}: ${boundText(bound, facts.unit)}`;
 }
 
 /** The part of an entry: its edge, the diagram of the side that matters, and the other side, which is folded. Where it is broken, or the first one, it is

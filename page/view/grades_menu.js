@@ -20,13 +20,13 @@ export class GradesMenu {
   show(parts) {
     this.box.hidden = !parts.length;
     const menus = parts.map(({ number, name, grade, names }) => `<label>${escaped(name)} <select data-part="${number}">${optionsOf(grade, names)}</select></label>`);
-    if (fill(this.box, `grade of ${menus.join(" ")}`)) return;
-    // What was chosen and then taken back is not what the menu shows.
+    fill(this.box, `grade of ${menus.join(" ")}`);
+    // The menus stay as they are while another grade is chosen, so that they keep the focus.
     for (const { number, grade } of parts) /** @type {any} */ (this.box.querySelector(`[data-part="${number}"]`)).value = grade;
   }
 }
 
 function optionsOf(grade, names) {
-  const none = names.includes(grade) ? "" : `<option value="${escaped(grade)}" selected>${escaped(grade || "none")}</option>`;
-  return none + names.map((name) => `<option${name === grade ? " selected" : ""}>${escaped(name)}</option>`).join("");
+  const none = names.includes(grade) ? "" : `<option value="${escaped(grade)}">${escaped(grade || "none")}</option>`;
+  return none + names.map((name) => `<option>${escaped(name)}</option>`).join("");
 }

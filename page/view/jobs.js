@@ -1,11 +1,11 @@
 // What is under the tab of each job.
 
 import { nameOf } from "../core/answer.js";
-import { blocksOf, edgeLink } from "./answer_pane.js";
+import { blocksOf, edgeLink, originLink } from "./answer_pane.js";
 import { drawingOf } from "../draw/drawing.js";
 import { Sheet, isNetlist } from "../core/design.js";
 import { Matrix, Report, marginsOf } from "../core/output_parser.js";
-import { escaped, escapedText, inUnit } from "../core/texts.js";
+import { boundText, escaped, escapedText, inUnit } from "../core/texts.js";
 
 const MOST_EVENTS_OF_A_TABLE = 60;
 const MOST_MARGINS = 10;
@@ -58,13 +58,10 @@ function whyOf(analysis, entry) {
   const lists = ["min", "max"].map((which) => {
     const bound = entry.row.bounds[which];
     const word = which === "min" ? "least" : "greatest";
-    const value = bound.kind === "number" ? inUnit(bound.value, analysis.unit) : bound.kind === "unbounded" ? "unbounded" : "not known";
+    const value = boundText(bound, analysis.unit);
     const steps = bound.steps.map((step) => {
-      const edge = analysis.design.edgeOf(step.origin, step.end);
-      const link = edge && edgeLink(analysis.design, step.origin.kind === "wire" ? null : step.end.split(".")[0], step.origin.number);
       const ends = [step.start, step.end].map((event) => escaped(analysis.design.eventTitle(event))).join(" to ");
-      const drawn = link || `<code>${escaped(analysis.design.originText(step.origin, step.end))}</code>`;
-      return `<tr><td>${ends}</td><td class="number">${inUnit(step.weight, analysis.unit)}</td><td>${drawn}</td></tr>`;
+      return `<tr><td>${ends}</td><td class="number">${inUnit(step.weight, analysis.unit)}</td><td>${originLink(analysis.design, step.origin, step.end)}</td></tr>`;
     });
     const table = steps.length ? `<div class="table-box"><table>${steps.join("")}</table></div>` : "";
     return `<p><b>${word}: ${value}</b></p>${table}`;

@@ -65,6 +65,7 @@ export class Joining {
       if (isOnBoard) this.page.change(this.page.board().name, (read) => addWire(read, text), NOT_NOW);
       else this.page.change(first.file, (read) => addEdge(read, text), NOT_NOW);
     };
+    this.page.say("");
     this.edgeForm.open({ start, end, unit: this.page.unit(), take });
   }
 
@@ -82,6 +83,7 @@ export class Joining {
       this.page.say("a net joins lanes with names, of two parts");
       return;
     }
+    this.page.say("");
     this.netForm.open({ start, end, unit: this.page.unit(), take: (net) => this.addNet(net) });
   }
 

@@ -1,6 +1,6 @@
 // What has changed since an answer was kept, and the answer as a table of Markdown or of values with commas.
 
-import { counted, demandedText, escaped, inUnit } from "../core/texts.js";
+import { boundText, counted, demandedText, escaped, inUnit } from "../core/texts.js";
 
 const WORDS = { pass: "passes", fail: "fails", undecided: "is undecided" };
 const TOOLS = '<button type="button" class="small kept-back">put the kept design back</button> <button type="button" class="small kept-drop">forget it</button>';
@@ -37,12 +37,11 @@ function lineOf({ title, before, now }, unit) {
 
 /** The rows of an answer as texts: name, demand, least, greatest, verdict, slack. */
 function cellsOf(analysis) {
-  const bound = ({ kind, value }) => (kind === "number" ? inUnit(value, analysis.unit) : kind === "unbounded" ? "unbounded" : "not known");
   return analysis.entries.map(({ title, row }) => [
     title,
     row.kind === "req" ? demandedText(row, analysis.unit) : "a question",
-    bound(row.bounds.min),
-    bound(row.bounds.max),
+    boundText(row.bounds.min, analysis.unit),
+    boundText(row.bounds.max, analysis.unit),
     row.verdict || "",
     row.leastSlack === null ? "" : inUnit(row.leastSlack, analysis.unit),
   ]);

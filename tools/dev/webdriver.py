@@ -32,9 +32,6 @@ addEventListener('unhandledrejection', event => window.thrown.push(String(event.
 class WebDriver(Browser):
     """One page by the commands of WebDriver. A browser of it gives `command`, which sends one."""
 
-    # Where the mouse is.
-    at = None
-
     def evaluate(self, script):
         """The value of a script in the page, whose promise is waited for."""
         body = ("const done = arguments[0]; (async () => window.eval(" + json.dumps(script) + "))().then(value => done({value: value === undefined ? null : value}), "
@@ -66,10 +63,13 @@ class WebDriver(Browser):
         self.act("key", [{"type": "keyDown", "value": value} for value in pressed] + [{"type": "keyUp", "value": value} for value in reversed(pressed)])
 
     def mouse(self, kind, place, count=1):
-        """An event of the mouse, `Pressed`, `Moved`, `Dragged` or `Released`, with its left button. A move between two clicks would make them no double click."""
-        is_there = place == self.at and kind in ("Pressed", "Released")
-        self.at = place
-        self.act("pointer", [*([] if is_there else [{"type": "pointerMove", "x": round(place[0]), "y": round(place[1]), "duration": 0}]), *MOUSE[kind]])
+        """An event of the mouse, `Pressed`, `Moved`, `Dragged` or `Released`, with its left button."""
+        self.act("pointer", [{"type": "pointerMove", "x": round(place[0]), "y": round(place[1]), "duration": 0}, *MOUSE[kind]])
+
+    def click(self, target, count=1):
+        """Clicks on a place, or on the first element that a selector finds. Two clicks come so soon one after the other that they are a double click."""
+        self.hover(target)
+        self.act("pointer", [*MOUSE["Pressed"], *MOUSE["Released"]] * count)
 
     def touch(self, kind, *place):
         """An event of a finger: `Start` and `Move` have a place, `End` has none."""
@@ -280,5 +280,4 @@ class WebKit(WebDriver):
         self.call(f"/element/{element}/value", {"text": text})
 
     def screenshot(self, path):
-        with open(path, "wb") as file:
-            file.write(base64.b64decode(self.call("/screenshot", method="GET")))
+        """Nothing: the driver sometimes waits for ever for a picture of a page that does not move."""

@@ -1,5 +1,5 @@
 -- What the ends of runs of one job say over known files.
-use Rattle.std.proofs.Common.{◌≡◌, ◌∙◌, ◌+◌, ◌≤◌, ℕ, Bool, true, false, List, ◌∷◌, length, take, Option, Some, None, ◌⊎◌, inl, inr, refl, sym, ap, subst, arith, nat_lt, codes, if◌then◌else◌, Result, Ok, slice_get}
+use Rattle.std.proofs.Common.{◌≡◌, ◌∙◌, ◌+◌, ◌≤◌, ℕ, Bool, true, false, List, ◌∷◌, length, take, Option, Some, None, ◌⊎◌, inl, inr, refl, sym, ap, subst, arith, nat_lt, codes, if◌then◌else◌, Result, Ok}
 use Rattle.std.proofs.lemmas.Bool.{ltb-false}
 use Rattle.std.proofs.lemmas.List.{length-take, take_all}
 use Rattle.std.proofs.lemmas.List.Elements.{All-head, All-tail}
@@ -13,23 +13,16 @@ use Rattle.design_gen.specs.Files.{design_files}
 use Rattle.job_base.specs.Ending.{answer_of}
 use Rattle.job_base.specs.declared.answer.Answer.{Answer}
 use Rattle.job_base.specs.declared.answer.Answer.TheVariants as answers
-use Rattle.requirements.specs.declared.verdict.Verdict.{Verdict}
-use Rattle.requirements.specs.declared.verdict.Verdict.TheVariants as verdicts
-use Rattle.slack_report.specs.Entry.{Entry}
-use Rattle.slack_report.specs.Text.{report_text}
 use Rattle.slack_report.specs.declared.words.EndWord.{EndWord}
 use Rattle.slack_report.specs.declared.words.EndWord.TheVariants as endings
 use Rattle.right_report.specs.Laws.{AllMet, SomeBroken, SomeSatisfy}
 use Rattle.right_report.specs.Right.ReportState.{at_last}
-use Rattle.right_report.specs.Right.LineClaims.{BeginsRightReport, IsRightReport}
-use Rattle.right_report.specs.ReportContents.{verdict_on}
+use Rattle.right_report.specs.Right.LineClaims.{BeginsRightReport}
+use Rattle.right_report.specs.ReportContents.{end_in}
 use Rattle.right_report.specs.Texts.{IsAcceptedText, IsRefusedText}
 use Rattle.right_report.proofs.Ending.{fail_end_is_so, inconsistent_end_is_so, pass_end_is_so}
-use Rattle.right_report.proofs.RowBounds.{greatest_is_right, least_is_right}
-use Rattle.right_report.proofs.RowVerdicts.{fail_high_is_broken, fail_low_is_broken, pass_is_met}
 use Rattle.right_report.proofs.Refusing.{accepted_text_is_right, one_refused_line}
 use Rattle.drawn_networks.specs.Drawn.{Drawn}
-use Rattle.drawn_networks.specs.declared.row.Row.{Row}
 use Rattle.drawn_laws.proofs.Designs.{drawn_names_have_form, drawn_ranges_have_form}
 use Rattle.design_reading.specs.declared.refusal_place.RefusalPlace.{RefusalPlace}
 use Rattle.design_reading.specs.declared.refusal_place.RefusalPlace.TheVariants.{Edits, Report}
@@ -64,7 +57,8 @@ use Rattle.itv_cli.specs.declared.outcome.Outcome.TheVariants as ends
 use Rattle.itv_cli.specs.declared.ready.Ready.{Ready}
 use Rattle.itv_cli.specs.declared.ready.Ready.TheVariants as given
 use Rattle.conformance.specs.Clients.{AsksBounds, AsksCheck, AsksConfirm, AsksFiles, AsksMatrix, AsksSettle, AsksWhatif, IsReportEnd, IsRightFile, IsSettledFile, IsSummaryOf, IsWrongFile, AreAlike}
-use Rattle.conformance.specs.Said.{IsSoText, IsSoVerdict}
+use Rattle.claim_laws.specs.Said.{IsSoText}
+use Rattle.claim_laws.proofs.SaidLines.{right_text_is_so}
 use Rattle.job_files.specs.Files.{files_text}
 use Rattle.conformance.proofs.KnownFiles.{answer_over, few_by, never_refused, reported_over, same_asked, same_ready, told_behind, told_then}
 
@@ -84,6 +78,10 @@ answered_by call result answer other means e = means_answered call answer other 
 -- if the end over known files is a value, a reading comes to it
 pub told_shelf : Files → ShelfState
 told_shelf files = record { files = Some files; faults = 0; last = codes ""; is_faithful = true }
+
+pub told_knows : (files : Files) → (told_shelf files).files ≡ Some files
+unfolding told_shelf
+told_knows files = refl
 
 comes_by : {A : Type 0} (files : Files) (next : List ℕ → FileReading A) (most : ℕ) (place : RefusalPlace) (name : List ℕ) (x : A) (file : Option (List ℕ)) → file_of files name ≡ file
     → ((bytes : List ℕ) → end_over files (next bytes) ≡ ready x → RunsTo (told_shelf files) (next bytes) (ready x))
@@ -117,23 +115,6 @@ none_word endings.Fail e = absurd (cc e)
 none_word endings.Inconsistent e = refl
 none_word endings.Undecided e = absurd (cc e)
 
--- each verdict of a right report is so
-so_verdict : (drawn : Drawn) (lines : List Entry) → IsRightReport drawn lines → (number : ℕ) (r : Row) (word : Verdict) → slice_get drawn.rows number ≡ Some r
-    → verdict_on lines number ≡ Some word → IsSoVerdict drawn.net r word
-so_verdict drawn lines is number r verdicts.Pass there said = pass_is_met drawn lines number r (at_last, is) there said
-so_verdict drawn lines is number r verdicts.FailHigh there said = fail_high_is_broken drawn lines number r (at_last, is) there said
-so_verdict drawn lines is number r verdicts.FailLow there said = fail_low_is_broken drawn lines number r (at_last, is) there said
-so_verdict drawn lines is number r verdicts.Undecided there said = tt
-
-so_text : (drawn : Drawn) (lines : List Entry) (bytes : List ℕ) → bytes ≡ report_text lines → IsRightReport drawn lines → IsSoText drawn bytes
-so_text drawn lines bytes text is = record {
-  lines = lines;
-  is_text = text;
-  greatest = λ number r value there said. greatest_is_right drawn lines number r value is there said;
-  least = λ number r value there said. least_is_right drawn lines number r value is there said;
-  verdict = so_verdict drawn lines is;
-}
-
 module _ (call : Call) (files : Files) (budget : ℕ) (cert : Bool) (drawn : Drawn) (known : call.shelf_before.files ≡ Some files) (asks : AsksBounds call.words files budget cert drawn) where
   bounds_said : (answer : Answer) (m : HasAnswered call answer) → AnswersBounds drawn budget cert answer m.text
   bounds_said answer m =
@@ -161,14 +142,12 @@ module _ (call : Call) (files : Files) (budget : ℕ) (cert : Bool) (drawn : Dra
       let a = bounds_said answers.Inconsistent m in
       inconsistent_end_is_so drawn a.reports.lines (begins answers.Inconsistent m.text a) (a.reports.sums.ends ∙ ap (λ word. Some word) (none_word a.summary.end a.is_answer))
 
-  pub bounds_printed : (result : Outcome) → OutcomeMeans call result → IsReportEnd result
-      → (text : List ℕ) × IsSoText drawn text × (call.sink_after ≡ grown call.sink_before text)
-  bounds_printed result means end =
-      let answer = answer_of end.0 in
-      let m = answered_by call result answer (λ same. never_refused end.0 (sym same)) means end.1 in
+  pub bounds_printed : (answer : Answer) → (answer ≡ answers.Inconsistent → ⊥) → (m : HasAnswered call answer) → IsSoText drawn m.text
+  bounds_printed answer other m =
       let a = bounds_said answer m in
       let is = written_is_right drawn budget cert a.reports.lines a.reports.is_written in
-      (m.text, so_text drawn a.reports.lines m.text a.reports.is_text is, m.wrote)
+      let ends : end_in a.reports.lines ≡ Some endings.Inconsistent → ⊥ = λ said. other (a.is_answer ∙ ap answer_of (same_Some a.summary.end endings.Inconsistent (sym a.reports.sums.ends ∙ said))) in
+      subst (IsSoText drawn) (sym a.reports.is_text) (right_text_is_so drawn a.reports.lines is ends)
 
 -- with the lines of proofs the text is accepted
 pub bounds_accepted : (call : Call) (files : Files) (budget : ℕ) (drawn : Drawn) (result : Outcome) → call.shelf_before.files ≡ Some files → AsksBounds call.words files budget true drawn → OutcomeMeans call result → IsReportEnd result

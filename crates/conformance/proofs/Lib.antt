@@ -2,8 +2,10 @@ mod KnownFiles
 mod Faults
 mod JobEnds
 mod LongerEnds
+mod SaidEnds
 mod PlannedEnds
 mod MarginEnds
 mod Fitting
 mod Redrawn
 pub mod OwnReports
+pub mod AllNumbers

@@ -27,7 +27,7 @@ use Rattle.conformance.specs.Clients.{AsksBounds, Draws, Makes}
 use Rattle.conformance.proofs.JobEnds.{bounds_met, bounds_none, told_comes, told_shelf}
 use Rattle.conformance.proofs.KnownFiles.{same_ready, told_behind}
 
-limited : (files : Files) (result : Result Drawn UnrollFault) (drawn : Drawn) → end_over files (at Design Limits result) ≡ ready drawn → result ≡ Ok drawn
+pub limited : (files : Files) (result : Result Drawn UnrollFault) (drawn : Drawn) → end_over files (at Design Limits result) ≡ ready drawn → result ≡ Ok drawn
 limited files (Ok other) drawn comes = cc comes
 limited files (Err fault) drawn comes = absurd (cc comes)
 

@@ -1,5 +1,5 @@
 -- What the ends of runs of job margin say over known files.
-use Rattle.std.proofs.Common.{◌≡◌, ◌∙◌, ℕ, ℤ, ◌≤ℤ◌, Bool, true, false, List, [], ◌∷◌, Option, Some, None, refl, sym, subst}
+use Rattle.std.proofs.Common.{◌≡◌, ◌∙◌, ℕ, ℤ, Bool, true, false, List, [], ◌∷◌, Option, Some, None, refl, sym, subst}
 use Rattle.std.specs.Prelude.{IfSome}
 use Rattle.std.specs.List.{AllZip}
 use Rattle.event_graph.specs.Bounds.{IsInconsistent}
@@ -21,20 +21,18 @@ use Rattle.moves.specs.declared.margin.Margin.TheVariants.{Until}
 use Rattle.moves.specs.declared.number_seen.NumberSeen.{NumberSeen}
 use Rattle.moves.proofs.Thresholds.{margin_is_threshold}
 use Rattle.job_margin.specs.Margin.{AnswersMargin, AreNumbersFound, EndsBy, IsNumberFound}
-use Rattle.job_margin.specs.Text.{are_left_open, end_of, margin_text}
+use Rattle.job_margin.specs.Text.{are_left_open, end_of}
 use Rattle.job_margin.specs.declared.number_found.NumberFound.{NumberFound}
 use Rattle.command_words.specs.Task.{margin}
 use Rattle.itv_cli.specs.Job.{Answers, list_at, planned_at}
 use Rattle.itv_cli.specs.Run.{Call, HasAnswered, OutcomeMeans}
 use Rattle.itv_cli.specs.declared.outcome.Outcome.{Outcome}
 use Rattle.itv_cli.specs.declared.outcome.Outcome.TheVariants as ends
-use Rattle.itv_cli.specs.declared.ready.Ready.{Ready}
 use Rattle.itv_cli.specs.declared.ready.Ready.TheVariants as given
-use Rattle.unroll.specs.declared.limit.TheConstants.{MAX_NUMBERS}
-use Rattle.design_reading.specs.FileReading.{FileReading, end_over, gives, ready, refuses, ◌>>=◌}
+use Rattle.design_reading.specs.FileReading.{gives, ◌>>=◌}
 use Rattle.conformance.specs.Clients.{AsksMargin, HasSafeHighs, IsReportEnd, IsSafeHigh}
 use Rattle.conformance.proofs.JobEnds.{answered_by}
-use Rattle.conformance.proofs.KnownFiles.{answer_over, few_then, never_refused, same_ready, told_behind, told_then}
+use Rattle.conformance.proofs.KnownFiles.{answer_over, few_then, never_refused, same_ready, told_behind}
 
 -- ---- what is found of numbers
 

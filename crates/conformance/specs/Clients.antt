@@ -1,5 +1,5 @@
 -- What callers of `run` know of files and a sink in memory, from its clauses alone.
-use Rattle.std.specs.Prelude.{◌≡◌, ℕ, ℤ, ◌≤ℤ◌, Bool, true, List, [], ◌++◌, All, Some, None, Ok, codes}
+use Rattle.std.specs.Prelude.{◌≡◌, ℕ, ℤ, ◌≤ℤ◌, Bool, true, List, [], ◌∷◌, ◌++◌, All, Some, None, Ok, slice_index, codes}
 use Rattle.std.specs.List.{AllZip}
 use Rattle.itv_base.specs.declared.names.Side.TheVariants.{Upper}
 use Rattle.itv_base.specs.Memory.{SinkMemView}
@@ -47,6 +47,7 @@ use Rattle.job_lint.specs.Found.{IsLintFound}
 use Rattle.job_lint.specs.Lines.{is_clean, lines_of}
 use Rattle.compose.specs.Compose.{composed_on}
 use Rattle.compose.specs.Design.{DesignView}
+use Rattle.unroll.specs.Drawn.{drawn_of}
 use Rattle.design_plan.specs.Plan.{sheets_on}
 use Rattle.itv_cli.specs.Job.{Answers, made_for, opening, planned_at}
 use Rattle.itv_cli.specs.Run.{ToWrite, outcome_of}
@@ -121,6 +122,17 @@ pub record Makes (files : Files) (name : List ℕ) (design : DesignView) : Type 
   pub plan : PlanView
   pub plans : end_over files (plan_at name) ≡ ready plan
   pub composes : composed_on plan.netlist (sheets_on plan.sheets plan.netlist.parts) ≡ Ok design
+
+-- the one word does not begin with `-`; so it asks for the bounds of the design of a file with this name
+pub record AsksFile (given : List (List ℕ)) (name : List ℕ) : Type 0 where
+  pub one : given ≡ name ∷ []
+  pub is_plain : slice_index name 0 ≡ 45 → ⊥
+
+-- the files of a design make it, and it draws this network
+pub record DrawnFrom (files : Files) (name : List ℕ) (drawn : Drawn) : Type 0 where
+  pub design : DesignView
+  pub makes : Makes files name design
+  pub draws : drawn ≡ drawn_of design
 
 -- the words ask for the bounds of a design, and the files of the design draw a network
 pub record AsksBounds (given : List (List ℕ)) (files : Files) (budget : ℕ) (cert : Bool) (drawn : Drawn) : Type 0 where

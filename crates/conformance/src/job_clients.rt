@@ -30,8 +30,10 @@ ghost use Rattle.range_edits.specs.declared.edit.RangeEdit.{RangeEdit};
 ghost use Rattle.job_whatif.specs.Laws.{with_edits};
 ghost use Rattle.itv_cli.specs.Job.{turns_for};
 ghost use Rattle.job_base.specs.Ending.{answer_of};
-ghost use Rattle.conformance.specs.Clients.{AsksBounds, AsksBrief, AsksCheck, AsksConfirm, AsksFiles, AsksLint, AsksMargin, AsksMatrix, AsksSettle, AsksWhatif, AsksWhy, HasNoWrong, HasSafeHighs, IsLintClean, IsReportEnd, IsRightFile, IsSettledFile, IsSummaryOf, IsWritten, IsWrongFile, Makes, WroteOne, AreAlike};
-ghost use Rattle.conformance.specs.Said.{IsSoText};
+ghost use Rattle.conformance.specs.Clients.{AsksBounds, AsksBrief, AsksCheck, AsksConfirm, AsksFile, AsksFiles, AsksLint, AsksMargin, AsksMatrix, AsksSettle, AsksWhatif, AsksWhy, DrawnFrom, HasNoWrong, HasSafeHighs, IsLintClean, IsReportEnd, IsRightFile, IsSettledFile, IsSummaryOf, IsWritten, IsWrongFile, Makes, WroteOne, AreAlike};
+ghost use Rattle.claim_laws.specs.Said.{IsSoText};
+ghost use Rattle.claim_laws.specs.Lone.{DrawsLone, IsLoneFile};
+ghost use Rattle.serde_json.specs.Data.{Data};
 ghost use Rattle.itv_base.specs.Outside.{Files};
 ghost use Rattle.design_reading.specs.Design.{design_at};
 ghost use Rattle.design_reading.specs.FileReading.{end_over};
@@ -41,18 +43,40 @@ use itv_base::{NoMemory, ShelfMem, SinkMem, Texts};
 use itv_cli::{Outcome, run};
 use std::alloc::Global;
 
-/// A run of job bounds: the claim of `itv FILE`. If it passes, some times satisfy the network, and all satisfying times meet every requirement.
-/// If it fails, satisfying times break a requirement. If it ends inconsistent, no times satisfy. With any of these ends it writes a report, and each
-/// bound and each verdict in it is so.
+/// A run of `itv FILE`: the claim of the program. If it passes, some times satisfy the network that the files draw, and all
+/// satisfying times meet every requirement. If it fails, satisfying times break a requirement. If it ends inconsistent, no
+/// times satisfy. If it passes, fails or ends undecided, it writes a report, in which each row has its lines, and each bound
+/// and each verdict is so.
 pub fn said_of(alloc: Global, words: &Texts, shelf: &mut ShelfMem, sink: &mut SinkMem) -> Outcome
-    ensures met { (budget : ℕ) (cert : Bool) (drawn : Drawn) → AsksBounds words.now shelf.old.files budget cert drawn
-        → result ≡ Outcome.AllPass → SomeSatisfy drawn.net × AllMet drawn }
-    ensures broken { (budget : ℕ) (cert : Bool) (drawn : Drawn) → AsksBounds words.now shelf.old.files budget cert drawn
-        → result ≡ Outcome.SomeFail → SomeBroken drawn }
-    ensures none { (budget : ℕ) (cert : Bool) (drawn : Drawn) → AsksBounds words.now shelf.old.files budget cert drawn
-        → result ≡ Outcome.Inconsistent → IsInconsistent drawn.net }
-    ensures printed { (budget : ℕ) (cert : Bool) (drawn : Drawn) → AsksBounds words.now shelf.old.files budget cert drawn
-        → IsReportEnd result → WroteOne sink.old sink.new (IsSoText drawn) }
+    ensures met { (name : List ℕ) → AsksFile words.now name → result ≡ Outcome.AllPass
+        → (drawn : Drawn) × DrawnFrom shelf.old.files name drawn × SomeSatisfy drawn.net × AllMet drawn }
+    ensures broken { (name : List ℕ) → AsksFile words.now name → result ≡ Outcome.SomeFail
+        → (drawn : Drawn) × DrawnFrom shelf.old.files name drawn × SomeBroken drawn }
+    ensures none { (name : List ℕ) → AsksFile words.now name → result ≡ Outcome.Inconsistent
+        → (drawn : Drawn) × DrawnFrom shelf.old.files name drawn × IsInconsistent drawn.net }
+    ensures printed { (name : List ℕ) → AsksFile words.now name
+        → (result ≡ Outcome.AllPass) ⊎ ((result ≡ Outcome.SomeFail) ⊎ (result ≡ Outcome.Undecided))
+        → (drawn : Drawn) × DrawnFrom shelf.old.files name drawn × WroteOne sink.old sink.new (IsSoText drawn) }
+{
+    run(alloc, words, shelf, sink)
+}
+
+/// A run of `itv FILE` for a lone sheet: the same claim, with the network that the tree of the file draws.
+pub fn lone_said_of(
+    alloc: Global,
+    words: &Texts,
+    shelf: &mut ShelfMem,
+    sink: &mut SinkMem,
+) -> Outcome
+    ensures met { (name : List ℕ) (tree : Data) → AsksFile words.now name → IsLoneFile shelf.old.files name tree
+        → result ≡ Outcome.AllPass → (drawn : Drawn) × DrawsLone tree drawn × SomeSatisfy drawn.net × AllMet drawn }
+    ensures broken { (name : List ℕ) (tree : Data) → AsksFile words.now name → IsLoneFile shelf.old.files name tree
+        → result ≡ Outcome.SomeFail → (drawn : Drawn) × DrawsLone tree drawn × SomeBroken drawn }
+    ensures none { (name : List ℕ) (tree : Data) → AsksFile words.now name → IsLoneFile shelf.old.files name tree
+        → result ≡ Outcome.Inconsistent → (drawn : Drawn) × DrawsLone tree drawn × IsInconsistent drawn.net }
+    ensures printed { (name : List ℕ) (tree : Data) → AsksFile words.now name → IsLoneFile shelf.old.files name tree
+        → (result ≡ Outcome.AllPass) ⊎ ((result ≡ Outcome.SomeFail) ⊎ (result ≡ Outcome.Undecided))
+        → (drawn : Drawn) × DrawsLone tree drawn × WroteOne sink.old sink.new (IsSoText drawn) }
 {
     run(alloc, words, shelf, sink)
 }

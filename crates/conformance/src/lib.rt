@@ -15,9 +15,9 @@ pub use clients::{
 };
 pub use derived_bounds::bound_of;
 pub use job_clients::{
-    briefed_of, checked_of, confirmed_of, edited_of, explained_of, listed_of, longer_said,
-    margins_of, matrix_of, proofs_accepted, redrawn_of, said_of, self_of, settled_confirmed,
-    settled_of, warned_of,
+    briefed_of, checked_of, confirmed_of, edited_of, explained_of, listed_of, lone_said_of,
+    longer_said, margins_of, matrix_of, proofs_accepted, redrawn_of, said_of, self_of,
+    settled_confirmed, settled_of, warned_of,
 };
 pub use kept_proofs::kept_proof;
 pub use written_labels::written_again;

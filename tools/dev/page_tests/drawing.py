@@ -274,9 +274,8 @@ def edit_cell(page, line, side, typed):
     page.rest()
 
 
-def a_designers_whole_way(page):
-    """All by the hand: start my own drawing, a second part, a net, the clock, numbers in ns, a fail, its reason, the margin, the repaired number, and a link
-    that opens with the answer."""
+def draw_two_parts(page):
+    """A sheet of one's own with numbers in ns, and a second part that requires its data before its next clock edge."""
     page.do("document.getElementById('start-own').click()")
     page.browser.evaluate("itv.showView('numbers')")
     edit_cell(page, "sheet.json edge 0", "low", "1")
@@ -284,7 +283,6 @@ def a_designers_whole_way(page):
     page.browser.click("[data-act=part]")
     fill_field(page, "RX")
     assert json.loads(page.text_of("board.json"))["parts"] == [{"name": "SHEET", "sheet": "sheet.json"}, {"name": "RX", "sheet": "rx.json"}], page.text_of("board.json")
-    # The second part requires its data before its next clock edge, and drives nothing.
     page.browser.click("#file-tabs [data-id='rx.json']")
     for _ in range(2):
         page.browser.evaluate("document.querySelector('#drawings .arc[data-edge=\"0\"]').dispatchEvent(new PointerEvent('pointerdown', { bubbles: true, button: 0 }))")
@@ -294,7 +292,10 @@ def a_designers_whole_way(page):
         page.browser.click(f"svg.drawing [data-mark={mark}]")
     fill_form(page, "edge-form", kind="req", low="2", shift="1", note="tSU")
     assert json.loads(page.text_of("rx.json"))["edge"] == ["d->c @req+1 [2000,*] tSU"], page.text_of("rx.json")
-    # The board: two nets, and the clock from its mark to itself.
+
+
+def draw_board(page):
+    """Two nets between the parts, and the clock from its mark to itself."""
     page.browser.click("#file-tabs [data-id='board.json']")
     page.browser.click("[data-mode=net]")
     for lane, name, most in ((1, "DATA", "0.5"), (0, "CLOCK", "0")):
@@ -309,6 +310,13 @@ def a_designers_whole_way(page):
     board = json.loads(page.text_of("board.json"))
     assert board["nets"] == [{"name": "DATA", "pins": ["SHEET.DATA", "RX.DATA"], "delay": [0, 500]}, {"name": "CLOCK", "pins": ["SHEET.CLK", "RX.CLK"], "delay": [0, 0]}], board
     assert board["edges"] == ["SHEET.c SHEET.c @lin+1 [8000,8000] 125 MHz"], board
+
+
+def a_designers_whole_way(page):
+    """All by the hand: start my own drawing, a second part, a net, the clock, numbers in ns, a fail, its reason, the margin, the repaired number, and a link
+    that opens with the answer."""
+    draw_two_parts(page)
+    draw_board(page)
     # 8 ns less 6 and 0.5 and 2 are 0.5 ns too little.
     assert page.sentence() == "✗ tSU fails by 0.5 ns in cycle 1. 0 of 1 requirement passes.", page.sentence()
     page.browser.click("#job-tabs [data-id=why]")
@@ -353,8 +361,9 @@ def a_grade_is_chosen_in_a_menu(page):
     before = page.text_of("examples/cpu-sram-m12.json")
     menu = "document.querySelector('#grades select')"
     assert page.browser.evaluate(f"[...{menu}.options].map(option => option.text)") == ["m10", "m12", "m15"]
-    page.do(f"{menu}.value = 'm15'; {menu}.dispatchEvent(new Event('change', {{ bubbles: true }}))")
+    page.do(f"{menu}.focus(); {menu}.value = 'm15'; {menu}.dispatchEvent(new Event('change', {{ bubbles: true }}))")
     page.rest()
+    assert page.browser.evaluate(f"document.activeElement === {menu}")
     assert page.text_of("examples/cpu-sram-m12.json") == before.replace('"m12"', '"m15"')
     report = text_of("examples/cpu-sram-m15.out")
     slack = int(re.search(r"^slack (-?\d+)", report, re.M).group(1))

@@ -1,0 +1,4 @@
+pub mod RowLines
+pub mod SaidLines
+pub mod Words
+pub mod Lone
