@@ -249,7 +249,8 @@ module _ (call : Call) (files : Files) (report : List ℕ) (drawn : Drawn) (know
   confirm_right result means e =
       let m = answered_by call result answers.AllPass (λ same. cc same) means e in
       let h = confirm_said answers.AllPass m in
-      record { bytes = h.bytes; is_file = h.is_file; is_settled = h.answers.0 }
+      let (word, settled, is) = h.answers in
+      record { bytes = h.bytes; is_file = h.is_file; is_settled = (settled.0, (answer_of word, settled.1)) }
 
   -- no line of a text of job settle is refused
   pub confirm_accepts : (result : Outcome) → OutcomeMeans call result → IsSettledFile files report drawn → result ≡ ends.CheckRefused → ⊥

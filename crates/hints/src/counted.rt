@@ -8,7 +8,7 @@ use compose::{Design, SheetKey, compose};
 use design_plan::Plan;
 use itv_base::NoMemory;
 use job_lint::is_warning_meant;
-use lint::warnings_of;
+use lint::printed_warnings;
 use refusal_hints::Hint;
 use std::alloc::Global;
 
@@ -71,7 +71,7 @@ fn drawn_by(alloc: Global, plan: &Plan) -> Result<u64, NoMemory> {
 fn count_in(alloc: Global, plan: &Plan, design: &Design<'_>) -> Result<u64, NoMemory>
     requires design { composed_on plan.now.netlist (sheets_on plan.now.sheets plan.now.netlist.parts) ≡ Ok design.now }
 {
-    let warnings = warnings_of(alloc, plan, design)?;
+    let warnings = printed_warnings(alloc, plan, design)?;
     let mut count = 0u64;
     for warning in &warnings {
         if !is_warning_meant(plan, design, warning) {

@@ -9,12 +9,11 @@ use Rattle.slack_report.specs.Entry as line
 use Rattle.slack_report.specs.Text.{entry_text}
 use Rattle.drawn_networks.specs.Drawn.{Drawn, name_of}
 use Rattle.drawn_networks.specs.declared.row.Row.{Row}
-use Rattle.job_base.specs.Ending.{answer_of}
 use Rattle.job_settle.specs.declared.finding.Finding.{Finding}
 use Rattle.job_settle.specs.declared.bound.SettledBound.{SettledBound}
 use Rattle.job_settle.specs.declared.row.RowFound.{RowFound}
 use Rattle.job_settle.specs.Answers.{AreFound, IsBound, IsFinding, IsPastOf, IsRowFound}
-use Rattle.job_settle.specs.Settle.{IsSettleText}
+use Rattle.job_confirm.specs.Confirm.{IsSettledTo}
 use Rattle.job_settle.specs.Text.{behind_text, bound_text, ending_of, finding_text, front_text, judged_text, row_text}
 use Rattle.job_confirm.specs.declared.check_stop.CheckStop.{CheckStop}
 use Rattle.job_confirm.specs.Step.{IsPieceAt}
@@ -45,23 +44,20 @@ module _ (drawn : Drawn) (text : List ℕ) where
   pub settled_text : (finding : Finding) (found : List RowFound) (front_end finding_end rows_end behind : ℕ) → IsFinding true drawn.net finding
       → AreFound true drawn.net drawn.rows finding found → IsPieceAt text 0 (front_text drawn) front_end → IsPieceAt text front_end (finding_text true finding) finding_end
       → IsPieceAt text finding_end (behind_text drawn true finding found) rows_end
-      → IsPieceAt text rows_end (entry_text (line.ending (ending_of drawn.rows finding found))) behind → length text ≤ behind → IsSettleText drawn true text
+      → IsPieceAt text rows_end (entry_text (line.ending (ending_of drawn.rows finding found))) behind → length text ≤ behind → IsSettledTo drawn text (ending_of drawn.rows finding found)
   settled_text finding found front_end finding_end rows_end behind is_finding are_found a b c d whole =
       let all = behind_then text 0 front_end behind _ _ a (behind_then text front_end finding_end behind _ _ b (behind_then text finding_end rows_end behind _ _ c d)) in
       let turns = some_turns finding found in (
         turns.0,
-        (
-          answer_of (ending_of drawn.rows finding found),
-          record {
-            finding = finding;
-            found = found;
-            is_finding = is_finding;
-            are_found = are_found;
-            within = turns.1;
-            is_text = sym (take_all behind text whole) ∙ all.same;
-            is_answer = refl;
-          },
-        ),
+        record {
+          finding = finding;
+          found = found;
+          is_finding = is_finding;
+          are_found = are_found;
+          within = turns.1;
+          is_text = sym (take_all behind text whole) ∙ all.same;
+          is_answer = refl;
+        },
       )
 
 -- ---- a row whose last part was read

@@ -1,11 +1,11 @@
 -- The lines of the proofs of a text are no more than some number of turns.
-use Rattle.std.proofs.Common.{◌+◌, ◌≤◌, ℕ, List, [], ◌∷◌, All, length, arith}
+use Rattle.std.proofs.Common.{◌+◌, ◌≤◌, ℕ, List, [], ◌∷◌, All, arith}
 use Rattle.std.specs.List.{sum_by}
-use Rattle.std.proofs.lemmas.List.Elements.{All-cons, All-nil, All-weaker}
+use Rattle.std.proofs.lemmas.List.Elements.{All-cons, All-nil}
 use Rattle.std.proofs.lemmas.List.Sums.{sum_by-cons}
 use Rattle.job_settle.specs.declared.finding.Finding.{Finding}
 use Rattle.job_settle.specs.declared.row.RowFound.{RowFound}
-use Rattle.job_settle.specs.Answers.{HaveLinesWithin, IsRowWithin, bound_lines, finding_lines, lines_in_row}
+use Rattle.job_settle.specs.Answers.{HaveLinesWithin, IsRowWithin, finding_lines, lines_in_row}
 
 -- each row has at most as many lines as all rows together
 rows_within : (turns : ℕ) (found : List RowFound) → sum_by lines_in_row found ≤ turns → All (IsRowWithin turns) found

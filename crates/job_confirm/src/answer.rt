@@ -3,9 +3,10 @@
 ghost use Rattle.std.specs.Prelude.{◌≡◌, ◌≤◌, ℕ, List, true};
 ghost use Rattle.job_base.specs.JobWrote.{Answered, JobWrote};
 ghost use Rattle.drawn_networks.specs.Drawn.{Drawn};
-ghost use Rattle.job_check.specs.Check.{accepted_text, refused_text};
+ghost use Rattle.itv_base.specs.Outside.{Puts};
+ghost use Rattle.job_check.specs.Check.{refused_text};
 ghost use Rattle.job_settle.specs.Settle.{IsSettleText};
-ghost use Rattle.job_confirm.specs.Confirm.{AnswersConfirm};
+ghost use Rattle.job_confirm.specs.Confirm.{AnswersConfirm, IsSettledTo, confirmed_text};
 
 use crate::check_stop::CheckStop;
 use crate::confirm::confirm_text;
@@ -13,10 +14,11 @@ use drawn_networks::DrawnNetwork;
 use itv_base::{PutFailed, Sink};
 use job_base::{Answer, Unanswered};
 use job_check::put_refused;
+use slack_report::EndWord;
 use std::alloc::Global;
 
-/// Checks a text of job settle with its proofs against a drawn network. Writes that the text is accepted, or which
-/// line, counted from 1, is the first that is refused. All memory is taken before the put.
+/// Checks a text of job settle with its proofs against a drawn network. Writes that the text is accepted, with the word
+/// at its end, or which line, counted from 1, is the first that is refused. All memory is taken before the put.
 pub fn write_confirm<K: Sink>(
     alloc: Global,
     drawn: &DrawnNetwork,
@@ -27,20 +29,31 @@ pub fn write_confirm<K: Sink>(
         (K.state sink.old) (K.state sink.new) result }
 {
     match confirm_text(alloc, drawn, text) {
-        Ok(()) => accept(sink),
+        Ok(word) => accept(word, sink),
         Err(CheckStop::Refused { left }) => refuse(line_at(text, left), sink),
         Err(CheckStop::NoMemory) => Err(Unanswered::NoMemory),
     }
 }
 
-// Writes that a text is accepted.
-fn accept<K: Sink>(sink: &mut K) -> Result<Answer, Unanswered>
-    ensures works { (drawn : Drawn) (text : List ℕ) → IsSettleText drawn true text
+// Writes that a text with this word at its end is accepted.
+fn accept<K: Sink>(word: EndWord, sink: &mut K) -> Result<Answer, Unanswered>
+    ensures works { (drawn : Drawn) (text : List ℕ) → IsSettledTo drawn text word
         → JobWrote (AnswersConfirm drawn text) (Answered (AnswersConfirm drawn text)) (K.state sink.old) (K.state sink.new) result }
 {
-    match sink.put(b"report accepted\n") {
+    match put_confirmed(word, sink) {
         Ok(()) => Ok(Answer::AllPass),
         Err(PutFailed) => Err(Unanswered::PutFailed),
+    }
+}
+
+fn put_confirmed<K: Sink>(word: EndWord, sink: &mut K) -> Result<(), PutFailed>
+    ensures puts { Puts (K.state sink.old) (K.state sink.new) (confirmed_text word) result }
+{
+    match word {
+        EndWord::Pass => sink.put(b"report accepted end pass\n"),
+        EndWord::Fail => sink.put(b"report accepted end fail\n"),
+        EndWord::Inconsistent => sink.put(b"report accepted end inconsistent\n"),
+        EndWord::Undecided => sink.put(b"report accepted end undecided\n"),
     }
 }
 

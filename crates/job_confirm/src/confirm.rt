@@ -1,10 +1,11 @@
 //! Checking a text from its front to its end.
 
-ghost use Rattle.std.specs.Prelude.{◌≡◌, ◌≤◌, ◌++◌, ℕ, true, IfOk, List, OnOk, drop, length};
+ghost use Rattle.std.specs.Prelude.{◌≡◌, ◌≤◌, ◌++◌, ℕ, true, IfOk, List, drop, length};
 ghost use Rattle.job_settle.specs.declared.finding.Finding.{Finding};
 ghost use Rattle.job_settle.specs.Answers.{IsFinding};
 ghost use Rattle.job_settle.specs.Settle.{IsSettleText};
 ghost use Rattle.job_settle.specs.Text.{finding_text};
+ghost use Rattle.job_confirm.specs.Confirm.{IsSettledTo};
 ghost use Rattle.job_confirm.specs.Step.{AreViewsOf, Gives, GivesSome, IsPieceAt, IsSameFinding};
 
 use crate::check_stop::CheckStop;
@@ -15,14 +16,15 @@ use crate::rows::rows_behind;
 use crate::views::Views;
 use drawn_networks::DrawnNetwork;
 use event_graph::Network;
-use job_settle::Finding;
+use job_settle::{Finding, ending_of};
 use line_words::LineBuffer;
-use slack_report::LINE_ROOM;
+use slack_report::{EndWord, LINE_ROOM};
 use std::alloc::Global;
 
-/// Checks a text against a drawn network, part by part. Each part is read, checked, written again and compared.
-pub fn confirm_text(alloc: Global, drawn: &DrawnNetwork, text: &[u8]) -> Result<(), CheckStop>
-    ensures confirmed { OnOk result (IsSettleText drawn.now true text.now) }
+/// Checks a text against a drawn network, part by part. Each part is read, checked, written again and compared. Gives the
+/// word at the end of the text.
+pub fn confirm_text(alloc: Global, drawn: &DrawnNetwork, text: &[u8]) -> Result<EndWord, CheckStop>
+    ensures confirmed { IfOk result (IsSettledTo drawn.now text.now) }
     ensures whole { IsSettleText drawn.now true text.now → GivesSome result }
 {
     let mut buffer = LineBuffer::new(alloc, LINE_ROOM)?;
@@ -40,9 +42,9 @@ fn confirm_by(
     views: &Views,
     text: &[u8],
     buffer: &mut LineBuffer,
-) -> Result<(), CheckStop>
+) -> Result<EndWord, CheckStop>
     requires views { AreViewsOf drawn.now.net views.now }
-    ensures confirmed { OnOk result (IsSettleText drawn.now true text.now) }
+    ensures confirmed { IfOk result (IsSettledTo drawn.now text.now) }
     ensures whole { IsSettleText drawn.now true text.now → GivesSome result }
 {
     let net = drawn.network();
@@ -63,7 +65,7 @@ fn confirm_by(
             left: text.len() - place,
         });
     }
-    Ok(())
+    Ok(ending_of(drawn, &read.finding, &rows.found))
 }
 
 // The finding that was read, and the place after it.

@@ -1,9 +1,8 @@
 -- What a clean end says.
-use Rattle.std.proofs.Common.{◌≡◌, ◌==◌, ◌<◌, ◌+◌, ℕ, Bool, true, false, List, [], ◌∷◌, ◌++◌, length, All, refl, sym, subst, arith, inl, inr, ◌⊎◌}
+use Rattle.std.proofs.Common.{◌≡◌, ◌==◌, ◌<◌, ◌+◌, ℕ, Bool, true, false, List, [], ◌∷◌, ◌++◌, length, refl, sym, arith, inl, inr, ◌⊎◌}
 use Rattle.std.specs.Prelude.{if◌then◌else◌, count_by, map}
 use Rattle.std.specs.List.{AllZip, flat_map, list_all}
 use Rattle.std.proofs.lemmas.Bool.{eqb-true}
-use Rattle.std.proofs.lemmas.List.Elements.{All-cons}
 use Rattle.compose.specs.Design.{DesignView}
 use Rattle.drawn_networks.specs.Drawn.{Drawn}
 use Rattle.drawn_networks.specs.declared.row.Row.{Row}
@@ -16,7 +15,7 @@ use Rattle.job_lint.specs.declared.line.Line.TheVariants.{Never, OpenEnds, OpenR
 use Rattle.job_lint.specs.declared.lint_found.LintFound.{LintFound}
 use Rattle.job_lint.specs.declared.lint_found.LintFound.TheVariants as found
 use Rattle.job_lint.specs.declared.row_seen.RowSeen.{RowSeen}
-use Rattle.job_lint.specs.Clean.{CleanHasSearchedAll, HasSearchedAll, IsRowKnown}
+use Rattle.job_lint.specs.Clean.{AreRowsKnown, CleanHasSearchedAll, HasSearchedAll, IsRowKnown}
 use Rattle.job_lint.specs.Found.{AreRowsSeen, IsLintFound, IsRowSeen, has_order, is_row_open}
 use Rattle.job_lint.specs.Lines.{drawing_line, is_end_open, is_silenced, lines_of, narrow_lines, open_ends_line, other_lines, rests_on_order, row_place, row_line, row_lines}
 use Rattle.itv_base.proofs.Bools.{both_true}
@@ -46,28 +45,29 @@ module _ (plan : PlanView) (d : DesignView) (network : Drawn) where
       by_test true is e = eqb-true count 0 is
       by_test false is e = absurd (not_one silenced (OpenEnds count) refl e)
 
-  row_known : (number : ℕ) (row : Row) (seen : RowSeen) → list_all silenced (row_line network number row seen) ≡ true → IsRowKnown network seen
-  row_known number row seen e = by_order_of (rests_on_order network seen) refl (is_row_open seen) refl e
+  row_known : (number : ℕ) (row : Row) (seen : RowSeen) → list_all silenced (row_line network number row seen) ≡ true → IsRowKnown network row seen
+  row_known number row seen e = by_order_of (rests_on_order network row seen) refl (is_row_open seen) refl e
     where
-      by_order_of : (rests : Bool) → rests_on_order network seen ≡ rests → (left : Bool) → is_row_open seen ≡ left
-          → list_all silenced (if rests then Order number (row_place row) ∷ [] else (if left then OpenRow number (row_place row) ∷ [] else [])) ≡ true → IsRowKnown network seen
+      by_order_of : (rests : Bool) → rests_on_order network row seen ≡ rests → (left : Bool) → is_row_open seen ≡ left
+          → list_all silenced (if rests then Order number (row_place row) ∷ [] else (if left then OpenRow number (row_place row) ∷ [] else [])) ≡ true → IsRowKnown network row seen
       by_order_of true is left also e = inl is
       by_order_of false is true also e = absurd (not_one silenced (OpenRow number (row_place row)) refl e)
       by_order_of false is false also e = inr also
 
   rows_known : (number : ℕ) (rows : List Row) (seen : List RowSeen) → AllZip (IsRowSeen network) rows seen → list_all silenced (row_lines network number rows seen) ≡ true
-      → All (IsRowKnown network) seen
-  rows_known number [] [] are e = λ k d within. absurd (omega arith)
+      → AllZip (IsRowKnown network) rows seen
+  rows_known number [] [] are e = are
   rows_known number [] (f ∷ others) are e = absurd are
-  rows_known number (row ∷ rows) [] are e = λ k d within. absurd (omega arith)
+  rows_known number (row ∷ rows) [] are e = absurd are
   rows_known number (row ∷ rows) (f ∷ others) are e =
       let parts = all_parts silenced (row_line network number row f) (row_lines network (number + 1) rows others) e in
-      All-cons (IsRowKnown network) f others (row_known number row f parts.0) (rows_known (number + 1) rows others are.1 parts.1)
+      (row_known number row f parts.0, rows_known (number + 1) rows others are.1 parts.1)
 
   -- where no constraint keeps an order, there are no rows
-  rows_by : (has : Bool) (seen : List RowSeen) → AreRowsSeen has network seen → list_all silenced (row_lines network 0 network.rows seen) ≡ true → All (IsRowKnown network) seen
+  rows_by : (has : Bool) (seen : List RowSeen) → AreRowsSeen has network seen → list_all silenced (row_lines network 0 network.rows seen) ≡ true
+      → AreRowsKnown has network seen
   rows_by true seen are e = rows_known 0 network.rows seen are e
-  rows_by false seen none e = subst (All (IsRowKnown network)) (sym none) (λ k d within. absurd (omega arith))
+  rows_by false seen none e = none
 
   -- ---- what is found
 

@@ -4,3 +4,4 @@ pub mod Lining
 pub mod Texting
 pub mod Whole
 pub mod Cleaning
+pub mod Copying

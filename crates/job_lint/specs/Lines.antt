@@ -1,12 +1,15 @@
 -- Which lines job lint has, according to the warnings of the drawing and to what the searches find.
-use Rattle.std.specs.Prelude.{ℕ, ℤ, ◌+◌, ◌==◌, ◌&&◌, ◌||◌, Bool, true, false, if◌then◌else◌, List, [], ◌∷◌, ◌++◌, Option, Some, None, option_and_then, unwrap_or, slice_get, codes, map, nat_eq, count_by}
+use Rattle.std.specs.Prelude.{ℕ, ℤ, ◌+◌, ◌==◌, ◌&&◌, ◌||◌, Bool, true, false, if◌then◌else◌, List, [], ◌∷◌, ◌++◌, Option, Some, None, option_and_then, unwrap_or, slice_get, codes, is_some, map, nat_eq, count_by}
 use Rattle.std.specs.List.{ends_with, flat_map, list_all, list_any}
 use Rattle.std.specs.Option.{option_map_or}
 use Rattle.std.specs.Str.{bytes_eq}
+use Rattle.itv_base.specs.Range.{Ends}
 use Rattle.itv_base.specs.declared.names.EdgeName.{EdgeName}
 use Rattle.itv_base.specs.declared.names.EventId.{EventId}
 use Rattle.itv_base.specs.declared.names.Side.{Side}
 use Rattle.itv_base.specs.declared.names.Side.TheVariants.{Lower, Upper}
+use Rattle.itv_base.specs.declared.row_kind.RowKind.{RowKind}
+use Rattle.itv_base.specs.declared.row_kind.RowKind.TheVariants as kinds
 use Rattle.event_graph.specs.declared.edge.Edge.{Edge}
 use Rattle.origin.specs.declared.origin.Origin.{Origin}
 use Rattle.origin.specs.declared.origin.Origin.TheVariants as drawn
@@ -97,9 +100,21 @@ is_by_order by_order.Yes = true
 is_by_order by_order.No = false
 is_by_order by_order.Open = false
 
--- the answer of a row rests on the order of a lane: a chain behind one of its bounds uses it, or its requirement passes because of that order alone
-abbrev pub rests_on_order : Drawn → RowSeen → Bool
-rests_on_order network found = goes_over network found.greatest || (goes_over network found.least || is_by_order found.passes)
+-- a range has an end on a side
+abbrev pub has_end : Side → Ends → Bool
+has_end Upper range = is_some range.high
+has_end Lower range = is_some range.low
+
+-- a bound of a row is judged: of a question both are, and of a requirement those on whose side it has an end
+abbrev pub is_judged : Side → RowKind → Bool
+is_judged side kinds.Ask = true
+is_judged side (kinds.Req range) = has_end side range
+
+-- The answer of a row rests on the order of a lane: a chain for a bound of it that is judged uses it, or its requirement passes because of that order
+-- alone.
+abbrev pub rests_on_order : Drawn → Row → RowSeen → Bool
+rests_on_order network row found =
+    (is_judged Upper row.kind && goes_over network found.greatest) || ((is_judged Lower row.kind && goes_over network found.least) || is_by_order found.passes)
 
 abbrev pub row_place : Row → DrawnAt
 row_place row = record { event = row.from; origin = row.origin }
@@ -107,7 +122,7 @@ row_place row = record { event = row.from; origin = row.origin }
 -- the line of a row: its answer rests on the order of a lane; or else, a search for it was left open
 abbrev pub row_line : Drawn → ℕ → Row → RowSeen → List Line
 row_line network number row found =
-    if rests_on_order network found then Order number (row_place row) ∷ [] else (if is_row_open found then OpenRow number (row_place row) ∷ [] else [])
+    if rests_on_order network row found then Order number (row_place row) ∷ [] else (if is_row_open found then OpenRow number (row_place row) ∷ [] else [])
 
 -- the lines of rows; the first row has this number
 abbrev pub row_lines : Drawn → ℕ → List Row → List RowSeen → List Line
@@ -171,12 +186,9 @@ lines_of d network warnings found =
 
 -- ---- lines that are meant
 
--- the note of an edge of a sheet or of the netlist ends with `(meant)`; nothing else can say so
+-- the note of an edge of a sheet or of the netlist, or the name of the net of a pin, ends with `(meant)`; a lane has no note
 abbrev pub is_meant : PlanView → List ℕ → Origin → Bool
-is_meant plan part (drawn.Edge n) = ends_with nat_eq (plan_note plan part (drawn.Edge n)) (codes "(meant)")
-is_meant plan part (drawn.Wire n) = ends_with nat_eq (plan_note plan part (drawn.Wire n)) (codes "(meant)")
-is_meant plan part (drawn.Lane n) = false
-is_meant plan part (drawn.Pin net pin) = false
+is_meant plan part origin = ends_with nat_eq (plan_note plan part origin) (codes "(meant)")
 
 abbrev pub is_spot_meant : PlanView → DesignView → DrawnPlace → Bool
 is_spot_meant plan d spot = is_meant plan (part_word d spot.part) spot.origin
@@ -184,18 +196,19 @@ is_spot_meant plan d spot = is_meant plan (part_word d spot.part) spot.origin
 abbrev pub is_place_meant : PlanView → Drawn → DrawnAt → Bool
 is_place_meant plan network at = is_meant plan (event_part network at.event) at.origin
 
--- an edge that a warning is about is meant
+-- an edge or a net that a warning is about is meant
 abbrev pub is_about_meant : PlanView → DesignView → About → Bool
 is_about_meant plan d (abouts.Place place) = is_spot_meant plan d place
 is_about_meant plan d (abouts.Two first other) = is_spot_meant plan d first || is_spot_meant plan d other
 is_about_meant plan d (abouts.Follows mark by) = is_spot_meant plan d by
 is_about_meant plan d (abouts.Driven mark by edge) = is_meant plan (part_word d mark.part) edge
+is_about_meant plan d (abouts.Net net) = is_meant plan [] (drawn.Pin net 0)
 is_about_meant plan d about = false
 
 abbrev pub is_warning_meant : PlanView → DesignView → Warning → Bool
 is_warning_meant plan d warning = can_be_meant warning.word && is_about_meant plan d warning.about
 
--- a line is silenced: an edge that it is about is meant
+-- a line is silenced: an edge or a net that it is about is meant
 abbrev pub is_silenced : PlanView → DesignView → Drawn → Line → Bool
 is_silenced plan d network (Drawing warning) = is_warning_meant plan d warning
 is_silenced plan d network (Narrow at side weight only) = is_place_meant plan network at

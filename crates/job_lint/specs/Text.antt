@@ -146,6 +146,7 @@ drivers_words plan d key mark first other =
 abbrev pub about_words : PlanView → DesignView → Word → About → List Word
 about_words plan d key abouts.Nothing = key ∷ []
 about_words plan d key (abouts.Place spot) = spot_words plan d key spot
+about_words plan d key (abouts.Mark mark) = key ∷ mark_word d mark ∷ []
 about_words plan d key (abouts.Two first other) = pair_words plan d key first other
 about_words plan d key (abouts.Follows mark by) = key ∷ mark_word d mark ∷ spot_word d by ∷ spot_told plan d by
 about_words plan d key (abouts.Driven mark by edge) = driven_words plan d key mark by edge

@@ -213,7 +213,7 @@ fn push_row(
         event: row.from,
         origin: row.origin,
     };
-    if rests_on_order(drawn, found) {
+    if rests_on_order(drawn, row, found) {
         return Ok(lines.push(Line::Order { number, at })?);
     }
     if is_row_open(found) {

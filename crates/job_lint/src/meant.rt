@@ -68,6 +68,7 @@ fn is_about_meant(plan: &Plan, design: &Design<'_>, about: &About) -> bool
         About::Driven { mark, edge, .. } => {
             is_meant(plan, part_word(design, u64::from(mark.part)), *edge)
         }
+        About::Net(net) => is_meant(plan, "", Origin::Pin { net: *net, pin: 0 }),
         _ => false,
     }
 }
@@ -84,14 +85,11 @@ fn is_place_meant(plan: &Plan, drawn: &DrawnNetwork, at: &DrawnAt) -> bool
     is_meant(plan, event_part(drawn, at.event), at.origin)
 }
 
-// Whether the note of an edge says that it is meant.
+// Whether the note of an edge, or the name of a net, says that it is meant.
 fn is_meant(plan: &Plan, part: &str, origin: Origin) -> bool
     ensures { result ≡ is_meant plan.now part.now origin }
 {
-    match origin {
-        Origin::Edge(_) | Origin::Wire(_) => ends_with_meant(plan.note(part, origin)),
-        Origin::Lane(_) | Origin::Pin { .. } => false,
-    }
+    ends_with_meant(plan.note(part, origin))
 }
 
 fn ends_with_meant(note: &str) -> bool

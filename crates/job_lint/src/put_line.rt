@@ -200,6 +200,7 @@ fn put_warning<K: Sink>(
     match &warning.about {
         About::Nothing => put_pieces(&[Piece::Key(key)], sink),
         About::Place(spot) => put_spot(plan, design, key, spot, sink),
+        About::Mark(mark) => put_pieces(&[Piece::Key(key), mark_piece(design, *mark)], sink),
         About::Two(first, other) => put_pair(plan, design, key, first, other, sink),
         About::Follows { mark, by } => put_follows(plan, design, key, *mark, by, sink),
         About::Driven { mark, by, edge } => {

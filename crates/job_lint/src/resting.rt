@@ -3,20 +3,42 @@
 ghost use Rattle.std.specs.Prelude.{◌≡◌};
 ghost use Rattle.std.specs.List.{list_any};
 ghost use Rattle.job_lint.specs.Found.{is_order_open, is_pair_open, is_row_open};
-ghost use Rattle.job_lint.specs.Lines.{goes_over, is_by_order, is_lane_edge, rests_on_order};
+ghost use Rattle.job_lint.specs.Lines.{goes_over, has_end, is_by_order, is_judged, is_lane_edge, rests_on_order};
 
 use crate::by_order::ByOrder;
 use crate::ends::origin_at;
 use crate::pair_seen::PairSeen;
 use crate::row_seen::RowSeen;
-use drawn_networks::DrawnNetwork;
-use itv_base::EdgeName;
+use drawn_networks::{DrawnNetwork, Row};
+use itv_base::{EdgeName, Range, RowKind, Side};
 
-/// Whether a chain behind a bound of a row goes over the order of a lane, or its requirement passes because of that order alone.
-pub fn rests_on_order(drawn: &DrawnNetwork, found: &RowSeen) -> bool
-    ensures rests { result ≡ rests_on_order drawn.now found.now }
+/// Whether a chain for a bound of a row that is judged goes over the order of a lane, or its requirement passes because of that order alone.
+pub fn rests_on_order(drawn: &DrawnNetwork, row: &Row, found: &RowSeen) -> bool
+    ensures rests { result ≡ rests_on_order drawn.now row.now found.now }
 {
-    goes_over(drawn, &found.greatest) || goes_over(drawn, &found.least) || is_by_order(found.passes)
+    (is_judged(Side::Upper, row.kind) && goes_over(drawn, &found.greatest))
+        || (is_judged(Side::Lower, row.kind) && goes_over(drawn, &found.least))
+        || is_by_order(found.passes)
+}
+
+// Whether a bound of a row is judged: of a question both are, and of a requirement those on whose side it has an end.
+fn is_judged(side: Side, kind: RowKind) -> bool
+    ensures { result ≡ is_judged side kind }
+{
+    match kind {
+        RowKind::Ask => true,
+        RowKind::Req(range) => has_end(side, range),
+    }
+}
+
+// Whether a range has an end on a side.
+fn has_end(side: Side, range: Range) -> bool
+    ensures { result ≡ has_end side range }
+{
+    match side {
+        Side::Upper => range.high().is_some(),
+        Side::Lower => range.low().is_some(),
+    }
 }
 
 // Whether a chain goes over the order of a lane.

@@ -13,6 +13,7 @@ use crate::designing::design_of;
 use crate::finding::find_all;
 use crate::line::Line;
 use crate::lines::lines_of;
+use crate::looking::look_at_periods;
 use crate::meant::is_clean;
 use crate::put_text::put_text;
 use compose::Design;
@@ -21,7 +22,7 @@ use drawn_networks::DrawnNetwork;
 use itv_base::{NoMemory, PutFailed, Sink};
 use job_base::{Answer, Unanswered};
 use line_words::LineBuffer;
-use lint::{push_heuristics, warnings_of};
+use lint::printed_warnings;
 use std::alloc::Global;
 
 // Room for most lines. A longer line is put piece by piece.
@@ -82,8 +83,8 @@ fn find_lines(
     requires most { budget ≤ MAX_BUDGET }
     ensures lines { IfOk result (λ lines. AreLintLines plan.now design.now drawn.now budget lines.items) }
 {
-    let mut warnings = warnings_of(alloc, plan, design)?;
-    push_heuristics(&mut warnings, design)?;
+    let given = printed_warnings(alloc, plan, design)?;
+    let warnings = look_at_periods(alloc, &given, drawn, design, budget)?;
     let found = find_all(alloc, drawn, budget)?;
     lines_of(alloc, design, drawn, &warnings, &found)
 }

@@ -10,6 +10,7 @@ pub enum About {
     /// The whole design.
     Nothing,
     Place(DrawnPlace),
+    Mark(DesignMark),
     /// Two places. The earlier rule stands first.
     Two(DrawnPlace, DrawnPlace),
     /// A mark, and what it follows.

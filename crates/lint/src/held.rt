@@ -68,8 +68,8 @@ fn push_by(warnings: &mut Vec<Warning>, lead: &Lead, rule: Option<&Rule>) -> Res
     Ok(())
 }
 
-// The first rule of a sheet that bounds a mark from below alone, where the rule looks like a requirement.
-fn rule_below(sheet: &Sheet, mark: u32) -> Option<&Rule>
+/// The first rule of a sheet that bounds a mark from below alone, where the rule looks like a requirement.
+pub fn rule_below(sheet: &Sheet, mark: u32) -> Option<&Rule>
     ensures { option_copied result ≡ rule_below sheet.now mark }
 {
     let rules = sheet.rules().as_slice();
@@ -120,7 +120,8 @@ fn is_any_low_alone(causes: &[RuleCause]) -> bool
     causes.iter().any(|cause| is_low_alone(cause))
 }
 
-fn is_low_alone(cause: &RuleCause) -> bool
+/// Whether a cause of a rule bounds its target from below alone.
+pub fn is_low_alone(cause: &RuleCause) -> bool
     ensures { result ≡ is_low_alone cause.now }
 {
     cause.range.low().is_some() && cause.range.high().is_none()

@@ -87,7 +87,8 @@ fn same_home(a: DrawnPlace, b: DrawnPlace) -> bool
     }
 }
 
-fn same_range(a: Range, b: Range) -> bool
+/// Whether two ranges have the same ends.
+pub fn same_range(a: Range, b: Range) -> bool
     ensures { result ≡ same_range a b }
 {
     same_end(a.low(), b.low()) && same_end(a.high(), b.high())

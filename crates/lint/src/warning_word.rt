@@ -33,6 +33,20 @@ pub enum WarningWord {
     Own,
     /// A mark follows a driver by a pin or by an edge of the netlist, and an edge of its own sheet holds it from below alone, as a requirement does.
     Held,
+    /// The text of an edge is that of an earlier edge of its sheet or of the netlist, and is no comment.
+    Again,
+    /// The wave of a lane has ended at a mark, and draws something at an earlier mark.
+    Wave,
+    /// An edge of the netlist carries a rise of a part to a fall of another part, or a fall to a rise.
+    Kinds,
+    /// A net joins two pins of one part.
+    Itself,
+    /// A net has no delay, and most nets of the netlist have one. A net of clocks alone has no warning.
+    Delay,
+    /// A requirement of the netlist begins or ends before the net into the part that it is about.
+    Before,
+    /// Two marks that a rule holds together within a cycle have periods of their own, and these differ.
+    Tied,
 }
 
 impl WarningWord {
@@ -54,6 +68,13 @@ impl WarningWord {
             WarningWord::Drivers => b"drivers",
             WarningWord::Own => b"own",
             WarningWord::Held => b"held",
+            WarningWord::Again => b"again",
+            WarningWord::Wave => b"wave",
+            WarningWord::Kinds => b"kinds",
+            WarningWord::Itself => b"self",
+            WarningWord::Delay => b"delay",
+            WarningWord::Before => b"before",
+            WarningWord::Tied => b"tied",
         }
     }
 
@@ -66,7 +87,13 @@ impl WarningWord {
             | WarningWord::Both
             | WarningWord::Single
             | WarningWord::Period
-            | WarningWord::Own => true,
+            | WarningWord::Own
+            | WarningWord::Again
+            | WarningWord::Kinds
+            | WarningWord::Itself
+            | WarningWord::Delay
+            | WarningWord::Before
+            | WarningWord::Tied => true,
             WarningWord::Rows
             | WarningWord::Arrows
             | WarningWord::Comment
@@ -74,7 +101,8 @@ impl WarningWord {
             | WarningWord::Note
             | WarningWord::Key
             | WarningWord::Drivers
-            | WarningWord::Held => false,
+            | WarningWord::Held
+            | WarningWord::Wave => false,
         }
     }
 }

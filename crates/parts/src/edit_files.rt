@@ -49,8 +49,8 @@ fn put_read(alloc: Global, drawn: &DrawnNetwork, bytes: &[u8], out: &mut Out) {
     }
 }
 
-// The drawn network of a subject.
-fn drawn_of(alloc: Global, subject: &str) -> Option<DrawnNetwork> {
+/// The drawn network of a subject.
+pub fn drawn_of(alloc: Global, subject: &str) -> Option<DrawnNetwork> {
     match ShelfMem::new(alloc) {
         Ok(mut shelf) => {
             let drawn = draw(alloc, subject, &mut shelf);

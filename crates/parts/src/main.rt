@@ -13,6 +13,7 @@ mod edit_files;
 mod explaining;
 mod falls;
 mod labels;
+mod measured;
 mod networks;
 mod out;
 mod proof_lines;
@@ -146,6 +147,8 @@ fn answer_row(alloc: Global, verb: &str, subject: &str, row: &str, out: &mut Out
         "raise" => verdicts::raise(row, out),
         "lanes" => closures::lanes(alloc, row, out),
         "edits" => edit_files::edits(alloc, subject, row, out),
+        "times" => measured::times(alloc, row, out),
+        "measure" => measured::measure(alloc, subject, row, out),
         "no memory" => networks::no_memory(out),
         _ => answer_row_over(alloc, verb, subject, row, out),
     }

@@ -6,7 +6,7 @@ returns c = record {
   lines = IfOk-weaker c.lines_of.result _ _
       (λ lines are. record {
         is_design = c.requires.design;
-        warnings = c.deref.result.now;
+        warnings = c.deref-2.result.now;
         found = c.in_ok-found.found;
         is_found = c.in_ok-found.ensures.found;
         settles = c.in_ok-found.ensures.settles;

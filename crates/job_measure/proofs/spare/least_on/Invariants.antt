@@ -1,0 +1,8 @@
+use Rattle.std.proofs.Common.{◌≡◌, take}
+use Rattle.job_measure.specs.Looks.{times_of}
+use Rattle.job_measure.specs.Spare.{least_on}
+use Rattle.job_measure.proofs.spare.least_on.Given as goal
+
+-- the least of the causes so far
+abbrev pub invariant-loop-cause : goal.invariant-loop-cause
+invariant-loop-cause l = l.least ≡ least_on l.side (times_of l.run) l.target (take l.cause-index l.causes)
