@@ -1,6 +1,7 @@
 //! A design.
 
-ghost use Rattle.std.specs.Prelude.{◌≡◌, ◌<◌, Some, length, slice_get};
+ghost use Rattle.std.specs.Prelude.{◌≡◌, ◌<◌, ◌≤◌, Some, length, slice_get};
+ghost use Rattle.itv_base.specs.declared.limits.TheConstants.{MAX_CYCLES};
 ghost use Rattle.compose.specs.Design.{IsDesign};
 
 use crate::joins::Joins;
@@ -74,5 +75,29 @@ impl<'a> Design<'a> {
         ensures rows { result.now ≡ self.now.rows }
     {
         &self.rows
+    }
+
+    /// The same design over another number of cycles.
+    pub fn over(self, cycles: u32) -> Design<'a>
+        requires some { 1 ≤ cycles }
+        requires most { cycles ≤ MAX_CYCLES }
+        ensures design { result ≡ record self.entry { cycles = cycles } }
+    {
+        let Design {
+            cycles: _,
+            parts,
+            sheets,
+            joins,
+            rules,
+            rows,
+        } = self;
+        Design {
+            cycles,
+            parts,
+            sheets,
+            joins,
+            rules,
+            rows,
+        }
     }
 }

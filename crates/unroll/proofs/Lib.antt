@@ -6,5 +6,6 @@ pub mod OriginLists
 pub mod NameLists
 pub mod BetweenLists
 pub mod ReachLists
+pub mod WholeCycle
 pub mod DrawnSteps
 pub mod Examples

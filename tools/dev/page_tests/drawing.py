@@ -1,6 +1,7 @@
 """Tests of the drawing under the hand, of what is kept, and of a designer's whole way."""
 import json
 import re
+import time
 
 from web_designs import sixteen_parts, text_of
 
@@ -216,7 +217,9 @@ def rows_that_are_alike_are_one_line(page):
     board = {"itv": 1, "cycles": 1, "parts": [{"name": name, "sheet": "s.json"} for name in "ABCD"], "nets": [], "edges": []}
     page.open_files("board.json", {"board.json": json.dumps(board), "s.json": json.dumps(sheet)})
     lines = "[...document.querySelectorAll('table.rows tbody tr')].filter(line => line.offsetParent !== null).length"
-    assert page.browser.evaluate(lines) == 1 and "4 of 4" in page.sentence(), page.sentence()
+    for width in (500, 1280):
+        page.browser.resize(width, 900)
+        assert page.browser.evaluate(lines) == 1 and "4 of 4" in page.sentence(), (width, page.sentence())
     page.browser.click("button.unfold")
     assert page.browser.evaluate(lines) == 4 and page.browser.evaluate("document.activeElement.getAttribute('aria-expanded')") == "true"
     page.browser.evaluate("document.querySelector('tbody.alike a').click()")
@@ -304,8 +307,10 @@ def draw_board(page):
         fill_form(page, "net-form", title=name, high=most)
     page.browser.screenshot(f"{page.folder}/board.png")
     page.browser.click("[data-mode=join]")
+    # Two clicks, and no double click, which would rename the mark.
     for _ in range(2):
         page.browser.click("svg.drawing[data-file='sheet.json'] [data-mark=c]")
+        time.sleep(0.7)
     fill_form(page, "edge-form", place="board", low="8", high="8", note="125 MHz")
     board = json.loads(page.text_of("board.json"))
     assert board["nets"] == [{"name": "DATA", "pins": ["SHEET.DATA", "RX.DATA"], "delay": [0, 500]}, {"name": "CLOCK", "pins": ["SHEET.CLK", "RX.CLK"], "delay": [0, 0]}], board
@@ -322,7 +327,7 @@ def a_designers_whole_way(page):
     page.browser.click("#job-tabs [data-id=why]")
     page.browser.wait_for("document.getElementById('job').innerText.includes('tCO')")
     page.browser.click("#job-tabs [data-id=bounds]")
-    room = "document.querySelector('tr[data-key=\"sheet.json edge 0\"] .room').innerText.replace(/\\s+/g, ' ')"
+    room = "document.querySelector('tr[data-key=\"sheet.json edge 0\"] .room').innerText.replace(/\\s+/g, ' ').trim()"
     assert page.browser.evaluate(room) == "-0.5 max at most 5.5", page.browser.evaluate(room)
     assert "117.6 MHz" in page.browser.evaluate("document.getElementById('clocks').innerText")
     edit_cell(page, "sheet.json edge 0", "high", "5.5")

@@ -122,7 +122,7 @@ def margins_are_those_of_the_program(page):
     """As job margin prints them in docs/jobs.md of a design with these numbers, and by hand: 1,400 ps below 25,000 ps the clock is at 42.37 MHz."""
     page.open_numbers(BUS)
     rows = page.browser.evaluate("Object.fromEntries([...document.querySelectorAll('.numbers tr[data-key]')].map(tr => [tr.dataset.key, "
-                                 "tr.querySelector('.room').innerText.replace(/\\s+/g, ' ')]))")
+                                 "tr.querySelector('.room').innerText.replace(/\\s+/g, ' ').trim()]))")
     assert rows["examples/cpu.json edge 0"] == "1.4 max up to 9.4", rows
     assert rows["examples/sram-grades.json grade m12 tACE"] == "2.4 max up to 14.4", rows
     assert rows["examples/cpu.json edge 2"] == "✓ 1.4" and rows[BUS + " net 1"].startswith("2.4"), rows
@@ -144,7 +144,7 @@ def numbers_that_are_one_text_are_one_line(page):
     assert page.browser.evaluate(f"{line}.numbers") == ["P edge 0", "P edge 1", "Q edge 0", "Q edge 1"]
     # 4 delays of at most 4 ns are 16 ns of 20 ns: each may be 1 ns longer if all are.
     assert page.browser.evaluate(f"{line}.margins.up.by") == 1000, page.browser.evaluate(f"JSON.stringify({line}.margins)")
-    shown = page.browser.evaluate("document.querySelector('tr[data-key=\"s.json grade g tPD\"] .room').innerText.replace(/\\s+/g, ' ')")
+    shown = page.browser.evaluate("document.querySelector('tr[data-key=\"s.json grade g tPD\"] .room').innerText.replace(/\\s+/g, ' ').trim()")
     assert shown == "1 all 4 up to 5", shown
 
 
