@@ -635,7 +635,7 @@ class Answer:
     said: list
 
 
-UNPROVED = "UNPROVED: this program was built here without any proof of it; itv --prove proves it"
+UNPROVED = "UNPROVED: this program was built here without a proof; itv --prove proves it"
 
 
 class Program:

@@ -1,4 +1,4 @@
-"""Writes docs/gate.md: the measured runs of the gate, by kind, by the clock and by crate.
+"""Writes docs/gate.md: what the gate costs now, by kind and by crate.
 
 The last section of the page, from the line `BY_HAND` on, is written by hand and is kept as it stands.
 """
@@ -11,24 +11,20 @@ BY_HAND = "## Where the minutes go"
 
 HEAD = """# The cost of the gate
 
-`rt ci` from nothing proves each crate, tries its must-fail edits, and runs the programs. This page says what that costs in processor
-minutes, the user and system time of all processes. A processor minute is worth what the processor is. So what a change saves is given as a ratio of two
-runs. `bench/gate.py` runs the gate, keeps what it measured in `bench/gates/now.json`, and writes this page from there. Only the last section is
-written by hand.
+`rt ci` from nothing proves each crate, tries its must-fail edits and runs the programs. This page says what that costs now, in processor minutes: the
+user and system time of all processes. Minutes compare only on one machine, so the effect of a change is given as a ratio of two runs.
+`bench/gate.py` writes this page from `bench/gates/now.json`. Only the last section is written by hand.
 
 | need | command |
 |---|---|
-| to measure the gate from nothing, and write this page | `bench/gate.py` |
-| to measure some crates and those below them, and print their table | `bench/gate.py NAME ..` |
-| to write this page from what was measured | `bench/gate.py --page` |
-| to compare two runs crate by crate | `bench/gate.py --ratio bench/gates/before.json bench/gates/now.json` |
+| measure the gate from nothing, and write this page | `bench/gate.py` |
+| measure some crates and those below them, and print their table | `bench/gate.py NAME ..` |
+| write this page from what was measured | `bench/gate.py --page` |
+| compare two runs crate by crate | `bench/gate.py --ratio OLD NEW` |
 """
 
-CLOCK = """## By the clock
-
-The minutes that a run took by the clock, and those that a model of the order in which `rt ci` works gives for it. The model knows the crates that a
-crate stands on, and the minutes of the tables below. It knows nothing of memory, and nothing of other work on the machine.
-"""
+# How many crates the page lists: those that cost most.
+MOST_LISTED = 20
 
 
 def minutes(seconds):
@@ -53,50 +49,49 @@ def seconds_of(crate):
     return sum(crate[kind] for kind in measuring.KINDS)
 
 
-def by_crate(run):
-    """The table of a run by crate, the dearest crate first."""
-    rows = []
-    for name, crate in sorted(run["crates"].items(), key=lambda item: -seconds_of(item[1])):
+def by_crate(run, most=None):
+    """The table of a run by crate, the dearest crate first: all crates, or the dearest ones."""
+    crates = sorted(run["crates"].items(), key=lambda item: -seconds_of(item[1]))
+    rows, listed = [], crates[:most]
+    for name, crate in listed:
         cells = [minutes(crate[kind]) for kind in measuring.KINDS]
         rows.append([f"`{name}`", *cells, str(crate["number_of_edits"]), minutes(seconds_of(crate))])
     sums = [sum_of(run, kind) for kind in measuring.KINDS]
     number = sum(crate["number_of_edits"] for crate in run["crates"].values())
-    rows.append(["the rest", *[""] * 4, minutes(run["whole"] - sum(sums))])
+    others = f"{len(crates) - len(listed)} other crates" if listed != crates else "the rest"
+    rows.append([others, *[""] * 4, minutes(run["whole"] - sum(seconds_of(crate) for _, crate in listed))])
     rows.append(["**all**", *map(minutes, sums), str(number), minutes(run["whole"])])
     return table(["crate", "proof", "edits", "tests", "number of edits", "minutes"], rows)
 
 
-def runs_table(runs):
-    """The table of the runs: where each was made, and its sums."""
+def run_table(run, before):
+    """The run: where it was made, its sums, and its ratio to the run before."""
     lines = [
-        ("machine", lambda run: run["machine"]),
-        ("processors", lambda run: str(run["processors"])),
-        ("toolchain", lambda run: f"`{run['toolchain']}`"),
-        ("date", lambda run: run["date"]),
-        ("commit", lambda run: f"`{run['commit']}`"),
-        ("crates", lambda run: str(len(run["crates"]))),
-        ("must-fail edits", lambda run: str(sum(crate["number_of_edits"] for crate in run["crates"].values()))),
-        *((f"{kind}, processor minutes", lambda run, kind=kind: minutes(sum_of(run, kind))) for kind in measuring.KINDS),
-        ("all, processor minutes", lambda run: minutes(run["whole"])),
-        ("other work on the machine meanwhile, processor minutes", lambda run: "not measured" if run["others"] is None else minutes(run["others"])),
+        ("machine", run["machine"]),
+        ("toolchain", f"`{run['toolchain']}`"),
+        ("date and commit", f"{run['date']}, `{run['commit']}`"),
+        ("crates", str(len(run["crates"]))),
+        ("must-fail edits", str(sum(crate["number_of_edits"] for crate in run["crates"].values()))),
+        *((f"{kind}, processor minutes", minutes(sum_of(run, kind))) for kind in measuring.KINDS),
+        ("all, processor minutes", minutes(run["whole"])),
+        ("other work on the machine meanwhile, processor minutes", "not measured" if run["others"] is None else minutes(run["others"])),
+        (f"minutes by the clock on {run['processors']} processors", minutes(run["clock"])),
+        *((f"the same by the model of `bench/gates/schedule.py` on {number}", by_model(run, number)) for number in sorted({2, run["processors"]}, reverse=True)),
     ]
-    return table(["run", *runs], [[what, *(said(run) for run in runs.values())] for what, said in lines])
+    if before:
+        lines.append(("processor minutes as a ratio to the run of `bench/gates/before.json`", ratio_of(before["whole"], run["whole"])))
+    return table(["the run", ""], lines)
 
 
-def clock_table(runs):
-    """The minutes of the runs by the clock, measured and by the model."""
-    measured = [("measured", [f"{minutes(run['clock'])} on {run['processors']}" for run in runs.values()])]
-    numbers = sorted({2, 4} | {run["processors"] for run in runs.values()}, reverse=True)
-    modelled = lambda number: [minutes(schedule.seconds_by_the_clock(run["crates"], number)) for run in runs.values()]
-    by_model = [(f"by the model on {number}", modelled(number)) for number in numbers]
-    return table(["minutes", *runs], [[what, *cells] for what, cells in measured + by_model])
+def by_model(run, number):
+    return minutes(schedule.seconds_by_the_clock(run["crates"], number))
 
 
 def page_of(runs, by_hand):
-    """The page of some runs by their names, with what is written by hand at its end."""
-    notes = "".join("\n" + textwrap.fill(f"The run *{name}*. {run['note']}", 158) + "\n" for name, run in runs.items() if run["note"])
-    parts = [HEAD, "## The runs\n\n" + runs_table(runs) + notes, CLOCK + "\n" + clock_table(runs)]
-    parts += [f"## By crate, {name}\n\n" + by_crate(run) for name, run in reversed(runs.items())]
+    """The page of the run *now*, with what is written by hand at its end."""
+    run = runs["now"]
+    note = "\n" + textwrap.fill(run["note"], 158) + "\n" if run["note"] else ""
+    parts = [HEAD, "## The run\n\n" + run_table(run, runs.get("before")) + note, "## By crate\n\n" + by_crate(run, MOST_LISTED)]
     return "\n".join([*parts, by_hand])
 
 

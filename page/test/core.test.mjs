@@ -116,7 +116,7 @@ test("a sheet takes the name by which the netlist calls it, and keeps its line e
 });
 
 test("each word of a warning that the documents name has a sentence", () => {
-  const table = textOf("docs/report.md").split("\n## Warnings\n")[1].split("\n## ")[0];
+  const table = textOf("docs/jobs.md").split("\n## lint\n")[1].split("\n## ")[0];
   const words = new Set([...table.matchAll(/^\| `warning (\w+)/gm)].map(([, word]) => word));
   assert.ok(words.size > 15, String(words.size));
   assert.deepEqual([...words].filter((word) => !Object.hasOwn(WARNINGS, word)), []);

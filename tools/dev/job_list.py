@@ -1,4 +1,4 @@
-"""The jobs of a program, read from its help: their one list stands in crates/command_words/src/job_word.rt."""
+"""The jobs of a program, read from its help: their one list is in crates/command_words/src/job_word.rt."""
 import re
 import subprocess
 from dataclasses import dataclass

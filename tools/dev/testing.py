@@ -1,6 +1,7 @@
 """What the tests of this folder in Python share: running a command, files of a test, and running the tests.
 
-A test is a function without arguments that asserts. `main` runs those that it is given, prints a line for each that fails, and last 'N passed, M failed'.
+A test is a function that asserts, without arguments or with one that is made for it, such as a folder. `main` runs those that it is given, prints a line for each
+that fails or is skipped, and last 'N passed, M failed'.
 """
 import functools
 import io
@@ -79,22 +80,28 @@ def read(name, folder=TOP):
 
 def equal(found, wanted):
     """Fails with both values if they differ."""
-    assert found == wanted, f"\n  found  {found!r}\n  wanted {wanted!r}"
+    assert found == wanted, f"\n  found    {found!r}\n  expected {wanted!r}"
 
 
-def failure(test):
-    """Why a test fails, or None if it passes."""
-    try:
-        test()
-    except Exception as error:  # a test that stops in any way has failed
-        return f"{test.__name__}: {type(error).__name__}: {error}"
-    return None
+class Skipped(Exception):
+    """Why a test can't be made on this machine."""
 
 
-def main(tests):
-    """Runs the tests. The exit status: 0 if all pass."""
-    failures = [text for text in map(failure, tests) if text]
-    for text in failures:
-        print(text)
-    print(f"{len(tests) - len(failures)} passed, {len(failures)} failed")
-    return 1 if failures else 0
+def main(tests, given=None):
+    """Runs the tests, each with the value of the context that `given()` makes for it, if it is there. The exit status: 0 if none fails."""
+    passed = failed = 0
+    for test in tests:
+        try:
+            if given:
+                with given() as value:
+                    test(value)
+            else:
+                test()
+            passed += 1
+        except Skipped as why:
+            print(f"skipped: {test.__name__.replace('_', ' ')}: {why}")
+        except Exception as error:  # a test that stops in any way has failed
+            failed += 1
+            print(f"{test.__name__}: {type(error).__name__}: {error}")
+    print(f"{passed} passed, {failed} failed")
+    return 1 if failed else 0

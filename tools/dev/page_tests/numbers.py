@@ -119,7 +119,7 @@ def what_is_not_a_time_stays_in_the_cell(page):
 
 
 def margins_are_those_of_the_program(page):
-    """As job margin prints them in docs/report.md of a design with these numbers, and by hand: 1,400 ps below 25,000 ps the clock is at 42.37 MHz."""
+    """As job margin prints them in docs/jobs.md of a design with these numbers, and by hand: 1,400 ps below 25,000 ps the clock is at 42.37 MHz."""
     page.open_numbers(BUS)
     rows = page.browser.evaluate("Object.fromEntries([...document.querySelectorAll('.numbers tr[data-key]')].map(tr => [tr.dataset.key, "
                                  "tr.querySelector('.room').innerText.replace(/\\s+/g, ' ').trim()]))")
