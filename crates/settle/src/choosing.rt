@@ -18,10 +18,10 @@ struct Candidate {
 }
 
 impl Engine {
-    /// Chooses a side of an earliest constraint that the bounds of the times break. It takes the constraint whose sides were needed most lately; of two with
-    /// equal need, the constraint whose target has the least value. Of that constraint it takes the side that is broken least. If they break no earliest
-    /// constraint, they are times. If no block is allowed, the search rests. Now and then it takes back all choices. If it has then learnt many clauses, half of
-    /// them go.
+    /// Chooses a side of an earliest constraint that the bounds of the times break. It takes the constraint whose sides were needed most lately, of those
+    /// sides that may still hold; of two with equal need, the constraint whose target has the least value. Of that constraint it takes the side that is broken
+    /// least. If they break no earliest constraint, they are times. If no block is allowed, the search rests. Now and then it takes back all choices. If it has
+    /// then learnt many clauses, half of them go.
     pub fn choose(&mut self) -> Result<Proposal, NoMemory> {
         let Some(candidate) = self.facts.first_candidate(&self.activity) else {
             return Ok(Proposal::Times);
@@ -71,8 +71,8 @@ impl Facts {
         first
     }
 
-    // The side of an earliest constraint that is broken least and may hold, with the greatest need of its sides and with the value of its target. None if
-    // some side is met or no side may hold.
+    // Of the sides of an earliest constraint that may hold, the side that is broken least, with the greatest need of these sides and with the value of the
+    // target. None if some side is met or no side may hold.
     fn broken_side(&self, rule: BoundRule, activity: &Activity) -> Option<Candidate> {
         let mut least: Option<Candidate> = None;
         let mut need = 0;
@@ -84,8 +84,8 @@ impl Facts {
                 return None;
             }
             let side = way.side?;
-            need = activity.of(side.side()).max(need);
             if !self.trail.has(side.opposite()) {
+                need = activity.of(side.side()).max(need);
                 least = earlier(
                     least,
                     Candidate {
