@@ -38,6 +38,8 @@ export class Analysis {
     this.warnings = [];
     this.why = new Why("");
     this.settled = false;
+    /** The capture that is open beside the design, what it shows of the answer, and which of its lines is drawn; null where there is none. */
+    this.capture = this.measured = this.shownLine = null;
   }
 
   /** Runs a job, once, and gives what it printed with its status and its words. */

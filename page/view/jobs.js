@@ -3,6 +3,7 @@
 import { nameOf } from "../core/answer.js";
 import { blocksOf, edgeLink, originLink } from "./answer_pane.js";
 import { drawingOf } from "../draw/drawing.js";
+import { measuredPane } from "./measured_pane.js";
 import { Sheet, isNetlist } from "../core/design.js";
 import { Matrix, Report, marginsOf } from "../core/output_parser.js";
 import { boundText, escaped, escapedText, inUnit } from "../core/texts.js";
@@ -24,6 +25,7 @@ export function jobTabs(analysis, jobs) {
     { id: "redraw", label: "broken times (redraw)", shown: fails },
     { id: "matrix", label: "all pairs (matrix)", shown: Boolean(analysis.report) },
     { id: "lint", label: "warnings (lint)", shown: Boolean(analysis.report) },
+    { id: "measured", label: "measured", shown: Boolean(analysis.report && analysis.capture) },
   ].filter((tab) => tab.shown);
 }
 
@@ -40,6 +42,7 @@ export function rawOf(printed, isOpen = false) {
 
 /** What is under a tab, of an analysis in which this job has been run, as blocks: a name and a part of a page each. */
 export function paneOf(analysis, job) {
+  if (job === "measured") return [[job, measuredPane(analysis)]];
   const printed = analysis.texts.get(job);
   const shown = { why: whyPane, settle: settlePane, redraw: redrawPane, matrix: matrixPane, margin: marginPane }[job];
   const isRaw = !shown || (job === "why" && !analysis.report);
