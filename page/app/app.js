@@ -231,14 +231,14 @@ export class App {
   }
 
   beginSheet(name) {
-    this.files.put(name, NEW_SHEET);
-    this.showFile(name);
+    this.showFile(this.edited.begin(name, NEW_SHEET));
     this.begin();
   }
 
-  /** A text has changed: it is answered when no key follows for a moment. */
+  /** A text has changed, or a file was begun: it is answered when no key follows for a moment. */
   hasChanged() {
     this.draft.keepSoon();
+    if (!this.files.find(this.current)) this.showFile(this.files.design);
     this.showFileTabs();
     this.answers.beginSoon();
   }
@@ -256,9 +256,7 @@ export class App {
   }
 
   openRedraw() {
-    const name = this.files.put(`${stemOf(this.files.design)}-redraw.json`, this.analysis.texts.get("redraw").text);
-    this.files.design = name;
-    this.showFile(name);
+    this.showFile(this.edited.begin(`${stemOf(this.files.design)}-redraw.json`, this.analysis.texts.get("redraw").text, { isDesign: true, isChanged: false }));
     this.begin();
   }
 

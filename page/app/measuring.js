@@ -1,7 +1,6 @@
 // A capture that was opened beside the design: it is read, and each answer is compared with it.
 
-import { Capture, Measured } from "../core/capture.js";
-import { Matrix, isExact } from "../core/output_parser.js";
+import { Capture } from "../core/capture.js";
 import { readTyped } from "../core/typed.js";
 import { Ended } from "./runner.js";
 
@@ -51,7 +50,6 @@ export class Measuring {
     const { analysis } = this.app;
     if (!analysis || !analysis.report) return;
     const held = document.activeElement instanceof HTMLInputElement || document.activeElement instanceof HTMLSelectElement ? document.activeElement.name : "";
-    analysis.measured = null;
     try {
       await this.find(analysis);
     } catch (error) {
@@ -66,14 +64,10 @@ export class Measuring {
   }
 
   /** Finds what the capture shows of an answer. */
-  async find(analysis) {
+  find(analysis) {
     analysis.capture = this.capture;
     analysis.shownLine = this.shown;
-    if (!this.capture || !this.capture.trace || !analysis.report) return;
-    const { status, text } = await analysis.run("matrix");
-    const matrix = analysis.matrix || (status === 0 && isExact(text) ? new Matrix(text) : null);
-    const { tree } = analysis.reads[0];
-    analysis.measured = new Measured(this.capture, analysis, tree.nets || [], matrix);
+    return analysis.findMeasured();
   }
 
   /** Draws the first broken run of a line. */

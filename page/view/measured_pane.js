@@ -8,6 +8,8 @@ import { svgOf } from "../draw/picture.js";
 const SIGNS = { fail: "✗ broken", near: "? near", unseen: "? not seen", pass: "✓ kept" };
 /** The class of a verdict, as those of rows are. */
 const KINDS = { fail: "fail", near: "undecided", unseen: "undecided", pass: "pass" };
+/** The place of lines that are kept, or that ask, after the others. */
+const RANK_OF_OTHERS = 4;
 const CLOCK_UNITS = ["ps", "ns", "us", "ms", "s"];
 
 /** What the capture shows of the answer, as a part of a page: of its lines one is drawn, the one that is broken first where none was chosen. */
@@ -37,17 +39,25 @@ function answerOf(measured, unit) {
 
 // The table.
 
+/** The lines: broken ones first, then those that are near and those that were not seen. */
 function tableOf(measured, unit) {
-  const heads = ["rule or requirement", "drawn", "computed"].map((head) => `<th scope="col">${head}</th>`).join("");
-  const numbers = ["least measured", "greatest measured", "least slack"].map((head) => `<th scope="col" class="number">${head}</th>`).join("");
-  const lines = measured.lines.map((line, number) => lineOf(line, number, unit)).join("\n");
-  return `<div class="table-box"><table class="measured"><thead><tr>${heads}${numbers}<th scope="col">verdict</th></tr></thead><tbody>${lines}</tbody></table></div>`;
+  const heads = ["rule or requirement", "allowed", "computed"].map((head) => `<th scope="col">${head}</th>`).join("");
+  const numbers = ["least", "greatest", "slack"].map((head) => `<th scope="col" class="number" title="as measured">${head}</th>`).join("");
+  const rank = ({ verdict }) => ["fail", "near", "unseen"].indexOf(verdict) + 1 || RANK_OF_OTHERS;
+  const inOrder = measured.lines.map((line, number) => ({ line, number })).sort((a, b) => rank(a.line) - rank(b.line));
+  const lines = inOrder.map(({ line, number }) => lineOf(line, number, unit)).join("\n");
+  return `<div class="table-box"><table class="rows measured"><thead><tr>${heads}${numbers}<th scope="col">verdict</th></tr></thead><tbody>${lines}</tbody></table></div>`;
 }
 
-/** A number with the run that shows it, which draws the run. */
-function foundCell(found, number, unit) {
-  if (!found || found.value === Infinity) return "<td></td>";
-  return `<td class="number">${inUnit(found.value, unit)}<small>run ${found.run}</small></td>`;
+/** A number with the run that shows it. */
+function foundCell(found, kind, unit) {
+  if (!found || found.value === Infinity) return `<td class="number"></td>`;
+  return `<td class="number ${kind}">${together(inUnit(found.value, unit))}<small>run ${found.run}</small></td>`;
+}
+
+/** A text whose numbers stay beside their units. */
+function together(text) {
+  return text.replace(/ (?=(?:s|ms|us|ns|ps)\b)/g, "&nbsp;");
 }
 
 function lineOf(line, number, unit) {
@@ -56,13 +66,13 @@ function lineOf(line, number, unit) {
   const kind = { late: "the latest decides", early: "the earliest decides", ask: "a question", req: "a requirement", lin: "a rule" }[line.kind];
   const drawn = isLinear ? (line.kind === "ask" ? "" : demandedText(line.range, unit)) : `${line.constraints[0].causes.length} causes`;
   const computed = entry ? `${boundText(entry.row.bounds.min, unit)} to ${boundText(entry.row.bounds.max, unit)}` : "";
-  const separations = isLinear ? foundCell(tally.least, number, unit) + foundCell(tally.greatest, number, unit) : "<td></td><td></td>";
+  const separations = isLinear ? foundCell(tally.least, "least", unit) + foundCell(tally.greatest, "greatest", unit) : '<td class="number"></td><td class="number"></td>';
   const count = verdict === "fail" ? `${tally.broken} of ${counted(tally.seen, "run")}` : verdict === "unseen" ? "" : counted(tally.seen, "run");
   const draw = verdict === "fail" ? `<button type="button" class="small draw-run" data-line="${number}">draw run ${tally.first}</button>` : "";
   const said = verdict === null ? "" : `${SIGNS[verdict]}`;
   return (
-    `<tr class="${verdict ? KINDS[verdict] : "ask"}"><th scope="row">${name}<small>${kind}</small></th><td>${drawn}</td><td>${computed}</td>${separations}` +
-    `${verdict === null ? "<td></td>" : foundCell(tally.slack, number, unit)}<td class="verdict verdict-${verdict ? KINDS[verdict] : ""}">${said}<small>${count}</small>${draw}</td></tr>`
+    `<tr class="${verdict ? KINDS[verdict] : "ask"}"><th scope="row">${name}<small>${kind}</small></th><td class="demand">${together(drawn)}</td><td class="computed">${together(computed)}</td>${separations}` +
+    `${verdict === null ? '<td class="number"></td>' : foundCell(tally.slack, "slack", unit)}<td class="verdict verdict-${verdict ? KINDS[verdict] : ""}">${said}<small>${count}</small>${draw}</td></tr>`
   );
 }
 
