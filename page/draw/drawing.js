@@ -7,7 +7,7 @@ import { EVEN_BRICKS, runsOf } from "../core/waves.js";
 
 // A brick is as wide as WaveDrom draws it, and wider if the drawing has room for that.
 const BRICK = 40;
-const WIDEST_BRICK = 96;
+const WIDEST_BRICK = 128;
 const WANTED_WIDTH = 640;
 const LANE = 44;
 const TOP = 20;
@@ -193,7 +193,7 @@ function putLabel(canvas, text, bent, { marks, taken }) {
 
 /** The places where the label of an arc may be: boxes with what each costs by itself. */
 function labelPlaces(canvas, text, bent) {
-  const [whole, cut] = [fitted(text, LABEL_MOST), fitted(text, CUT_LABEL)];
+  const [whole, cut] = [fitted(text, Math.min(LABEL_MOST, canvas.width - canvas.left - PAD)), fitted(text, CUT_LABEL)];
   const texts = whole === cut ? [[whole, 0]] : [[whole, 0], [cut, CUT]];
   return texts.flatMap(([shown, cost]) =>
     LABEL_PLACES.map(([share, aside], number) => {
