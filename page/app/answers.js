@@ -17,6 +17,9 @@ const WAIT = 20;
 const SHOWN_AFTER = 300;
 // After how many milliseconds the bounds are drawn without their steps.
 const EARLY = 60;
+// After how many milliseconds of comparing with a capture the page waits before the next time, and how long.
+const LONG = 50;
+const REST = 300;
 // The tabs for which no further job is run.
 const OWN = ["bounds", "measured"];
 // After how many milliseconds the answer to an earlier text fades.
@@ -111,10 +114,13 @@ export class Answers {
     if (await analysis.findWindows()) fillFigures(analysis, byId("job"));
   }
 
-  /** Finds what the capture that is open shows of the answer. */
+  /** Finds what the capture that is open shows of the answer, if its tab is shown. What takes long waits until no key follows. */
   async findMeasured(analysis) {
-    if (!analysis.capture) return;
-    await this.app.measuring.find(analysis);
+    const { measuring } = this.app;
+    if (!analysis.capture || this.job !== "measured") return;
+    if (measuring.spent > LONG) await new Promise((done) => setTimeout(done, REST));
+    if (this.pending !== analysis) return;
+    await measuring.find(analysis);
     if (this.job === "measured") this.showJob();
   }
 
@@ -220,7 +226,8 @@ export class Answers {
     if (!this.analysis) return;
     this.job = job;
     this.showJobTabs();
-    if (job === "settle" || OWN.includes(job)) this.showJob();
+    if (job === "measured") await this.app.measuring.again();
+    else if (job === "settle" || job === "bounds") this.showJob();
     else await this.runShown();
   }
 

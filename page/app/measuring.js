@@ -16,6 +16,8 @@ export class Measuring {
     this.capture = null;
     /** The number of the line whose run is drawn; null for the one that is broken first. */
     this.shown = null;
+    /** How long the last comparison took, in milliseconds. */
+    this.spent = 0;
   }
 
   /** Why a file is not read as a capture; empty where it may be. */
@@ -64,10 +66,12 @@ export class Measuring {
   }
 
   /** Finds what the capture shows of an answer. */
-  find(analysis) {
+  async find(analysis) {
     analysis.capture = this.capture;
     analysis.shownLine = this.shown;
-    return analysis.findMeasured();
+    const began = performance.now();
+    await analysis.findMeasured();
+    this.spent = performance.now() - began;
   }
 
   /** Draws the first broken run of a line. */

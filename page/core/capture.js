@@ -2,7 +2,7 @@
 
 import { Tracks, runsIn } from "./measured.js";
 import { constraintsOf, rulesOf } from "./rules.js";
-import { lookAt, tallyOf, verdictOf } from "./separations.js";
+import { lookAt, numbered, tallyOf, verdictOf } from "./separations.js";
 import { TraceFault, traceOf } from "./traces.js";
 
 /** How a capture is read at first. `within` and `shortest` are picoseconds: how much a rule may be missed by, and how long a value has to last. `unit` is that of the
@@ -97,7 +97,7 @@ export class Measured {
   caseOf(line, run) {
     const times = this.runs[run - 1];
     const looks = line.constraints.flatMap((constraint) => {
-      const look = lookAt(constraint, (event) => times[this.numbers.get(event)]);
+      const look = lookAt(numbered(constraint, this.numbers), times);
       return look ? [{ constraint, look }] : [];
     });
     const { constraint, look } = looks.sort((a, b) => a.look.slack - b.look.slack)[0];

@@ -14,20 +14,34 @@ function spares({ low, high }, separation) {
   return { low: low === null ? Infinity : separation - low, high: high === null ? Infinity : high - separation };
 }
 
-/** What a run shows of a constraint: its separations, its slack, the side that has it, and the number of the cause that decides there. Null where an event was not seen.
+/** A constraint with the numbers of its events in place of their names.
+ * @param {Constraint} constraint
+ * @param {Map<string, number>} numbers */
+export function numbered({ kind, end, causes }, numbers) {
+  return { kind, end: numbers.get(end), causes: causes.map(({ event, low, high }) => ({ event: numbers.get(event), low, high })) };
+}
+
+/** What a run shows of a numbered constraint: its separations, its slack, the side that has it, and the number of the cause that decides there. Null where an event was
+ * not seen.
  *
  * The low end of a latest rule binds each cause, and its high end the cause that leaves most. Of an earliest rule it is the other way round.
- * @param {Constraint} constraint
- * @param {(event: string) => number | null | undefined} timeOf */
-export function lookAt({ kind, end, causes }, timeOf) {
-  const target = timeOf(end) ?? null;
-  const times = causes.map(({ event }) => timeOf(event) ?? null);
-  if (target === null || times.includes(null)) return null;
-  const separations = times.map((time) => target - time);
+ * @param {ReturnType<typeof numbered>} constraint
+ * @param {(number | null)[]} times */
+export function lookAt({ kind, end, causes }, times) {
+  const target = times[end];
+  if (target === null || causes.some(({ event }) => times[event] === null)) return null;
+  const separations = causes.map(({ event }) => target - times[event]);
+  if (causes.length === 1) return lookAtOne(causes[0], separations);
   const sides = causes.map((cause, number) => spares(cause, separations[number]));
   const [low, high] = ["low", "high"].map((side) => decider(sides.map((spare) => spare[side]), kind === (side === "low" ? "early" : "late")));
   const side = low.spare < high.spare ? "low" : "high";
   return { separations, side, slack: Math.min(low.spare, high.spare), cause: (side === "low" ? low : high).number };
+}
+
+/** The same of a constraint with one cause, which most have. */
+function lookAtOne(cause, separations) {
+  const { low, high } = spares(cause, separations[0]);
+  return { separations, side: low < high ? "low" : "high", slack: Math.min(low, high), cause: 0 };
 }
 
 /** The cause that decides a side: the one that leaves most, or the one that leaves least. */
@@ -45,8 +59,9 @@ function decider(all, isMost) {
 export function tallyOf(constraints, runs, numbers, within = 0) {
   /** @type {Tally} */
   const tally = { seen: 0, broken: 0, near: 0, first: null, slack: null, least: null, greatest: null };
+  const all = constraints.map((constraint) => numbered(constraint, numbers));
   runs.forEach((times, place) => {
-    const looks = constraints.map((constraint) => lookAt(constraint, (event) => times[numbers.get(event)])).filter((look) => look);
+    const looks = all.map((constraint) => lookAt(constraint, times)).filter((look) => look);
     if (looks.length) take(tally, looks, place + 1, within);
   });
   return tally;

@@ -8,7 +8,7 @@ import { AS_IT_IS, Capture, Measured, isCapture } from "../core/capture.js";
 import { Design } from "../core/design.js";
 import { Matrix, Report } from "../core/output_parser.js";
 import { constraintsOf, rulesOf } from "../core/rules.js";
-import { lookAt, tallyOf, verdictOf } from "../core/separations.js";
+import { lookAt, numbered, tallyOf, verdictOf } from "../core/separations.js";
 import { program, textOf } from "./program.mjs";
 
 const itv = await program();
@@ -64,27 +64,27 @@ test("a tolerance forgives what is less, and what is near is said", { skip: !itv
 
 // By the definitions of docs/drawing.md: causes at 0 and 10 with [2,5] and [1,8]; a latest rule allows 11 to 18, an earliest rule 2 to 5 and up to 18.
 const CAUSES = [{ event: "a", low: 2, high: 5 }, { event: "b", low: 1, high: 8 }];
-const at = (time) => (event) => ({ a: 0, b: 10, e: time })[event];
+const NUMBERS = new Map([["a", 0], ["b", 1], ["e", 2]]);
+const lookFor = (rule, time) => lookAt(numbered(rule, NUMBERS), [0, 10, time]);
 
 test("a latest rule is kept by the cause that decides", () => {
   const rule = { kind: "late", end: "e", causes: CAUSES };
   for (const [time, slack, cause] of [[11, 0, 1], [10, -1, 1], [18, 0, 1], [21, -3, 1], [14, 3, 1]]) {
-    const look = lookAt(rule, at(time));
+    const look = lookFor(rule, time);
     assert.deepEqual([look.slack, look.cause], [slack, cause], `${time}`);
   }
 });
 
 test("an earliest rule is kept by the cause that decides", () => {
   const rule = { kind: "early", end: "e", causes: CAUSES };
-  for (const [time, slack] of [[2, 0], [1, -1], [5, 0], [7, -2], [3, 1]]) assert.equal(lookAt(rule, at(time)).slack, slack, `${time}`);
+  for (const [time, slack] of [[2, 0], [1, -1], [5, 0], [7, -2], [3, 1]]) assert.equal(lookFor(rule, time).slack, slack, `${time}`);
 });
 
 test("what was not seen is not judged", () => {
   const rule = { kind: "late", end: "e", causes: CAUSES };
-  const numbers = new Map([["a", 0], ["b", 1], ["e", 2]]);
-  const tally = tallyOf([rule], [[0, null, 99], [0, 10, 18], [0, 10, 20], [0, 10, 25]], numbers, 1);
+  const tally = tallyOf([rule], [[0, null, 99], [0, 10, 18], [0, 10, 20], [0, 10, 25]], NUMBERS, 1);
   assert.deepEqual([tally.seen, tally.near, tally.broken, tally.first, tally.slack], [3, 1, 2, 3, { value: -7, run: 4 }]);
-  assert.equal(verdictOf(tallyOf([rule], [[0, null, 99]], numbers)), "unseen");
+  assert.equal(verdictOf(tallyOf([rule], [[0, null, 99]], NUMBERS)), "unseen");
 });
 
 test("rules are joined by their mark and tag, and are in the cycles of all their causes", () => {
