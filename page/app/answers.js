@@ -17,6 +17,11 @@ const WAIT = 20;
 const SHOWN_AFTER = 300;
 // After how many milliseconds the bounds are drawn without their steps.
 const EARLY = 60;
+// After how many milliseconds of comparing with a capture the page waits before the next time, and how long.
+const LONG = 50;
+const REST = 300;
+// The tabs for which no further job is run.
+const OWN = ["bounds", "measured"];
 // After how many milliseconds the answer to an earlier text fades.
 const LATE = 200;
 
@@ -62,12 +67,14 @@ export class Answers {
     this.app.numbers.stop();
     this.app.runner.end();
     const analysis = new Analysis(this.app.runner, this.app.files, this.app.chosenUnit);
+    analysis.capture = this.app.measuring.capture;
     this.pending = analysis;
     this.fadeLater();
     this.showProgress();
     try {
       await this.find(analysis);
       await this.findMore(analysis);
+      await this.findMeasured(analysis);
     } catch (error) {
       if (!(error instanceof Ended)) throw error;
       if (this.pending === analysis) this.showStopped();
@@ -100,11 +107,21 @@ export class Answers {
     if (analysis.report.isOpen && (await analysis.settle())) this.show(analysis);
     else if (analysis.warnings.length) this.show(analysis);
     const isShown = jobTabs(analysis, this.app.jobs).some(({ id }) => id === this.job);
-    if (isShown && this.job !== "bounds" && (this.job !== "settle" || analysis.report.isOpen)) {
+    if (isShown && !OWN.includes(this.job) && (this.job !== "settle" || analysis.report.isOpen)) {
       await analysis.run(this.job);
       this.showJob();
     }
     if (await analysis.findWindows()) fillFigures(analysis, byId("job"));
+  }
+
+  /** Finds what the capture that is open shows of the answer, if its tab is shown. What takes long waits until no key follows. */
+  async findMeasured(analysis) {
+    const { measuring } = this.app;
+    if (!analysis.capture || this.job !== "measured") return;
+    if (measuring.spent > LONG) await new Promise((done) => setTimeout(done, REST));
+    if (this.pending !== analysis) return;
+    await measuring.find(analysis);
+    if (this.job === "measured") this.showJob();
   }
 
   /** Runs the job whose tab is shown, and shows what it printed. */
@@ -209,12 +226,15 @@ export class Answers {
     if (!this.analysis) return;
     this.job = job;
     this.showJobTabs();
-    if (job === "settle") this.showJob();
+    if (job === "measured") await this.app.measuring.again();
+    else if (job === "settle" || job === "bounds") this.showJob();
     else await this.runShown();
   }
 
   showJob() {
     const pane = byId("job");
+    // Until an answer is compared with the capture, that of the answer before stays.
+    if (this.job === "measured" && !this.analysis.measured && this.analysis.capture.trace) return;
     // What was folded or opened by hand stays so while the same design is edited.
     const of = `${this.job} ${this.analysis.name}`;
     const isRefused = this.analysis.refusal && this.job === "bounds";

@@ -1,5 +1,6 @@
 // The page at work: which files are open, which of them is shown, and the parts of the page that work on them.
 
+import { isCapture } from "../core/capture.js";
 import { isNetlist, sheetNames } from "../core/design.js";
 import { Files, NEW_SHEET, lastPart } from "../core/files.js";
 import { jobsOf } from "../core/output_parser.js";
@@ -20,6 +21,7 @@ import { Draft } from "./draft.js";
 import { Edited } from "./edited.js";
 import { stemOf } from "./export.js";
 import { FirstScreen } from "./first_screen.js";
+import { Measuring } from "./measuring.js";
 import { NumbersTab } from "./numbers_tab.js";
 import { Parts } from "./parts.js";
 
@@ -61,6 +63,7 @@ export class App {
     this.editor = new Editor(CodeMirror, byId("editor"), (name, text, origin) => this.edited.take(name, text, origin));
     this.edited = new Edited(this.files, this.editor, () => this.hasChanged());
     this.answers = new Answers(this);
+    this.measuring = new Measuring(this);
     this.current = "";
     this.jobs = [];
     this.view = "numbers";
@@ -134,6 +137,7 @@ export class App {
   open({ design, files, changed = [], current = design }) {
     this.draft.beforeReplacing();
     this.compare.take(null);
+    this.measuring.forget();
     this.answers.forget();
     byId("examples").value = this.examples.files[design] === files[design] ? design : "";
     this.files.replace(files, design);
@@ -178,10 +182,19 @@ export class App {
     this.open({ design: name, files });
   }
 
-  /** Takes files that were chosen or dropped. A page's own saved design is not read here. */
+  /** Takes files that were chosen or dropped: designs, and a capture to compare the design with. */
   async take(list) {
+    const isGiven = (file) => !Measuring.faultOf(file);
+    for (const file of [...list].filter((each) => !isGiven(each))) this.say(Measuring.faultOf(file));
+    const texts = await Promise.all([...list].filter(isGiven).map(async (file) => [file.name, await file.text()]));
+    const [captures, designs] = [true, false].map((is) => texts.filter(([name, text]) => isCapture(name, text) === is));
+    if (designs.length) await this.takeDesigns(designs);
+    for (const [name, text] of captures.slice(-1)) await this.measuring.open(name, text);
+  }
+
+  /** Takes files of designs, which are pairs of a name and a text. */
+  async takeDesigns(texts) {
     const opened = [];
-    const texts = await Promise.all([...list].map(async (file) => [file.name, await file.text()]));
     // Netlists come first, so that sheets take the names by which they are called.
     const isSheet = (file) => Number(!/"?\bitv"?\s*:/.test(file[1]));
     const inOrder = [...texts].sort((a, b) => isSheet(a) - isSheet(b));
@@ -192,7 +205,7 @@ export class App {
     for (const [name, text] of inOrder) opened.push(this.files.put(name, text));
     for (const name of opened) this.edited.forget(name);
     if (opened.length) this.showFile(isFresh ? this.files.design : opened[0]);
-    this.begin();
+    await this.begin();
   }
 
   // The files.
@@ -218,14 +231,14 @@ export class App {
   }
 
   beginSheet(name) {
-    this.files.put(name, NEW_SHEET);
-    this.showFile(name);
+    this.showFile(this.edited.begin(name, NEW_SHEET));
     this.begin();
   }
 
-  /** A text has changed: it is answered when no key follows for a moment. */
+  /** A text has changed, or a file was begun: it is answered when no key follows for a moment. */
   hasChanged() {
     this.draft.keepSoon();
+    if (!this.files.find(this.current)) this.showFile(this.files.design);
     this.showFileTabs();
     this.answers.beginSoon();
   }
@@ -243,9 +256,7 @@ export class App {
   }
 
   openRedraw() {
-    const name = this.files.put(`${stemOf(this.files.design)}-redraw.json`, this.analysis.texts.get("redraw").text);
-    this.files.design = name;
-    this.showFile(name);
+    this.showFile(this.edited.begin(`${stemOf(this.files.design)}-redraw.json`, this.analysis.texts.get("redraw").text, { isDesign: true, isChanged: false }));
     this.begin();
   }
 

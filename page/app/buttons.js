@@ -87,7 +87,11 @@ export class Buttons {
     byId("job").addEventListener("change", (event) => {
       const choice = event.target.closest(".lane-choice");
       if (choice) app.answers.chooseLanes(chosenIn(choice));
+      if (event.target.closest("form.capture")) app.measuring.take(event.target);
     });
+    byId("job").addEventListener("submit", (event) => event.preventDefault());
+    this.when("button.draw-run", ({ dataset }) => app.measuring.draw(Number(dataset.line)));
+    this.when("button.close-capture", () => app.measuring.close());
     this.when("button.run-job", () => app.answers.runShown());
     document.addEventListener("click", (event) => this.click(event));
   }

@@ -28,7 +28,8 @@ export class Parts {
     return board && board.name === this.app.current ? board : null;
   }
 
-  /** Adds a part to the netlist, or makes one of the design, which is a sheet, and the new part. The part's sheet is begun if there is none of its name. */
+  /** Adds a part to the netlist, or makes one of the design, which is a sheet, and the new part, as one step. The part's sheet is begun if there is none of its
+   * name. */
   add(name) {
     const { board } = this;
     const first = this.app.files.design;
@@ -37,28 +38,28 @@ export class Parts {
       this.app.say(BAD_NAME);
       return;
     }
-    const sheet = this.beginSheet(board ? board.name : first, name);
-    if (board) this.app.edited.change(board.name, addPart(board, name, sheet));
-    else this.makeBoard([[nameForSheet(first), first], [name, sheet]]);
+    const sheet = sheetBeside(board ? board.name : first, name);
+    this.app.edited.together(() => {
+      if (!this.app.files.find(sheet)) this.app.edited.begin(sheet, NEW_SHEET);
+      if (board) this.app.edited.change(board.name, addPart(board, name, sheet));
+      else this.app.edited.begin(this.nameOfBoard(), boardText([[nameForSheet(first), first], [name, sheet]]), { isDesign: true });
+    });
     this.app.showFile(board ? board.name : this.app.files.design);
     this.app.begin();
     this.app.say(`part ${name} has the sheet ${sheet}`);
   }
 
-  /** The name of the sheet of a new part, which is beside a file, and begun if it is not there. */
-  beginSheet(beside, name) {
-    const sheet = `${beside.slice(0, beside.lastIndexOf("/") + 1)}${name.toLowerCase()}.json`;
-    const { files } = this.app;
-    if (!files.find(sheet)) files.find(files.put(sheet, NEW_SHEET)).changed = true;
-    return sheet;
-  }
-
-  makeBoard(parts) {
+  /** The name of a new netlist, which is beside the design, and which no file has. */
+  nameOfBoard() {
     const { files } = this.app;
     const folder = files.design.slice(0, files.design.lastIndexOf("/") + 1);
     let name = `${folder}board.json`;
     for (let count = 2; files.find(name); count++) name = `${folder}board${count}.json`;
-    files.find(files.put(name, boardText(parts))).changed = true;
-    files.design = name;
+    return name;
   }
+}
+
+/** The name of the sheet of a new part, which is beside a file. */
+function sheetBeside(file, part) {
+  return `${file.slice(0, file.lastIndexOf("/") + 1)}${part.toLowerCase()}.json`;
 }

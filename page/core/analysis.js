@@ -1,6 +1,7 @@
 // What is found of a design after a key press: the runs of the program, one job after another, and what they say together.
 
 import { entriesOf, unitOf } from "./answer.js";
+import { Measured } from "./capture.js";
 import { Design } from "./design.js";
 import { Matrix, Report, Why, isExact, warningsOf } from "./output_parser.js";
 import { placeOfFault, reasonIn } from "./refusals.js";
@@ -38,6 +39,8 @@ export class Analysis {
     this.warnings = [];
     this.why = new Why("");
     this.settled = false;
+    /** The capture that is open beside the design, what it shows of the answer, and which of its lines is drawn; null where there is none. */
+    this.capture = this.measured = this.shownLine = null;
   }
 
   /** Runs a job, once, and gives what it printed with its status and its words. */
@@ -121,6 +124,16 @@ export class Analysis {
     const { status, text } = await this.run("matrix");
     this.matrix = status === 0 && isExact(text) ? new Matrix(text) : null;
     return this.matrix !== null;
+  }
+
+  /** Finds what the capture shows, if one is open that is understood. */
+  async findMeasured() {
+    const { capture } = this;
+    this.measured = null;
+    if (!capture || !capture.trace || !this.report) return;
+    const { status, text } = await this.run("matrix");
+    const matrix = status === 0 && isExact(text) ? new Matrix(text) : null;
+    this.measured = new Measured(capture, this, this.reads[0].tree.nets || [], matrix);
   }
 
   /** Lets job settle go on where the search by cases ended too early. Whether it knows more. */

@@ -27,8 +27,9 @@ export class Entry {
     this.row = row;
     this.drawn = drawn;
     this.cycles = [drawn.cycle];
-    /** The numbers of its rows. */
+    /** The numbers of its rows, and their events. */
     this.rows = [row.number];
+    this.ends = [{ start: row.start, end: row.end }];
     this.design = design;
   }
 
@@ -109,6 +110,7 @@ export function entriesOf(design, report) {
     if (entries.has(key)) {
       entries.get(key).cycles.push(drawn[number].cycle);
       entries.get(key).rows.push(number);
+      entries.get(key).ends.push({ start: row.start, end: row.end });
     } else entries.set(key, new Entry(design, row, drawn[number]));
   });
   return [...entries.values()].sort((first, second) => compareRanks(first.rank, second.rank));

@@ -1,7 +1,7 @@
 // Edits of a netlist that a hand makes: its parts and their grades, its nets, and its edges. As in edits.js each gives the changes of the text, and null where
 // the edit can't be made.
 
-import { appended, member, put } from "./edits.js";
+import { appended, member, put, withoutItems } from "./edits.js";
 import { lastPart } from "./files.js";
 
 /** @typedef {import("./edits.js").Change} Change */
@@ -91,6 +91,16 @@ export function netDrivenBy(read, pin) {
  * @returns {Change[] | null} */
 export function addWire(read, text) {
   return addTo(read, "edges", JSON.stringify(text));
+}
+
+/** Takes a net or an edge of the netlist away, given by what it is and its number. Null where there is none.
+ * @param {Read} read
+ * @param {"net" | "edge"} what
+ * @param {number} number
+ * @returns {Change[] | null} */
+export function removeOfBoard(read, what, number) {
+  const list = read.value && read.value.kind === "object" ? read.value.get(what === "net" ? "nets" : "edges") : null;
+  return list && list.kind === "array" && list.items[number] ? withoutItems(read, list, [number]) : null;
 }
 
 /** Adds an item to a list of the netlist, which is begun where there is none. */

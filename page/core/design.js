@@ -3,8 +3,8 @@
 // It is made of a design that the program has accepted, so nothing is refused here. Events and rows are made in the program's order, and whoever
 // uses them compares them with those of its report. A sheet that the program refuses can be drawn alone: what has no right form is passed over.
 
-const LABEL = /^@(lin|late|early|req|ask)(?:\+(\d+))?(?::\w+)?(?: ([^]*))?$/;
-const RANGE = /^(?:\[[^\] ]*\]|\$\w+)(?: ([^]*))?$/;
+const LABEL = /^@(lin|late|early|req|ask)(?:\+(\d+))?(?::(\w+))?(?: ([^]*))?$/;
+const RANGE = /^(?:\[([^\] ]*)\]|\$(\w+))(?: ([^]*))?$/;
 
 /** The text under a key; empty where it is missing or no text. */
 function textIn(tree, key) {
@@ -19,6 +19,12 @@ function isObject(value) {
 /** The elements of a list; none where it is not a list. */
 function listOf(value) {
   return Array.isArray(value) ? value : [];
+}
+
+/** The two ends of a range, null for an open one; null where a value has not this form. */
+function endsOf(list) {
+  const isEnds = Array.isArray(list) && list.length === 2 && list.every((end) => end === null || Number.isSafeInteger(end));
+  return isEnds ? { low: list[0], high: list[1] } : null;
 }
 
 /** A lane of a sheet: its outermost group, its name, what it is called, its wave, its marks as places and characters, and the texts of its bus values.
@@ -36,7 +42,9 @@ export class Lane {
   }
 }
 
-/** An edge: its whole text, its number, its marks, its shape, and of its label the kind, the cycles between the marks, and the note. */
+/** An edge: its whole text, its number, its marks, its shape, and of its label the kind, the cycles between the marks, the tag, the ends of the range and the note.
+ *
+ * `ends` are the two ends in picoseconds, null for an open one; it is null where the range is a parameter's, or where the label has none. */
 export class Edge {
   constructor(text, number, start, end, shape, label) {
     this.text = text;
@@ -48,11 +56,13 @@ export class Edge {
     const match = LABEL.exec(label);
     this.kind = match ? match[1] : null;
     this.shift = match ? Number(match[2] || 0) : 0;
-    const rest = match ? match[3] || "" : "";
-    const range = RANGE.exec(rest);
-    this.note = this.kind === "ask" || !range ? rest : range[1] || "";
+    this.tag = (match && match[3]) || "";
+    const rest = match ? match[4] || "" : "";
+    const range = this.kind === "ask" ? null : RANGE.exec(rest);
+    this.note = range ? range[3] || "" : rest;
+    this.ends = range && range[1] !== undefined ? endsOf(range[1].split(",").map((word) => (word === "*" ? null : Number(word)))) : null;
     // A number with a name is called by it where the edge has no note.
-    this.parameter = this.kind !== "ask" && rest.startsWith("$") ? rest.split(" ")[0].slice(1) : "";
+    this.parameter = (range && range[2]) || "";
   }
 
   /** What the edge is called; empty where nothing names it. */
@@ -103,15 +113,22 @@ function titleIn(tree, key) {
   return isObject(tree[key]) ? textIn(tree[key], "text") : "";
 }
 
-/** A sheet: its lanes in the order in which they are drawn, its edges, its head and foot, and how many bricks wide it is. */
+/** A sheet: its lanes in the order in which they are drawn, its edges, its speed grades, its head and foot, and how many bricks wide it is. */
 export class Sheet {
   constructor(tree) {
     this.lanes = lanesIn(listOf(tree.signal));
     this.edges = listOf(tree.edge).map((text, number) => sheetEdge(String(text), number));
+    this.grades = isObject(tree.itv_grades) ? tree.itv_grades : {};
     this.title = titleIn(tree, "head");
     this.foot = titleIn(tree, "foot");
     const ends = this.lanes.flatMap((lane) => [lane.wave.length, ...lane.marks.map(({ place }) => place + 1)]);
     this.bricks = Math.max(1, ...ends);
+  }
+
+  /** The ends of the range of an edge, whose parameters have their values in a speed grade. Null where it has none. */
+  endsOf(edge, grade) {
+    const values = Object.hasOwn(this.grades, grade) && isObject(this.grades[grade]) ? this.grades[grade] : {};
+    return edge.parameter && Object.hasOwn(values, edge.parameter) ? endsOf(values[edge.parameter]) : edge.ends;
   }
 }
 
@@ -146,7 +163,7 @@ export class Design {
     const gradeOf = (part) => (tree.itv === 2 ? textIn(part, "grade") : "");
     this.parts = tree.parts.map((part) => ({ name: part.name, sheet: sheets.get(part.sheet), file: part.sheet, grade: gradeOf(part) }));
     this.wires = listOf(tree.edges).map((text, number) => wireEdge(String(text), number));
-    this.nets = listOf(tree.nets).map((net) => ({ name: textIn(net, "name"), pins: listOf(net.pins) }));
+    this.nets = listOf(tree.nets).map((net) => ({ name: textIn(net, "name"), pins: listOf(net.pins), ends: endsOf(net.delay) || { low: 0, high: 0 } }));
   }
 
   /** Where each event is drawn, by its name and in the program's order: its part, lane and cycle as numbers, its brick and its mark. */

@@ -7,13 +7,19 @@ import { EVEN_BRICKS, runsOf } from "../core/waves.js";
 
 // A brick is as wide as WaveDrom draws it, and wider if the drawing has room for that.
 const BRICK = 40;
-const WIDEST_BRICK = 96;
+const WIDEST_BRICK = 128;
 const WANTED_WIDTH = 640;
 const LANE = 44;
 const TOP = 20;
-// The places along an arc where its label may be, and how far beside it, the best ones first.
-const ALONG = [0.5, 0.4, 0.6, 0.3, 0.7, 0.2, 0.8];
-const LABEL_PLACES = [...ALONG.map((share) => [share, 0]), ...ALONG.flatMap((share) => [[share, -14], [share, 14]])];
+// The places along an arc where its label may be, and how far above or below it, the best ones first.
+const ALONG = [0.5, 0.4, 0.6, 0.3, 0.7, 0.2, 0.8, 0.12, 0.88];
+const ASIDE = [0, -14, 14, -28, 28];
+const LABEL_PLACES = ASIDE.flatMap((aside) => ALONG.map((share) => [share, aside]));
+// How much worse than the best place each further one is, a place at which the label is cut short, and each pixel of a mark or of another label that is covered.
+const FURTHER = 3;
+const CUT = 120;
+const [OVER_MARK, OVER_LABEL] = [2, 12];
+const CUT_LABEL = 12 * CHARACTER;
 // How far the arcs between the same two marks swing out beside each other.
 const APART = 16;
 const LABEL_MOST = 34 * CHARACTER;
@@ -134,9 +140,11 @@ function bend(shape, [x, y], [toX, toY], beside) {
   return { path: `L${points.slice(1).map(([px, py]) => `${point(x + px)} ${point(y + py)}`).join("L")}`, at };
 }
 
+/** The arcs of the edges, and then their labels, so that no arc goes through a label. */
 function putArcs(canvas, sheet, file, verdictOf, top) {
   const places = marksOf(canvas, sheet.lanes, top);
-  const taken = [];
+  const marks = [...places.values()].map(([x, y]) => ({ left: x - 12, right: x + 4, top: y - WAVE / 2 - 12, bottom: y + 4 }));
+  const labels = [];
   const counts = new Map();
   for (const edge of sheet.edges) {
     const [start, end] = [places.get(edge.start), places.get(edge.end)];
@@ -146,11 +154,19 @@ function putArcs(canvas, sheet, file, verdictOf, top) {
     counts.set(pair, count + 1);
     const bent = bend(edge.shape.replace(/[<>]/g, ""), start, end, count * APART * (edge.start <= edge.end ? 1 : -1));
     const kind = edge.label.startsWith("@") ? verdictOf(edge.number) || "rule" : "comment";
-    canvas.put(`<g class="arc arc-${kind}" data-file="${escaped(file)}" data-edge="${edge.number}"><title>${escaped(edge.text)}</title>`);
+    const group = `<g class="arc arc-${kind}" data-file="${escaped(file)}" data-edge="${edge.number}"><title>${escaped(edge.text)}</title>`;
+    canvas.put(group);
     canvas.put(`<path d="M${point(start[0])} ${point(start[1])}${bent.path}"/>`);
     if (edge.shape.includes(">")) putHead(canvas, end, bent.at(0.9));
     if (edge.shape.includes("<")) putHead(canvas, start, bent.at(0.1));
-    putLabel(canvas, edge.title || edge.label.replace(/^@lin /, ""), bent, taken);
+    canvas.put("</g>");
+    const text = edge.title || edge.label.replace(/^@lin /, "");
+    if (text) labels.push({ group, bent, text });
+  }
+  const taken = [];
+  for (const { group, bent, text } of labels) {
+    canvas.put(group);
+    putLabel(canvas, text, bent, { marks, taken });
     canvas.put("</g>");
   }
 }
@@ -165,20 +181,33 @@ function putHead(canvas, tip, from) {
   canvas.path("tip", [[x, y], [backX - 3.5 * uy, backY + 3.5 * ux], [backX + 3.5 * uy, backY - 3.5 * ux]], { closed: true });
 }
 
-/** The label of an arc, where it is over no other one if there is such a place. */
-function putLabel(canvas, text, bent, taken) {
-  const shown = fitted(text, LABEL_MOST);
-  if (!shown) return;
-  const half = room(shown) / 2 + 3;
-  const boxes = LABEL_PLACES.map(([share, aside]) => {
-    const [x, onArc] = bent.at(share);
-    const y = Math.max(onArc + aside, 8);
-    const middle = Math.max(Math.min(x, canvas.width - half), canvas.left + half);
-    return { left: middle - half, right: middle + half, top: y - 7, bottom: y + 7, x: middle, y };
-  });
-  const isFree = (box) => taken.every((other) => box.right <= other.left || other.right <= box.left || box.bottom <= other.top || other.bottom <= box.top);
-  const box = boxes.find(isFree) || boxes[0];
+/** The label of an arc, where it covers least of marks and of other labels. If there is no free place for the whole of it, it may be cut short. */
+function putLabel(canvas, text, bent, { marks, taken }) {
+  const box = labelPlaces(canvas, text, bent)
+    .map((each) => ({ ...each, cost: each.cost + OVER_MARK * covered(each, marks) + OVER_LABEL * covered(each, taken) }))
+    .reduce((best, each) => (each.cost < best.cost ? each : best));
   taken.push(box);
-  canvas.put(`<rect class="label" x="${point(box.left)}" y="${point(box.top)}" width="${point(2 * half)}" height="14" rx="2"/>`);
-  canvas.text(box.x, box.y + 4, shown, "label");
+  canvas.put(`<rect class="label" x="${point(box.left)}" y="${point(box.top)}" width="${point(box.right - box.left)}" height="14" rx="2"/>`);
+  canvas.text(box.x, box.y + 4, box.text, "label");
+}
+
+/** The places where the label of an arc may be: boxes with what each costs by itself. */
+function labelPlaces(canvas, text, bent) {
+  const [whole, cut] = [fitted(text, Math.min(LABEL_MOST, canvas.width - canvas.left - PAD)), fitted(text, CUT_LABEL)];
+  const texts = whole === cut ? [[whole, 0]] : [[whole, 0], [cut, CUT]];
+  return texts.flatMap(([shown, cost]) =>
+    LABEL_PLACES.map(([share, aside], number) => {
+      const half = room(shown) / 2 + 3;
+      const [x, onArc] = bent.at(share);
+      const y = Math.max(onArc + aside, 8);
+      const middle = Math.max(Math.min(x, canvas.width - half), canvas.left + half);
+      return { text: shown, left: middle - half, right: middle + half, top: y - 7, bottom: y + 7, x: middle, y, cost: cost + FURTHER * number };
+    }),
+  );
+}
+
+/** How many pixels of boxes a box covers. */
+function covered(box, others) {
+  const shared = (other) => Math.max(Math.min(box.right, other.right) - Math.max(box.left, other.left), 0) * Math.max(Math.min(box.bottom, other.bottom) - Math.max(box.top, other.top), 0);
+  return others.reduce((sum, other) => sum + shared(other), 0);
 }

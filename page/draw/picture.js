@@ -30,7 +30,8 @@ export class Picture {
     this.chosen = facts.lanes || null;
     this.row = row;
     this.bound = bound;
-    this.times = new Map(facts.report.events.map((event, number) => [event, bound.times[number]]));
+    // A measured run has no time for an event that was not seen.
+    this.times = new Map(facts.report.events.flatMap((event, number) => (bound.times[number] === null ? [] : [[event, bound.times[number]]])));
     this.numbers = new Map(facts.report.events.map((event, number) => [event, number]));
     this.raised = new Set(bound.raised.map((number) => facts.report.events[number]));
     this.shown = new Set([row.start, row.end, ...bound.steps.flatMap((step) => [step.start, step.end])]);
@@ -188,7 +189,7 @@ export class Picture {
 
   /** The bricks and times of the events of a lane. */
   anchorsOf(lane) {
-    return this.eventsOf(lane).map(({ event, brick }) => [brick, this.times.get(event)]);
+    return this.eventsOf(lane).flatMap(({ event, brick }) => (this.times.has(event) ? [[brick, this.times.get(event)]] : []));
   }
 
   /** The times of the bricks of a part's lanes without marks. */

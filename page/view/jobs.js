@@ -3,6 +3,7 @@
 import { nameOf } from "../core/answer.js";
 import { blocksOf, edgeLink, originLink } from "./answer_pane.js";
 import { drawingOf } from "../draw/drawing.js";
+import { measuredPane } from "./measured_pane.js";
 import { Sheet, isNetlist } from "../core/design.js";
 import { Matrix, Report, marginsOf } from "../core/output_parser.js";
 import { boundText, escaped, escapedText, inUnit } from "../core/texts.js";
@@ -24,6 +25,7 @@ export function jobTabs(analysis, jobs) {
     { id: "redraw", label: "broken times (redraw)", shown: fails },
     { id: "matrix", label: "all pairs (matrix)", shown: Boolean(analysis.report) },
     { id: "lint", label: "warnings (lint)", shown: Boolean(analysis.report) },
+    { id: "measured", label: "measured", shown: Boolean(analysis.report && analysis.capture) },
   ].filter((tab) => tab.shown);
 }
 
@@ -40,6 +42,7 @@ export function rawOf(printed, isOpen = false) {
 
 /** What is under a tab, of an analysis in which this job has been run, as blocks: a name and a part of a page each. */
 export function paneOf(analysis, job) {
+  if (job === "measured") return [[job, measuredPane(analysis)]];
   const printed = analysis.texts.get(job);
   const shown = { why: whyPane, settle: settlePane, redraw: redrawPane, matrix: matrixPane, margin: marginPane }[job];
   const isRaw = !shown || (job === "why" && !analysis.report);
@@ -144,12 +147,27 @@ export function drawingsOf(name, treeOf, verdicts, width) {
   if (!isNetlist(tree)) return draw(name, tree);
   const parts = Array.isArray(tree.parts) ? tree.parts.filter((part) => part && typeof part.sheet === "string") : [];
   const files = [...new Set(parts.map((part) => part.sheet))];
-  return files
+  const sheets = files
     .map((file) => {
       const names = parts.filter((part) => part.sheet === file).map((part) => (part.grade ? `${part.name} (${part.grade})` : part.name));
       const sheetTree = treeOf(file);
       return sheetTree ? `<section><h3>${escaped(names.join(", "))}: ${escaped(file)}</h3>${draw(file, sheetTree)}</section>` : "";
     })
     .join("\n");
+  return sheets + boardOf(name, tree, verdicts.get(name) || new Map());
+}
+
+/** The nets and the edges of a netlist as a list, each to be chosen; empty where there are none. */
+function boardOf(name, tree, verdicts) {
+  const list = (items) => (Array.isArray(items) ? items : []);
+  const pinsOf = (net) => list(net && net.pins).filter((pin) => typeof pin === "string");
+  const nets = list(tree.nets).map((net, number) => {
+    const [driver = "", ...others] = pinsOf(net);
+    const title = net && typeof net.name === "string" ? net.name : `net ${number}`;
+    return [`data-net="${number}"`, "", `<b>${escaped(title)}</b> ${escaped(driver)} → ${escaped(others.join(", "))}`];
+  });
+  const edges = list(tree.edges).map((text, number) => [`data-file="${escaped(name)}" data-edge="${number}"`, verdicts.get(number) || "", escaped(String(text))]);
+  const items = [...nets, ...edges].map(([of, verdict, html]) => `<li><button type="button" class="board-item ${verdict && `verdict-${verdict}`}" ${of}>${html}</button></li>`);
+  return items.length ? `<section class="board"><h3>nets and edges of the board</h3><ul data-board="${escaped(name)}">${items.join("")}</ul></section>` : "";
 }
 

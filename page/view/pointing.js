@@ -1,6 +1,7 @@
 // The drawing under the hand: marks are moved, renamed and taken away, levels are clicked, lanes are added. All of it is edits of the text.
 
 import { addLane, addMark, laneName, marksOfLane, moveMark, removeEdge, removeLane, removeMark, renameLane, renameMark, setLevel } from "../core/edits.js";
+import { removeOfBoard } from "../core/board.js";
 import { askFor } from "./field.js";
 import { Joining } from "./joining.js";
 
@@ -68,13 +69,20 @@ export class Pointing {
   // The hand.
 
   down(event) {
+    const item = event.target.closest(".board-item");
+    if (item && event.button === 0) {
+      this.joining.picked = null;
+      this.chosen = boardItemOf(item);
+      this.show();
+      return;
+    }
     const svg = event.target.closest("svg.drawing");
     if (event.button !== 0 || !svg || !svg.dataset.file) return;
     const mark = event.target.closest("[data-mark]");
     const arrow = mark ? null : event.target.closest("[data-edge]");
     if (arrow) {
       this.joining.picked = null;
-      this.chosen = { file: svg.dataset.file, edge: Number(arrow.dataset.edge), text: arrow.textContent };
+      this.chosen = { file: svg.dataset.file, edge: Number(arrow.dataset.edge), text: arrow.firstElementChild.textContent };
       this.show();
       return;
     }
@@ -149,6 +157,8 @@ export class Pointing {
     const mark = event.target.closest("[data-mark]");
     const lane = event.target.closest("[data-lane-title]");
     const svg = event.target.closest("svg.drawing");
+    const item = event.target.closest(".board-item");
+    if (item && event.key === "Delete") this.removeOfBoard(boardItemOf(item));
     if (this.keyAnywhere(event) || (svg && mark && this.keyAtMark(event, svg.dataset.file, mark)) || (svg && lane && this.keyAtLane(event, svg.dataset.file, lane))) {
       event.preventDefault();
       this.show();
@@ -182,6 +192,10 @@ export class Pointing {
     else if (event.key === "Delete") this.removeLane(file, Number(element.dataset.laneTitle));
     else return false;
     return true;
+  }
+
+  removeOfBoard({ file, what, number }) {
+    this.change(file, (read) => removeOfBoard(read, what, number), "");
   }
 
   removeMark(file, mark) {
@@ -219,9 +233,10 @@ export class Pointing {
     const { picked } = this.joining;
     this.joining.picked = this.chosen = null;
     if (picked && picked.mark !== undefined) this.removeMark(picked.file, picked.mark);
+    else if (chosen && chosen.what) this.removeOfBoard(chosen);
     else if (chosen && chosen.edge !== undefined) this.change(chosen.file, (read) => removeEdge(read, chosen.edge), "");
     else if (chosen) this.removeLane(chosen.file, chosen.lane);
-    else this.page.say("click a mark, an arrow or the name of a lane first");
+    else this.page.say("click a mark, an arrow, the name of a lane, or a net or an edge of the board first");
   }
 
   // What is picked, in each new drawing.
@@ -232,7 +247,7 @@ export class Pointing {
     const { chosen } = this;
     const { picked } = this.joining;
     const mark = picked && (picked.mark === undefined ? this.elementOf(picked.file, "laneTitle", String(picked.lane)) : this.elementOf(picked.file, "mark", picked.mark));
-    const other = chosen && (chosen.edge === undefined ? this.elementOf(chosen.file, "laneTitle", String(chosen.lane)) : this.arrowOf(chosen));
+    const other = chosen && this.elementOfChosen(chosen);
     if (mark) mark.classList.add("picked");
     if (other) other.classList.add("chosen");
     else this.chosen = null;
@@ -240,6 +255,12 @@ export class Pointing {
     if (!isBoard && this.mode === "net") this.mode = "join";
     this.tools.querySelector("[data-mode=net]").hidden = !isBoard;
     for (const button of this.tools.querySelectorAll("[data-mode]")) button.setAttribute("aria-pressed", String(button.dataset.mode === this.mode));
+  }
+
+  /** The element of what was chosen; null where it is gone. */
+  elementOfChosen(chosen) {
+    if (chosen.what) return [...this.box.querySelectorAll(".board-item")].find((item) => isSame(boardItemOf(item), chosen)) || null;
+    return chosen.edge === undefined ? this.elementOf(chosen.file, "laneTitle", String(chosen.lane)) : this.arrowOf(chosen);
   }
 
   /** The drawing of a file. */
@@ -251,7 +272,7 @@ export class Pointing {
   arrowOf({ file, edge, text }) {
     const svg = this.drawingOf(file);
     const arrow = svg && svg.querySelector(`[data-edge="${edge}"]`);
-    return arrow && arrow.textContent === text ? arrow : null;
+    return arrow && arrow.firstElementChild.textContent === text ? arrow : null;
   }
 
   /** The mark or the lane of a file's drawing that has a word in its data. */
@@ -275,4 +296,14 @@ export class Pointing {
     const element = held && this.elementOf(held.file, held.key, held.word);
     if (element) element.focus({ preventScroll: true });
   }
+}
+
+/** What a line of the list of a board is: a net or an edge of a netlist's file, its number and its text. */
+function boardItemOf(item) {
+  const what = item.dataset.net === undefined ? "edge" : "net";
+  return { file: item.closest("[data-board]").dataset.board, what, number: Number(item.dataset[what]), text: item.textContent };
+}
+
+function isSame(one, other) {
+  return one.file === other.file && one.what === other.what && one.number === other.number && one.text === other.text;
 }

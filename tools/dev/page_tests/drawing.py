@@ -143,7 +143,7 @@ def an_edge_leads_to_its_number_and_back(page):
     page.open_numbers(FAST)
     page.browser.click("#drawings .arc[data-edge='0'] text")
     assert page.browser.evaluate("document.activeElement.closest('tr').dataset.key") == "examples/cpu.json edge 0"
-    assert page.browser.evaluate("document.querySelectorAll('#drawings .arc.hot').length") == 1
+    assert page.browser.evaluate("new Set([...document.querySelectorAll('#drawings .arc.hot')].map(e => e.dataset.file + e.dataset.edge)).size") == 1
     assert page.browser.evaluate("document.querySelectorAll('#job g.step.hot').length") == 1
     page.browser.hover("#job g.step[data-net]")
     assert page.browser.evaluate("document.querySelector('tr.hot').dataset.key") == FAST + " net 2"
@@ -379,6 +379,69 @@ def a_grade_is_chosen_in_a_menu(page):
     assert page.text_of("examples/cpu-sram-m12.json") == before and page.browser.evaluate(f"{menu}.value") == "m12"
 
 
-TESTS = [a_rule_is_drawn_by_the_hand, a_finger_draws_too, a_netlist_follows_its_sheets, what_was_clicked_is_deleted, an_edge_leads_to_its_number_and_back, diagrams_are_zoomed, lanes_are_chosen, answers_are_compared,
+def nets_and_edges_of_a_board_are_deleted_alone(page):
+    """A net by the button and an edge by its key, of the list of the board: nothing else of any file changes, and each is one step."""
+    page.open_numbers(FAST)
+    before = {name: page.text_of(name) for name in page.browser.evaluate("itv.files.names")}
+    board = json.loads(before[FAST])
+    items = page.browser.evaluate("[...document.querySelectorAll('#drawings .board-item')].map(e => e.textContent)")
+    assert items == [f"{net['name']} {net['pins'][0]} → {', '.join(net['pins'][1:])}" for net in board["nets"]] + board["edges"], items
+    page.browser.click("#drawings .board-item[data-net='1']")
+    assert page.browser.evaluate("document.querySelector('.board-item.chosen').dataset.net") == "1"
+    page.browser.click("[data-act=delete]")
+    page.rest()
+    assert json.loads(page.text_of(FAST)) == {**board, "nets": board["nets"][:1] + board["nets"][2:]}, page.text_of(FAST)
+    page.browser.evaluate("document.querySelector('#drawings .board-item[data-edge=\"0\"]').focus()")
+    page.browser.key("Delete")
+    page.rest()
+    assert json.loads(page.text_of(FAST))["edges"] == board["edges"][1:], page.text_of(FAST)
+    assert {name: page.text_of(name) for name in before if name != FAST} == {name: text for name, text in before.items() if name != FAST}
+    for _ in range(2):
+        page.browser.evaluate("itv.edited.undo()")
+    page.rest()
+    assert {name: page.text_of(name) for name in before} == before
+
+
+def a_begun_file_is_taken_back(page):
+    """A part of a sheet alone begins a board and a sheet: one step takes both back, and one makes them again with what was edited in them. The broken times that
+    are opened as a file, and a sheet that was missing, are taken back too."""
+    page.open_numbers("s.json", {"s.json": SHEET})
+    page.browser.click("[data-act=part]")
+    fill_field(page, "RX")
+    state = "[itv.files.names, itv.files.design, itv.current]"
+    begun = page.browser.evaluate(state)
+    assert begun == [["s.json", "rx.json", "board.json"], "board.json", "board.json"], begun
+    page.browser.evaluate("itv.edited.change('rx.json', [{ start: 0, end: 0, text: ' ' }])")
+    page.rest()
+    changed = page.text_of("rx.json")
+    for _ in range(2):
+        page.browser.evaluate("itv.edited.undo()")
+    page.rest()
+    assert page.browser.evaluate(state) == [["s.json"], "s.json", "s.json"], page.browser.evaluate(state)
+    assert page.sentence().startswith("1 question answered"), page.sentence()
+    for _ in range(2):
+        page.browser.evaluate("itv.edited.undo(true)")
+    page.rest()
+    assert page.browser.evaluate(state)[:2] == begun[:2] and page.text_of("rx.json") == changed
+    page.open_numbers("b.json", {"b.json": json.dumps({"itv": 1, "cycles": 1, "parts": [{"name": "A", "sheet": "a.json"}]})})
+    page.browser.click("#file-tabs [data-id='a.json']")
+    page.rest()
+    assert page.browser.evaluate(state) == [["b.json", "a.json"], "b.json", "a.json"], page.browser.evaluate(state)
+    page.browser.evaluate("itv.edited.undo()")
+    page.rest()
+    assert page.browser.evaluate(state) == [["b.json"], "b.json", "b.json"] and "a.json is not here" in page.sentence(), page.sentence()
+    page.open_numbers(FAST)
+    names = page.browser.evaluate("itv.files.names")
+    page.browser.click("#job-tabs [data-id=redraw]")
+    page.browser.wait_for("document.querySelector('button.open-redraw') !== null")
+    page.do("document.querySelector('button.open-redraw').click()")
+    assert page.browser.evaluate("itv.files.design") == "cpu-sram-fast-redraw.json"
+    page.browser.evaluate("itv.edited.undo()")
+    page.rest()
+    assert page.browser.evaluate("[itv.files.names, itv.files.design]") == [names, FAST]
+    page.browser.evaluate("for (const file of itv.files.list) file.changed = false; itv.draft.keep()")
+
+
+TESTS = [nets_and_edges_of_a_board_are_deleted_alone, a_begun_file_is_taken_back, a_rule_is_drawn_by_the_hand, a_finger_draws_too, a_netlist_follows_its_sheets, what_was_clicked_is_deleted, an_edge_leads_to_its_number_and_back, diagrams_are_zoomed, lanes_are_chosen, answers_are_compared,
          older_files_are_compared, rows_that_are_alike_are_one_line, no_work_is_lost, a_designers_whole_way, marks_of_two_parts_are_joined,
          a_grade_is_chosen_in_a_menu]
