@@ -31,6 +31,7 @@ mod kinds;
 mod lead;
 mod leads;
 mod letters;
+mod lone_causes;
 mod misplaced;
 mod never;
 mod noise;

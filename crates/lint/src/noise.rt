@@ -6,6 +6,7 @@ use crate::blocks::Blocks;
 use crate::drawn_leads::DrawnLeads;
 use crate::firsts::{FirstLeads, has_first, note_first};
 use crate::lead::{Lead, is_at};
+use crate::lone_causes::LoneCauses;
 use crate::skew::draws_skew;
 use crate::warning::{DrawnPlace, Warning};
 use crate::warning_word::WarningWord;
@@ -14,36 +15,38 @@ use itv_base::NoMemory;
 use origin::Origin;
 use std::alloc::Global;
 
-// What the leads of a design connect.
+// What tells noise: what the leads of a design connect, and which of its sheets draw lone causes.
 #[derive(Drop)]
-struct Connected {
+struct Signs {
     drawn: DrawnLeads,
     blocks: Blocks,
     // The first lead from another mark into each mark.
     led: FirstLeads,
+    lone: LoneCauses,
 }
 
-/// The warnings of a design without those that are noise: `both` if only the target connects the two rules and something leads into one of their marks, and `own`
-/// if the edge is a skew. The leads are those of the design. The answer is `NoMemory` if memory runs out.
+/// The warnings of a design without those that are noise: `both` if only the target connects the two rules and something leads into one of their marks, `own` if
+/// the edge is a skew, and `single` on a sheet that draws lone causes. The leads are those of the design. The answer is `NoMemory` if memory runs out.
 pub fn without_noise(
     alloc: Global,
     warnings: &[Warning],
     leads: &[Lead],
     design: &Design<'_>,
 ) -> Result<Vec<Warning>, NoMemory> {
-    let connected = connected_by(alloc, leads)?;
-    let heard = heard_of(alloc, warnings, &connected, design);
-    drop(connected);
+    let signs = signs_of(alloc, leads, design)?;
+    let heard = heard_of(alloc, warnings, &signs, design);
+    drop(signs);
     heard
 }
 
-// What some leads connect.
-fn connected_by(alloc: Global, leads: &[Lead]) -> Result<Connected, NoMemory> {
+// What tells noise in a design. The leads are those of the design.
+fn signs_of(alloc: Global, leads: &[Lead], design: &Design<'_>) -> Result<Signs, NoMemory> {
     let led = led_by(alloc, leads)?;
-    Ok(Connected {
+    Ok(Signs {
         drawn: DrawnLeads::of(alloc, leads)?,
         blocks: Blocks::of(alloc, leads)?,
         led,
+        lone: LoneCauses::of(alloc, design)?,
     })
 }
 
@@ -59,22 +62,23 @@ fn led_by(alloc: Global, leads: &[Lead]) -> Result<FirstLeads, NoMemory> {
 fn heard_of(
     alloc: Global,
     warnings: &[Warning],
-    connected: &Connected,
+    signs: &Signs,
     design: &Design<'_>,
 ) -> Result<Vec<Warning>, NoMemory> {
     let mut heard = Vec::new(alloc);
     for warning in warnings {
-        if !is_noise(warning, connected, design) {
+        if !is_noise(warning, signs, design) {
             heard.push(*warning)?;
         }
     }
     Ok(heard)
 }
 
-fn is_noise(warning: &Warning, connected: &Connected, design: &Design<'_>) -> bool {
+fn is_noise(warning: &Warning, signs: &Signs, design: &Design<'_>) -> bool {
     match (warning.word, warning.about) {
         (WarningWord::Own, About::Driven { mark, edge, .. }) => is_skew_of(design, mark.part, edge),
-        (WarningWord::Both, About::Two(first, other)) => are_apart(connected, first, other),
+        (WarningWord::Both, About::Two(first, other)) => are_apart(signs, first, other),
+        (WarningWord::Single, About::Place(place)) => signs.lone.has(place),
         _ => false,
     }
 }
@@ -89,11 +93,11 @@ fn is_skew_of(design: &Design<'_>, part: u32, edge: Origin) -> bool {
 
 // Whether two rules into one mark come from marks that no leads connect but those of the mark itself. Two inputs of a lone sheet, into which nothing leads, are not
 // apart: a board may connect them.
-fn are_apart(connected: &Connected, first: DrawnPlace, other: DrawnPlace) -> bool {
-    match (connected.drawn.get(first), connected.drawn.get(other)) {
+fn are_apart(signs: &Signs, first: DrawnPlace, other: DrawnPlace) -> bool {
+    match (signs.drawn.get(first), signs.drawn.get(other)) {
         (Some(first), Some(other)) => {
-            (has_first(&connected.led, first.from) || has_first(&connected.led, other.from))
-                && !connected.blocks.joins(first, other)
+            (has_first(&signs.led, first.from) || has_first(&signs.led, other.from))
+                && !signs.blocks.joins(first, other)
         }
         _ => false,
     }

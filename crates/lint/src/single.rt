@@ -52,8 +52,8 @@ fn push_rule(warnings: &mut Vec<Warning>, part: u32, rule: &Rule) -> Result<(), 
     Ok(())
 }
 
-// Whether a rule is a latest or earliest rule with one cause.
-fn is_single(rule: &Rule) -> bool
+/// Whether a rule is a latest or earliest rule with one cause.
+pub fn is_single(rule: &Rule) -> bool
     ensures { result ≡ is_single rule.now }
 {
     !is_linear(rule.kind()) && rule.causes().len() == 1
