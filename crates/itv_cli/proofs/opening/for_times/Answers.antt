@@ -1,0 +1,9 @@
+use Rattle.itv_cli.proofs.Timing.{times_read, times_refused}
+use Rattle.itv_cli.proofs.opening.for_times.Goals as goal
+
+pub returns-in-Ok-clause-reads : goal.returns-in-Ok-clause-reads
+returns-in-Ok-clause-reads c standing = times_read standing c.args.drawn c.args.within c.args.bytes.now c.in-Ok.runs c.in-Ok.ensures.read
+
+pub returns-in-Err-clause-reads : goal.returns-in-Err-clause-reads
+returns-in-Err-clause-reads c standing =
+    rw c.times_stop.ensures.stop (times_refused standing c.args.drawn c.args.within c.args.bytes.now c.in-Err.fault c.in-Err.ensures.read)
