@@ -6,7 +6,8 @@ use crate::margin_fault::put_margin_refusal;
 use command_words::{Invocation, PlanJob, Task, read_words};
 use itv_base::{NoMemory, Shelf, ShelfMem, Texts};
 use refusal_hints::{
-    Hint, NameLook, NamedFiles, copy_files, files_of, put_refusal, put_unread, put_words_fault, words_fault,
+    Hint, NameLook, NamedFiles, copy_files, files_of, put_refusal, put_unread, put_words_fault,
+    words_fault,
 };
 use std::alloc::Global;
 
@@ -100,7 +101,13 @@ fn put_read_again<H: Shelf, L: NameLook>(
         return;
     }
     let most = if is_refused { u64::MAX } else { MOST_READ };
-    match copy_files(hint.alloc(), read_again(task, is_refused), most, shelf, look) {
+    match copy_files(
+        hint.alloc(),
+        read_again(task, is_refused),
+        most,
+        shelf,
+        look,
+    ) {
         Ok(Some(mut copy)) => {
             put_of_files(hint, task, status, &mut copy);
             drop(copy);
