@@ -154,8 +154,16 @@ fn put_of_files(hint: &mut Hint, task: Task<'_>, status: u8, files: &mut ShelfMe
     if status == 4 {
         put_why(hint, task, design, files);
     } else {
-        put_answered(hint, design, status, files);
+        put_answered(hint, design, is_broken(task, status), files);
     }
+}
+
+// The status of a run that found a requirement broken.
+const SOME_FAIL: u8 = 1;
+
+// Whether the rules of a design let a requirement be broken. Measured times may break one that the rules keep.
+fn is_broken(task: Task<'_>, status: u8) -> bool {
+    status == SOME_FAIL && !matches!(task, Task::Measure { .. })
 }
 
 // Why a design is refused, or of job margin what the job refuses of it.

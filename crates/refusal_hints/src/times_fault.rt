@@ -39,6 +39,8 @@ fn put_why(hint: &mut Hint, line: FileLine<'_>, events: u64) {
         line.put_wrong(hint, says);
     } else if line.text.split(' ').next() != Some("times") {
         line.put_wrong(hint, FORM);
+    } else if line.text.split(' ').any(|word| word.is_empty()) {
+        line.put_wrong(hint, SPACES);
     } else if count != events {
         put_count(hint, line, count, events);
     } else {
@@ -48,6 +50,8 @@ fn put_why(hint: &mut Hint, line: FileLine<'_>, events: u64) {
 
 const FORM: &str =
     "a line is the word times and then, for each event, its time in whole picoseconds, or * if it was not seen";
+
+const SPACES: &str = "one space is between two words, and none is at the end of the line";
 
 // Puts that a line has too few times, or too many.
 fn put_count(hint: &mut Hint, line: FileLine<'_>, count: u64, events: u64) {
