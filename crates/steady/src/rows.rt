@@ -191,14 +191,13 @@ fn find_bound(
 // The cycles in which a row is looked at.
 fn course_of(run: &DesignRun, row: &SheetRow) -> Course
     requires reach { run.now.from + row.now.shift < run.now.cycles }
-    ensures marks { result.marks ≡ run.now.marks }
-    ensures start { result.start ≡ run.now.from + row.now.shift }
-    ensures cycles { result.cycles ≡ run.now.cycles }
+    ensures course { result ≡ record { marks = run.now.marks; start = run.now.from + row.now.shift; cycles = run.now.cycles } }
 {
+    let cycles = run.cycles;
     Course {
         marks: run.marks,
         start: run.from + row.shift,
-        cycles: run.cycles,
+        cycles,
     }
 }
 

@@ -1,6 +1,6 @@
 //! From which cycle of a run on a requirement is met.
 
-ghost use Rattle.std.specs.Prelude.{◌≡◌, ◌<◌, ◌≤◌, ◌+◌, ◌*◌, IfOk, Some, false};
+ghost use Rattle.std.specs.Prelude.{◌≡◌, ◌<◌, ◌≤◌, ◌+◌, ◌*◌, ◌^◌, IfOk, Some, false};
 ghost use Rattle.itv_base.specs.Range.{Allows};
 ghost use Rattle.event_graph.specs.Edges.{cause_choices};
 ghost use Rattle.unroll.specs.Step.Between.{IsRowBetween};
