@@ -17,6 +17,7 @@ use Rattle.steady.specs.Extremes.{IsExtremeFound, is_open}
 use Rattle.steady.specs.Later.{is_later_open, is_varying}
 use Rattle.steady.specs.Step.{HoldsBetween, HoldsIn, IsAllowedBy, IsBoundIn, IsBrokenIn, IsHeld, IsLaterIn, IsSinceIn, IsStreak, held_by_both, held_of, is_held_open, is_streak_open, later_of, streak_after}
 use Rattle.steady.specs.Verdicts.{end_verdict, is_kept, is_steadily_past, verdict_of, worst_of}
+use Rattle.steady.specs.declared.course.Course.{Course}
 use Rattle.steady.specs.declared.design_run.DesignRun.{DesignRun}
 use Rattle.steady.specs.declared.extreme.Extreme.{Extreme}
 use Rattle.steady.specs.declared.extreme.Extreme.TheVariants as extremes
@@ -136,6 +137,14 @@ one_cycle range net first extremes after marks row start before streak new next 
     }
 
 -- ---- the run
+
+-- what is known of the cycles of a run, from one on
+pub run_streak : (run : DesignRun) (row : SheetRow) (range : Ends) (course : Course) (net : Net) (streak : Streak)
+    → course ≡ record { marks = run.marks; start = run.from + row.shift; cycles = run.cycles } → net ≡ run.drawn.net → IsStreak range net course.marks row course.start course.cycles streak
+    → IsStreak range run.drawn.net run.marks row (run.from + row.shift) run.cycles streak
+run_streak run row range course net streak is drawn h =
+    subst (λ (n : Net). IsStreak range n run.marks row (run.from + row.shift) run.cycles streak) drawn
+    (subst (λ (on : Course). IsStreak range net on.marks row on.start on.cycles streak) is h)
 
 pub later_is : (run : DesignRun) (row : SheetRow) (range : Ends) (streak : Streak) → IsStreak range run.drawn.net run.marks row (run.from + row.shift) run.cycles streak
     → IsLaterIn run row range (later_of streak row.shift run.cycles)

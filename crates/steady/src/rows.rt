@@ -141,7 +141,7 @@ fn met_later(
     ensures later { IfOk result (IsLaterIn run.now row.now range) }
     ensures settles { IfOk result (λ later. cause_choices run.now.drawn.net.constraints ≤ extremes.old.budget → is_later_open (Some later) ≡ false) }
 {
-    let course = course_of(run, row);
+    let course = course_from(run, run.from + row.shift);
     let streak = streak_over(alloc, run.drawn.network(), extremes, course, row, range)?;
     Ok(later_of(streak, row.shift, run.cycles))
 }
@@ -177,7 +177,7 @@ fn find_bound(
     ensures found { IfOk result (IsBoundIn side run.now row.now) }
     ensures settles { IfOk result (λ found. cause_choices run.now.drawn.net.constraints ≤ extremes.old.budget → is_bound_open found ≡ false) }
 {
-    let course = course_of(run, row);
+    let course = course_from(run, run.from + row.shift);
     match furthest(alloc, run.drawn.network(), extremes, course, row, side)? {
         Extreme::Closed { value, times } => {
             let steady = find_steady(alloc, run, steadying, row, side, &value, &times)?;
@@ -188,16 +188,14 @@ fn find_bound(
     }
 }
 
-// The cycles in which a row is looked at.
-fn course_of(run: &DesignRun, row: &SheetRow) -> Course
-    requires reach { run.now.from + row.now.shift < run.now.cycles }
-    ensures course { result ≡ record { marks = run.now.marks; start = run.now.from + row.now.shift; cycles = run.now.cycles } }
+// The cycles of a run from one on.
+fn course_from(run: &DesignRun, start: u32) -> Course
+    ensures course { result ≡ record { marks = run.now.marks; start = start; cycles = run.now.cycles } }
 {
-    let cycles = run.cycles;
     Course {
         marks: run.marks,
-        start: run.from + row.shift,
-        cycles,
+        start,
+        cycles: run.cycles,
     }
 }
 

@@ -153,15 +153,25 @@ fn held_on(
 {
     match end {
         None => Ok(Held::Met),
-        Some(end) => {
+        Some(_) => {
             let found = in_cycle(alloc, net, extremes, course, row, side, cycle)?;
-            Ok(held_of(side, &end, &found))
+            Ok(held_of(side, end, &found))
         }
     }
 }
 
 // What is found of a pair says of an end on its side.
-fn held_of(side: Side, end: &i64, found: &Extreme) -> Held
+fn held_of(side: Side, end: Option<i64>, found: &Extreme) -> Held
+    ensures { result ≡ held_of side end found.now }
+{
+    match end {
+        None => Held::Met,
+        Some(end) => held_at(side, &end, found),
+    }
+}
+
+// The same for an end that is not open.
+fn held_at(side: Side, end: &i64, found: &Extreme) -> Held
     ensures { result ≡ held_of side (Some end.now) found.now }
 {
     match found {
