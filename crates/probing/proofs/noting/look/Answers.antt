@@ -12,6 +12,6 @@ returns-in-Unbounded-clause-found c =
 pub returns-in-Closed-clause-left : goal.returns-in-Closed-clause-left
 returns-in-Closed-clause-left c = IfOk-weaker c.note.result _ _ (λ found settled is. absurd (settled is)) c.note.ensures.settled
 
-pub returns-in-Open-clause-left : goal.returns-in-Open-clause-left
-returns-in-Open-clause-left c = λ is.
-    pair_left c.args.net.now c.args.extremes.now.budget c.args.limit.from c.args.limit.to c.in_ok-value.value c.in-Open.limit c.in-Open.attained c.in-Open.is c.in_ok-value.ensures.open
+pub returns-clause-left : goal.returns-clause-left
+returns-clause-left c = λ is.
+    pair_left c.args.net.now c.args.extremes.now.budget c.args.limit.from c.args.limit.to c.in_ok-value.field-0 c.in-Open.limit c.in-Open.attained c.in-Open.is c.in_ok-value.ensures.open
