@@ -2,7 +2,7 @@
 
 import assert from "node:assert/strict";
 import test from "node:test";
-import { changeOf, endsAt } from "../core/numbers.js";
+import { Line, changeOf, endsAt } from "../core/numbers.js";
 import { isExact } from "../core/output_parser.js";
 import { reasonIn } from "../core/refusals.js";
 import { readTyped, typedOf } from "../core/typed.js";
@@ -35,6 +35,17 @@ test("a changed end changes one number of the tree, and back", () => {
     }
   }
   assert.ok(count > 150, String(count));
+});
+
+test("an end that no range may have is shown as it was typed", () => {
+  const text = '{"edges": ["A.a B.b @lin [-9007199254740993,10000000000000] x"], "nets": [{"delay": [100.00000000000000001, 1e30]}, {"delay": [null, 1500]}, {"delay": [true, 1]}]}';
+  const typed = (way) => {
+    const ends = endsAt(readOf(text), way);
+    const line = ends && new Line("k", { file: "n", way, ends, parameter: "" }, {});
+    return line && ["low", "high"].map((side) => line.typed(side, 1000));
+  };
+  assert.deepEqual(typed({ what: "wire", number: 0 }), ["-9007199254740993 ps", "10000000000"]);
+  assert.deepEqual([0, 1, 2].map((number) => typed({ what: "net", number })), [["100.00000000000000001 ps", "1e30 ps"], ["*", "1.5"], null]);
 });
 
 test("a text with a number that is not read exactly is known, and one with a long name is not", () => {
