@@ -3,7 +3,7 @@
 import assert from "node:assert/strict";
 import test from "node:test";
 import { Line, changeOf, endsAt } from "../core/numbers.js";
-import { isExact } from "../core/output_parser.js";
+import { isExact, marginsOf } from "../core/output_parser.js";
 import { reasonIn } from "../core/refusals.js";
 import { readTyped, typedOf } from "../core/typed.js";
 import { EXAMPLES, changed, readOf } from "./program.mjs";
@@ -52,6 +52,11 @@ test("a text with a number that is not read exactly is known, and one with a lon
   assert.ok(isExact("max 9007199254740991\nslack -9007199254740991 *\nrow 0 ask U.a U.b edge 0 part12199999999998799x"));
   assert.ok(!isExact("max 12199999999998799"));
   assert.ok(!isExact("row 0 req U.a@0 U.b@0 [*,12199999999998799]"));
+});
+
+test("a margin that is not read exactly is not shown", () => {
+  const text = ["high 9007199254740991 net 0 [0,5] row 0", "high 9007199254740993 net 1 [0,5] row 0", "low -7 U edge 2 [1,*] row 0 12199999999998799"].join("\n");
+  assert.deepEqual(marginsOf(text).map(({ name, by }) => [name, by]), [["U edge 2", -7], ["net 0", 9007199254740991]]);
 });
 
 test("what the program says of a refusal is parted from its place", () => {
