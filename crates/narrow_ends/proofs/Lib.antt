@@ -4,6 +4,6 @@ mod Among
 mod Standing
 mod Along
 mod Keeping
-mod Seeking
 mod Causes
 mod Loops
+mod Cutting
