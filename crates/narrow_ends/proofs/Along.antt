@@ -46,7 +46,7 @@ along_next drawn budget names i d before after places more ends others searches 
   budget_stays = stays ∙ along.budget_stays;
   same = same ∙ along.same ∙ sym stays;
   stand =
-      let few : MOST_SEARCHES ≤ searches.left + length (take i names) = omega (arith, along.left_over, within, length-take names i) in
+      let few : MOST_SEARCHES ≤ searches.left + length (take i names) = omega (arith, along.left_over, within, length-take i names) in
       let next : Stand drawn budget (take i names) places ends → Stand drawn budget (take i names ++ get_or names i d ∷ []) more others =
       subst (λ b. Stand drawn b (take i names) places ends → Stand drawn b (take i names ++ get_or names i d ∷ []) more others) along.budget_stays (stands (take i names) few) in
       subst (λ (n : List EdgeName). Stand drawn budget n more others) (sym (take_more names i d within)) (next along.stand);

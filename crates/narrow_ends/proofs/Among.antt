@@ -61,10 +61,10 @@ own_weight drawn x name e f at_x at_name alike =
     cc both
 
 module _ (drawn : Drawn) (budget : ℕ) (names : List EdgeName) (x name : EdgeName) where
-  more_alike : (e : Edge) → IsAlikeEdge drawn names name e → IsAlikeEdge drawn (names ++ x ∷ []) name e
+  abbrev more_alike : (e : Edge) → IsAlikeEdge drawn names name e → IsAlikeEdge drawn (names ++ x ∷ []) name e
   more_alike e a = record { other = a.other; among = Contains-append_left names (x ∷ []) a.other a.among; alike = a.alike; there = a.there }
 
-  last_alike : (e : Edge) → are_alike drawn name x ≡ true → edge drawn.net x ≡ Some e → IsAlikeEdge drawn (names ++ x ∷ []) name e
+  abbrev last_alike : (e : Edge) → are_alike drawn name x ≡ true → edge drawn.net x ≡ Some e → IsAlikeEdge drawn (names ++ x ∷ []) name e
   last_alike e alike there = record { other = x; among = Contains-push names x; alike = alike; there = there }
 
   alike_cases : (e : Edge) → IsAlikeEdge drawn (names ++ x ∷ []) name e → IsAlikeEdge drawn names name e ⊎ ((are_alike drawn name x ≡ true) × (edge drawn.net x ≡ Some e))
@@ -108,7 +108,7 @@ module _ (drawn : Drawn) (budget : ℕ) (names : List EdgeName) (x name : EdgeNa
     are : are_alike drawn name x ≡ true
     are = (source_decides (source_at drawn name) (source_at drawn x)).1 alike
 
-    here : IsAlikeEdge drawn (names ++ x ∷ []) name e
+    abbrev here : IsAlikeEdge drawn (names ++ x ∷ []) name e
     here = last_alike e are there
 
     -- the edge of the last end is this one
@@ -208,7 +208,7 @@ module _ (drawn : Drawn) (budget left : ℕ) (names : List EdgeName) (name : Edg
     | inr new ↦ let equal : e ≡ f = cc (there, new.1) in subst P equal last
   ]
 
-  own_edge : IsAlikeEdge drawn (names ++ name ∷ []) name e
+  abbrev own_edge : IsAlikeEdge drawn (names ++ name ∷ []) name e
   own_edge = last_alike drawn budget names name name e ((source_decides (source_at drawn name) (source_at drawn name)).1 refl) there
 
   first_along : (found : EndFound) → IsFoundAlong drawn.net budget name e found → IsFoundAmong drawn budget (names ++ name ∷ []) name e.weight found

@@ -76,7 +76,7 @@ constraint_same k = record { kind = refl; target = refl; causes = zip_same IsWid
 
 -- ---- the edge of a cause
 
-upper_edge : (target : EventId) (c : Cause) (e : Edge) → side_edge Upper target c ≡ Some e → (c.range.high ≡ Some e.weight) × ((e.from ≡ c.event) × (e.to ≡ target))
+pub upper_edge : (target : EventId) (c : Cause) (e : Edge) → side_edge Upper target c ≡ Some e → (c.range.high ≡ Some e.weight) × ((e.from ≡ c.event) × (e.to ≡ target))
 upper_edge target c e is =
     let found = some_map (λ high. record { from = c.event; to = target; weight = high }) c.range.high e is in
     (found.1 ∙ ap Some (ap (λ (f : Edge). f.weight) found.2), (sym (ap (λ (f : Edge). f.from) found.2), sym (ap (λ (f : Edge). f.to) found.2)))
@@ -84,7 +84,7 @@ upper_edge target c e is =
 minus_twice : (a b : ℤ) → neg_ℤ a ≡ b → a ≡ neg_ℤ b
 minus_twice a b e = omega (arith, ints, e)
 
-lower_edge : (target : EventId) (c : Cause) (e : Edge) → side_edge Lower target c ≡ Some e → (c.range.low ≡ Some (neg_ℤ e.weight)) × ((e.from ≡ target) × (e.to ≡ c.event))
+pub lower_edge : (target : EventId) (c : Cause) (e : Edge) → side_edge Lower target c ≡ Some e → (c.range.low ≡ Some (neg_ℤ e.weight)) × ((e.from ≡ target) × (e.to ≡ c.event))
 lower_edge target c e is =
     let found = some_map (λ low. record { from = target; to = c.event; weight = neg_ℤ low }) c.range.low e is in (
       found.1 ∙ ap Some (minus_twice found.0 e.weight (ap (λ (f : Edge). f.weight) found.2)),
@@ -348,3 +348,8 @@ one_cut net name e c there at seen one =
     let all = one_by net name.constraint name.cause e found.0 found.1 name.side found.2.constraint found.2.cause found.2.edge (kind_seen net name found.0 found.2.constraint seen)
     (subst (λ (d : Cause). HasOne d.range) same one) in
     record { back = λ times sat. (sat, all times sat); there = λ times sat come. sat }
+
+-- the choices stay
+pub choices_of_alone : (net : Net) (name : EdgeName) (e : Edge) → edge net name ≡ Some e → cause_choices (net_alone net name e.weight).constraints ≡ cause_choices net.constraints
+choices_of_alone net name e there =
+    let found = found_at net name e there in choices_alone net name e found.0 found.1 found.2.constraint found.2.cause

@@ -7,3 +7,6 @@ mod Keeping
 mod Causes
 mod Loops
 mod Cutting
+mod Seeking
+mod Settling
+mod Copying

@@ -176,10 +176,10 @@ IsFoundOn net budget left name e Wide next = next ≡ Wide
 IsFoundOn net budget left name e Open next = next ≡ Open
 
 -- an end, with what is found along one edge more
-pub record IsLookedOn (net : Net) (budget left : ℕ) (name : EdgeName) (e : Edge) (end next : RangeEnd) : Type 0 where
+pub record IsLookedOn (net : Net) (budget left : ℕ) (last : EdgeName) (e : Edge) (end next : RangeEnd) : Type 0 where
   pub name : next.name ≡ end.name
   pub edge : next.edge ≡ end.edge
-  pub found : IsFoundOn net budget left name e end.found next.found
+  pub found : IsFoundOn net budget left last e end.found next.found
 
 -- The ends of some names, in the order of their first places. The table has the place of each. Each name has an end that the same thing draws. What is
 -- found of them is right among these names.

@@ -1,7 +1,7 @@
 //! Which ends of drawn ranges no times reach.
 
 ghost use Rattle.std.specs.Prelude.{◌≡◌, ◌<◌, ◌≤◌, ◌+◌, ◌++◌, ◌∷◌, [], List, All, IfOk, OnOk, Some, length, map};
-ghost use Rattle.event_graph.specs.Edges.{edge};
+ghost use Rattle.event_graph.specs.Edges.{edge as edge_named};
 ghost use Rattle.itv_base.specs.Range.{IsEnd};
 ghost use Rattle.extremes.specs.Ready.{IsReady};
 ghost use Rattle.narrow_ends.specs.Ends.{ends_of};
@@ -118,7 +118,7 @@ fn look_on(
 ) -> Result<RangeEnd, NoMemory>
     requires ready { IsReady net.now extremes.old }
     requires same { searches.old.budget ≡ extremes.old.budget }
-    requires there { edge net.now name ≡ Some edge }
+    requires there { edge_named net.now name ≡ Some edge }
     requires from { edge.from.0 < net.now.events }
     requires to { edge.to.0 < net.now.events }
     requires weight { IsEnd (Some edge.weight) }

@@ -1,7 +1,7 @@
 //! Ends that satisfying times go past.
 
 ghost use Rattle.std.specs.Prelude.{◌≡◌, ◌<◌, ℕ, ℤ, ◌≤ℤ◌, ◌<ℤ◌, false, List, IfOk, IfSome, IsSomeAnd, IsTrue, OnOk, Some};
-ghost use Rattle.event_graph.specs.Edges.{edge};
+ghost use Rattle.event_graph.specs.Edges.{edge as edge_named};
 ghost use Rattle.event_graph.specs.Network.{Net};
 ghost use Rattle.event_graph.specs.Satisfying.{Satisfies};
 ghost use Rattle.itv_base.specs.Range.{IsEnd};
@@ -32,7 +32,7 @@ pub fn search_passed(
 ) -> Result<EndFound, NoMemory>
     requires ready { IsReady net.now extremes.old }
     requires same { searches.old.budget ≡ extremes.old.budget }
-    requires there { edge net.now name ≡ Some edge }
+    requires there { edge_named net.now name ≡ Some edge }
     requires from { edge.from.0 < net.now.events }
     requires to { edge.to.0 < net.now.events }
     requires weight { IsEnd (Some edge.weight) }

@@ -1,7 +1,7 @@
 //! What is found of an end along one edge.
 
 ghost use Rattle.std.specs.Prelude.{◌≡◌, ◌<◌, ◌≤◌, ◌+◌, ℕ, IfOk, OnOk, Some};
-ghost use Rattle.event_graph.specs.Edges.{edge};
+ghost use Rattle.event_graph.specs.Edges.{edge as edge_named};
 ghost use Rattle.event_graph.specs.Network.{Net};
 ghost use Rattle.itv_base.specs.Range.{IsEnd};
 ghost use Rattle.extremes.specs.Found.{IsGreatestFound, IsOpenShown};
@@ -31,7 +31,7 @@ pub fn search(
 ) -> Result<EndFound, NoMemory>
     requires ready { IsReady net.now extremes.old }
     requires same { searches.old.budget ≡ extremes.old.budget }
-    requires there { edge net.now name ≡ Some edge }
+    requires there { edge_named net.now name ≡ Some edge }
     requires from { edge.from.0 < net.now.events }
     requires to { edge.to.0 < net.now.events }
     requires weight { IsEnd (Some edge.weight) }
@@ -66,7 +66,7 @@ fn search_anew(
 ) -> Result<EndFound, NoMemory>
     requires ready { IsReady net.now extremes.old }
     requires same { searches.old.budget ≡ extremes.old.budget }
-    requires there { edge net.now name ≡ Some edge }
+    requires there { edge_named net.now name ≡ Some edge }
     requires from { edge.from.0 < net.now.events }
     requires to { edge.to.0 < net.now.events }
     requires weight { IsEnd (Some edge.weight) }
