@@ -1,8 +1,7 @@
 -- Networks in which ranges are moved, beside the drawn one; and ends that are opened together.
-use Rattle.std.proofs.Common.{◌≡◌, ℕ, ℤ, pos, Option, Some, Bool, true, false, ◌||◌, List, [], ◌∷◌, refl, sym, subst, ap}
+use Rattle.std.proofs.Common.{◌≡◌, ℕ, ℤ, pos, Option, Some, Bool, true, false, ◌||◌, List, [], ◌∷◌, refl, sym, subst}
 use Rattle.std.specs.Prelude.{Contains, IfSome, if◌then◌else◌}
 use Rattle.std.proofs.lemmas.List.Folds.{list_any_at}
-use Rattle.itv_base.specs.Range.{Ends}
 use Rattle.itv_base.specs.declared.names.Side.{Side}
 use Rattle.origin.specs.declared.origin.Origin.{Origin}
 use Rattle.event_graph.specs.declared.cause.Cause.{Cause}
