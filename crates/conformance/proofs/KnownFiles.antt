@@ -38,14 +38,13 @@ use Rattle.design_reading.specs.declared.refusal.Refusal.TheVariants as refusals
 use Rattle.range_edits.specs.EditsFile.{edits_of}
 use Rattle.range_edits.specs.declared.edit.RangeEdit.{RangeEdit}
 use Rattle.range_edits.specs.declared.file.TheConstants.{MAX_EDITS_BYTES}
-use Rattle.itv_base.specs.declared.row_kind.RowKind.{RowKind}
 use Rattle.unroll.specs.declared.fault.UnrollFault.TheVariants.{TooMany}
 use Rattle.unroll.specs.declared.limit.Limit.TheVariants.{Numbers}
 use Rattle.unroll.specs.declared.limit.TheConstants.{MAX_NUMBERS, MAX_SESSION_ROWS}
-use Rattle.whatif.specs.Session.{SessionView}
+use Rattle.whatif.specs.Runs.{notes_of}
 use Rattle.job_whatif.specs.Text.{ending_of, last_note}
 use Rattle.right_report.specs.RowTally.{kinds_of}
-use Rattle.job_whatif.specs.Whatif.{AnswersFrom}
+use Rattle.job_whatif.specs.Whatif.{AnswersWhatif}
 use Rattle.design_reading.specs.declared.refusal.Refusal.{Refusal}
 use Rattle.design_reading.specs.AskedFor.{files_at}
 use Rattle.design_reading.specs.Design.{design_at}
@@ -242,8 +241,8 @@ never_checked drawn Check read bytes a = a
 never_checked drawn Confirm read bytes a = a
 
 -- a job of edits refuses nothing for what it found
-never_from : (drawn : Drawn) (first : SessionView) (kinds : List RowKind) (edits : List RangeEdit) (text : List ℕ) → AnswersFrom drawn first kinds edits answers.DesignRefused text → ⊥
-never_from drawn first kinds edits text a = never_refused (ending_of kinds (last_note a.note a.notes).found (last_note a.note a.notes).answers) a.is_answer
+never_from : (drawn : Drawn) (budget : ℕ) (edits : List RangeEdit) (text : List ℕ) → AnswersWhatif drawn budget edits answers.DesignRefused text → ⊥
+never_from drawn budget edits text a = never_refused (ending_of (kinds_of drawn.rows) (last_note a.note (notes_of a.later)).found (last_note a.note (notes_of a.later)).answers) a.is_answer
 
 pub few_by : (files : Files) (b : Bool) (why : Refusal) (next : FileReading Ready) (to : Ready) → end_over files (if b then refuses Design why else next) ≡ ready to → end_over files next ≡ ready to
 few_by files true why next to e = absurd (cc e)
@@ -292,7 +291,7 @@ refused_redraws files (whatif design edits budget) bytes own h =
     let (file, fetched, behind) = told_behind files (file_at Edits edits MAX_EDITS_BYTES) (edits_in budget drawn) h.given few in
     let (list, had, is) = told_then files (at Edits refusals.Edits (edits_of drawn file)) (λ es. given.Whatif drawn es budget) h.given behind in
     let answered : Answers (given.Whatif drawn list budget) answers.DesignRefused bytes = subst (λ g. Answers g answers.DesignRefused bytes) (sym is) h.answers in
-    absurd (never_from drawn answered.0 (kinds_of drawn.rows) list bytes answered.2)
+    absurd (never_from drawn budget list bytes answered)
 refused_redraws files (margin design list budget) bytes own h =
     let (both, draws, comes) = told_behind files (planned_at design) (λ p. list_at p.1 list >>= (λ numbers. gives (given.Margin p.0 p.1 numbers budget))) h.given h.reads in
     let (numbers, had, is) = told_then files (list_at both.1 list) (λ ns. given.Margin both.0 both.1 ns budget) h.given comes in

@@ -1,4 +1,5 @@
 -- What the ends of runs of jobs why, brief and lint say over known files.
+use Rattle.explanations.proofs.Settling.{found_settles}
 use Rattle.std.proofs.Common.{◌≡◌, ◌∙◌, ◌<◌, ◌≤◌, ℕ, All, Bool, true, false, List, [], ◌∷◌, map, Some, refl, sym, subst, arith}
 use Rattle.std.specs.Prelude.{◌||◌, if◌then◌else◌}
 use Rattle.std.proofs.lemmas.List.Elements.{All-head, All-tail}
@@ -163,7 +164,7 @@ module _ (call : Call) (files : Files) (budget : ℕ) (plan : PlanView) (drawn :
       let m = answered_by call result answers.Undecided (λ same. cc same) means e in
       let a = why_said answers.Undecided m in
       below_choices (cause_choices drawn.net.constraints) budget
-      (λ enough. let (settled, all) = a.settles enough in settled_end drawn.rows a.finding a.found settled all a.is_answer)
+      (λ enough. let (settled, all) = found_settles drawn budget a.finding a.found a.is_net a.is_finding a.are_found enough in settled_end drawn.rows a.finding a.found settled all a.is_answer)
 
 -- ---- job brief
 
@@ -180,7 +181,7 @@ module _ (call : Call) (files : Files) (budget : ℕ) (csv : Bool) (plan : PlanV
       let m = answered_by call result answers.Undecided (λ same. cc same) means e in
       let a = brief_said answers.Undecided m in
       below_choices (cause_choices drawn.net.constraints) budget
-      (λ enough. let (settled, all) = a.settles enough in settled_end drawn.rows a.finding a.found settled all a.is_answer)
+      (λ enough. let (settled, all) = found_settles drawn budget a.finding a.found a.is_net a.is_finding a.are_found enough in settled_end drawn.rows a.finding a.found settled all a.is_answer)
 
 -- ---- job lint
 

@@ -56,9 +56,8 @@ behind_finding inconsistent = at_end Inconsistent
 behind_finding finding_spent = at_end Undecided
 
 abbrev pub is_spent : FallBound → Bool
-is_spent (closed value list) = false
-is_spent (unbounded list set) = false
 is_spent bound_spent = true
+is_spent value = false
 
 -- the state after a bound of a row: the least bound comes after the greatest, and the rows that are left come after the least
 abbrev pub behind_bound : FallRow → Which → Bool → TextState
