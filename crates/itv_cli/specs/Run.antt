@@ -1,5 +1,5 @@
 -- What the end of a run says: where it comes from, and what was written. The claim is `OutcomeMeans`; the definitions above it are its words,
--- and the definitions below follow from it. Nothing here is about one job: `Job` says what each job reads and answers.
+-- and the definitions below follow from it, as `Laws` says. Nothing here is about one job: `Job` says what each job reads and answers.
 use Rattle.std.specs.Prelude.{◌≡◌, ◌<◌, ◌⊎◌, ℕ, List, Option, Some, None, IfSome, codes}
 use Rattle.itv_base.specs.Outside.{Files, ShelfState, SinkState, FaultCounted, grown, CutShort}
 use Rattle.job_base.specs.declared.answer.Answer.{Answer}
