@@ -1,4 +1,5 @@
 -- What the ends of runs of one job say over known files.
+use Rattle.itv_cli.specs.Step.{edits_in}
 use Rattle.std.proofs.Common.{◌≡◌, ◌∙◌, ◌+◌, ◌≤◌, ℕ, Bool, true, false, List, ◌∷◌, length, take, Option, Some, None, ◌⊎◌, inl, inr, refl, sym, ap, subst, arith, nat_lt, codes, if◌then◌else◌, Result, Ok}
 use Rattle.std.proofs.lemmas.Bool.{ltb-false}
 use Rattle.std.proofs.lemmas.List.{length-take, take_all}
@@ -50,7 +51,7 @@ use Rattle.command_words.specs.declared.job.SearchJob.TheVariants.{Bounds, Settl
 use Rattle.command_words.specs.declared.job.CheckJob.TheVariants.{Check, Confirm}
 use Rattle.command_words.specs.Task as said
 use Rattle.itv_cli.specs.Task.{checked, generated, matrix, searched, taken, task, whatif}
-use Rattle.itv_cli.specs.Job.{Answers, edits_at, edits_in, made_for, matrix_at, opening, turns_for, whatif_at}
+use Rattle.itv_cli.specs.Job.{Answers, edits_at, made_for, matrix_at, opening, turns_for, whatif_at}
 use Rattle.itv_cli.specs.Run.{Call, HasRead, ReadsOver, HasAnswered, OutcomeMeans, outcome_of}
 use Rattle.itv_cli.specs.declared.outcome.Outcome.{Outcome}
 use Rattle.itv_cli.specs.declared.outcome.Outcome.TheVariants as ends

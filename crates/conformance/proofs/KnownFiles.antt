@@ -1,4 +1,5 @@
 -- What the ends of runs say over known files.
+use Rattle.itv_cli.specs.Step.{edits_in}
 use Rattle.std.proofs.Common.{◌≡◌, ◌<◌, ◌∙◌, ◌⊎◌, inl, inr, ℕ, ℤ, ◌≤ℤ◌, ◌<ℤ◌, Bool, true, false, if◌then◌else◌, nat_lt, List, [], ◌++◌, length, take, Option, Some, None, Result, Ok, Err, IfSome, IsSomeAnd, refl, sym, ap, subst, arith}
 use Rattle.std.proofs.lemmas.Int.{ints}
 use Rattle.std.proofs.lemmas.Option.{same_Some}
@@ -66,8 +67,8 @@ use Rattle.job_lint.specs.Lint.{answer_by}
 use Rattle.job_lint.specs.Lines.{is_clean, lines_of}
 use Rattle.job_margin.specs.Text.{are_left_open, end_of}
 use Rattle.job_why.specs.Text.{ending_of as explained_ending}
-use Rattle.itv_cli.specs.Job.{Answers, edits_at, edits_in, fall_at, fall_in, list_at, made_for, matrix_at, opening, planned_at, whatif_at}
-use Rattle.itv_cli.specs.Run.{Call, HasRead, Completes, OutcomeBy, ReadsOver, FilesDecide, HasAnswered, HasRefused, IsRefused, OutcomeMeans, Wrote, call_of}
+use Rattle.itv_cli.specs.Job.{Answers, edits_at, fall_at, fall_in, list_at, made_for, matrix_at, opening, planned_at, whatif_at}
+use Rattle.itv_cli.specs.Run.{Call, HasRead, Completes, OutcomeBy, ReadsOver, FilesDecide, HasAnswered, IsRefused, OutcomeMeans, Wrote, call_of}
 use Rattle.itv_cli.specs.declared.outcome.Outcome.{Outcome}
 use Rattle.itv_cli.specs.declared.outcome.Outcome.TheVariants as ends
 use Rattle.itv_cli.specs.declared.ready.Ready.{Ready}
@@ -202,6 +203,10 @@ passed_right call files bytes known m is design budget cert words =
 refused_so : (call : Call) (files : Files) (bytes : List ℕ) → call.shelf_before.files ≡ Some files → (m : IsRefused call) → refusal_text m.place m.why ≡ bytes → (asked : Task) → Asks call.words asked
     → IsRefusalOf files asked bytes
 refused_so call files bytes known m is asked asks = record { place = m.place; why = m.why; reads = refused_over call files asked m.place m.why known asks m.came; text = sym is }
+
+-- the files are refused; or all was read, the job refuses the design, and the line of this refusal was written
+abbrev pub HasRefused : Call → Type 0
+HasRefused call = IsRefused call ⊎ HasAnswered call answers.DesignRefused
 
 -- the line that a refused run wrote
 abbrev pub refused_line : (call : Call) → HasRefused call → List ℕ

@@ -1,4 +1,5 @@
 -- What is read of a file of edits, given the answer of its reader.
+use Rattle.itv_cli.specs.Step.{edits_in}
 use Rattle.std.proofs.Common.{◌≡◌, ℕ, List, Ok, Err, refl}
 use Rattle.itv_base.specs.Outside.{ShelfState}
 use Rattle.itv_base.specs.Reading.{IsReadingFault}
@@ -13,7 +14,6 @@ use Rattle.design_reading.specs.Step.{Opens, stop_of}
 use Rattle.design_reading.proofs.Opens.{at_err, at_ok, opens_stop, opens_then}
 use Rattle.itv_cli.specs.declared.ready.Ready.{Ready}
 use Rattle.itv_cli.specs.declared.ready.Ready.TheVariants.{Whatif}
-use Rattle.itv_cli.specs.Job.{edits_in}
 
 module _ (standing : ShelfState) (drawn : Drawn) (budget : ℕ) (bytes : List ℕ) where
   -- the edits were read
