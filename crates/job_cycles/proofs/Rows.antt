@@ -1,0 +1,42 @@
+-- The rows of a run, one after another.
+use Rattle.std.proofs.Common.{◌≡◌, ℕ, ◌+◌, ◌*◌, ◌<◌, ◌≤◌, List, [], ◌∷◌, ◌++◌, All, length, get_or, drop, refl, ap, sym, ◌∙◌, arith}
+use Rattle.std.proofs.lemmas.List.{append_assoc, drop_all, drop_more}
+use Rattle.drawn_networks.specs.Drawn.{Drawn}
+use Rattle.sheet.specs.declared.row.SheetRow.{SheetRow}
+use Rattle.slack_report.specs.declared.words.EndWord.{EndWord}
+use Rattle.unroll.specs.Step.Between.{IsRowBetween}
+use Rattle.steady.specs.Step.{IsWholeRun}
+use Rattle.steady.specs.declared.design_run.DesignRun.{DesignRun}
+use Rattle.steady.specs.declared.found.RowFound.{RowFound}
+use Rattle.job_why.specs.Text.{Noted}
+use Rattle.job_cycles.specs.Cycles.{end_after_row, rows_end}
+use Rattle.job_cycles.specs.Text.{row_text, rows_text}
+
+-- ---- texts
+
+-- no lines for no rows, or if nothing is found of them
+none_left : (noted : Noted) (drawn : Drawn) (number : ℕ) (rows : List SheetRow) → rows_text noted drawn number rows [] ≡ []
+none_left noted drawn number [] = refl
+none_left noted drawn number (row ∷ rows) = refl
+
+pub one_row : (noted : Noted) (drawn : Drawn) (k : ℕ) (rows : List SheetRow) (found : List RowFound) (row : SheetRow) (one : RowFound) → k < length rows → k < length found
+    → row ≡ get_or rows k row → one ≡ get_or found k one
+    → rows_text noted drawn k (drop k rows) (drop k found) ≡ row_text noted drawn k row one ++ rows_text noted drawn (k + 1) (drop (k + 1) rows) (drop (k + 1) found)
+one_row noted drawn k rows found row one within also at there =
+    let first : drop k rows ≡ row ∷ drop (k + 1) rows = drop_more rows k row within ∙ ap (λ r. r ∷ drop (k + 1) rows) (sym at) in
+    let second : drop k found ≡ one ∷ drop (k + 1) found = drop_more found k one also ∙ ap (λ f. f ∷ drop (k + 1) found) (sym there) in
+    ap (λ rs. rows_text noted drawn k rs (drop k found)) first ∙ ap (λ fs. rows_text noted drawn k (row ∷ drop (k + 1) rows) fs) second
+
+pub goes_on : (before step rest left all after : List ℕ) → before ++ left ≡ all → left ≡ step ++ rest → after ≡ before ++ step → after ++ rest ≡ all
+goes_on before step rest left all after h is pushed =
+    ap (λ t. t ++ rest) pushed ∙ append_assoc before step rest ∙ ap (λ t. before ++ t) (sym is) ∙ h
+
+-- ---- the word at the end
+
+pub one_end : (word : EndWord) (k : ℕ) (rows : List SheetRow) (found : List RowFound) (row : SheetRow) (one : RowFound) → k < length rows → k < length found
+    → row ≡ get_or rows k row → one ≡ get_or found k one
+    → rows_end word (drop k rows) (drop k found) ≡ rows_end (end_after_row word row.kind one) (drop (k + 1) rows) (drop (k + 1) found)
+one_end word k rows found row one within also at there =
+    let first : drop k rows ≡ row ∷ drop (k + 1) rows = drop_more rows k row within ∙ ap (λ r. r ∷ drop (k + 1) rows) (sym at) in
+    let second : drop k found ≡ one ∷ drop (k + 1) found = drop_more found k one also ∙ ap (λ f. f ∷ drop (k + 1) found) (sym there) in
+    ap (λ rs. rows_end word rs (drop k found)) first ∙ ap (λ fs. rows_end word (row ∷ drop (k + 1) rows) fs) second
