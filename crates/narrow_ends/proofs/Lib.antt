@@ -7,6 +7,6 @@ mod Keeping
 mod Causes
 mod Loops
 mod Cutting
-mod Seeking
-mod Settling
+pub mod Seeking
+pub mod Settling
 mod Copying

@@ -25,10 +25,10 @@ use Rattle.narrow_ends.specs.Narrow.{IsAlikeEdge, IsEndSettled, IsFoundAmong, Is
 use Rattle.narrow_ends.proofs.Cutting.{IsAt, choices_of_alone, found_at, lower_edge, upper_edge}
 
 -- a pair that was left open used the budget up
-pair_below : (net : Net) (budget : ℕ) (from to : EventId) → IsNet net → IsPairOpen net budget from to → budget < cause_choices net.constraints
+pub pair_below : (net : Net) (budget : ℕ) (from to : EventId) → IsNet net → IsPairOpen net budget from to → budget < cause_choices net.constraints
 pair_below net budget from to is_net (limit, attained, left) = stopped_proof_is_below_choices net (BoundGoal from to attained) left.stopped.0 budget is_net left.stopped.1
 
-finding_below : (net : Net) (budget : ℕ) → IsNet net → IsFindingOpen net budget → budget < cause_choices net.constraints
+pub finding_below : (net : Net) (budget : ℕ) → IsNet net → IsFindingOpen net budget → budget < cause_choices net.constraints
 finding_below net budget is_net left = stopped_proof_is_below_choices net Nothing left.stopped.0 budget is_net left.stopped.1
 
 -- the ends of an end alone are ends
