@@ -33,8 +33,7 @@ AreNumbersFound drawn budget (Some seen) found =
     (span : SpanFound) × IsSpanFound drawn (map (λ (s : NumberSeen). s.number) seen) budget span.down span.up
     × (found ≡ replicate (length seen) (record { ends = record { low = None; high = None }; span = Some span }))
 
--- what is true of the network as drawn, given the word that it would end with, and what is found of numbers, if every requirement passes or a row breaks;
--- it is undecided only if a search used the budget up
+-- what is true of the network as drawn, given the word that it would end with, and what is found of numbers, if every requirement passes or a row breaks
 abbrev pub EndsBy : Drawn → ℕ → (List NumberFound → Type 0) → EndWord → List NumberFound → Type 0
 EndsBy drawn budget AreRight Pass found = Passes drawn × AreRight found
 EndsBy drawn budget AreRight Fail found = ((row : ℕ) × BreaksRow drawn row) × AreRight found

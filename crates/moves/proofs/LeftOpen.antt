@@ -1,7 +1,6 @@
 -- Searches that were left open.
 use Rattle.std.proofs.Common.{◌<◌, inl, inr, ℕ, Option, Some, None, [], ◌∷◌, refl, subst}
 use Rattle.std.specs.Prelude.{IsSomeAnd}
-use Rattle.itv_base.specs.declared.names.EventId.{EventId}
 use Rattle.event_graph.specs.Edges.{cause_choices}
 use Rattle.event_graph.specs.Network.{IsNet, Net}
 use Rattle.event_graph.specs.Proof.{Nothing}
@@ -10,17 +9,15 @@ use Rattle.event_graph.proofs.ProofCounts.{stopped_proof_is_below_choices}
 use Rattle.drawn_networks.specs.declared.row.Row.{Row}
 use Rattle.moves.specs.Laws.{LeftIsBelowChoices, MoveKeepsChoices, SpentIsBelowChoices}
 use Rattle.moves.specs.Moving.{net_moved, opened, widened}
-use Rattle.moves.specs.Networks.{IsPairLeft, IsRowLeft}
+use Rattle.moves.specs.Networks.{IsRowLeft}
 use Rattle.moves.specs.Step.{opened_at, widened_at}
 use Rattle.moves.proofs.Moved.{choices_kept}
 
-pair_below : (net : Net) (budget : ℕ) (from to : EventId) → IsNet net → IsPairLeft net budget from to → budget < cause_choices net.constraints
-pair_below net budget from to is_net (limit, attained, left) =
-    stopped_proof_is_below_choices net (BoundGoal from to attained) left.stopped.0 budget is_net left.stopped.1
-
 row_below : (net : Net) (budget : ℕ) (row : Row) → IsNet net → IsRowLeft net budget row → budget < cause_choices net.constraints
-row_below net budget row is_net (inl left) = pair_below net budget row.from row.to is_net left
-row_below net budget row is_net (inr left) = pair_below net budget row.to row.from is_net left
+row_below net budget row is_net (limit, attained, inl left) =
+    stopped_proof_is_below_choices net (BoundGoal row.from row.to attained) left.stopped.0 budget is_net left.stopped.1
+row_below net budget row is_net (limit, attained, inr left) =
+    stopped_proof_is_below_choices net (BoundGoal row.to row.from attained) left.stopped.0 budget is_net left.stopped.1
 
 found_below : (net : Net) (budget : ℕ) (row : Option Row) → IsNet net → IsSomeAnd row (IsRowLeft net budget) → budget < cause_choices net.constraints
 found_below net budget None is_net left = absurd left

@@ -57,8 +57,7 @@ abbrev pub FailsNear : Drawn → List DrawnNumber → ℕ → Type 0
 FailsNear drawn numbers budget = (by : ℤ) → neg_ℤ (pos budget) ≤ℤ by → by ≤ℤ pos budget → HasDrawableRanges (shifted_at drawn numbers by) numbers
     → Passes (shifted_at drawn numbers by) → ⊥
 
--- what is found of the values of numbers: a span, or that they fail as drawn and with each value near that; or it was left open, where a search with some
--- value used the budget up
+-- what is found of the values of numbers: a span, or that they fail as drawn and with each value near that; or a search with some value used the budget up
 abbrev pub IsSpanFound : Drawn → List DrawnNumber → ℕ → Margin → Margin → Type 0
 IsSpanFound drawn numbers budget margins.Never margins.Never = (Passes drawn → ⊥) × FailsNear drawn numbers budget
 IsSpanFound drawn numbers budget margins.Spent margins.Spent =

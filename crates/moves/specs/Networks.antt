@@ -1,6 +1,5 @@
 -- What is found of a network with its rows, and when that is right.
 use Rattle.std.specs.Prelude.{◌⊎◌, ℕ, ℤ, Bool, true, false, Option, IsSomeAnd, slice_get}
-use Rattle.itv_base.specs.declared.names.EventId.{EventId}
 use Rattle.event_graph.specs.Bounds.{IsInconsistent}
 use Rattle.event_graph.specs.Network.{IsNet, Net}
 use Rattle.drawn_networks.specs.Drawn.{Drawn}
@@ -25,13 +24,10 @@ is_net_open nets.Open = true
 is_net_open nets.Spent = true
 is_net_open found = false
 
--- the search of the greatest separation of a pair was left open
-abbrev pub IsPairLeft : Net → ℕ → EventId → EventId → Type 0
-IsPairLeft net budget from to = (limit : Option ℤ) × (attained : ℤ) × IsLeftOpen net budget from to limit attained
-
--- the search of a bound of a row was left open: of its pair, or of the reversed pair
+-- the search of a bound of a row was left open: of the greatest separation of its pair, or of the reversed pair
 abbrev pub IsRowLeft : Net → ℕ → Row → Type 0
-IsRowLeft net budget row = IsPairLeft net budget row.from row.to ⊎ IsPairLeft net budget row.to row.from
+IsRowLeft net budget row =
+    (limit : Option ℤ) × (attained : ℤ) × (IsLeftOpen net budget row.from row.to limit attained ⊎ IsLeftOpen net budget row.to row.from limit attained)
 
 -- a search of a network within the limits used the budget up: whether some times satisfy it was left open, or a bound of one of its rows was
 abbrev pub IsLeft : Drawn → ℕ → Type 0

@@ -5,8 +5,7 @@ ghost use Rattle.itv_base.specs.Range.{IsEnd};
 ghost use Rattle.event_graph.specs.Times.{IsTime};
 ghost use Rattle.extremes.specs.Found.{IsAttainedBy};
 ghost use Rattle.extremes.specs.Ready.{AreTurnsOf, IsReady};
-ghost use Rattle.moves.specs.Networks.{IsPairLeft};
-ghost use Rattle.probing.specs.Step.{IsLimitFound, IsNotedFor};
+ghost use Rattle.probing.specs.Step.{IsLimitFound, IsNotedFor, IsPairLeft};
 
 use crate::probed::{Probed, SideChain};
 use crate::side::SideFound;

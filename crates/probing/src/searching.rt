@@ -5,9 +5,9 @@ ghost use Rattle.itv_base.specs.Range.{IsEnd};
 ghost use Rattle.itv_base.specs.declared.limits.TheConstants.{MAX_ROWS};
 ghost use Rattle.drawn_networks.specs.Drawn.{IsRowOf};
 ghost use Rattle.extremes.specs.Ready.{AreTurnsOf, IsFor, IsReady};
-ghost use Rattle.moves.specs.Networks.{IsLeft, IsNetFound, IsPairLeft, IsRowLeft, is_net_open};
+ghost use Rattle.moves.specs.Networks.{IsLeft, IsNetFound, IsRowLeft, is_net_open};
 ghost use Rattle.moves.specs.Step.{bare_drawn};
-ghost use Rattle.probing.specs.Step.{HasRowLeft, IsHighFound, IsLowFound, IsNotedFor, IsProbed, IsRangeFound, IsRowLookedAt, passes_unless};
+ghost use Rattle.probing.specs.Step.{HasRowLeft, IsHighFound, IsLowFound, IsNotedFor, IsPairLeft, IsProbed, IsRangeFound, IsRowLookedAt, passes_unless};
 
 use crate::noting::{ProbeNotes, high_limit, look, low_limit};
 use crate::probed::Probed;

@@ -1,5 +1,5 @@
 use Rattle.std.proofs.Common.{refl, sym, subst, ◌∙◌}
-use Rattle.moves.specs.Networks.{IsPairLeft}
+use Rattle.probing.specs.Step.{IsPairLeft}
 use Rattle.probing.proofs.Finding.{both_left, both_looked, high_exceeds}
 use Rattle.probing.proofs.searching.look_at_range.Goals as goal
 
@@ -14,6 +14,6 @@ returns-clause-found c =
 
 pub returns-clause-left : goal.returns-clause-left
 returns-clause-left c = λ is.
-    both_left c.in_ok-high.high c.in_ok-low.low c.in_ok-high.ensures.left
+    both_left c.args.net.now c.args.extremes.now.budget c.args.row.now c.in_ok-high.high c.in_ok-low.low c.in_ok-high.ensures.left
     (λ low. subst (λ n. IsPairLeft c.args.net.now n c.args.row.now.to c.args.row.now.from) c.look_high.ensures.budget (c.in_ok-low.ensures.left low))
     (sym c.both_of.ensures.both ∙ is)

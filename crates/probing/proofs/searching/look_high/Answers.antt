@@ -1,6 +1,6 @@
 use Rattle.std.proofs.Common.{ap, subst, ◌∙◌}
 use Rattle.std.proofs.lemmas.Result.{IfOk-weaker}
-use Rattle.moves.specs.Networks.{IsPairLeft}
+use Rattle.probing.specs.Step.{IsPairLeft}
 use Rattle.probing.specs.declared.noting.EndLimit.{EndLimit}
 use Rattle.probing.proofs.Finding.{end_kept, high_looked}
 use Rattle.probing.proofs.searching.look_high.Goals as goal

@@ -1,6 +1,6 @@
 use Rattle.std.proofs.Common.{neg_ℤ, ap, subst, ◌∙◌}
 use Rattle.std.proofs.lemmas.Result.{IfOk-weaker}
-use Rattle.moves.specs.Networks.{IsPairLeft}
+use Rattle.probing.specs.Step.{IsPairLeft}
 use Rattle.probing.specs.declared.noting.EndLimit.{EndLimit}
 use Rattle.probing.proofs.Finding.{end_kept, low_looked}
 use Rattle.probing.proofs.searching.look_low.Goals as goal
