@@ -23,10 +23,10 @@ use Rattle.job_why.specs.Step.{by_words}
 use Rattle.job_why.specs.Text.{grade_word, part_of, row_origin_words, some_word}
 use Rattle.job_brief.specs.declared.line.RowLine.{RowLine}
 use Rattle.job_brief.specs.declared.run_place.RunPlace.{RunPlace}
-use Rattle.job_brief.specs.Lines.{cycle_of, cycle_words, judged_words, order_words, run_words}
+use Rattle.job_brief.specs.Lines.{cycle_of, cycle_words, judged_words, order_words}
 use Rattle.job_brief.specs.Rows.{NumberedRow, RowRun, ordered, runs_of}
-use Rattle.job_brief.specs.Step.{back_words, front_words, judged_in, judgement_cells, judgement_words, numbered_rows, order_word, row_line_cells, row_line_text, row_line_words, run_place, run_places}
-use Rattle.job_brief.specs.Table.{cells_text, in_quotes, judged_cells, kind_word, quoted, range_cells, run_cells}
+use Rattle.job_brief.specs.Step.{back_words, front_words, judged_in, judgement_cells, judgement_words, numbered_rows, order_word, row_line_cells, row_line_text, row_line_words, run_place, run_places, cells_text, run_words}
+use Rattle.job_brief.specs.Table.{in_quotes, judged_cells, kind_word, quoted, range_cells, run_cells}
 use Rattle.job_brief.specs.Text.{run_text}
 use Rattle.job_brief.proofs.Folding.{HasRows}
 use Rattle.job_brief.proofs.Numbered.{Each}

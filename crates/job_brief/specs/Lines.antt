@@ -12,7 +12,7 @@ use Rattle.explanations.specs.declared.row.RowFound.{RowFound}
 use Rattle.requirements.specs.Separations.{bound_of}
 use Rattle.explanations.specs.Answers.{verdict_in}
 use Rattle.job_why.specs.Text.{part_of, row_origin_words}
-use Rattle.job_brief.specs.Rows.{NumberedRow, RowRun, slack_in}
+use Rattle.job_brief.specs.Rows.{NumberedRow, slack_in}
 
 -- the verdict and the slacks of a requirement; an ask has none
 abbrev pub judged_words : RowKind → RowFound → List Word
@@ -40,7 +40,3 @@ cycle_of drawn numbered = (name_of drawn numbered.row.from).cycle
 -- the first and the last cycle of several rows
 abbrev pub cycle_words : ℕ → ℕ → List Word
 cycle_words first last = if first == last then [] else codes "cycles" ∷ number_text first ∷ codes "to" ∷ number_text last ∷ []
-
--- the words of the first row, and of a run of several rows their cycles
-abbrev pub run_words : NotesKept → Drawn → RowRun → List Word
-run_words noted drawn run = numbered_row_words noted drawn run.first ++ cycle_words (cycle_of drawn run.first) (cycle_of drawn run.last)

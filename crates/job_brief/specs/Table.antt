@@ -35,10 +35,6 @@ quoted text = in_quotes (flat_map doubled text)
 abbrev pub cells_end : List ℕ
 cells_end = 13 ∷ 10 ∷ []
 
--- a line of cells, with a comma between two of them
-abbrev pub cells_text : List (List ℕ) → List ℕ
-cells_text cells = join_with_byte 44 cells ++ cells_end
-
 -- ---- the line of a run
 
 abbrev pub kind_word : RowKind → Word

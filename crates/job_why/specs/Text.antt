@@ -68,17 +68,11 @@ name_in drawn event = name_word (name_of drawn event)
 
 -- ---- steps
 
--- the origin of the cause of an edge
-abbrev pub origin_at : Drawn → EdgeName → Option Origin
-origin_at drawn name = option_and_then (λ origins. slice_get origins name.cause) (slice_get drawn.origins name.constraint)
-
--- the part of the target of the constraint of an edge
-abbrev pub part_at : Drawn → EdgeName → List ℕ
-part_at drawn name = unwrap_or (option_map (λ (c : Constraint). part_of drawn c.target) (slice_get drawn.net.constraints name.constraint)) []
-
--- the words of the origin of an edge
+-- what draws the cause of an edge, with its note; its part is the part of the target of its constraint
 abbrev pub drawn_words : NotesKept → Drawn → EdgeName → List Word
-drawn_words noted drawn name = unwrap_or (option_map (origin_words noted (part_at drawn name)) (origin_at drawn name)) []
+drawn_words noted drawn name =
+    unwrap_or (option_map (origin_words noted (unwrap_or (option_map (λ (c : Constraint). part_of drawn c.target) (slice_get drawn.net.constraints name.constraint)) []))
+    (option_and_then (λ origins. slice_get origins name.cause) (slice_get drawn.origins name.constraint))) []
 
 -- a step from an event to an event, with a weight and what draws its edge
 abbrev pub step_words : NotesKept → Drawn → EdgeName → EventId → EventId → ℤ → List Word
