@@ -1,7 +1,7 @@
 -- The lines of job brief as a table of comma-separated values: a line of cells for each run of rows.
 use Rattle.origin.specs.NotesKept.{NotesKept}
 use Rattle.std.specs.Prelude.{◌==◌, ℕ, if◌then◌else◌, List, [], ◌∷◌, ◌++◌, codes}
-use Rattle.std.specs.List.{flat_map, join_with_byte}
+use Rattle.std.specs.List.{flat_map}
 use Rattle.itv_base.specs.Numerals.{end_text, number_text}
 use Rattle.itv_base.specs.declared.row_kind.RowKind.{RowKind}
 use Rattle.itv_base.specs.declared.row_kind.RowKind.TheVariants as kinds

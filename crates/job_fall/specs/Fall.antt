@@ -18,7 +18,7 @@ use Rattle.drawn_networks.specs.declared.row.Row.{Row}
 use Rattle.slack_report.specs.Text.{entry_text}
 use Rattle.falling.specs.declared.view.View.{View}
 use Rattle.job_fall.specs.Shows.{IsFallBound, IsFinding, first_event}
-use Rattle.job_fall.specs.Text.{FallBound, Finding, bound_spent, bound_text, consistent, finding_spent, finding_text, front_text, inconsistent, closed, printed, unbounded}
+use Rattle.job_fall.specs.Text.{FallBound, Finding, bound_spent, bound_text, consistent, finding_spent, finding_text, front_text, inconsistent, printed}
 use Rattle.falling.specs.View.{IsViewOf}
 use Rattle.job_fall.specs.View.{seen, source}
 

@@ -1,5 +1,5 @@
 -- What is found of a network and of its rows.
-use Rattle.std.specs.Prelude.{◌≡◌, ◌+◌, ◌*◌, ◌≤◌, ℕ, ℤ, pos, neg_ℤ, ◌<ℤ◌, Bool, List, [], ◌∷◌, length, All, None, IsTrue}
+use Rattle.std.specs.Prelude.{◌≡◌, ◌+◌, ◌*◌, ◌≤◌, ℕ, ℤ, pos, neg_ℤ, ◌<ℤ◌, Bool, List, [], length, All, None, IsTrue}
 use Rattle.std.specs.List.{sum_by, AllZip}
 use Rattle.itv_base.specs.Range.{Ends}
 use Rattle.itv_base.specs.declared.names.EventId.{EventId}

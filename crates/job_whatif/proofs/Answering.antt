@@ -1,5 +1,5 @@
 -- What the job answers, as the contract of the crate says it and as the steps say it.
-use Rattle.std.proofs.Common.{◌≡◌, ℕ, List, Result, Ok, Err, refl, sym, subst, ap, ◌∙◌}
+use Rattle.std.proofs.Common.{◌≡◌, ℕ, List, Result, Ok, Err, refl, subst}
 use Rattle.itv_base.specs.Outside.{SinkState}
 use Rattle.drawn_networks.specs.Drawn.{Drawn}
 use Rattle.range_edits.specs.declared.edit.RangeEdit.{RangeEdit}

@@ -34,7 +34,7 @@ use Rattle.drawn_networks.specs.declared.row.Row.{Row}
 use Rattle.explanations.specs.Answers.{BoundFound}
 use Rattle.requirements.specs.declared.separation.Separation.TheVariants as separations
 use Rattle.explanations.specs.declared.finding.Finding.{Finding}
-use Rattle.explanations.specs.declared.finding.Finding.TheVariants.{Consistent, Inconsistent, Open}
+use Rattle.explanations.specs.declared.finding.Finding.TheVariants.{Inconsistent, Open}
 use Rattle.explanations.specs.declared.row.RowFound.{RowFound}
 use Rattle.requirements.specs.Separations.{bound_of}
 use Rattle.explanations.specs.Answers.{both_of, verdict_by, verdict_in, consistency_of}
