@@ -1,6 +1,8 @@
 -- What the job answers, as the contract of the crate says it and as the steps say it.
 use Rattle.std.proofs.Common.{◌≡◌, ℕ, List, Result, Ok, Err, refl, subst}
 use Rattle.itv_base.specs.Outside.{SinkState}
+use Rattle.itv_base.specs.declared.row_kind.RowKind.{RowKind}
+use Rattle.event_graph.specs.declared.pair.Pair.{Pair}
 use Rattle.drawn_networks.specs.Drawn.{Drawn}
 use Rattle.range_edits.specs.declared.edit.RangeEdit.{RangeEdit}
 use Rattle.right_report.specs.RowTally.{kinds_of}
@@ -50,6 +52,16 @@ module _ (drawn : Drawn) (budget : ℕ) (edits : List RangeEdit) where
       is_answer = a.is_answer;
     },
   )
+
+  abbrev Wrote : SinkState → SinkState → Result Answer Unanswered → List Pair → List RowKind → List RangeEdit → Type 0
+  Wrote old new result pairs kinds list = JobWrote (AnswersFor drawn pairs kinds budget list) (Answered (AnswersFor drawn pairs kinds budget list)) old new result
+
+  -- what was written for lists that are those of the rows and of the edits
+  pub wrote_for : (old new : SinkState) (result : Result Answer Unanswered) (pairs : List Pair) (kinds : List RowKind) (list : List RangeEdit) → pairs ≡ pairs_of drawn.rows
+      → kinds ≡ kinds_of drawn.rows → list ≡ edits → Wrote old new result pairs kinds list → Wrote old new result (pairs_of drawn.rows) (kinds_of drawn.rows) edits
+  wrote_for old new result pairs kinds list is_pairs is_kinds is_list w =
+      subst (λ (p : List Pair). Wrote old new result p (kinds_of drawn.rows) edits) is_pairs
+      (subst (λ (k : List RowKind). Wrote old new result pairs k edits) is_kinds (subst (λ (l : List RangeEdit). Wrote old new result pairs kinds l) is_list w))
 
   -- what the steps wrote is what the job writes
   pub wrote_so : (old new : SinkState) (result : Result Answer Unanswered) → JobWrote For (Answered For) old new result
