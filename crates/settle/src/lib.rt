@@ -33,6 +33,7 @@ mod spreading;
 mod sweep;
 mod trail;
 mod unseen;
+mod watch_lists;
 
 pub use edge_clauses::StoredLine;
 pub use run_turns::RunTurns;
