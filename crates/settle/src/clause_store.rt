@@ -104,7 +104,12 @@ impl ClauseStore {
     }
 
     /// Watches another literal of a clause, the one with this number, in place of a watched one.
-    pub fn move_watch(&mut self, clause: usize, is_second: bool, number: usize) -> Result<(), NoMemory> {
+    pub fn move_watch(
+        &mut self,
+        clause: usize,
+        is_second: bool,
+        number: usize,
+    ) -> Result<(), NoMemory> {
         let literals = self.clause(clause).literals;
         let place = literals.place(number_of(is_second));
         self.swap(place, literals.place(number));

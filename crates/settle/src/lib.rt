@@ -12,6 +12,7 @@ mod building;
 mod choosing;
 mod clause_store;
 mod engine;
+mod event_order;
 mod facts;
 mod fall_counts;
 mod literal;

@@ -245,7 +245,11 @@ impl Facts {
     }
 
     // Looks at the clauses of watches, where the bound of their list has come to a value. Brings the watches that stay to the front, and says how many they are.
-    fn look_at_watches(&mut self, watches: &mut Vec<Watch>, reached: i64) -> Result<usize, NoMemory> {
+    fn look_at_watches(
+        &mut self,
+        watches: &mut Vec<Watch>,
+        reached: i64,
+    ) -> Result<usize, NoMemory> {
         let mut kept = 0usize;
         for number in 0..watches.len() {
             let watch = at(watches, number, NO_WATCH);
