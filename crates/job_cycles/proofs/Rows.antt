@@ -1,5 +1,6 @@
 -- The rows of a run, one after another.
 use Rattle.std.proofs.Common.{◌≡◌, ℕ, ◌+◌, ◌*◌, ◌<◌, ◌≤◌, List, [], ◌∷◌, ◌++◌, All, length, get_or, drop, refl, ap, sym, ◌∙◌, arith}
+use Rattle.std.proofs.lemmas.Nat.{mul-le}
 use Rattle.std.proofs.lemmas.List.{append_assoc, drop_all, drop_more}
 use Rattle.drawn_networks.specs.Drawn.{Drawn}
 use Rattle.sheet.specs.declared.row.SheetRow.{SheetRow}
@@ -40,3 +41,16 @@ one_end word k rows found row one within also at there =
     let first : drop k rows ≡ row ∷ drop (k + 1) rows = drop_more rows k row within ∙ ap (λ r. r ∷ drop (k + 1) rows) (sym at) in
     let second : drop k found ≡ one ∷ drop (k + 1) found = drop_more found k one also ∙ ap (λ f. f ∷ drop (k + 1) found) (sym there) in
     ap (λ rs. rows_end word rs (drop k found)) first ∙ ap (λ fs. rows_end word (row ∷ drop (k + 1) rows) fs) second
+
+-- ---- events
+
+-- the rows of a run are between the events of its network
+pub rows_in_net : (run : DesignRun) → IsWholeRun run → All (IsRowBetween run.drawn.net.events) run.rows.items
+rows_in_net run whole = λ k row within.
+    let reach : run.from + (get_or run.rows.items k row).shift < run.cycles = whole.reach k row within in
+    let from : (get_or run.rows.items k row).from < run.marks = (whole.rows k row within).from in
+    let to : (get_or run.rows.items k row).to < run.marks = (whole.rows k row within).to in
+    let one : 1 ≤ run.cycles = omega (arith, reach) in
+    let most : 1 * run.marks ≤ run.cycles * run.marks = mul-le 1 run.marks run.cycles run.marks one (omega arith) in
+    let events : run.drawn.net.events ≡ run.cycles * run.marks = whole.events in
+    record { from = omega (arith, from, most, events); to = omega (arith, to, most, events) }

@@ -73,9 +73,9 @@ fn decision_of<N: Notes>(
 ) -> Result<Decision, NoMemory>
     requires run { IsWholeRun run.now }
     requires times { HaveTimes outcome.now }
-    ensures text { IfOk result (λ t. t.text.items
-        ≡ cycles_text (N.noted notes.now) run.now.drawn run.now.rows.items run.now.from run.now.cycles outcome.now) }
-    ensures answer { IfOk result (λ t. t.answer ≡ answer_of (ending_of run.now.rows.items outcome.now)) }
+    ensures decision { IfOk result (λ t. (t.text.items
+        ≡ cycles_text (N.noted notes.now) run.now.drawn run.now.rows.items run.now.from run.now.cycles outcome.now)
+        × (t.answer ≡ answer_of (ending_of run.now.rows.items outcome.now))) }
 {
     let word = ending_of(&run.rows, outcome);
     let mut text = Vec::new(alloc);
