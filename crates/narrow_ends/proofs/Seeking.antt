@@ -6,6 +6,7 @@ use Rattle.std.specs.Ordering.{int_eq}
 use Rattle.std.proofs.lemmas.Int.{ints, to_z-of_z}
 use Rattle.std.proofs.lemmas.Bool.Decides.{Decides-int_eq}
 use mir.Val.{SFits}
+use Rattle.itv_base.specs.Range.{IsEnd}
 use Rattle.itv_base.specs.declared.names.EdgeName.{EdgeName}
 use Rattle.itv_base.specs.declared.names.EventId.{EventId}
 use Rattle.event_graph.specs.declared.edge.Edge.{Edge}
@@ -22,7 +23,7 @@ use Rattle.narrow_ends.specs.declared.end.EndFound.TheVariants.{Narrow, Open, Pa
 use Rattle.narrow_ends.specs.declared.reach.Reach.{Reach}
 use Rattle.narrow_ends.specs.declared.reach.Reach.TheVariants as reaches
 use Rattle.narrow_ends.specs.Narrow.{IsPairOpen, IsSearchOpen, net_alone}
-use Rattle.narrow_ends.specs.Step.{AreShown, IsComeTo, IsCutAt, IsFoundAlone, IsFoundAlong, IsLeastFound, IsReachOf, end_from, reach_by}
+use Rattle.narrow_ends.specs.Step.{AreShown, IsComeTo, IsCutAt, IsFoundAlone, IsFoundAlong, IsFoundOn, IsLeastFound, IsLookedAlong, IsReachOf, end_from, joined, reach_by}
 
 -- ---- the times of a search
 
@@ -63,6 +64,12 @@ time_fits z h =
 pub time_kept : (z : ℤ) → IsTime z → to_z w64 (of_z w64 z) ≡ z
 time_kept z h = to_z-of_z w64 z (time_fits z h)
 
+end_time : (z : ℤ) → IsEnd (Some z) → IsTime z
+end_time z h = (omega (arith, ints, h.0), omega (arith, ints, h.1))
+
+pub end_kept : (z : ℤ) → IsEnd (Some z) → to_z w64 (of_z w64 z) ≡ z
+end_kept z h = time_kept z (end_time z h)
+
 -- ---- the greatest separation along an edge
 
 -- separations without end come as far as each number
@@ -86,7 +93,7 @@ closed_reaches net budget e value times found = by_less (int_lt value e.weight) 
 
     by_less : (t : Bool) → int_lt value e.weight ≡ t
         → IsReachOf net budget e (if t then reaches.Short value else (if int_eq value e.weight then reaches.There else reaches.Past))
-    by_less true is = (omega (arith, ints), found.greatest.most, (times, found.satisfies, found.attains))
+    by_less true is = (omega (arith, ints), found.greatest.most, (times, found.satisfies, found.attains), found.value_within)
     by_less false is = by_same (int_eq value e.weight) refl (past_by value e.weight is)
 
 pub closed_reach : (net : Net) (budget : ℕ) (e : Edge) (weight value : ℤ) (greatest : Greatest) (times : Vec ℤ) (reach : Reach) → e.weight ≡ weight → greatest ≡ Closed value times
@@ -151,11 +158,13 @@ module _ (net cut : Net) (budget : ℕ) (e : Edge) (is : IsCutAt net e cut) wher
         by_test true is = let same : neg_ℤ value ≡ e.weight = (Decides-int_eq (neg_ℤ value) e.weight).0 is in (times, own, reached ∙ same)
         by_test false is = (apart is, never, (times, own, reached))
 
-  pub closed_end : (greatest : Greatest) (value least : ℤ) (times : Vec ℤ) (last : EndFound) → greatest ≡ Closed value times → least ≡ neg_ℤ (to_z w64 (of_z w64 value)) → last ≡ end_from least e.weight
-      → IsGreatestFound cut e.to e.from greatest → IsLeastFound net cut budget e last
-  closed_end greatest value least times last at minus end found =
+  pub closed_end : (greatest : Greatest) (value least : ℤ) (times : Vec ℤ) (last : EndFound) → greatest ≡ Closed value times → least ≡ neg_ℤ (to_z w64 (of_z w64 value)) → IsTime least
+      → last ≡ end_from (to_z w64 (of_z w64 least)) (to_z w64 (of_z w64 e.weight)) → IsEnd (Some e.weight) → IsGreatestFound cut e.to e.from greatest → IsLeastFound net cut budget e last
+  closed_end greatest value least times last at minus within end weight found =
       let attained : IsAttainedBy cut e.to e.from value times.items = subst (IsGreatestFound cut e.to e.from) at found in
-      let whole : last ≡ end_from (neg_ℤ value) e.weight = end ∙ ap (λ z. end_from z e.weight) (minus ∙ ap neg_ℤ (time_kept value attained.value_within)) in
+      let whole : last ≡ end_from (neg_ℤ value) e.weight =
+      end ∙ (ap (end_from (to_z w64 (of_z w64 least))) (end_kept e.weight weight) ∙ ap (λ z. end_from z e.weight)
+      (time_kept least within ∙ (minus ∙ ap neg_ℤ (time_kept value attained.value_within)))) in
       subst (IsLeastFound net cut budget e) (sym whole) (least_closed value times.items attained)
 
   pub unbounded_end : (greatest : Greatest) (set : Vec Bool) → greatest ≡ Unbounded set → IsGreatestFound cut e.to e.from greatest → ⊥
@@ -186,3 +195,16 @@ alone_along net budget name e found (inr left) = subst (IsFoundAlong net budget 
 -- times that come as far satisfy the cut network
 pub some_alone : (net cut : Net) (e : Edge) → IsCutAt net e cut → IsComeTo net e → (times : List ℤ) × Satisfies times cut
 some_alone net cut e is come = (come.0, is.there come.0 come.1 come.2)
+
+-- an end with what is found along one edge more
+pub found_on : (net : Net) (budget left : ℕ) (name : EdgeName) (e : Edge) (before mid next : EndFound) → IsLookedAlong net budget left name e mid → next ≡ joined before mid
+    → IsFoundOn net budget left name e before next
+found_on net budget left name e (Narrow only) mid next looked is = (mid, looked, is)
+found_on net budget left name e (Passed only) mid next looked is = (mid, looked, is)
+found_on net budget left name e Wide mid next looked is = is
+found_on net budget left name e Open mid next looked is = is
+
+-- an end that falls short along an edge
+pub short_along : (net : Net) (budget : ℕ) (name : EdgeName) (e : Edge) (only : ℤ) → IsReachOf net budget e (reaches.Short only) → IsFoundAlong net budget name e (Narrow (to_z w64 (of_z w64 only)))
+short_along net budget name e only short =
+    subst (λ (z : ℤ). IsFoundAlong net budget name e (Narrow z)) (sym (time_kept only short.3)) (short.0, short.1, short.2)

@@ -15,7 +15,7 @@ use Rattle.event_graph.specs.declared.edge.Edge.{Edge}
 use Rattle.event_graph.specs.Edges.{edge}
 use Rattle.event_graph.specs.Network.{Constraint, Net}
 use Rattle.event_graph.specs.Satisfying.{Satisfies}
-use Rattle.event_graph.specs.Times.{separation}
+use Rattle.event_graph.specs.Times.{IsTime, separation}
 use Rattle.drawn_networks.specs.Drawn.{Drawn}
 use Rattle.extremes.specs.Found.{Greatest, IsFindingOpen}
 use Rattle.requirements.specs.declared.separation.Separation.TheVariants as greatest
@@ -101,7 +101,7 @@ IsComeTo net e = (times : List ℤ) × Satisfies times net × (e.weight ≤ℤ s
 
 -- how far the greatest separation along an edge comes
 abbrev pub IsReachOf : Net → ℕ → Edge → Reach → Type 0
-IsReachOf net budget e (reaches.Short only) = (only <ℤ e.weight) × IsNeverBeyond net only e × IsReached net only e
+IsReachOf net budget e (reaches.Short only) = (only <ℤ e.weight) × IsNeverBeyond net only e × IsReached net only e × IsTime only
 IsReachOf net budget e reaches.There = IsReached net e.weight e
 IsReachOf net budget e reaches.Past = IsComeTo net e
 IsReachOf net budget e reaches.Open = IsPairOpen net budget e.from e.to

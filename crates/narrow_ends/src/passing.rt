@@ -114,6 +114,7 @@ fn find_alone(
     requires some { (times : List ℤ) × Satisfies times alone.now }
     requires from { edge.from.0 < alone.now.events }
     requires to { edge.to.0 < alone.now.events }
+    requires weight { IsEnd (Some edge.weight) }
     ensures kept { OnOk result ((net : Net) → IsCutAt net edge alone.now → AreFoundTimes net found.old → AreFoundTimes net found.new) }
     ensures found { IfOk result (λ end. (net : Net) → IsCutAt net edge alone.now → IsFoundAlone net alone.now extremes.old.budget edge end) }
 {
@@ -135,6 +136,7 @@ fn find_least(
     requires ready { IsReady cut.now extremes.old }
     requires from { edge.from.0 < cut.now.events }
     requires to { edge.to.0 < cut.now.events }
+    requires weight { IsEnd (Some edge.weight) }
     ensures ready { IsReady cut.now extremes.new }
     ensures budget { extremes.new.budget ≡ extremes.old.budget }
     ensures kept { OnOk result ((net : Net) → IsCutAt net edge cut.now → AreFoundTimes net found.old → AreFoundTimes net found.new) }
@@ -148,6 +150,7 @@ fn find_least(
 
 // What is found along an edge by the greatest separation of its reversed pair in a network that is cut at its weight.
 fn end_of(greatest: &Greatest, edge: Edge) -> EndFound
+    requires weight { IsEnd (Some edge.weight) }
     requires found { (cut : Net) × IsGreatestFound cut edge.to edge.from greatest.now }
     ensures found { (net cut : Net) (budget : ℕ) → IsCutAt net edge cut → IsGreatestFound cut edge.to edge.from greatest.now
         → IsOpenShown cut budget edge.to edge.from greatest.now → IsLeastFound net cut budget edge result }

@@ -5,7 +5,7 @@ pub returns-in-Closed : goal.returns-in-Closed
 returns-in-Closed c = record {
   found = λ net cut budget is found left.
       closed_end net cut budget c.args.edge is c.args.greatest.now c.in-Closed.value c.negated_time.result c.in-Closed.shown c.end_from.result c.in-Closed.is c.negated_time.ensures.value
-      c.end_from.ensures found;
+      c.negated_time.ensures.within c.end_from.ensures c.requires.weight found;
 }
 
 pub returns-in-Unbounded : goal.returns-in-Unbounded
