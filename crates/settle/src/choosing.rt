@@ -4,15 +4,16 @@ use crate::activity::Activity;
 use crate::bound_rules::{BoundRule, BoundWay};
 use crate::engine::{Engine, Proposal};
 use crate::facts::Facts;
-use crate::literal::SideLiteral;
+use crate::literal::Literal;
 use crate::places::at;
+use crate::trail::Reason;
 use itv_base::NoMemory;
 use std::alloc::Global;
 
-// A side that may be chosen, with how much it was needed lately and with a value in picoseconds. The greatest need goes first, then the least value.
+// A side that may be chosen, or a bound, with how much it was needed lately and with a value in picoseconds. The greatest need goes first, then the least value.
 #[derive(Clone, Copy)]
 struct Candidate {
-    side: SideLiteral,
+    pick: Literal,
     need: u64,
     value: i64,
 }
@@ -30,7 +31,7 @@ impl Engine {
             return Ok(Proposal::Rests);
         }
         if !self.pace.is_due() {
-            self.facts.choose_side(self.alloc, candidate.side)?;
+            self.facts.pick(self.alloc, candidate.pick)?;
             return Ok(Proposal::Nothing);
         }
         self.pace.begin();
@@ -42,11 +43,17 @@ impl Engine {
 }
 
 impl Facts {
-    // Chooses a side. If it is the first choice and many clauses were learnt, half of them go before.
-    fn choose_side(&mut self, alloc: Global, side: SideLiteral) -> Result<(), NoMemory> {
+    // Chooses a literal. If it is the first choice and many clauses were learnt, half of them go before.
+    fn pick(&mut self, alloc: Global, literal: Literal) -> Result<(), NoMemory> {
         self.forget(alloc)?;
         self.unseen.falls.reset();
-        self.trail.choose(side)
+        match literal {
+            Literal::Side(side) => self.trail.choose(side),
+            Literal::Bound(bound) => {
+                self.trail.begin_level()?;
+                self.lower(bound, Reason::Choice)
+            }
+        }
     }
 
     // Lets half of the learnt clauses go, if there are many and nothing is chosen.
@@ -83,22 +90,22 @@ impl Facts {
             if value <= 0 {
                 return None;
             }
-            let side = way.side?;
-            if !self.trail.has(side.opposite()) {
-                need = activity.of(side.side()).max(need);
+            let pick = self.tables.rules.pick(rule, number);
+            if !self.trail.is_false(pick) {
+                need = activity.of(pick).max(need);
                 least = earlier(
                     least,
                     Candidate {
-                        side,
+                        pick,
                         need: 0,
                         value,
                     },
                 );
             }
         }
-        let side = least?.side;
+        let pick = least?.pick;
         let value = target;
-        Some(Candidate { side, need, value })
+        Some(Candidate { pick, need, value })
     }
 
     // By how much the bounds of the times break the side of a way, in picoseconds.

@@ -83,7 +83,7 @@ impl Engine {
         self.facts.take_up(self.alloc, net)?;
         let sides = self.facts.tables.sides.len();
         let bounds = self.facts.trail.bounds();
-        self.activity.make_room(sides)?;
+        self.activity.make_room(sides, bounds / 2)?;
         self.needs.make_room(bounds)?;
         self.walks.make_room(bounds, sides.saturating_mul(2))
     }

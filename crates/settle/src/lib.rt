@@ -15,6 +15,7 @@ mod engine;
 mod event_order;
 mod facts;
 mod fall_counts;
+mod fixed_events;
 mod literal;
 mod meter;
 mod needs;

@@ -228,6 +228,7 @@ impl Facts {
     fn basis_of(&self, literal: Literal, reason: Reason) -> Option<Basis> {
         match reason {
             Reason::Choice | Reason::Goal => None,
+            Reason::Fixed(name) => Some(Basis::ByEdge(name)),
             Reason::Edge(place) => Some(match self.tables.edges.edge(place).ground {
                 Ground::Always(name) => Basis::ByEdge(name),
                 Ground::Side(side) => Basis::Either(self.tables.sides.edge(side)),
@@ -266,10 +267,10 @@ impl Facts {
 }
 
 impl Needs {
-    // Needs what makes a literal hold for a reason.
+    // Needs what makes a literal hold for a reason. Events are fixed at level 0, of which nothing is needed.
     fn want_reason(&mut self, facts: &Facts, literal: Literal, reason: Reason) {
         match reason {
-            Reason::Choice | Reason::Goal => {}
+            Reason::Choice | Reason::Goal | Reason::Fixed(_) => {}
             Reason::Edge(place) => self.want_edge(facts, literal, place),
             Reason::Bounds(start) => self.want_excluded(facts, literal, start),
             Reason::Rule(rule) => self.want_rule(facts, literal, rule),
