@@ -80,7 +80,8 @@ impl FixedEvents {
             if self.events.len() <= place {
                 return Ok(());
             }
-            self.look_from(edges, at(&self.events, place, NO_EVENT).event)?;
+            let fixed = self.event(place);
+            self.look_from(edges, fixed.event)?;
         }
         Ok(())
     }
