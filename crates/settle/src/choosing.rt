@@ -21,7 +21,8 @@ struct Candidate {
 impl Engine {
     /// Chooses a side of an earliest constraint that the bounds of the times break. It takes the constraint whose sides were needed most lately, of those
     /// sides that may still hold; of two with equal need, the constraint whose target has the least value. Of that constraint it takes the side that is broken
-    /// least. If they break no earliest constraint, they are times. If no block is allowed, the search rests. Now and then it takes back all choices. If it has
+    /// least. If they break no earliest constraint, they are times. If no block is allowed, the search rests. Where better times come fast, the first
+    /// choice is a guess that the separation is well above the claim. Now and then it takes back all choices. If it has
     /// then learnt many clauses, half of them go.
     pub fn choose(&mut self) -> Result<Proposal, NoMemory> {
         let Some(candidate) = self.facts.first_candidate(&self.activity) else {
@@ -30,15 +31,38 @@ impl Engine {
         if !self.pace.may_choose(self.facts.meter.turns()) {
             return Ok(Proposal::Rests);
         }
-        if !self.pace.is_due() {
-            self.facts.pick(self.alloc, candidate.pick)?;
-            return Ok(Proposal::Nothing);
+        let is_taken_back = self.probe.takes_back() && 0 < self.facts.trail.level();
+        if is_taken_back || self.pace.is_due() {
+            self.take_back(is_taken_back);
+        } else {
+            let literal = self.guess().unwrap_or(candidate.pick);
+            self.facts.pick(self.alloc, literal)?;
         }
-        self.pace.begin();
+        Ok(Proposal::Nothing)
+    }
+
+    // Takes back all choices: for a guess, or because the stretch is over.
+    fn take_back(&mut self, is_for_guess: bool) {
+        if !is_for_guess {
+            self.pace.begin();
+        }
         if 0 < self.facts.trail.level() {
             self.facts.go_back(0);
         }
-        Ok(Proposal::Nothing)
+    }
+
+    // The guess to be chosen, where nothing is chosen, if one is to be made.
+    fn guess(&mut self) -> Option<Literal> {
+        if 0 < self.facts.trail.level() {
+            return None;
+        }
+        let goal = self.facts.scope.goal;
+        let top = self.facts.trail.value(goal.node.other());
+        let bound = self.probe.next(goal, top)?;
+        if self.facts.trail.value(goal.node) <= bound.value {
+            return None;
+        }
+        Some(Literal::Bound(bound))
     }
 }
 

@@ -23,6 +23,7 @@ mod node;
 mod outbox;
 mod pace;
 mod places;
+mod probe;
 mod prover;
 mod race;
 mod refuting;
