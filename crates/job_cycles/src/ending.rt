@@ -25,7 +25,9 @@ fn rows_end(rows: &[SheetRow], found: &[RowFound]) -> EndWord
 {
     let mut word = EndWord::Pass;
     for k in 0..rows.len().min(found.len()) {
-        word = end_after_row(word, rows[k].kind, &found[k]);
+        let row = &rows[k];
+        let one = &found[k];
+        word = end_after_row(word, row.kind, one);
     }
     word
 }

@@ -33,7 +33,9 @@ pub fn add_rows<N: Notes>(
     ensures added { OnOk result (text.new.items ≡ text.old.items ++ rows_text (N.noted notes.now) drawn.now 0 rows.now found.now) }
 {
     for k in 0..rows.len().min(found.len()) {
-        add_row(text, notes, drawn, k as u64, &rows[k], &found[k])?;
+        let row = &rows[k];
+        let one = &found[k];
+        add_row(text, notes, drawn, k as u64, row, one)?;
     }
     Ok(())
 }
