@@ -3,7 +3,7 @@ use Rattle.std.specs.Prelude.{min}
 use Rattle.std.proofs.lemmas.Bool.{cases_lt}
 use Rattle.std.proofs.Common.{inl, inr, ◌≡◌, ℕ, ◌+◌, ◌*◌, ◌<◌, ◌≤◌, List, [], ◌∷◌, ◌++◌, All, length, get_or, drop, refl, ap, sym, ◌∙◌, arith}
 use Rattle.std.proofs.lemmas.Nat.{mul-le}
-use Rattle.std.proofs.lemmas.List.{append_assoc, append_nil, drop_all, drop_more}
+use Rattle.std.proofs.lemmas.List.{append_assoc, append-nil, drop_all, drop_more}
 use Rattle.drawn_networks.specs.Drawn.{Drawn}
 use Rattle.sheet.specs.declared.row.SheetRow.{SheetRow}
 use Rattle.slack_report.specs.declared.words.EndWord.{EndWord}
@@ -32,7 +32,7 @@ one_row noted drawn k rows found row one within also at there =
 
 pub rows_done : (noted : Noted) (drawn : Drawn) (k : ℕ) (rows : List SheetRow) (found : List RowFound) (before all : List ℕ) → min (length rows) (length found) ≤ k
     → before ++ rows_text noted drawn k (drop k rows) (drop k found) ≡ all → before ≡ all
-rows_done noted drawn k rows found before all past h = sym (append_nil before) ∙ ap (λ t. before ++ t) (sym none) ∙ h where
+rows_done noted drawn k rows found before all past h = sym (append-nil before) ∙ ap (λ t. before ++ t) (sym none) ∙ h where
   none : rows_text noted drawn k (drop k rows) (drop k found) ≡ []
   none = elim (cases_lt k (length rows)) [
     | inl within ↦ ap (λ fs. rows_text noted drawn k (drop k rows) fs) (drop_all k found (omega (arith, past, within))) ∙ none_left noted drawn k (drop k rows)
