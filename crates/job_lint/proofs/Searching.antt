@@ -1,6 +1,8 @@
 -- Searches of the network apart and of rows.
 use Rattle.std.proofs.Common.{◌≡◌, ◌≤ℤ◌, ◌≤◌, ◌<◌, ◌+◌, ℕ, ℤ, List, [], ◌∷◌, ◌++◌, get_or, length, take, refl, sym, subst, ap, ◌∙◌, arith}
 use Rattle.std.specs.List.{AllZip}
+use Rattle.std.specs.Prelude.{IfOk, Result, Ok, Err}
+use Rattle.itv_base.specs.Range.{Ends}
 use Rattle.std.proofs.lemmas.List.{take_more, take_all}
 use Rattle.itv_base.specs.declared.names.EventId.{EventId}
 use Rattle.event_graph.specs.Network.{Net}
@@ -14,16 +16,27 @@ use Rattle.explanations.specs.Answers.{Explains}
 use Rattle.explanations.proofs.Wider.{apart_is_wider}
 use Rattle.extremes.specs.Found.{IsAttainedBy, IsConsistency}
 use Rattle.requirements.specs.declared.consistency.Consistency.TheVariants as consistency
+use Rattle.job_lint.specs.declared.apart.ApartSearch.{ApartSearch}
+use Rattle.job_lint.specs.declared.by_order.ByOrder.{ByOrder}
 use Rattle.job_lint.specs.declared.row_seen.RowSeen.{RowSeen}
 use Rattle.job_lint.specs.declared.rows.RowSearch.{RowSearch}
-use Rattle.job_lint.specs.Found.{IsRowSeen}
-use Rattle.job_lint.specs.Step.Searching.{IsRowSearch}
+use Rattle.job_lint.specs.Found.{IsRowSeen, PassesByOrder}
+use Rattle.job_lint.specs.Step.Searching.{IsApartSearch, IsRowSearch}
 
 -- where times satisfy the drawn network, the network apart is not inconsistent
 pub apart_consistent : (network : Drawn) (net : Net) → net ≡ net_apart network → IsConsistency network.net consistency.Consistent
     → IsConsistency net consistency.Inconsistent → ⊥
 apart_consistent network net is some none =
     none some.0 (subst (λ (n : Net). Satisfies some.0 n) (sym is) (apart_is_wider network some.0 some.1))
+
+-- what a ready search finds of a row
+pub ready_passes : {E : Type 0} (network : Drawn) (budget : ℕ) (row : Row) (range : Ends) (search after : ApartSearch) (result : Result ByOrder E)
+    → IsApartSearch network search × (search.extremes.budget ≡ budget) → after.extremes.budget ≡ search.extremes.budget → IfOk result (λ by. IsApartSearch network after)
+    → IfOk result (PassesByOrder network search.extremes.budget row range)
+    → IfOk result (λ by. (IsApartSearch network after × (after.extremes.budget ≡ budget)) × PassesByOrder network budget row range by)
+ready_passes network budget row range search after (Ok by) is stays holds passes =
+    ((holds, stays ∙ is.1), subst (λ (b : ℕ). PassesByOrder network b row range by) is.1 passes)
+ready_passes network budget row range search after (Err e) is stays holds passes = tt
 
 -- ---- pairs
 
