@@ -1,5 +1,5 @@
 -- Searches of the network apart and of rows.
-use Rattle.std.proofs.Common.{◌≡◌, ◌≤ℤ◌, ◌≤◌, ◌<◌, ◌+◌, ℕ, ℤ, List, [], ◌∷◌, ◌++◌, get_or, length, take, refl, sym, subst, ap, ◌∙◌, arith}
+use Rattle.std.proofs.Common.{◌≡◌, ◌≤ℤ◌, ◌≤◌, ◌<◌, ◌+◌, ℕ, ℤ, List, [], ◌∷◌, ◌++◌, get_or, length, take, refl, sym, subst, ap, ◌∙◌}
 use Rattle.std.specs.List.{AllZip}
 use Rattle.std.specs.Prelude.{IfOk, Result, Ok, Err}
 use Rattle.itv_base.specs.Range.{Ends}
@@ -8,11 +8,10 @@ use Rattle.itv_base.specs.declared.names.EventId.{EventId}
 use Rattle.event_graph.specs.Network.{Net}
 use Rattle.event_graph.specs.Satisfying.{Satisfies}
 use Rattle.event_graph.specs.Times.{separation}
-use Rattle.chains.specs.Chain.{AreBest, IsChain}
+use Rattle.chains.specs.Chain.{AreBest}
 use Rattle.drawn_networks.specs.Drawn.{Drawn}
 use Rattle.drawn_networks.specs.declared.row.Row.{Row}
 use Rattle.explanations.specs.Apart.{net_apart}
-use Rattle.explanations.specs.Answers.{Explains}
 use Rattle.explanations.proofs.Wider.{apart_is_wider}
 use Rattle.extremes.specs.Found.{IsAttainedBy, IsConsistency}
 use Rattle.requirements.specs.declared.consistency.Consistency.TheVariants as consistency

@@ -1,5 +1,5 @@
 -- What is found of an end, with one end more among the ends.
-use Rattle.std.proofs.Common.{◌≡◌, ◌<◌, ◌≤◌, ◌+◌, ℕ, ℤ, ◌≤ℤ◌, ◌<ℤ◌, Bool, true, false, List, [], ◌∷◌, ◌++◌, length, Some, None, refl, sym, subst, ap, ◌∙◌, ◌⊎◌, inl, inr, int_lt, arith, length-append}
+use Rattle.std.proofs.Common.{◌≡◌, ◌<◌, ◌≤◌, ◌+◌, ℕ, ℤ, ◌≤ℤ◌, ◌<ℤ◌, Bool, true, false, List, [], ◌∷◌, ◌++◌, length, Some, refl, sym, subst, ap, ◌∙◌, ◌⊎◌, inl, inr, int_lt, arith, length-append}
 use Rattle.std.specs.Prelude.{Contains, option_map}
 use Rattle.std.specs.Int.{int_max, int_min}
 use Rattle.std.proofs.lemmas.Int.{ints}
@@ -14,7 +14,7 @@ use Rattle.narrow_ends.specs.declared.end.EndFound.{EndFound}
 use Rattle.narrow_ends.specs.declared.end.EndFound.TheVariants.{Narrow, Open, Passed, Wide}
 use Rattle.narrow_ends.specs.declared.narrow.TheConstants.{MOST_SEARCHES}
 use Rattle.narrow_ends.specs.Ends.{EndSource, are_alike, source_at}
-use Rattle.narrow_ends.specs.Narrow.{IsAlikeEdge, IsFoundAmong, IsNeverBetween, IsNeverBeyond, IsReached}
+use Rattle.narrow_ends.specs.Narrow.{IsAlikeEdge, IsFoundAmong, IsNeverBetween, IsNeverBeyond}
 use Rattle.narrow_ends.specs.Step.{IsFoundAlong, IsFoundOn, IsLookedAlong, joined}
 use Rattle.narrow_ends.proofs.Sources.{source_decides}
 

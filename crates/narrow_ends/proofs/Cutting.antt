@@ -1,11 +1,10 @@
 -- Networks in which the range of a cause is one end alone.
-use Rattle.std.proofs.Common.{◌≡◌, ◌*◌, ℕ, zero, suc, ℤ, neg_ℤ, ◌+ℤ◌, ◌-ℤ◌, ◌≤ℤ◌, ◌<ℤ◌, Bool, true, false, List, [], ◌∷◌, length, get_or, set, All, Any, Option, Some, None, IfSome, IsSomeAnd, option_map, slice_get, refl, sym, subst, ap, ◌∙◌, arith}
+use Rattle.std.proofs.Common.{◌≡◌, ◌*◌, ℕ, zero, suc, ℤ, neg_ℤ, ◌+ℤ◌, ◌-ℤ◌, ◌≤ℤ◌, ◌<ℤ◌, true, List, [], ◌∷◌, length, set, Any, Option, Some, None, IfSome, IsSomeAnd, option_map, slice_get, refl, sym, subst, ap, ◌∙◌, arith}
 use Rattle.std.proofs.lemmas.Int.{ints}
 use Rattle.std.specs.List.{AllZip}
-use Rattle.std.proofs.lemmas.List.{get_or_default, length-set}
+use Rattle.std.proofs.lemmas.List.{length-set}
 use Rattle.std.proofs.lemmas.List.Elements.{All-set}
-use Rattle.std.proofs.lemmas.Option.{get_or_from_slice_get, slice_get_within}
-use Rattle.itv_base.specs.Range.{Ends, IsEnd}
+use Rattle.itv_base.specs.Range.{Ends}
 use Rattle.itv_base.specs.declared.names.EdgeName.{EdgeName}
 use Rattle.itv_base.specs.declared.names.EventId.{EventId}
 use Rattle.itv_base.specs.declared.names.RuleKind.{RuleKind}
@@ -16,12 +15,11 @@ use Rattle.itv_base.proofs.Lists.{slice_get_set}
 use Rattle.event_graph.specs.declared.cause.Cause.{Cause}
 use Rattle.event_graph.specs.declared.edge.Edge.{Edge}
 use Rattle.event_graph.specs.Edges.{cause_choices, choices_of, edge, side_edge}
-use Rattle.event_graph.specs.Network.{AreEnds, Constraint, IsNet, Net, cause_at, with_range}
+use Rattle.event_graph.specs.Network.{Constraint, Net, cause_at}
 use Rattle.event_graph.specs.Satisfying.{Holds, HoldsAs, IsAfter, IsBefore, Satisfies}
 use Rattle.event_graph.specs.Times.{separation, time_of}
-use Rattle.event_graph.specs.Widening.{IsHigherEnd, IsLowerEnd, IsWider, IsWiderCause, IsWiderConstraint}
+use Rattle.event_graph.specs.Widening.{IsHigherEnd, IsLowerEnd, IsWiderCause, IsWiderConstraint}
 use Rattle.event_graph.proofs.EdgesMet.{All-found, cause_of}
-use Rattle.event_graph.proofs.RangeSet.{net_with_range}
 use Rattle.event_graph.proofs.Widening.{wider_keeps_satisfying}
 use Rattle.narrow_ends.specs.Ends.{is_end_side, is_seen}
 use Rattle.narrow_ends.specs.Narrow.{end_alone, net_alone}
@@ -231,10 +229,9 @@ module _ (net : Net) (constraint cause : ℕ) (e : Edge) (k : Constraint) (c : C
         → Satisfies times net × (e.weight ≤ℤ separation times e.from e.to)
     back_upper less times sat =
         let after : IsAfter times k.target (put Upper) =
-        holds_after times k.target (made Upper).causes cause (put Upper) (put Upper) (slice_get_set k.causes cause (put Upper) c at_c) k.kind seen (new_holds net constraint k (made Upper) at_k times sat) in
-        (
+        holds_after times k.target (made Upper).causes cause (put Upper) (put Upper) (slice_get_set k.causes cause (put Upper) c at_c) k.kind seen (new_holds net constraint k (made Upper) at_k times sat) in (
           old_satisfies net constraint k (made Upper) at_k times
-          (wider_new net (named Upper) e k c at_k at_c (below_high c.range.low c.range.high e.weight ends_upper.0 less) (same_high e.weight c.range.high ends_upper.0)) sat,
+              (wider_new net (named Upper) e k c at_k at_c (below_high c.range.low c.range.high e.weight ends_upper.0 less) (same_high e.weight c.range.high ends_upper.0)) sat,
           subst (λ (z : ℤ). e.weight ≤ℤ z) (sym (apart_upper times)) (late_comes (time_of times c.event) (time_of times k.target) e.weight after),
         )
 
@@ -270,10 +267,9 @@ module _ (net : Net) (constraint cause : ℕ) (e : Edge) (k : Constraint) (c : C
         → Satisfies times net × (e.weight ≤ℤ separation times e.from e.to)
     back_lower less times sat =
         let before : IsBefore times k.target (put Lower) =
-        holds_before times k.target (made Lower).causes cause (put Lower) (put Lower) (slice_get_set k.causes cause (put Lower) c at_c) k.kind seen (new_holds net constraint k (made Lower) at_k times sat) in
-        (
+        holds_before times k.target (made Lower).causes cause (put Lower) (put Lower) (slice_get_set k.causes cause (put Lower) c at_c) k.kind seen (new_holds net constraint k (made Lower) at_k times sat) in (
           old_satisfies net constraint k (made Lower) at_k times
-          (wider_new net (named Lower) e k c at_k at_c (same_low (neg_ℤ e.weight) c.range.low ends_lower.0) (above_low c.range.low c.range.high (neg_ℤ e.weight) ends_lower.0 less)) sat,
+              (wider_new net (named Lower) e k c at_k at_c (same_low (neg_ℤ e.weight) c.range.low ends_lower.0) (above_low c.range.low c.range.high (neg_ℤ e.weight) ends_lower.0 less)) sat,
           subst (λ (z : ℤ). e.weight ≤ℤ z) (sym (apart_lower times)) (early_comes (time_of times c.event) (time_of times k.target) e.weight before),
         )
 

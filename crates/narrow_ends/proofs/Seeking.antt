@@ -10,12 +10,11 @@ use Rattle.itv_base.specs.Range.{IsEnd}
 use Rattle.itv_base.specs.declared.names.EdgeName.{EdgeName}
 use Rattle.itv_base.specs.declared.names.EventId.{EventId}
 use Rattle.event_graph.specs.declared.edge.Edge.{Edge}
-use Rattle.event_graph.specs.Bounds.{IsInconsistent}
 use Rattle.event_graph.specs.Network.{Net}
 use Rattle.event_graph.specs.Satisfying.{Satisfies}
 use Rattle.event_graph.specs.Times.{IsTime, separation, time_of}
 use Rattle.event_graph.proofs.Rays.{ray_is_unbounded}
-use Rattle.extremes.specs.Found.{CanRise, Greatest, IsAttainedBy, IsFindingOpen, IsGreatestFound, IsLeftOpen, IsOpenShown}
+use Rattle.extremes.specs.Found.{CanRise, Greatest, IsAttainedBy, IsGreatestFound, IsLeftOpen, IsOpenShown}
 use Rattle.requirements.specs.declared.separation.Separation.TheVariants.{Closed, Unbounded}
 use Rattle.requirements.specs.declared.separation.Separation.TheVariants as separations
 use Rattle.narrow_ends.specs.declared.end.EndFound.{EndFound}
@@ -142,7 +141,7 @@ module _ (net cut : Net) (budget : ℕ) (e : Edge) (is : IsCutAt net e cut) wher
         strict e.weight (neg_ℤ value) past (λ same. other (sym same))
       where
         strict : (a b : ℤ) → a ≤ℤ b → (a ≡ b → ⊥) → a <ℤ b
-        strict a b le apart = elim (below_or_same a b le) [ | inl less ↦ less | inr same ↦ absurd (apart same) ]
+        strict a b le apart = elim (below_or_same a b le) [ inl less ↦ less | inr same ↦ absurd (apart same) ]
           where
             below_or_same : (a b : ℤ) → a ≤ℤ b → (a <ℤ b) ⊎ (a ≡ b)
             below_or_same a b le = by_test (int_lt a b) refl

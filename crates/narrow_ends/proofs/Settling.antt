@@ -1,14 +1,13 @@
 -- What a budget is enough for.
-use Rattle.std.proofs.Common.{◌≡◌, ◌<◌, ◌≤◌, ◌⊎◌, inl, inr, ℕ, ℤ, neg_ℤ, ◌≤ℤ◌, List, Option, Some, IfSome, length, slice_get, sym, subst, arith}
-use Rattle.std.proofs.lemmas.Int.{ints}
-use Rattle.itv_base.specs.Range.{Ends, IsEnd}
+use Rattle.std.proofs.Common.{◌≡◌, ◌<◌, ◌≤◌, inl, inr, ℕ, ℤ, neg_ℤ, List, Some, length, subst, arith}
+use Rattle.itv_base.specs.Range.{IsEnd}
 use Rattle.itv_base.specs.declared.names.EdgeName.{EdgeName}
 use Rattle.itv_base.specs.declared.names.Side.{Side}
 use Rattle.itv_base.specs.declared.names.Side.TheVariants.{Lower, Upper}
 use Rattle.event_graph.specs.declared.cause.Cause.{Cause}
 use Rattle.event_graph.specs.declared.edge.Edge.{Edge}
 use Rattle.event_graph.specs.Edges.{cause_choices, edge, side_edge}
-use Rattle.event_graph.specs.Network.{AreEnds, Constraint, IsNet, Net, cause_at}
+use Rattle.event_graph.specs.Network.{AreEnds, IsNet, Net, cause_at}
 use Rattle.event_graph.specs.Proof.{Nothing}
 use Rattle.event_graph.specs.Proof.{Bound as BoundGoal}
 use Rattle.event_graph.proofs.ProofCounts.{stopped_proof_is_below_choices}
@@ -21,8 +20,8 @@ use Rattle.narrow_ends.specs.declared.end.EndFound.TheVariants.{Narrow, Open, Pa
 use Rattle.narrow_ends.specs.declared.narrow.TheConstants.{MOST_SEARCHES}
 use Rattle.narrow_ends.specs.Ends.{all_ends}
 use Rattle.narrow_ends.specs.Laws.{EndsSettle}
-use Rattle.narrow_ends.specs.Narrow.{IsAlikeEdge, IsEndSettled, IsFoundAmong, IsPairOpen, IsSearchOpen, end_alone, net_alone}
-use Rattle.narrow_ends.proofs.Cutting.{IsAt, choices_of_alone, found_at, lower_edge, upper_edge}
+use Rattle.narrow_ends.specs.Narrow.{IsEndSettled, IsFoundAmong, IsPairOpen, IsSearchOpen, end_alone, net_alone}
+use Rattle.narrow_ends.proofs.Cutting.{choices_of_alone, found_at, lower_edge, upper_edge}
 
 -- a pair that was left open used the budget up
 pub pair_below : (net : Net) (budget : ℕ) (from to : EventId) → IsNet net → IsPairOpen net budget from to → budget < cause_choices net.constraints

@@ -6,7 +6,7 @@ ghost use Rattle.itv_base.specs.Range.{IsEnd};
 ghost use Rattle.extremes.specs.Ready.{IsReady};
 ghost use Rattle.narrow_ends.specs.Ends.{ends_of};
 ghost use Rattle.narrow_ends.specs.Narrow.{IsEndFound};
-ghost use Rattle.narrow_ends.specs.Step.{AreEndPlaces, AreFoundTimes, HasEnd, IsLookedAlong, IsLookedOn, IsSeenIn, Stand, joined};
+ghost use Rattle.narrow_ends.specs.Step.{AreEndPlaces, AreFoundTimes, HasEnd, IsLookedOn, IsSeenIn, Stand, joined};
 ghost use Rattle.narrow_ends.specs.declared.end.RangeEnd.{RangeEnd as EndSeen};
 ghost use Rattle.itv_base.specs.declared.names.EdgeName.{EdgeName as NameOfEdge};
 

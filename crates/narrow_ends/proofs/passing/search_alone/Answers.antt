@@ -28,6 +28,6 @@ returns-in-Ok-clause-found c =
     let is : c.in_ok-alone.alone ≡ net_alone net c.args.name e.weight = c.in_ok-alone.ensures.alone ∙ ap (net_alone net c.args.name) (end_kept e.weight c.requires.weight) in
     IfOk-weaker c.find_alone-found.result _ _
     (λ end found. alone_along net c.args.searches.now.budget c.args.name e end
-      (subst (λ (b : ℕ). IsFoundAlone net (net_alone net c.args.name e.weight) b e end) c.in-Ok.ensures.budget
-      (subst (λ (n : Net). IsFoundAlone net n c.in-Ok.extremes.budget e end) is (found net (subst (IsCutAt net e) (sym is) c.requires.cut)))))
+    (subst (λ (b : ℕ). IsFoundAlone net (net_alone net c.args.name e.weight) b e end) c.in-Ok.ensures.budget
+    (subst (λ (n : Net). IsFoundAlone net n c.in-Ok.extremes.budget e end) is (found net (subst (IsCutAt net e) (sym is) c.requires.cut)))))
     c.find_alone-found.ensures.found
