@@ -78,7 +78,7 @@ export class NumbersTab {
   /** Shows a number in its line before the answer is there. */
   take(line, side, number) {
     const ends = { ...line.ends };
-    for (const each of line.sides(side)) ends[each] = { ...ends[each], number };
+    for (const each of line.sides(side)) ends[each] = { ...ends[each], number, refused: "" };
     line.ends = ends;
     line.printed = [];
     line.isOld = true;

@@ -4,15 +4,19 @@
 // two ends in the text. Where what is there is not what the program printed, the line can't be edited.
 
 import { Margin } from "./output_parser.js";
-import { isTime } from "./typed.js";
+import { isTime, typedOf } from "./typed.js";
 
 const RANGE = /^@(?:lin|late|early|req)(?:\+\d+)?(?::\w+)? (?:\[(\*|-?\d+),(\*|-?\d+)\]|\$(\w+))(?: |$)/;
 
 const KINDS = { lin: "delay", late: "delay after the latest of several", early: "delay after the earliest of several", req: "requirement" };
 
-/** The number that an end is; null for an open one. */
-function endOf(text) {
-  return text === "*" || text === "null" ? null : Number(text);
+/** The word of a whole number in a label or in a list. */
+const WHOLE = /^[+-]?(?:\d+|0x[\da-f]+)$/i;
+
+/** What an end is: its number, null for an open one; and its word, if that is not a number that an end may be, so that it is shown as it was typed. */
+function endOf(word) {
+  const number = word === "*" || word === "null" ? null : Number(word);
+  return { number, refused: number === null || (WHOLE.test(word) && isTime(number)) ? "" : word };
 }
 
 /** The two ends of a range in the label of an edge, given by its value and where its label begins: a place and a number each, or the name of a parameter.
@@ -26,16 +30,16 @@ function endsInLabel(value, from) {
   const first = from + whole.indexOf("[") + 1;
   const second = first + low.length + 1;
   return {
-    low: { ...value.within(first, first + low.length), number: endOf(low), open: "*" },
-    high: { ...value.within(second, second + high.length), number: endOf(high), open: "*" },
+    low: { ...value.within(first, first + low.length), ...endOf(low), open: "*" },
+    high: { ...value.within(second, second + high.length), ...endOf(high), open: "*" },
   };
 }
 
 /** The two ends of a list of two numbers; null where it is none. */
 function endsInList(value) {
   if (!value || value.kind !== "array" || value.items.length !== 2) return null;
-  const [low, high] = value.items.map(({ start, end, text }) => ({ start, end, number: endOf(text), open: "null" }));
-  return [low, high].every(({ number }) => number === null || isTime(number)) ? { low, high } : null;
+  const [low, high] = value.items.map(({ start, end, text }) => ({ start, end, ...endOf(text), open: "null" }));
+  return [low, high].some(({ number }) => Number.isNaN(number)) ? null : { low, high };
 }
 
 /** Where the label of an edge begins in its text: after so many spaces. */
@@ -105,6 +109,12 @@ export class Line {
 
   get high() {
     return this.ends.high.number;
+  }
+
+  /** An end as it is typed in a unit of so many picoseconds. What the program refuses is as it is in the text, with the unit of the text. */
+  typed(side, size) {
+    const { number, refused } = this.ends[side];
+    return refused ? `${refused} ps` : typedOf(number, size);
   }
 
   /** The first place at which the range is drawn. */

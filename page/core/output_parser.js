@@ -145,12 +145,12 @@ export class Matrix {
 }
 
 /** A line of job margin: how far an end of a number, or its value, may be moved. `side` is `low`, `high`, `down` or `up`; `by` is null where the line has no
- * number. `part` is null for a net or an edge of the netlist. */
+ * number. `part` is null for a net or an edge of the netlist. A line with a number that is not read exactly is not read. */
 export class Margin {
   constructor(line) {
     const match = /^(low|high|down|up) (\S+) (?:(net|wire) (\d+)|(\w+) edge (\d+)) \[(\S+?),(\S+?)\](?: row (\d+))?(?: |$)/.exec(line);
-    this.isRead = match !== null;
-    if (!match) return;
+    this.isRead = match !== null && isExact(match[0]);
+    if (!this.isRead) return;
     this.side = match[1];
     /** The number or the word after the side. */
     this.word = match[2];

@@ -1,4 +1,6 @@
-// The relaxed spelling of JSON, as WaveDrom's editor takes it: JSON5 reads it, and the program gets strict JSON.
+// The relaxed spelling of JSON, as WaveDrom's editor takes it: JSON5 says whether a text is one, and the program gets strict JSON.
+
+import { strictOf } from "./strict.js";
 
 /** What was read of a file's text: the tree and the strict text, or in their place a fault, with where it is and what it is. */
 export function readText(text, json5) {
@@ -11,18 +13,13 @@ export function readText(text, json5) {
 
 function readRelaxed(text, json5) {
   try {
-    const tree = json5.parse(text);
-    return { tree, strict: JSON.stringify(tree, finite, 1), fault: null };
+    json5.parse(text);
+    const strict = strictOf(text);
+    return { tree: JSON.parse(strict), strict, fault: null };
   } catch (error) {
-    const place = error.lineNumber ? placeOf(text, error.lineNumber, error.columnNumber) : 0;
+    const place = error.lineNumber ? placeOf(text, error.lineNumber, error.columnNumber) : error.place || 0;
     return { tree: null, strict: null, fault: { place, says: saidOf(text, place, error) } };
   }
-}
-
-/** Refuses a number that JSON can't write. */
-function finite(key, value) {
-  if (typeof value === "number" && !Number.isFinite(value)) throw new Error(`${value} is not a number of JSON: an open end is * in a label and null in a net`);
-  return value;
 }
 
 /** Where a line and a column, both from 1, are in a text. */

@@ -2,8 +2,8 @@
 
 import assert from "node:assert/strict";
 import test from "node:test";
-import { changeOf, endsAt } from "../core/numbers.js";
-import { isExact } from "../core/output_parser.js";
+import { Line, changeOf, endsAt } from "../core/numbers.js";
+import { isExact, marginsOf } from "../core/output_parser.js";
 import { reasonIn } from "../core/refusals.js";
 import { readTyped, typedOf } from "../core/typed.js";
 import { EXAMPLES, changed, readOf } from "./program.mjs";
@@ -37,10 +37,26 @@ test("a changed end changes one number of the tree, and back", () => {
   assert.ok(count > 150, String(count));
 });
 
+test("an end that no range may have is shown as it was typed", () => {
+  const text = '{"edges": ["A.a B.b @lin [-9007199254740993,10000000000000] x"], "nets": [{"delay": [100.00000000000000001, 1e30]}, {"delay": [null, 1500]}, {"delay": [true, 1]}]}';
+  const typed = (way) => {
+    const ends = endsAt(readOf(text), way);
+    const line = ends && new Line("k", { file: "n", way, ends, parameter: "" }, {});
+    return line && ["low", "high"].map((side) => line.typed(side, 1000));
+  };
+  assert.deepEqual(typed({ what: "wire", number: 0 }), ["-9007199254740993 ps", "10000000000"]);
+  assert.deepEqual([0, 1, 2].map((number) => typed({ what: "net", number })), [["100.00000000000000001 ps", "1e30 ps"], ["*", "1.5"], null]);
+});
+
 test("a text with a number that is not read exactly is known, and one with a long name is not", () => {
   assert.ok(isExact("max 9007199254740991\nslack -9007199254740991 *\nrow 0 ask U.a U.b edge 0 part12199999999998799x"));
   assert.ok(!isExact("max 12199999999998799"));
   assert.ok(!isExact("row 0 req U.a@0 U.b@0 [*,12199999999998799]"));
+});
+
+test("a margin that is not read exactly is not shown", () => {
+  const text = ["high 9007199254740991 net 0 [0,5] row 0", "high 9007199254740993 net 1 [0,5] row 0", "low -7 U edge 2 [1,*] row 0 12199999999998799"].join("\n");
+  assert.deepEqual(marginsOf(text).map(({ name, by }) => [name, by]), [["U edge 2", -7], ["net 0", 9007199254740991]]);
 });
 
 test("what the program says of a refusal is parted from its place", () => {

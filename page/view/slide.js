@@ -20,7 +20,7 @@ export class Slide {
 
   /** Puts an end of a line under the slider. */
   open(line, side) {
-    if (!line || !line.agrees) return;
+    if (!line || !line.agrees || line.ends[side].refused) return;
     const number = line[side] === null ? line[side === "high" ? "low" : "high"] || 0 : line[side];
     const room = line.room !== null && Number.isFinite(line.room) ? 2 * Math.abs(line.room) : 0;
     const reach = Math.max(Math.abs(number), room, LEAST_REACH);

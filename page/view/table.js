@@ -3,7 +3,7 @@
 // All rows are of one height, and only those that are seen are in the document.
 
 import { UNITS } from "../core/texts.js";
-import { readTyped, typedOf } from "../core/typed.js";
+import { readTyped } from "../core/typed.js";
 import { fill, forgetFilled } from "./fill.js";
 import { EDITED, headsOf, rowOf } from "./table_rows.js";
 import { comparedBy } from "./table_order.js";
@@ -278,7 +278,7 @@ export class NumbersTable {
     this.scrollTo(this.placeOf(this.cell));
     const td = this.tdOf(this.cell);
     const input = document.createElement("input");
-    input.value = text === null ? typedOf(line[this.cell.side], this.unit.size) : text;
+    input.value = text === null ? line.typed(this.cell.side, this.unit.size) : text;
     input.setAttribute("aria-label", td.getAttribute("aria-label"));
     input.setAttribute("inputmode", "decimal");
     td.replaceChildren(input);
@@ -332,7 +332,7 @@ export class NumbersTable {
   copy(event) {
     if (this.editor || !this.cell) return;
     event.preventDefault();
-    event.clipboardData.setData("text/plain", typedOf(this.lineOf(this.cell)[this.cell.side], this.unit.size));
+    event.clipboardData.setData("text/plain", this.lineOf(this.cell).typed(this.cell.side, this.unit.size));
   }
 
   /** Puts a block of a spreadsheet into the cells from the chosen one on: its lines go down, and a second column goes into max. */

@@ -48,10 +48,10 @@ export function rowOf(line, unit, number) {
 
 /** The cell of an end, which can't be edited where the program read the range otherwise. */
 function endCell(line, side, unit) {
-  const text = typedOf(line[side], unit.size);
+  const text = line.typed(side, unit.size);
   const label = `${ENDS[side]} of ${line.name}: ${text === "*" ? "no limit" : text}`;
   const locked = line.agrees ? "" : ' aria-readonly="true"';
-  return `<td role="gridcell" class="number${line.agrees ? "" : " locked"}" data-side="${side}" tabindex="-1" aria-label="${escaped(label)}"${locked}>${text}</td>`;
+  return `<td role="gridcell" class="number${line.agrees ? "" : " locked"}" data-side="${side}" tabindex="-1" aria-label="${escaped(label)}"${locked}>${escaped(text)}</td>`;
 }
 
 /** The cell of the margin: what is printed of it, and what the end may then be. */

@@ -246,6 +246,7 @@ def no_work_is_lost(page):
     page.browser.evaluate("itv.showFile('examples/cpu.json')")
     page.browser.key("s", ctrl=True)
     assert page.browser.downloaded() == ("cpu.json", changed.encode())
+    assert page.browser.evaluate("document.getElementById('note').textContent") == "saved as cpu.json"
     assert page.browser.evaluate("localStorage.getItem('itv draft')") is None
     # Files that others took the place of can be put back after a reload too, and so can a file that was closed.
     page.browser.evaluate("itv.edited.change('examples/cpu.json', [{ start: 0, end: 0, text: ' ' }])")

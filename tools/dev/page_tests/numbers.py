@@ -189,6 +189,27 @@ def a_refused_edit_keeps_the_table(page):
     assert "1 of 1" in page.sentence(), page.sentence()
 
 
+def a_number_that_is_refused_is_shown_as_it_was_typed(page):
+    """A number that a double has not: the cell, the reason and the text have its digits, and the cell takes another one."""
+    page.open_numbers(BUS)
+    text = page.text_of("examples/cpu.json")
+    wrong = text.replace("[2000,8000]", "[2000,9007199254740993]")
+    page.do(f"itv.edited.take('examples/cpu.json', {json.dumps(wrong)})")
+    page.rest()
+    assert "[2000,9007199254740993]" in page.sentence() and "beyond 10,000,000,000,000 ps" in page.sentence(), page.sentence()
+    shown = page.browser.evaluate(f"document.querySelector({json.dumps(cell('examples/cpu.json edge 0', 'high'))}).innerText")
+    assert shown == "9007199254740993 ps", shown
+    change(page, "examples/cpu.json edge 0", "high", "8")
+    assert page.text_of("examples/cpu.json") == text and "1 of 1" in page.sentence(), page.sentence()
+    page.browser.click(cell("examples/cpu.json edge 0", "high"))
+    page.browser.keys("9007199254740993 ps")
+    page.browser.key("Enter")
+    note = page.browser.evaluate("document.getElementById('note').textContent")
+    assert '"9007199254740993 ps" is more than 10 s' in note, note
+    page.browser.key("Escape")
+    assert page.text_of("examples/cpu.json") == text
+
+
 def a_range_that_the_program_reads_otherwise_is_locked(page):
     page.open_numbers(BUS)
     before = page.text_of("examples/cpu.json")
@@ -263,6 +284,6 @@ def five_hundred_numbers_scroll_and_edit(page):
 
 
 TESTS = [a_cell_changes_just_its_place, undo_knows_typed_and_made_edits, what_is_not_a_time_stays_in_the_cell, margins_are_those_of_the_program,
-         numbers_that_are_one_text_are_one_line, lines_are_sorted_and_found, a_column_is_pasted, a_refused_edit_keeps_the_table,
+         numbers_that_are_one_text_are_one_line, lines_are_sorted_and_found, a_column_is_pasted, a_refused_edit_keeps_the_table, a_number_that_is_refused_is_shown_as_it_was_typed,
          a_range_that_the_program_reads_otherwise_is_locked, texts_with_escapes_and_comments_are_edited, a_slider_moves_the_answer,
          five_hundred_numbers_scroll_and_edit]
