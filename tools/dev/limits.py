@@ -22,8 +22,9 @@ LIMITS = (
     ("`SessionRows`: questions and requirements, over all cycles, for job whatif", ["MAX_SESSION_ROWS"]),
     ("`Numbers`: edges and nets that draw a rule, for job margin", ["MAX_NUMBERS"]),
     ("bytes and lines of a file of edits", ["MAX_EDITS_BYTES", "MAX_EDITS"]),
+    ("bytes of a file of measured times; a time in it, in picoseconds, also below 0", ["MAX_TIMES_BYTES", "MAX_TIME"]),
     ("bytes of a report that is checked", ["REPORT_LIMIT"]),
-    ("`--budget N`, `--size N`", ["MAX_BUDGET", "MAX_SELF_SIZE"]),
+    ("`--budget N`, `--size N`, `--within PS`", ["MAX_BUDGET", "MAX_SELF_SIZE", "MAX_TOLERANCE"]),
 )
 
 

@@ -16,24 +16,33 @@ use Rattle.command_words.specs.declared.job.PlanJob.{PlanJob}
 use Rattle.command_words.specs.declared.job.PlanJob.TheVariants.{Why, Brief, Lint}
 use Rattle.command_words.specs.declared.job.CheckJob.{CheckJob}
 use Rattle.command_words.specs.declared.job.CheckJob.TheVariants.{Check, Confirm}
-use Rattle.command_words.specs.Task.{IsBudget, IsSize, IsWithinLimits, KeepsLimits, Task, answer_by, answer_for, budget_of, checked, checked_of, fall, fall_of, files, files_of, generated, generated_of, has_flag, margin, margin_of, matrix, matrix_of, number_in, planned, planned_of, refusal_for, searched, searched_of, size_of, taken, task_named, task_of, whatif, whatif_of}
+use Rattle.command_words.specs.Task.{IsBudget, IsSize, IsWithinLimits, KeepsLimits, Task, answer_by, answer_for, budget_of, checked, checked_of, fall, fall_of, files, files_of, generated, generated_of, has_flag, margin, margin_of, matrix, matrix_of, measure, measure_of, number_in, planned, planned_of, refusal_for, searched, searched_of, size_of, taken, task_named, task_of, whatif, whatif_of, within_of}
+use Rattle.command_words.specs.declared.task.TheConstants.{MAX_TOLERANCE}
 use Rattle.command_words.proofs.Numbers.{number_limits}
 
-budget_limits : (given : Option Text) → IfSome (option_map_or (number_in MAX_BUDGET) given (Some DEFAULT_BUDGET)) IsBudget
+budget_limits : (given : Option Text) → IfSome (option_map_or (number_in 1 MAX_BUDGET) given (Some DEFAULT_BUDGET)) IsBudget
 budget_limits None = record { low = lit≤ tt; high = lit≤ tt }
-budget_limits (Some text) = go (number_in MAX_BUDGET text) (number_limits MAX_BUDGET text)
+budget_limits (Some text) = go (number_in 1 MAX_BUDGET text) (number_limits 1 MAX_BUDGET text)
   where
     go : (n : Option ℕ) → IfSome n (λ n. (1 ≤ n) × (n ≤ MAX_BUDGET)) → IfSome n IsBudget
     go None h = tt
     go (Some n) h = record { low = h.0; high = h.1 }
 
-size_limits : (given : Option Text) → IfSome (option_and_then (number_in MAX_SELF_SIZE) given) IsSize
+size_limits : (given : Option Text) → IfSome (option_and_then (number_in 1 MAX_SELF_SIZE) given) IsSize
 size_limits None = tt
-size_limits (Some text) = go (number_in MAX_SELF_SIZE text) (number_limits MAX_SELF_SIZE text)
+size_limits (Some text) = go (number_in 1 MAX_SELF_SIZE text) (number_limits 1 MAX_SELF_SIZE text)
   where
     go : (n : Option ℕ) → IfSome n (λ n. (1 ≤ n) × (n ≤ MAX_SELF_SIZE)) → IfSome n IsSize
     go None h = tt
     go (Some n) h = record { low = h.0; high = h.1 }
+
+within_limits : (given : Option Text) → IfSome (option_map_or (number_in 0 MAX_TOLERANCE) given (Some 0)) (λ n. n ≤ MAX_TOLERANCE)
+within_limits None = lit≤ tt
+within_limits (Some text) = go (number_in 0 MAX_TOLERANCE text) (number_limits 0 MAX_TOLERANCE text)
+  where
+    go : (n : Option ℕ) → IfSome n (λ n. (0 ≤ n) × (n ≤ MAX_TOLERANCE)) → IfSome n (λ n. n ≤ MAX_TOLERANCE)
+    go None h = tt
+    go (Some n) h = h.1
 
 -- ---- the tasks
 searching_limits : (asked : Text → ℕ → Task) (design : Option Text) (budget : Option ℕ) → ((d : Text) (b : ℕ) → IsBudget b → IsWithinLimits (asked d b))
@@ -79,6 +88,13 @@ whatif_limits (Some d) None budget within = tt
 whatif_limits (Some d) (Some e) None within = tt
 whatif_limits (Some d) (Some e) (Some b) within = within
 
+measure_limits : (design times : Option Text) (within : Option ℕ) → IfSome within (λ n. n ≤ MAX_TOLERANCE)
+    → IfSome (option_and_then (λ (d : Text). option_and_then (λ (t : Text). option_map (measure d t) within) times) design) IsWithinLimits
+measure_limits None times within below = tt
+measure_limits (Some d) None within below = tt
+measure_limits (Some d) (Some t) None below = tt
+measure_limits (Some d) (Some t) (Some w) below = below
+
 by_name : (is_named : Bool) (task others : Option Task) → IfSome task IsWithinLimits → IfSome others IsWithinLimits → IfSome (cond is_named task others) IsWithinLimits
 by_name true task others one two = one
 by_name false task others one two = two
@@ -104,7 +120,9 @@ named_limits rows (Some name) =
     (by_name (bytes_eq name (codes "brief")) (planned_of (Brief is_csv) rows) _ (planned_limits (Brief is_csv) rows budgets)
     (by_name (bytes_eq name (codes "lint")) (planned_of Lint rows) _ (planned_limits Lint rows budgets)
     (by_name (bytes_eq name (codes "margin")) (margin_of rows) _ (margin_limits rows budgets)
-    (by_name (bytes_eq name (codes "files")) (files_of rows) None (files_limits design) tt)))))))))))))
+    (by_name (bytes_eq name (codes "files")) (files_of rows) _ (files_limits design)
+    (by_name (bytes_eq name (codes "measure")) (measure_of rows) None
+    (measure_limits design (first_of (codes "times") rows) (within_of rows) (within_limits (first_of (codes "within") rows))) tt))))))))))))))
 
 task_limits : (task : Option Task) → IfSome task IsWithinLimits → KeepsLimits (answer_for task)
 task_limits None within = tt

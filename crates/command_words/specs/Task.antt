@@ -18,10 +18,12 @@ use Rattle.command_words.specs.declared.job.PlanJob.{PlanJob}
 use Rattle.command_words.specs.declared.job.PlanJob.TheVariants.{Why, Brief, Lint}
 use Rattle.command_words.specs.declared.job.CheckJob.{CheckJob}
 use Rattle.command_words.specs.declared.job.CheckJob.TheVariants.{Check, Confirm}
+use Rattle.command_words.specs.declared.task.TheConstants.{MAX_TOLERANCE}
 
 -- A job with what it needs. The first three share what they read with other jobs: the name of the design, the job, and the budget of each search or the
 -- name of the report. The others have, in this order: the name of the design and of the edits, or the size of the generated design; the list of numbers, if
--- there is one; the budget of each search; and whether proofs are wanted.
+-- there is one; the budget of each search; and whether proofs are wanted. Job measure has the name of the design, the name of the file of measured times,
+-- and the tolerance.
 pub data Task : Type 0 where
   searched : Text → SearchJob → ℕ → Task
   planned : Text → PlanJob → ℕ → Task
@@ -31,6 +33,7 @@ pub data Task : Type 0 where
   generated : ℕ → ℕ → Task
   whatif : Text → Text → ℕ → Task
   margin : Text → Option Text → ℕ → Task
+  measure : Text → Text → ℕ → Task
   files : Text → Task
 
 -- a task, a wish for help, or words that are neither
@@ -41,15 +44,19 @@ pub data Invocation : Type 0 where
 
 -- ---- what the matches of taken words say
 
--- the whole number that a text spells, from 1 to a limit
-abbrev pub number_in : ℕ → Text → Option ℕ
-number_in limit text = if is_unsigned_in 1 limit text then Some (digits_value 10 (without_leading_plus text)) else None
+-- the whole number that a text spells, from a least number to a limit
+abbrev pub number_in : ℕ → ℕ → Text → Option ℕ
+number_in least limit text = if is_unsigned_in least limit text then Some (digits_value 10 (without_leading_plus text)) else None
 
 abbrev pub budget_of : List Row → Option ℕ
-budget_of rows = option_map_or (number_in MAX_BUDGET) (first_of (codes "budget") rows) (Some DEFAULT_BUDGET)
+budget_of rows = option_map_or (number_in 1 MAX_BUDGET) (first_of (codes "budget") rows) (Some DEFAULT_BUDGET)
 
 abbrev pub size_of : List Row → Option ℕ
-size_of rows = option_and_then (number_in MAX_SELF_SIZE) (first_of (codes "size") rows)
+size_of rows = option_and_then (number_in 1 MAX_SELF_SIZE) (first_of (codes "size") rows)
+
+-- the tolerance, which is 0 if the words name none
+abbrev pub within_of : List Row → Option ℕ
+within_of rows = option_map_or (number_in 0 MAX_TOLERANCE) (first_of (codes "within") rows) (Some 0)
 
 -- an option without a value is there
 abbrev pub has_flag : Text → List Row → Bool
@@ -85,6 +92,10 @@ whatif_of rows =
 abbrev pub margin_of : List Row → Option Task
 margin_of rows = searching (λ design budget. margin design (first_of (codes "together") rows) budget) rows
 
+abbrev pub measure_of : List Row → Option Task
+measure_of rows =
+    option_and_then (λ design. option_and_then (λ times. option_map (measure design times) (within_of rows)) (first_of (codes "times") rows)) (first_of (codes "design") rows)
+
 abbrev pub files_of : List Row → Option Task
 files_of rows = option_map files (first_of (codes "design") rows)
 
@@ -105,7 +116,8 @@ task_named rows name =
     else (if bytes_eq name (codes "lint") then planned_of Lint rows
     else (if bytes_eq name (codes "margin") then margin_of rows
     else (if bytes_eq name (codes "files") then files_of rows
-    else None)))))))))))))
+    else (if bytes_eq name (codes "measure") then measure_of rows
+    else None))))))))))))))
 
 abbrev pub task_of : List Row → Option Task
 task_of rows = option_and_then (task_named rows) (first_of (codes "job") rows)
@@ -151,6 +163,7 @@ IsWithinLimits (matrix design) = Unit {0}
 IsWithinLimits (generated size budget) = IsSize size × IsBudget budget
 IsWithinLimits (whatif design edits budget) = IsBudget budget
 IsWithinLimits (margin design list budget) = IsBudget budget
+IsWithinLimits (measure design times within) = within ≤ MAX_TOLERANCE
 IsWithinLimits (files design) = Unit {0}
 
 abbrev pub KeepsLimits : Invocation → Type 0

@@ -3,8 +3,9 @@
 ghost use Rattle.std.specs.Prelude.{◌≡◌, IfOk, false, codes};
 ghost use Rattle.clap.specs.Simple.{app_of};
 ghost use Rattle.clap.specs.Walk.{rule_of};
-ghost use Rattle.command_words.specs.Command.{bare_command, command, design_rule, flag_rule, job_rule, number_rule, text_rule};
+ghost use Rattle.command_words.specs.Command.{bare_command, command, design_rule, flag_rule, job_rule, number_rule, text_rule, within_rule};
 
+use crate::task::MAX_TOLERANCE;
 use clap::builder::ValueParser;
 use clap::{Arg, ArgAction, Command};
 use itv_base::{MAX_BUDGET, MAX_SELF_SIZE};
@@ -50,6 +51,16 @@ fn flag<'a>(alloc: Global, name: &'a str, help: &'a str) -> Arg<'a>
         .action(ArgAction::SetTrue)
         .help(help)
 }
+
+fn within_option<'a>(alloc: Global) -> Arg<'a>
+    ensures rule { rule_of result ≡ within_rule }
+    ensures own { result.global ≡ false }
+{
+    text_option(alloc, "within", "PS", WITHIN).value_parser(ValueParser::unsigned(0, MAX_TOLERANCE))
+}
+
+const WITHIN: &str =
+    "The tolerance of job measure in picoseconds, 0 to 10,000,000,000,000 [default: 0]";
 
 fn design_argument<'a>(alloc: Global) -> Arg<'a>
     ensures rule { rule_of result ≡ design_rule }
@@ -104,5 +115,12 @@ pub fn command<'a>(alloc: Global) -> Result<Command<'a>, AllocError>
             "LIST",
             "The numbers that job margin moves together, separated by commas: \"wire 0,net 1,CPU edge 3\"",
         ))?
+        .arg(text_option(
+            alloc,
+            "times",
+            "FILE",
+            "The measured times, one line for each run",
+        ))?
+        .arg(within_option(alloc))?
         .arg(design_argument(alloc))
 }

@@ -7,10 +7,10 @@ use std::alloc::{AllocError, Global};
 const DETAILS: &str = "
 Exit statuses:
   0  All is well: every requirement passes, the matrix is printed, the report is accepted
-  1  A requirement fails, or job lint has a warning
+  1  A requirement fails, measured times break a rule, or job lint has a warning
   2  No times satisfy the design
-  3  The budget was too small to decide
-  4  The design, the report or the edits are refused, for the reason that is printed
+  3  The budget was too small to decide, or measured times are too near a limit or not there
+  4  The design, the report, the edits or the measured times are refused, for the reason that is printed
   5  A file cannot be read
   6  The output cannot be written
   7  There is not enough memory

@@ -18,6 +18,8 @@ pub enum JobNeeds {
     Report,
     /// A design, and edits of it.
     Edits,
+    /// A design, and measured times of its events.
+    Times,
     /// The size of a design that is generated.
     Size,
 }
@@ -29,13 +31,14 @@ impl JobNeeds {
             JobNeeds::Design => "",
             JobNeeds::Report => "--report FILE",
             JobNeeds::Edits => "--edits FILE",
+            JobNeeds::Times => "--times FILE",
             JobNeeds::Size => "--size N",
         }
     }
 }
 
 /// The jobs, in the order in which they are listed. The first one is done if the words name no job.
-pub const JOBS: [JobWord; 14] = [
+pub const JOBS: [JobWord; 15] = [
     JobWord {
         name: "bounds",
         needs: JobNeeds::Design,
@@ -90,6 +93,11 @@ pub const JOBS: [JobWord; 14] = [
         name: "whatif",
         needs: JobNeeds::Edits,
         about: "Bounds each question and requirement again after each edit of a range; a bound that still holds is kept",
+    },
+    JobWord {
+        name: "measure",
+        needs: JobNeeds::Times,
+        about: "Prints which rules and requirements measured times keep, and which runs break them",
     },
     JobWord {
         name: "matrix",

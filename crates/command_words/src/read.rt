@@ -5,13 +5,13 @@ ghost use Rattle.clap.specs.Matches.{found_of};
 ghost use Rattle.clap.specs.Values.{kind_of};
 ghost use Rattle.clap.specs.Walk.{first_of, rows_of};
 ghost use Rattle.clap.specs.declared.error.kind.ErrorKind.{ErrorKind};
-ghost use Rattle.command_words.specs.Task.{KeepsLimits, answer_for, budget_of, checked_of, fall_of, files_of, generated_of, has_flag, margin_of, matrix_of, number_in, planned_of, refusal_for, searched_of, size_of, taken, task_named, task_of, whatif_of};
+ghost use Rattle.command_words.specs.Task.{KeepsLimits, answer_for, budget_of, checked_of, fall_of, files_of, generated_of, has_flag, margin_of, matrix_of, measure_of, number_in, planned_of, refusal_for, searched_of, size_of, taken, task_named, task_of, whatif_of, within_of};
 ghost use Rattle.command_words.specs.View.{answer_view, task_view};
 
 use crate::command::command;
 use crate::help::help_text;
 use crate::job::{CheckJob, PlanJob, SearchJob};
-use crate::task::{Invocation, Task};
+use crate::task::{Invocation, MAX_TOLERANCE, Task};
 use clap::error::ErrorKind;
 use clap::{ArgMatches, Error};
 use itv_base::{DEFAULT_BUDGET, MAX_BUDGET, MAX_SELF_SIZE, NoMemory, Texts};
@@ -98,6 +98,8 @@ fn task_named<'a>(matches: &ArgMatches<'a>, name: &str) -> Option<Task<'a>>
         margin_task(matches)
     } else if name == "files" {
         files_task(matches)
+    } else if name == "measure" {
+        measure_task(matches)
     } else {
         None
     }
@@ -198,11 +200,24 @@ fn files_task<'a>(matches: &ArgMatches<'a>) -> Option<Task<'a>>
     Some(Task::Files { design })
 }
 
+fn measure_task<'a>(matches: &ArgMatches<'a>) -> Option<Task<'a>>
+    ensures { option_map task_view result ≡ measure_of (rows_of (found_of matches.now)) }
+{
+    let design = text_of(matches, "design")?;
+    let times = text_of(matches, "times")?;
+    let within = within_of(matches)?;
+    Some(Task::Measure {
+        design,
+        times,
+        within,
+    })
+}
+
 fn budget_of(matches: &ArgMatches<'_>) -> Option<u64>
     ensures { result ≡ budget_of (rows_of (found_of matches.now)) }
 {
     match text_of(matches, "budget") {
-        Some(text) => number_in(text, MAX_BUDGET),
+        Some(text) => number_in(text, 1, MAX_BUDGET),
         None => Some(DEFAULT_BUDGET),
     }
 }
@@ -210,8 +225,18 @@ fn budget_of(matches: &ArgMatches<'_>) -> Option<u64>
 fn size_of(matches: &ArgMatches<'_>) -> Option<u32>
     ensures { result ≡ size_of (rows_of (found_of matches.now)) }
 {
-    let size = number_in(text_of(matches, "size")?, MAX_SELF_SIZE as u64)?;
+    let size = number_in(text_of(matches, "size")?, 1, MAX_SELF_SIZE as u64)?;
     Some(size as u32)
+}
+
+// The tolerance, which is 0 if the words name none.
+fn within_of(matches: &ArgMatches<'_>) -> Option<u64>
+    ensures { result ≡ within_of (rows_of (found_of matches.now)) }
+{
+    match text_of(matches, "within") {
+        Some(text) => number_in(text, 0, MAX_TOLERANCE),
+        None => Some(0),
+    }
 }
 
 // Whether an option without a value is there.
@@ -224,14 +249,14 @@ fn has_flag(matches: &ArgMatches<'_>, name: &str) -> bool
     }
 }
 
-// The whole number that a text spells, from 1 to a limit.
-fn number_in(text: &str, limit: u64) -> Option<u64>
-    ensures value { result ≡ number_in limit text.now }
+// The whole number that a text spells, from a least number to a limit.
+fn number_in(text: &str, least: u64, limit: u64) -> Option<u64>
+    ensures value { result ≡ number_in least limit text.now }
     ensures high { IfSome result (λ number. number ≤ limit) }
 {
     match text.parse::<u64>() {
         Ok(number) => {
-            if 1 <= number && number <= limit {
+            if least <= number && number <= limit {
                 Some(number)
             } else {
                 None

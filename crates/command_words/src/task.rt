@@ -2,6 +2,11 @@
 
 use crate::job::{CheckJob, PlanJob, SearchJob};
 
+/// Picoseconds of a tolerance of measured times. This is also the limit of a finite end of a range.
+pub const MAX_TOLERANCE: u64 = 10_000_000_000_000;
+
+const _: () = prove!(MAX_TOLERANCE == 10_000 * 1_000_000_000);
+
 /// A job with what it needs: what is read, and what is done with it. What else the words give is ignored.
 #[derive(Clone, Copy)]
 pub enum Task<'a> {
@@ -58,6 +63,13 @@ pub enum Task<'a> {
         design: &'a str,
         list: Option<&'a str>,
         budget: u64,
+    },
+    /// To say what measured times show of the rules and rows of a design: the name of its file, the name of the file of measured times, and the
+    /// tolerance in picoseconds.
+    Measure {
+        design: &'a str,
+        times: &'a str,
+        within: u64,
     },
 }
 

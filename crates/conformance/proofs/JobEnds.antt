@@ -25,7 +25,7 @@ use Rattle.right_report.proofs.Refusing.{accepted_text_is_right, one_refused_lin
 use Rattle.drawn_networks.specs.Drawn.{Drawn}
 use Rattle.drawn_laws.proofs.Designs.{drawn_names_have_form, drawn_ranges_have_form}
 use Rattle.design_reading.specs.declared.refusal_place.RefusalPlace.{RefusalPlace}
-use Rattle.design_reading.specs.declared.refusal_place.RefusalPlace.TheVariants.{Edits, Report}
+use Rattle.design_reading.specs.declared.refusal_place.RefusalPlace.TheVariants.{Edits, Report, Times}
 use Rattle.design_reading.specs.AskedFor.{asked_by, files_at}
 use Rattle.design_reading.specs.Design.{design_at}
 use Rattle.design_reading.specs.declared.refusal.Refusal.{Refusal}
@@ -38,6 +38,10 @@ use Rattle.job_check.specs.Check.{AnswersCheck, refused_text}
 use Rattle.itv_cli.specs.Bounds.{AnswersBounds}
 use Rattle.job_confirm.specs.Confirm.{AnswersConfirm}
 use Rattle.job_settle.specs.Settle.{AnswersSettle, IsSettleText}
+use Rattle.measured_times.specs.Runs.{MeasuredRun, runs_of}
+use Rattle.measured_times.specs.declared.fault.TimesFault.{TimesFault}
+use Rattle.measured_times.specs.declared.file.TheConstants.{MAX_TIMES_BYTES}
+use Rattle.job_measure.specs.Measure.{AnswersMeasure, answer_by}
 use Rattle.range_edits.specs.EditsFile.{edits_of}
 use Rattle.range_edits.specs.declared.edit.RangeEdit.{RangeEdit}
 use Rattle.range_edits.specs.declared.fault.EditsFault.{EditsFault}
@@ -49,18 +53,18 @@ use Rattle.job_whatif.proofs.Passing.{passed_edits_are_met}
 use Rattle.command_words.specs.declared.job.SearchJob.TheVariants.{Bounds, Settle}
 use Rattle.command_words.specs.declared.job.CheckJob.TheVariants.{Check, Confirm}
 use Rattle.command_words.specs.Task as said
-use Rattle.itv_cli.specs.Task.{checked, generated, matrix, searched, taken, task, whatif}
-use Rattle.itv_cli.specs.Job.{Answers, edits_at, edits_in, made_for, matrix_at, opening, turns_for, whatif_at}
+use Rattle.itv_cli.specs.Task.{checked, generated, matrix, measure, searched, taken, task, whatif}
+use Rattle.itv_cli.specs.Job.{Answers, edits_at, edits_in, made_for, matrix_at, opening, times_at, times_in, turns_for, whatif_at}
 use Rattle.itv_cli.specs.Run.{Call, HasRead, ReadsOver, HasAnswered, OutcomeMeans, outcome_of}
 use Rattle.itv_cli.specs.declared.outcome.Outcome.{Outcome}
 use Rattle.itv_cli.specs.declared.outcome.Outcome.TheVariants as ends
 use Rattle.itv_cli.specs.declared.ready.Ready.{Ready}
 use Rattle.itv_cli.specs.declared.ready.Ready.TheVariants as given
-use Rattle.conformance.specs.Clients.{AsksBounds, AsksCheck, AsksConfirm, AsksFiles, AsksMatrix, AsksSettle, AsksWhatif, IsReportEnd, IsRightFile, IsSettledFile, IsSummaryOf, IsWrongFile, AreAlike}
+use Rattle.conformance.specs.Clients.{AsksBounds, AsksCheck, AsksConfirm, AsksFiles, AsksMatrix, AsksMeasure, AsksSettle, AsksWhatif, IsMeasureEnd, IsReportEnd, IsRightFile, IsSettledFile, IsSummaryOf, IsWrongFile, AreAlike}
 use Rattle.claim_laws.specs.Said.{IsSoText}
 use Rattle.claim_laws.proofs.SaidLines.{right_text_is_so}
 use Rattle.job_files.specs.Files.{files_text}
-use Rattle.conformance.proofs.KnownFiles.{answer_over, few_by, never_refused, reported_over, same_asked, same_ready, told_behind, told_then}
+use Rattle.conformance.proofs.KnownFiles.{answer_over, few_by, never_measured, never_refused, reported_over, same_asked, same_ready, told_behind, told_then}
 
 -- ---- what was answered
 
@@ -300,6 +304,33 @@ module _ (call : Call) (files : Files) (budget : ℕ) (drawn : Drawn) (list : Li
   whatif_met result means e =
       let m = answered_by call result answers.AllPass (λ same. cc same) means e in
       passed_edits_are_met drawn budget list m.text (whatif_said answers.AllPass m)
+
+-- ---- job measure
+
+-- the runs that were read are the runs of the file
+runs_told : (files : Files) (reading : Result (List MeasuredRun) TimesFault) (had list : List MeasuredRun) → end_over files (at Times refusals.Times reading) ≡ ready had
+    → reading ≡ Ok list → had ≡ list
+runs_told files reading had list told is =
+    same_ready had list (sym told ∙ ap (λ (r : Result (List MeasuredRun) TimesFault). end_over files (at Times refusals.Times r)) is)
+
+module _ (call : Call) (files : Files) (within : ℕ) (drawn : Drawn) (list : List MeasuredRun) (known : call.shelf_before.files ≡ Some files)
+    (asks : AsksMeasure call.words files within drawn list) where
+  measure_said : (answer : Answer) (m : HasAnswered call answer) → AnswersMeasure drawn within list answer m.text
+  measure_said answer m =
+      let a = answer_over call files (measure asks.design asks.file within) answer m.text known m refl (record { words = asks.words; own = refl }) in
+      let (other, draws, more) = told_behind files (design_at asks.design) (times_at asks.file within) a.given a.reads in
+      let (bytes, had, behind) = told_behind files (file_at Times asks.file MAX_TIMES_BYTES) (times_in within other) a.given more in
+      let (runs, read, is) = told_then files (at Times refusals.Times (runs_of other.net.events bytes)) (λ rs. given.Measure other rs within) a.given behind in
+      let same : other ≡ drawn = same_ready other drawn (sym draws ∙ asks.draws) in
+      let own : bytes ≡ asks.bytes = same_Some bytes asks.bytes (sym (file_had files Times asks.file MAX_TIMES_BYTES bytes had) ∙ asks.is_file) in
+      let these : runs ≡ list = runs_told files (runs_of other.net.events bytes) runs list read (ap (λ (d : Drawn). runs_of d.net.events bytes) same ∙ (ap (runs_of drawn.net.events) own ∙ asks.read)) in
+      subst (λ (rs : List MeasuredRun). AnswersMeasure drawn within rs answer m.text) these
+      (subst (λ (d : Drawn). AnswersMeasure d within runs answer m.text) same (subst (λ g. Answers g answer m.text) (sym is) a.answers))
+
+  pub measure_wrote : (result : Outcome) → OutcomeMeans call result → (end : IsMeasureEnd result)
+      → (text : List ℕ) × AnswersMeasure drawn within list (answer_by end.0) text × (call.sink_after ≡ grown call.sink_before text)
+  measure_wrote result means end =
+      let m = answered_by call result (answer_by end.0) (never_measured end.0) means end.1 in (m.text, measure_said (answer_by end.0) m, m.wrote)
 
 -- ---- job matrix
 

@@ -33,8 +33,14 @@ use Rattle.drawn_networks.specs.declared.row.Row.{Row}
 use Rattle.job_redraw.specs.Failed.{Failed, IsBroken}
 use Rattle.job_redraw.specs.Redraw.{AnswersRedraw, AnswersEndWord, is_wide}
 use Rattle.design_reading.specs.declared.refusal_place.RefusalPlace.{RefusalPlace}
-use Rattle.design_reading.specs.declared.refusal_place.RefusalPlace.TheVariants.{Design, Edits, Report}
+use Rattle.design_reading.specs.declared.refusal_place.RefusalPlace.TheVariants.{Design, Edits, Report, Times}
 use Rattle.design_reading.specs.declared.refusal.Refusal.TheVariants as refusals
+use Rattle.measured_times.specs.Runs.{runs_of}
+use Rattle.measured_times.specs.declared.file.TheConstants.{MAX_TIMES_BYTES}
+use Rattle.job_measure.specs.Lines.{lines_of as run_lines}
+use Rattle.job_measure.specs.Measure.{all_verdict, answer_by as measured_answer}
+use Rattle.job_measure.specs.declared.tally.RunVerdict.{RunVerdict}
+use Rattle.job_measure.specs.declared.tally.RunVerdict.TheVariants.{Fail, Near, Pass, Unseen}
 use Rattle.range_edits.specs.EditsFile.{edits_of}
 use Rattle.range_edits.specs.declared.edit.RangeEdit.{RangeEdit}
 use Rattle.range_edits.specs.declared.file.TheConstants.{MAX_EDITS_BYTES}
@@ -58,7 +64,7 @@ use Rattle.command_words.specs.declared.job.PlanJob.TheVariants.{Why, Brief, Lin
 use Rattle.command_words.specs.declared.job.CheckJob.{CheckJob}
 use Rattle.command_words.specs.declared.job.CheckJob.TheVariants.{Check, Confirm}
 use Rattle.command_words.specs.Task as said
-use Rattle.command_words.specs.Task.{Task, checked, fall, generated, margin, matrix, planned, searched, taken, task, whatif}
+use Rattle.command_words.specs.Task.{Task, checked, fall, generated, margin, matrix, measure, planned, searched, taken, task, whatif}
 use Rattle.job_bounds.proofs.WrittenLaws.{written_is_right}
 use Rattle.moves.specs.Listed.{numbers_of}
 use Rattle.design_plan.specs.Plan.{PlanView}
@@ -67,7 +73,7 @@ use Rattle.job_lint.specs.Lint.{answer_by}
 use Rattle.job_lint.specs.Lines.{is_clean, lines_of}
 use Rattle.job_margin.specs.Text.{are_left_open, end_of}
 use Rattle.job_why.specs.Text.{ending_of as explained_ending}
-use Rattle.itv_cli.specs.Job.{Answers, edits_at, edits_in, fall_at, fall_in, list_at, made_for, matrix_at, opening, planned_at, whatif_at}
+use Rattle.itv_cli.specs.Job.{Answers, edits_at, edits_in, fall_at, fall_in, list_at, made_for, matrix_at, opening, planned_at, times_at, times_in, whatif_at}
 use Rattle.itv_cli.specs.Run.{Call, HasRead, Completes, OutcomeBy, ReadsOver, FilesDecide, HasAnswered, HasRefused, IsRefused, OutcomeMeans, Wrote, call_of}
 use Rattle.itv_cli.specs.declared.outcome.Outcome.{Outcome}
 use Rattle.itv_cli.specs.declared.outcome.Outcome.TheVariants as ends
@@ -245,6 +251,13 @@ never_checked drawn Confirm read bytes a = a
 never_from : (drawn : Drawn) (first : SessionView) (kinds : List RowKind) (edits : List RangeEdit) (text : List ℕ) → AnswersFrom drawn first kinds edits answers.DesignRefused text → ⊥
 never_from drawn first kinds edits text a = never_refused (ending_of kinds (last_note a.note a.notes).found (last_note a.note a.notes).answers) a.is_answer
 
+-- a job of measured times refuses nothing for what it found
+pub never_measured : (verdict : RunVerdict) → measured_answer verdict ≡ answers.DesignRefused → ⊥
+never_measured Pass e = cc e
+never_measured Near e = cc e
+never_measured Fail e = cc e
+never_measured Unseen e = cc e
+
 pub few_by : (files : Files) (b : Bool) (why : Refusal) (next : FileReading Ready) (to : Ready) → end_over files (if b then refuses Design why else next) ≡ ready to → end_over files next ≡ ready to
 few_by files true why next to e = absurd (cc e)
 few_by files false why next to e = e
@@ -298,6 +311,12 @@ refused_redraws files (margin design list budget) bytes own h =
     let (numbers, had, is) = told_then files (list_at both.1 list) (λ ns. given.Margin both.0 both.1 ns budget) h.given comes in
     let answered : Answers (given.Margin both.0 both.1 numbers budget) answers.DesignRefused bytes = subst (λ g. Answers g answers.DesignRefused bytes) (sym is) h.answers in
     absurd (never_refused (end_of answered.word (are_left_open answered.found)) answered.is_answer)
+refused_redraws files (measure design times within) bytes own h =
+    let (drawn, draws, comes) = told_behind files (design_at design) (times_at times within) h.given h.reads in
+    let (file, fetched, behind) = told_behind files (file_at Times times MAX_TIMES_BYTES) (times_in within drawn) h.given comes in
+    let (runs, had, is) = told_then files (at Times refusals.Times (runs_of drawn.net.events file)) (λ rs. given.Measure drawn rs within) h.given behind in
+    let answered : Answers (given.Measure drawn runs within) answers.DesignRefused bytes = subst (λ g. Answers g answers.DesignRefused bytes) (sym is) h.answers in
+    absurd (never_measured (all_verdict (run_lines drawn within runs)) (sym answered.0))
 
 -- where no list is given, a drawn network with few enough numbers is given as it is
 pub few_then : (files : Files) (plan : PlanView) (drawn : Drawn) (budget : ℕ) (to : Ready) → end_over files (list_at drawn None >>= (λ numbers. gives (given.Margin plan drawn numbers budget))) ≡ ready to

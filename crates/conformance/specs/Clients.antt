@@ -22,6 +22,9 @@ use Rattle.design_reading.specs.declared.refusal_place.RefusalPlace.{RefusalPlac
 use Rattle.design_reading.specs.declared.refusal.Refusal.{Refusal}
 use Rattle.design_reading.specs.Design.{design_at, plan_at}
 use Rattle.design_reading.specs.AskedFor.{files_at}
+use Rattle.measured_times.specs.Runs.{MeasuredRun, runs_of}
+use Rattle.job_measure.specs.Measure.{answer_by}
+use Rattle.job_measure.specs.declared.tally.RunVerdict.{RunVerdict}
 use Rattle.moves.specs.Listed.{numbers_of}
 use Rattle.moves.specs.Moving.{moved_at, widened}
 use Rattle.moves.specs.Passing.{NoneBreaks}
@@ -39,7 +42,7 @@ use Rattle.command_words.specs.declared.job.PlanJob.{PlanJob}
 use Rattle.command_words.specs.declared.job.PlanJob.TheVariants.{Why, Brief, Lint}
 use Rattle.command_words.specs.declared.job.CheckJob.TheVariants.{Check, Confirm}
 use Rattle.command_words.specs.Task as said
-use Rattle.command_words.specs.Task.{Task, checked, margin, matrix, planned, searched, taken, task, whatif}
+use Rattle.command_words.specs.Task.{Task, checked, margin, matrix, measure, planned, searched, taken, task, whatif}
 use Rattle.lint.specs.declared.warning.Warning.{Warning}
 use Rattle.job_lint.specs.declared.lint_found.LintFound.{LintFound}
 use Rattle.job_lint.specs.Clean.{HasSearchedAll}
@@ -167,6 +170,20 @@ pub record AsksWhatif (given : List (List ℕ)) (files : Files) (budget : ℕ) (
   pub bytes : List ℕ
   pub is_file : file_of files file ≡ Some bytes
   pub read : edits_of drawn bytes ≡ Ok edits
+
+-- the words ask job measure about a design and a file of measured times, the files of the design draw a network, and the file has these runs of it
+pub record AsksMeasure (given : List (List ℕ)) (files : Files) (within : ℕ) (drawn : Drawn) (runs : List MeasuredRun) : Type 0 where
+  pub design : List ℕ
+  pub file : List ℕ
+  pub words : taken given ≡ task (measure design file within)
+  pub draws : Draws files design drawn
+  pub bytes : List ℕ
+  pub is_file : file_of files file ≡ Some bytes
+  pub read : runs_of drawn.net.events bytes ≡ Ok runs
+
+-- the run ended with one of the ends of job measure
+abbrev pub IsMeasureEnd : Outcome → Type 0
+IsMeasureEnd outcome = (verdict : RunVerdict) × (outcome ≡ outcome_of (answer_by verdict))
 
 -- the words ask for the matrix of a design, and the files of the design draw a network
 pub record AsksMatrix (given : List (List ℕ)) (files : Files) (drawn : Drawn) : Type 0 where

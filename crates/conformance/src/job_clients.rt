@@ -27,10 +27,12 @@ ghost use Rattle.job_margin.specs.Margin.{AnswersMargin};
 ghost use Rattle.moves.specs.Passing.{BreaksRow, Passes};
 ghost use Rattle.job_settle.specs.Settle.{AnswersSettle};
 ghost use Rattle.range_edits.specs.declared.edit.RangeEdit.{RangeEdit};
+ghost use Rattle.measured_times.specs.Runs.{MeasuredRun};
+ghost use Rattle.job_measure.specs.Measure.{AnswersMeasure, answer_by};
 ghost use Rattle.job_whatif.specs.Laws.{with_edits};
 ghost use Rattle.itv_cli.specs.Job.{turns_for};
 ghost use Rattle.job_base.specs.Ending.{answer_of};
-ghost use Rattle.conformance.specs.Clients.{AsksBounds, AsksBrief, AsksCheck, AsksConfirm, AsksFile, AsksFiles, AsksLint, AsksMargin, AsksMatrix, AsksSettle, AsksWhatif, AsksWhy, DrawnFrom, HasNoWrong, HasSafeHighs, IsLintClean, IsReportEnd, IsRightFile, IsSettledFile, IsSummaryOf, IsWritten, IsWrongFile, Makes, WroteOne, AreAlike};
+ghost use Rattle.conformance.specs.Clients.{AsksBounds, AsksBrief, AsksCheck, AsksConfirm, AsksFile, AsksFiles, AsksLint, AsksMargin, AsksMatrix, AsksMeasure, AsksSettle, AsksWhatif, AsksWhy, DrawnFrom, HasNoWrong, HasSafeHighs, IsLintClean, IsMeasureEnd, IsReportEnd, IsRightFile, IsSettledFile, IsSummaryOf, IsWritten, IsWrongFile, Makes, WroteOne, AreAlike};
 ghost use Rattle.claim_laws.specs.Said.{IsSoText};
 ghost use Rattle.claim_laws.specs.Lone.{DrawsLone, IsLoneFile};
 ghost use Rattle.serde_json.specs.Data.{Data};
@@ -158,6 +160,20 @@ pub fn confirmed_of(
 pub fn edited_of(alloc: Global, words: &Texts, shelf: &mut ShelfMem, sink: &mut SinkMem) -> Outcome
     ensures met { (budget : ℕ) (drawn : Drawn) (edits : List RangeEdit) → AsksWhatif words.now shelf.old.files budget drawn edits
         → result ≡ Outcome.AllPass → SomeSatisfy (with_edits drawn edits).net × AllMet (with_edits drawn edits) }
+{
+    run(alloc, words, shelf, sink)
+}
+
+/// A run of job measure. With any of its ends it writes what the runs in the file show of each rule and each row, and the end is the end for what
+/// they show.
+pub fn measured_of(
+    alloc: Global,
+    words: &Texts,
+    shelf: &mut ShelfMem,
+    sink: &mut SinkMem,
+) -> Outcome
+    ensures wrote { (within : ℕ) (drawn : Drawn) (runs : List MeasuredRun) → AsksMeasure words.now shelf.old.files within drawn runs
+        → (end : IsMeasureEnd result) → WroteOne sink.old sink.new (AnswersMeasure drawn within runs (answer_by end.0)) }
 {
     run(alloc, words, shelf, sink)
 }

@@ -23,9 +23,11 @@ use Rattle.unroll.specs.declared.fault.UnrollFault.{UnrollFault}
 use Rattle.unroll.specs.declared.fault.UnrollFault.TheVariants as unroll
 use Rattle.range_edits.specs.declared.fault.EditsFault.{EditsFault}
 use Rattle.range_edits.specs.declared.fault.EditsFault.TheVariants as edits
+use Rattle.measured_times.specs.declared.fault.TimesFault.{TimesFault}
+use Rattle.measured_times.specs.declared.fault.TimesFault.TheVariants as times
 use Rattle.design_reading.specs.declared.refusal_place.RefusalPlace.{RefusalPlace}
 use Rattle.design_reading.specs.declared.refusal.Refusal.{Refusal}
-use Rattle.design_reading.specs.declared.refusal.Refusal.TheVariants.{TooLong, NotJson, Diagram, Grades, Sheet, Netlist, Joins, Limits, Mixed, Wide, Edits, Number}
+use Rattle.design_reading.specs.declared.refusal.Refusal.TheVariants.{TooLong, NotJson, Diagram, Grades, Sheet, Netlist, Joins, Limits, Mixed, Wide, Edits, Times, Number}
 use Rattle.design_reading.specs.RefusalPlace.{place_words}
 
 -- The words of a fault are its name and then what it keeps: a number in decimal, a mark as its character, and an inner fault by its name. Lack of memory
@@ -50,7 +52,8 @@ limit_name limit.MatrixEvents = codes "MatrixEvents"
 limit_name limit.SessionRows = codes "SessionRows"
 limit_name limit.Numbers = codes "Numbers"
 
--- The words of the fault of a refusal. A line of a file of edits has its number, counted from 1, and a number of a list its place, counted from 0.
+-- The words of the fault of a refusal. A line of a file of edits or of measured times has its number, counted from 1, and a number of a list its place,
+-- counted from 0.
 abbrev pub fault_words : Refusal → List Word
 fault_words TooLong = codes "TooLong" ∷ []
 fault_words NotJson = codes "NotJson" ∷ []
@@ -105,6 +108,9 @@ fault_words (Edits (edits.Line n)) = codes "Line" ∷ number_text n ∷ []
 fault_words (Edits (edits.Range n fault)) = codes "Range" ∷ number_text n ∷ range_fault_name fault ∷ []
 fault_words (Edits (edits.NoSuch n)) = codes "NoSuch" ∷ number_text n ∷ []
 fault_words (Edits edits.NoMemory) = []
+fault_words (Times times.TooLong) = codes "TooLong" ∷ []
+fault_words (Times (times.Line n)) = codes "Line" ∷ number_text n ∷ []
+fault_words (Times times.NoMemory) = []
 fault_words (Number place) = codes "Number" ∷ number_text place ∷ []
 
 -- the line of a refusal

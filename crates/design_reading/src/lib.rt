@@ -21,4 +21,4 @@ pub use planning::open_plan;
 pub use put::{put_refusal, put_unread};
 pub use refusal::Refusal;
 pub use refusal_place::RefusalPlace;
-pub use stop::{Stop, edits_stop};
+pub use stop::{Stop, edits_stop, times_stop};

@@ -17,6 +17,7 @@ use itoa::Buffer;
 use itv_base::{PutFailed, RangeFault, Sink, number_text};
 use label_grammar::LabelFault;
 use line_words::put_spaced;
+use measured_times::TimesFault;
 use netlist::NetlistFault;
 use range_edits::EditsFault;
 use sheet::{GradesFault, SheetFault};
@@ -94,6 +95,7 @@ fn put_place<K: Sink>(place: RefusalPlace, sink: &mut K) -> Result<(), PutFailed
         RefusalPlace::Design => put_words(&[Text(b"design")], sink),
         RefusalPlace::Report => put_words(&[Text(b"report")], sink),
         RefusalPlace::Edits => put_words(&[Text(b"edits")], sink),
+        RefusalPlace::Times => put_words(&[Text(b"times")], sink),
     }
 }
 
@@ -119,6 +121,7 @@ fn put_fault<K: Sink>(why: Refusal, sink: &mut K) -> Result<(), PutFailed>
         ),
         Refusal::Wide(row) => put_words(&[Text(b"Wide"), Number(u64::from(row))], sink),
         Refusal::Edits(fault) => put_edits_fault(fault, sink),
+        Refusal::Times(fault) => put_times_fault(fault, sink),
         Refusal::Number(place) => put_words(&[Text(b"Number"), Number(place)], sink),
     }
 }
@@ -270,6 +273,16 @@ fn put_edits_fault<K: Sink>(fault: EditsFault, sink: &mut K) -> Result<(), PutFa
         ),
         EditsFault::NoSuch(n) => put_words(&[Text(b"NoSuch"), Number(n)], sink),
         EditsFault::NoMemory => put_words(&[], sink),
+    }
+}
+
+fn put_times_fault<K: Sink>(fault: TimesFault, sink: &mut K) -> Result<(), PutFailed>
+    ensures { Puts (K.state sink.old) (K.state sink.new) (flat_map spaced (fault_words (Refusal.Times fault))) result }
+{
+    match fault {
+        TimesFault::TooLong => put_words(&[Text(b"TooLong")], sink),
+        TimesFault::Line(n) => put_words(&[Text(b"Line"), Number(n)], sink),
+        TimesFault::NoMemory => put_words(&[], sink),
     }
 }
 

@@ -1,6 +1,7 @@
 //! Why files are refused.
 
 use compose::JoinFault;
+use measured_times::TimesFault;
 use netlist::NetlistFault;
 use range_edits::EditsFault;
 use sheet::{GradesFault, SheetFault};
@@ -34,6 +35,8 @@ pub enum Refusal {
     Wide(u32),
     /// The file of edits has a fault.
     Edits(EditsFault),
+    /// The file of measured times has a fault.
+    Times(TimesFault),
     /// The text at this place of a list, counted from 0, names no number of the design, or one that the list has before.
     Number(u64),
 }

@@ -11,4 +11,6 @@ pub enum RefusalPlace {
     Report,
     /// The file of edits.
     Edits,
+    /// The file of measured times.
+    Times,
 }

@@ -8,6 +8,7 @@ ghost use Rattle.netlist.specs.Fault.{is_memory as is_netlist_memory};
 ghost use Rattle.compose.specs.Fault.{is_memory as is_join_memory};
 ghost use Rattle.unroll.specs.Fault.{is_memory as is_limit_memory};
 ghost use Rattle.range_edits.specs.EditsFile.{is_memory as is_edits_memory};
+ghost use Rattle.measured_times.specs.Runs.{is_memory as is_times_memory};
 ghost use Rattle.design_reading.specs.Step.{stop_of};
 ghost use Rattle.design_reading.specs.declared.stop.Stop.TheVariants.{NoMemory};
 
@@ -15,6 +16,7 @@ use crate::refusal::Refusal;
 use crate::refusal_place::RefusalPlace;
 use compose::JoinFault;
 use itv_base::NoMemory as OutOfMemory;
+use measured_times::TimesFault;
 use netlist::NetlistFault;
 use range_edits::EditsFault;
 use sheet::{GradesFault, SheetFault};
@@ -115,5 +117,15 @@ pub fn edits_stop(place: RefusalPlace, fault: EditsFault) -> Stop
     match fault {
         EditsFault::NoMemory => Stop::NoMemory,
         _ => Stop::Refused(place, Refusal::Edits(fault)),
+    }
+}
+
+/// Why a reading gave nothing, given a fault of a file of measured times.
+pub fn times_stop(place: RefusalPlace, fault: TimesFault) -> Stop
+    ensures stop { result ≡ stop_of is_times_memory Refusal.Times place fault }
+{
+    match fault {
+        TimesFault::NoMemory => Stop::NoMemory,
+        _ => Stop::Refused(place, Refusal::Times(fault)),
     }
 }

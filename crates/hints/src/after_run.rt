@@ -6,7 +6,8 @@ use crate::margin_fault::put_margin_refusal;
 use command_words::{Invocation, PlanJob, Task, read_words};
 use itv_base::{NoMemory, Shelf, ShelfMem, Texts};
 use refusal_hints::{
-    Hint, NameLook, copy_files, files_of, put_refusal, put_unread, put_words_fault, words_fault,
+    Hint, NameLook, NamedFiles, copy_files, files_of, put_refusal, put_unread, put_words_fault,
+    words_fault,
 };
 use std::alloc::Global;
 
@@ -100,7 +101,13 @@ fn put_read_again<H: Shelf, L: NameLook>(
         return;
     }
     let most = if is_refused { u64::MAX } else { MOST_READ };
-    match copy_files(hint.alloc(), files_of(task), most, shelf, look) {
+    match copy_files(
+        hint.alloc(),
+        read_again(task, is_refused),
+        most,
+        shelf,
+        look,
+    ) {
         Ok(Some(mut copy)) => {
             put_of_files(hint, task, status, &mut copy);
             drop(copy);
@@ -110,6 +117,19 @@ fn put_read_again<H: Shelf, L: NameLook>(
     }
     if is_refused && hint.is_empty() {
         put_plain(hint, REFUSED);
+    }
+}
+
+// The files of a task that are read once more. Measured times are read only to say why they are refused.
+fn read_again<'a>(task: Task<'a>, is_refused: bool) -> NamedFiles<'a> {
+    let files = files_of(task);
+    if is_refused {
+        files
+    } else {
+        NamedFiles {
+            times: None,
+            ..files
+        }
     }
 }
 
@@ -134,8 +154,16 @@ fn put_of_files(hint: &mut Hint, task: Task<'_>, status: u8, files: &mut ShelfMe
     if status == 4 {
         put_why(hint, task, design, files);
     } else {
-        put_answered(hint, design, status, files);
+        put_answered(hint, design, is_broken(task, status), files);
     }
+}
+
+// The status of a run that found a requirement broken.
+const SOME_FAIL: u8 = 1;
+
+// Whether the rules of a design let a requirement be broken. Measured times may break one that the rules keep.
+fn is_broken(task: Task<'_>, status: u8) -> bool {
+    status == SOME_FAIL && !matches!(task, Task::Measure { .. })
 }
 
 // Why a design is refused, or of job margin what the job refuses of it.

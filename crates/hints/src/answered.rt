@@ -8,14 +8,11 @@ use design_reading::{draw_plan, open_plan};
 use itv_base::Shelf;
 use refusal_hints::Hint;
 
-// The status of a run that found a requirement broken.
-const SOME_FAIL: u8 = 1;
-
-/// Puts what is said of a design whose run ended with this status: an event that nothing bounds, if some requirement is broken, sheets without a
+/// Puts what is said of a design that was answered: an event that nothing bounds, if its rules let some requirement be broken, sheets without a
 /// rule, and how many warnings the drawing has. Nothing is searched.
-pub fn put_answered<H: Shelf>(hint: &mut Hint, design: &str, status: u8, shelf: &mut H) {
+pub fn put_answered<H: Shelf>(hint: &mut Hint, design: &str, is_broken: bool, shelf: &mut H) {
     if let Ok(plan) = open_plan(hint.alloc(), design, shelf) {
-        if status == SOME_FAIL {
+        if is_broken {
             put_drawn(hint, &plan, shelf);
         }
         put_unruled(hint, &plan, shelf);

@@ -6,4 +6,5 @@ mod Steps
 mod Working
 mod Statuses
 mod Editing
+mod Timing
 mod Composing

@@ -9,7 +9,7 @@ use Rattle.drawn_networks.specs.Drawn.{Drawn}
 use Rattle.unroll.specs.declared.fault.UnrollFault.TheVariants.{TooMany}
 use Rattle.unroll.specs.declared.limit.Limit.TheVariants.{MatrixEvents, Numbers, SessionRows}
 use Rattle.unroll.specs.declared.limit.TheConstants.{MAX_NUMBERS, MAX_SESSION_ROWS}
-use Rattle.design_reading.specs.declared.refusal_place.RefusalPlace.TheVariants.{Design, Edits, Report}
+use Rattle.design_reading.specs.declared.refusal_place.RefusalPlace.TheVariants.{Design, Edits, Report, Times}
 use Rattle.design_reading.specs.declared.refusal.Refusal.TheVariants as refusals
 use Rattle.design_plan.specs.Notes.{plan_notes}
 use Rattle.design_plan.specs.Plan.{PlanView}
@@ -19,7 +19,7 @@ use Rattle.design_reading.specs.FileReading.{FileReading, gives, refuses, ◌>>=
 use Rattle.command_words.specs.declared.job.SearchJob.TheVariants.{Bounds, Settle, Redraw}
 use Rattle.command_words.specs.declared.job.PlanJob.TheVariants.{Why, Brief, Lint}
 use Rattle.command_words.specs.declared.job.CheckJob.TheVariants.{Check, Confirm}
-use Rattle.command_words.specs.Task.{Task, searched, planned, checked, fall, files, matrix, generated, whatif, margin}
+use Rattle.command_words.specs.Task.{Task, searched, planned, checked, fall, files, matrix, generated, whatif, margin, measure}
 use Rattle.job_bounds.specs.Reports.{MayHaveBegun}
 use Rattle.job_brief.specs.Brief.{AnswersBrief}
 use Rattle.job_fall.specs.Fall.{AnswersFall, BeginsFall}
@@ -31,6 +31,9 @@ use Rattle.job_lint.specs.Lint.{AnswersLint}
 use Rattle.job_margin.specs.Margin.{AnswersMargin}
 use Rattle.job_margin.specs.Named.{numbers_in}
 use Rattle.job_matrix.specs.Matrix.{AnswersMatrix}
+use Rattle.measured_times.specs.Runs.{runs_of}
+use Rattle.measured_times.specs.declared.file.TheConstants.{MAX_TIMES_BYTES}
+use Rattle.job_measure.specs.Measure.{AnswersMeasure}
 use Rattle.moves.specs.Listed.{numbers_of}
 use Rattle.moves.specs.declared.number_seen.NumberSeen.{NumberSeen}
 use Rattle.job_redraw.specs.Redraw.{AnswersRedraw}
@@ -78,6 +81,18 @@ abbrev pub whatif_at : List ℕ → ℕ → Drawn → FileReading Ready
 whatif_at edits budget drawn =
     if nat_lt MAX_SESSION_ROWS (length drawn.rows) then refuses Design (refusals.Limits (TooMany SessionRows (length drawn.rows))) else edits_at edits budget drawn
 
+-- a drawn network with the measured times in the bytes of a file
+abbrev pub times_in : ℕ → Drawn → List ℕ → FileReading Ready
+times_in within drawn bytes = do
+  runs ← at Times refusals.Times (runs_of drawn.net.events bytes)
+  gives (ready.Measure drawn runs within)
+
+-- a drawn network with the measured times of a file, which is fetched
+abbrev pub times_at : List ℕ → ℕ → Drawn → FileReading Ready
+times_at name within drawn = do
+  bytes ← file_at Times name MAX_TIMES_BYTES
+  times_in within drawn bytes
+
 -- the plan of the design of a file, and the network that it draws
 abbrev pub planned_at : List ℕ → FileReading (PlanView × Drawn)
 planned_at name = do
@@ -115,6 +130,9 @@ opening (whatif design edits budget) = do
   drawn ← design_at design
   whatif_at edits budget drawn
 opening (margin design list budget) = planned_at design >>= λ both. list_at both.1 list >>= λ numbers. gives (ready.Margin both.0 both.1 numbers budget)
+opening (measure design times within) = do
+  drawn ← design_at design
+  times_at times within drawn
 
 -- the files that are made for a task, if it reads no files of the shelf
 abbrev pub made_for : Task → Option Files
@@ -142,6 +160,7 @@ Answers (ready.Files names) answer text = AnswersFiles names answer text
 Answers (ready.Generated drawn size budget) answer text = AnswersSummary drawn size budget answer text × DecidesWithin drawn budget answer
 Answers (ready.Whatif drawn edits budget) answer text = AnswersWhatif drawn budget edits answer text
 Answers (ready.Margin plan drawn numbers budget) answer text = AnswersMargin (plan_notes plan) drawn numbers budget answer text
+Answers (ready.Measure drawn runs within) answer text = AnswersMeasure drawn within runs answer text
 
 -- what a job may have begun to write: for jobs bounds and fall a text that begins so, and for the others a whole text
 abbrev pub MayHaveWritten : Ready → List ℕ → Type 0

@@ -10,6 +10,7 @@ use Rattle.slack_report.specs.Entry.{IsName}
 use Rattle.job_bounds.specs.Reports.{HasRowRanges}
 use Rattle.unroll.specs.declared.limit.TheConstants.{MAX_SESSION_ROWS}
 use Rattle.range_edits.specs.Subject.{IsThere}
+use Rattle.measured_times.specs.Runs.{IsRunFor}
 use Rattle.job_base.specs.declared.answer.Answer.{Answer}
 use Rattle.job_base.specs.declared.unanswered.Unanswered.{Unanswered}
 use Rattle.job_base.specs.declared.unanswered.Unanswered.TheVariants as unanswered
@@ -23,6 +24,7 @@ use Rattle.job_margin.specs.Named.{numbers_in}
 use Rattle.design_reading.specs.declared.refusal.Refusal.TheVariants as refusals
 use Rattle.design_reading.specs.declared.refusal_place.RefusalPlace.TheVariants.{Design}
 use Rattle.command_words.specs.Task.{IsBudget, Task}
+use Rattle.command_words.specs.declared.task.TheConstants.{MAX_TOLERANCE}
 use Rattle.itv_cli.specs.declared.outcome.Outcome.{Outcome}
 use Rattle.itv_cli.specs.declared.outcome.Outcome.TheVariants as ends
 use Rattle.itv_cli.specs.declared.ready.Ready.{Ready}
@@ -53,6 +55,7 @@ IsAllowed (given.Matrix drawn) = drawn.net.events ≤ MAX_MATRIX_EVENTS
 IsAllowed (given.Files names) = Unit {0}
 IsAllowed (given.Generated drawn size budget) = IsBudget budget
 IsAllowed (given.Margin plan drawn numbers budget) = IsBudget budget
+IsAllowed (given.Measure drawn runs within) = (within ≤ MAX_TOLERANCE) × All (IsRunFor drawn.net.events) runs
 IsAllowed (given.Whatif drawn edits budget) = (length drawn.rows ≤ MAX_SESSION_ROWS) × IsBudget budget × All (IsThere drawn) edits
 
 -- what the reading for a task answers over files that are made for it; nothing is said if memory ran out

@@ -24,6 +24,7 @@ use job_files::write_files;
 use job_lint::write_lint;
 use job_margin::write_margin;
 use job_matrix::write_matrix;
+use job_measure::write_measure;
 use job_redraw::write_redraw;
 use job_self::write_summary;
 use job_settle::write_settle;
@@ -73,6 +74,11 @@ pub fn answer<K: Sink>(alloc: Global, given: &Ready, sink: &mut K) -> Result<Ans
             numbers,
             budget,
         } => write_margin(alloc, plan, drawn, numbers, *budget, sink),
+        Ready::Measure {
+            drawn,
+            runs,
+            within,
+        } => write_measure(alloc, drawn, *within, runs, sink),
     }
 }
 

@@ -6,8 +6,9 @@ ghost use Rattle.design_reading.specs.Step.{Opens, ReadsAs};
 ghost use Rattle.command_words.specs.Task.{IsBudget, IsWithinLimits};
 ghost use Rattle.command_words.specs.Task as said;
 ghost use Rattle.command_words.specs.View.{task_view};
+ghost use Rattle.command_words.specs.declared.task.TheConstants.{MAX_TOLERANCE};
 ghost use Rattle.unroll.specs.declared.limit.TheConstants.{MAX_SESSION_ROWS};
-ghost use Rattle.itv_cli.specs.Job.{edits_at, edits_in, fall_at, list_at, matrix_at, opening, whatif_at};
+ghost use Rattle.itv_cli.specs.Job.{edits_at, edits_in, fall_at, list_at, matrix_at, opening, times_at, times_in, whatif_at};
 ghost use Rattle.itv_cli.specs.Step.{IsAllowed, OpensFor, OpensMade, list_in, margin_at};
 ghost use Rattle.moves.specs.Listed.{numbers_of};
 
@@ -17,12 +18,13 @@ use command_words::{CheckJob, PlanJob, SearchJob, Task};
 use design_gen::{GenFault, make};
 use design_plan::Plan;
 use design_reading::{
-    Refusal, RefusalPlace, Stop, edits_stop, fetch_file, open_design, open_files,
+    Refusal, RefusalPlace, Stop, edits_stop, fetch_file, open_design, open_files, times_stop,
 };
 use drawn_networks::DrawnNetwork;
 use falling::{Mixed, View};
 use itv_base::{Listing, MAX_MATRIX_EVENTS, NoMemory, REPORT_LIMIT, Shelf};
 use job_margin::{ListFault, read_numbers};
+use measured_times::{MAX_TIMES_BYTES, read_times};
 use moves::{NumberSeen, numbers_of};
 use range_edits::{MAX_EDITS_BYTES, read_edits};
 use std::alloc::Global;
@@ -68,6 +70,11 @@ pub fn open<H: Shelf>(alloc: Global, task: Task<'_>, shelf: &mut H) -> Result<Re
             list,
             budget,
         } => open_margin(alloc, design, list, budget, shelf),
+        Task::Measure {
+            design,
+            times,
+            within,
+        } => open_measure(alloc, design, times, within, shelf),
     }
 }
 
@@ -280,6 +287,62 @@ fn for_edits(alloc: Global, drawn: DrawnNetwork, budget: u64, bytes: &[u8]) -> R
             budget,
         }),
         Err(fault) => Err(edits_stop(RefusalPlace::Edits, fault)),
+    }
+}
+
+// What job measure reads: the measured times after the design.
+fn open_measure<H: Shelf>(
+    alloc: Global,
+    design: &str,
+    times: &str,
+    within: u64,
+    shelf: &mut H,
+) -> Result<Ready, Stop>
+    requires within { within ≤ MAX_TOLERANCE }
+    ensures opens { Opens (λ given. given) (H.state shelf.old) (H.state shelf.new)
+        (opening (said.measure design.now times.now within)) result }
+    ensures allowed { IfOk result IsAllowed }
+{
+    let drawn = open_design(alloc, design, shelf)?;
+    with_times(alloc, drawn, times, within, shelf)
+}
+
+// A drawn network with the measured times of a file, which is fetched.
+fn with_times<H: Shelf>(
+    alloc: Global,
+    drawn: DrawnNetwork,
+    times: &str,
+    within: u64,
+    shelf: &mut H,
+) -> Result<Ready, Stop>
+    requires within { within ≤ MAX_TOLERANCE }
+    ensures opens { Opens (λ given. given) (H.state shelf.old) (H.state shelf.new)
+        (times_at times.now within drawn) result }
+    ensures allowed { IfOk result IsAllowed }
+{
+    let bytes = fetch_file(
+        alloc,
+        RefusalPlace::Times,
+        times,
+        MAX_TIMES_BYTES as u32,
+        shelf,
+    )?;
+    for_times(alloc, drawn, within, bytes.as_slice())
+}
+
+// The same for the measured times in the bytes of a file.
+fn for_times(alloc: Global, drawn: DrawnNetwork, within: u64, bytes: &[u8]) -> Result<Ready, Stop>
+    requires within { within ≤ MAX_TOLERANCE }
+    ensures reads { ReadsAs (λ given. given) (times_in within drawn bytes.now) result }
+    ensures allowed { IfOk result IsAllowed }
+{
+    match read_times(alloc, drawn.network().events(), bytes) {
+        Ok(runs) => Ok(Ready::Measure {
+            drawn,
+            runs,
+            within,
+        }),
+        Err(fault) => Err(times_stop(RefusalPlace::Times, fault)),
     }
 }
 

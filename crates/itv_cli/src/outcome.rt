@@ -6,15 +6,16 @@ ghost use Rattle.std.specs.Prelude.{◌≡◌};
 #[derive(Clone, Copy)]
 pub enum Outcome {
     /// What the job wrote has no bad news: every requirement passes and every bound is settled, or there is a matrix, or the report
-    /// is accepted, or job lint has no line to print.
+    /// is accepted, or measured times keep every rule and requirement, or job lint has no line to print.
     AllPass,
     /// The words ask for help, and the text of help was written.
     Help,
-    /// Some requirement is broken, or job lint has a line to print.
+    /// Some requirement is broken, or measured times break a rule, or job lint has a line to print.
     SomeFail,
     /// No times satisfy the network, or for a matrix its always-edges.
     Inconsistent,
-    /// The budget ended a search, and no requirement is known to be broken.
+    /// The budget ended a search, and no requirement is known to be broken; or measured times break no rule, but don't keep each of them with the
+    /// tolerance to spare, or don't show it.
     Undecided,
     /// The files are refused, and the line of the first refusal was written; or the job refuses the design for what its search found, and
     /// the line of that refusal was written.

@@ -5,6 +5,7 @@ use design_plan::Plan;
 use drawn_networks::DrawnNetwork;
 use falling::View;
 use itv_base::{Listing, Texts};
+use measured_times::MeasuredRuns;
 use moves::NumberSeen;
 use range_edits::Edits;
 
@@ -66,5 +67,11 @@ pub enum Ready {
         drawn: DrawnNetwork,
         numbers: Option<Listing<NumberSeen>>,
         budget: u64,
+    },
+    /// To say what measured times show of the rules and rows of a drawn network: the runs, and the tolerance in picoseconds.
+    Measure {
+        drawn: DrawnNetwork,
+        runs: MeasuredRuns,
+        within: u64,
     },
 }

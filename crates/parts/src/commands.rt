@@ -100,7 +100,7 @@ fn put_task(task: Task<'_>, out: &mut Out) {
         Task::Generated { size, budget } => {
             out.put("self ");
             out.put_count(u64::from(size));
-            put_budget(budget, out);
+            put_number(budget, out);
         }
         Task::Whatif {
             design,
@@ -109,7 +109,16 @@ fn put_task(task: Task<'_>, out: &mut Out) {
         } => {
             put_named("whatif", design, out);
             put_more(edits, out);
-            put_budget(budget, out);
+            put_number(budget, out);
+        }
+        Task::Measure {
+            design,
+            times,
+            within,
+        } => {
+            put_named("measure", design, out);
+            put_more(times, out);
+            put_number(within, out);
         }
         Task::Margin {
             design,
@@ -117,7 +126,7 @@ fn put_task(task: Task<'_>, out: &mut Out) {
             budget,
         } => {
             put_named("margin", design, out);
-            put_budget(budget, out);
+            put_number(budget, out);
             if let Some(list) = list {
                 put_more(list, out);
             }
@@ -136,9 +145,9 @@ fn put_more(text: &str, out: &mut Out) {
     out.put(text);
 }
 
-fn put_budget(budget: u64, out: &mut Out) {
+fn put_number(number: u64, out: &mut Out) {
     out.put(" ");
-    out.put_count(budget);
+    out.put_count(number);
 }
 
 // Whether a job writes proofs, if it has this choice.
@@ -160,7 +169,7 @@ fn table_of(job: PlanJob) -> Option<bool> {
 // The name of a job, its design and its budget, and whether it writes proofs or a table.
 fn put_search(name: &str, design: &str, budget: u64, flag: Option<bool>, out: &mut Out) {
     put_named(name, design, out);
-    put_budget(budget, out);
+    put_number(budget, out);
     out.put(match flag {
         Some(true) => " true",
         Some(false) => " false",

@@ -1,7 +1,7 @@
 //! The first word of a command line that is not understood.
 
 use crate::hint::Hint;
-use command_words::{JOBS, JobNeeds, JobWord, job_named};
+use command_words::{JOBS, JobNeeds, JobWord, MAX_TOLERANCE, job_named};
 use itv_base::{MAX_BUDGET, MAX_SELF_SIZE, Texts};
 
 /// What is wrong with words.
@@ -34,6 +34,8 @@ pub enum WordsOption {
     Edits,
     Size,
     Together,
+    Times,
+    Within,
     Cert,
     Csv,
 }
@@ -48,6 +50,8 @@ impl WordsOption {
             "--edits" => Some(WordsOption::Edits),
             "--size" => Some(WordsOption::Size),
             "--together" => Some(WordsOption::Together),
+            "--times" => Some(WordsOption::Times),
+            "--within" => Some(WordsOption::Within),
             "--cert" => Some(WordsOption::Cert),
             "--csv" => Some(WordsOption::Csv),
             _ => None,
@@ -62,8 +66,18 @@ impl WordsOption {
             WordsOption::Edits => "--edits",
             WordsOption::Size => "--size",
             WordsOption::Together => "--together",
+            WordsOption::Times => "--times",
+            WordsOption::Within => "--within",
             WordsOption::Cert => "--cert",
             WordsOption::Csv => "--csv",
+        }
+    }
+
+    // The least number that the option takes.
+    fn least(self) -> u64 {
+        match self {
+            WordsOption::Within => 0,
+            _ => 1,
         }
     }
 
@@ -71,6 +85,7 @@ impl WordsOption {
     fn most(self) -> u64 {
         match self {
             WordsOption::Size => u64::from(MAX_SELF_SIZE),
+            WordsOption::Within => MAX_TOLERANCE,
             _ => MAX_BUDGET,
         }
     }
@@ -119,7 +134,9 @@ fn put_jobs(hint: &mut Hint) {
 
 fn put_no_number(hint: &mut Hint, word: &str, option: WordsOption) {
     hint.put_quoted(word);
-    hint.put(" is not a whole number from 1 to ");
+    hint.put(" is not a whole number from ");
+    hint.put_number(option.least());
+    hint.put(" to ");
     hint.put_number(option.most());
     hint.put(" for ");
     hint.put(option.word());
@@ -184,6 +201,8 @@ struct Given<'a> {
     has_edits: bool,
     has_size: bool,
     has_together: bool,
+    has_times: bool,
+    has_within: bool,
     has_cert: bool,
     has_csv: bool,
     // The option whose value is the next word.
@@ -202,6 +221,8 @@ impl<'a> Given<'a> {
             has_edits: false,
             has_size: false,
             has_together: false,
+            has_times: false,
+            has_within: false,
             has_cert: false,
             has_csv: false,
             wanting: None,
@@ -279,10 +300,9 @@ impl<'a> Given<'a> {
                 self.job = Some(value);
                 Ok(())
             }
-            WordsOption::Budget | WordsOption::Size => match value.parse::<u64>() {
-                Ok(number) if 1 <= number && number <= option.most() => Ok(()),
-                _ => Err(WordsFault::NoNumber(value, option)),
-            },
+            WordsOption::Budget | WordsOption::Size | WordsOption::Within => {
+                judge_number(value, option)
+            }
             _ => Ok(()),
         }
     }
@@ -296,6 +316,8 @@ impl<'a> Given<'a> {
             WordsOption::Edits => replace(&mut self.has_edits),
             WordsOption::Size => replace(&mut self.has_size),
             WordsOption::Together => replace(&mut self.has_together),
+            WordsOption::Times => replace(&mut self.has_times),
+            WordsOption::Within => replace(&mut self.has_within),
             WordsOption::Cert => replace(&mut self.has_cert),
             WordsOption::Csv => replace(&mut self.has_csv),
         };
@@ -333,6 +355,7 @@ impl<'a> Given<'a> {
             JobNeeds::Design => true,
             JobNeeds::Report => self.has_report,
             JobNeeds::Edits => self.has_edits,
+            JobNeeds::Times => self.has_times,
             JobNeeds::Size => self.has_size,
         };
         if !has_option {
@@ -342,6 +365,14 @@ impl<'a> Given<'a> {
         } else {
             Ok(())
         }
+    }
+}
+
+// Judges the value of an option that takes a number.
+fn judge_number(value: &str, option: WordsOption) -> Result<(), WordsFault<'_>> {
+    match value.parse::<u64>() {
+        Ok(number) if option.least() <= number && number <= option.most() => Ok(()),
+        _ => Err(WordsFault::NoNumber(value, option)),
     }
 }
 

@@ -5,11 +5,12 @@ use crate::named::NamedFiles;
 use crate::part::tree_of;
 use itv_base::{FILE_LIMIT, FetchFault, MAX_PARTS, NoMemory, Shelf, ShelfMem};
 use json_tree::{list_at, text_at};
+use measured_times::MAX_TIMES_BYTES;
 use range_edits::MAX_EDITS_BYTES;
 use serde_json::Value;
 use std::alloc::Global;
 
-/// Copies of the files of a task: its design, the sheets that the design names, and its edits. There are none if one of the files, or a report, is a
+/// Copies of the files of a task: its design, the sheets that the design names, and its edits or measured times. There are none if one of the files, or a report, is a
 /// pipe, which can't be read once more, or if they have more bytes than `most` together. A file that can't be read has no copy.
 pub fn copy_files<H: Shelf, L: NameLook>(
     alloc: Global,
@@ -24,6 +25,7 @@ pub fn copy_files<H: Shelf, L: NameLook>(
     if look.look(design) != Looked::File
         || !is_plain(files.report, look)
         || !is_plain(files.edits, look)
+        || !is_plain(files.times, look)
     {
         return Ok(None);
     }
@@ -33,7 +35,7 @@ pub fn copy_files<H: Shelf, L: NameLook>(
         copy: &mut copy,
         left: most,
     };
-    let has_all = copying.copy_all(design, files.edits, shelf, look);
+    let has_all = copying.copy_all(design, files, shelf, look);
     match has_all {
         Ok(true) => Ok(Some(copy)),
         Ok(false) => {
@@ -56,21 +58,19 @@ struct Copying<'c> {
 }
 
 impl Copying<'_> {
-    // Copies a design, a file of edits, and the sheets of the design. Whether all of them can be copied.
+    // Copies a design, a file of edits or measured times, and the sheets of the design. Whether all of them can be copied.
     fn copy_all<H: Shelf, L: NameLook>(
         &mut self,
         design: &str,
-        edits: Option<&str>,
+        files: NamedFiles<'_>,
         shelf: &mut H,
         look: &L,
     ) -> Result<bool, NoMemory> {
-        if !self.copy_file(design, FILE_LIMIT, shelf)? {
+        let has_named = self.copy_file(design, FILE_LIMIT, shelf)?
+            && self.copy_named(files.edits, MAX_EDITS_BYTES as u32, shelf)?
+            && self.copy_named(files.times, MAX_TIMES_BYTES as u32, shelf)?;
+        if !has_named {
             return Ok(false);
-        }
-        if let Some(edits) = edits {
-            if !self.copy_file(edits, MAX_EDITS_BYTES as u32, shelf)? {
-                return Ok(false);
-            }
         }
         match tree_of(self.alloc, design, self.copy) {
             Some(tree) => {
@@ -98,6 +98,19 @@ impl Copying<'_> {
             }
         }
         Ok(true)
+    }
+
+    // Copies a file, if there is a name. Whether there was room.
+    fn copy_named<H: Shelf>(
+        &mut self,
+        name: Option<&str>,
+        limit: u32,
+        shelf: &mut H,
+    ) -> Result<bool, NoMemory> {
+        match name {
+            Some(name) => self.copy_file(name, limit, shelf),
+            None => Ok(true),
+        }
     }
 
     // Copies a file, if it can be read, and of a file above a limit of bytes one byte more than the limit. Whether there was room.

@@ -4,9 +4,11 @@ use crate::edits_fault::put_edits_fault;
 use crate::hint::Hint;
 use crate::limit::put_too_many;
 use crate::source::Source;
+use crate::times_fault::put_times_fault;
 use command_words::{SearchJob, Task};
 use drawn_networks::DrawnNetwork;
 use itv_base::Shelf;
+use measured_times::{MAX_TIMES_BYTES, TimesFault, read_times};
 use range_edits::{EditsFault, MAX_EDITS_BYTES, read_edits};
 use unroll::{Limit, MAX_SESSION_ROWS};
 
@@ -37,6 +39,7 @@ pub fn put_job_fault<H: Shelf>(
             hint.put(": the report has more than 67,108,864 bytes");
         }
         Task::Whatif { edits, .. } => put_whatif_fault(hint, edits, drawn, shelf),
+        Task::Measure { times, .. } => put_measure_fault(hint, times, drawn, shelf),
         _ => {}
     }
 }
@@ -74,6 +77,31 @@ fn fault_of(hint: &Hint, drawn: &DrawnNetwork, bytes: &[u8]) -> Option<EditsFaul
     match read_edits(hint.alloc(), drawn, bytes) {
         Ok(edits) => {
             drop(edits);
+            None
+        }
+        Err(fault) => Some(fault),
+    }
+}
+
+// Why job measure refuses a file of measured times.
+fn put_measure_fault<H: Shelf>(hint: &mut Hint, times: &str, drawn: &DrawnNetwork, shelf: &mut H) {
+    if let Ok(bytes) = shelf.fetch(hint.alloc(), times, MAX_TIMES_BYTES as u32 + 1) {
+        let source = Source {
+            name: times,
+            bytes: &bytes,
+        };
+        let events = drawn.network().events();
+        if let Some(fault) = times_fault_of(hint, events, source.bytes) {
+            put_times_fault(hint, source, events, fault);
+        }
+        drop(bytes);
+    }
+}
+
+fn times_fault_of(hint: &Hint, events: u32, bytes: &[u8]) -> Option<TimesFault> {
+    match read_times(hint.alloc(), events, bytes) {
+        Ok(runs) => {
+            drop(runs);
             None
         }
         Err(fault) => Some(fault),

@@ -8,6 +8,7 @@ mod copied;
 mod edge;
 mod edits_fault;
 mod file_fault;
+mod file_line;
 mod grades_fault;
 mod hint;
 mod job_fault;
@@ -23,6 +24,7 @@ mod part;
 mod refused;
 mod sheet_fault;
 mod source;
+mod times_fault;
 mod tree;
 mod unread;
 

@@ -8,6 +8,7 @@ pub struct NamedFiles<'a> {
     pub design: Option<&'a str>,
     pub report: Option<&'a str>,
     pub edits: Option<&'a str>,
+    pub times: Option<&'a str>,
 }
 
 /// The names of the files of a task.
@@ -27,6 +28,10 @@ pub fn files_of<'a>(task: Task<'a>) -> NamedFiles<'a> {
             edits: Some(edits),
             ..only(Some(design))
         },
+        Task::Measure { design, times, .. } => NamedFiles {
+            times: Some(times),
+            ..only(Some(design))
+        },
         Task::Generated { .. } => only(None),
     }
 }
@@ -37,5 +42,6 @@ fn only<'a>(design: Option<&'a str>) -> NamedFiles<'a> {
         design,
         report: None,
         edits: None,
+        times: None,
     }
 }

@@ -45,23 +45,27 @@ fn is_unread<L: NameLook>(name: &str, look: &L) -> bool {
     look.look(name) != Looked::File || look.is_denied(name)
 }
 
-// Puts what is said of the report or the edits of a task, or else of its design.
+// Puts what is said of the report, the edits or the measured times of a task, or else of its design.
 fn put_other<L: NameLook>(hint: &mut Hint, design: &str, files: NamedFiles<'_>, look: &L) {
-    match (files.report, files.edits) {
-        (Some(report), _) => put_named(
+    match (files.report, files.edits, files.times) {
+        (Some(report), _, _) => put_named(
             hint,
             report,
             look,
             "; it is the report that --report names",
         ),
-        (_, Some(edits)) => {
-            put_named(
-                hint,
-                edits,
-                look,
-                "; it is the file of edits that --edits names",
-            )
-        }
+        (_, Some(edits), _) => put_named(
+            hint,
+            edits,
+            look,
+            "; it is the file of edits that --edits names",
+        ),
+        (_, _, Some(times)) => put_named(
+            hint,
+            times,
+            look,
+            "; it is the file of measured times that --times names",
+        ),
         _ => put_named(hint, design, look, ""),
     }
 }

@@ -1,6 +1,6 @@
 use Rattle.std.proofs.Common.{option_map, refl}
 use Rattle.design_gen.specs.Files.{design_files}
-use Rattle.command_words.specs.Task.{searched, planned, checked, fall, files, matrix, generated, whatif, margin}
+use Rattle.command_words.specs.Task.{searched, planned, checked, fall, files, matrix, generated, whatif, margin, measure}
 use Rattle.itv_cli.proofs.Fetching.{opens_made, opens_shelf}
 use Rattle.itv_cli.proofs.opening.open.Goals as goal
 
@@ -45,3 +45,8 @@ pub returns-in-Margin-clause-opens : goal.returns-in-Margin-clause-opens
 returns-in-Margin-clause-opens g c =
     rw c.in-Margin.is
     (opens_shelf (g.H.Shelf.state c.args.shelf.now) (g.H.Shelf.state c.open_margin.new.shelf) (margin c.in-Margin.design.now (option_map (λ text. text.now) c.in-Margin.list) c.in-Margin.budget) c.open_margin.result refl c.open_margin.ensures.opens)
+
+pub returns-in-Measure-clause-opens : goal.returns-in-Measure-clause-opens
+returns-in-Measure-clause-opens g c =
+    rw c.in-Measure.is
+    (opens_shelf (g.H.Shelf.state c.args.shelf.now) (g.H.Shelf.state c.open_measure.new.shelf) (measure c.in-Measure.design.now c.in-Measure.times.now c.in-Measure.within) c.open_measure.result refl c.open_measure.ensures.opens)
