@@ -1,7 +1,8 @@
 -- From what is found in the network of a run to all runs of its design.
-use Rattle.std.proofs.Common.{◌≡◌, ℕ, ℤ, ◌+◌, ◌≤◌, List, [], ◌∷◌, All, Option, Some, None, IfSome, ap, subst, arith}
+use Rattle.std.proofs.Common.{◌≡◌, ℕ, ℤ, ◌+◌, ◌-◌, ◌<◌, ◌≤◌, List, [], ◌∷◌, All, Option, Some, None, IfSome, ap, subst, arith}
 use Rattle.std.specs.List.{AllZip}
 use Rattle.std.proofs.lemmas.List.Elements.{All-head, All-tail}
+use Rattle.itv_base.specs.Range.{Allows, Ends}
 use Rattle.itv_base.specs.declared.names.Side.{Side}
 use Rattle.itv_base.specs.declared.names.Side.TheVariants.{Lower, Upper}
 use Rattle.event_graph.specs.Bounds.{IsInconsistent}
@@ -19,13 +20,17 @@ use Rattle.longer_runs.specs.Periods.{IsPeriod, steady}
 use Rattle.longer_runs.specs.Windows.{net_over}
 use Rattle.longer_runs.proofs.Always.{extreme_stays, steady_is_always}
 use Rattle.longer_runs.proofs.Periods.{steady_satisfies}
+use Rattle.longer_runs.proofs.Rows.{from_stays}
 use Rattle.longer_runs.proofs.Windows.{inconsistent_stays}
 use Rattle.steady.specs.Extremes.{IsFurthestIn, IsUnboundedIn}
 use Rattle.steady.specs.Found.{IsRowFound, IsRunBound, IsRunFound, IsRunOf, IsSteadyFound, IsSteadySeparation}
+use Rattle.steady.specs.Later.{IsLater}
 use Rattle.steady.specs.Laws.{SteadyBoundIsAlways, SteadyRuns}
 use Rattle.steady.specs.Steady.{AttainSteadily, IsPeriodOf}
-use Rattle.steady.specs.Step.{IsBoundIn, IsFoundIn, IsRowIn, IsSteadyIn, IsWholeRun}
+use Rattle.steady.specs.Step.{HoldsIn, IsBoundIn, IsFoundIn, IsLaterIn, IsRowIn, IsSinceIn, IsSteadyIn, IsWholeRun}
 use Rattle.steady.specs.declared.design_run.DesignRun.{DesignRun}
+use Rattle.steady.specs.declared.found.Later.{Later}
+use Rattle.steady.specs.declared.found.Later.TheVariants as laters
 use Rattle.steady.specs.declared.found.RunBound.{RunBound}
 use Rattle.steady.specs.declared.found.RunBound.TheVariants.{Closed, Unbounded, Open}
 use Rattle.steady.specs.declared.found.RowFound.{RowFound}
@@ -78,10 +83,34 @@ bound_over side run d row Unbounded is between h =
     subst (λ (m : ℕ). IsUnboundedIn side (net_over run.cycles d) m row start run.cycles) is.marks (subst (λ (n : Net). IsUnboundedIn side n run.marks row start run.cycles) (the_net run d is) h)
 bound_over side run d row Open is between h = tt
 
+later_over : (run : DesignRun) (d : DesignView) (row : SheetRow) (range : Ends) (later : Later) → IsRunOf d run.from run → IsRowBetween (mark_count d.sheets) row → IsLaterIn run row range later
+    → IsLater d row range run.from run.cycles later
+later_over run d row range (laters.Since cycle) is between (h, within) =
+    let here : IsSinceIn range (net_over run.cycles d) (mark_count d.sheets) row (run.from + row.shift) run.cycles (cycle + row.shift) =
+    subst (λ (m : ℕ). IsSinceIn range (net_over run.cycles d) m row (run.from + row.shift) run.cycles (cycle + row.shift)) is.marks
+    (subst (λ (n : Net). IsSinceIn range n run.marks row (run.from + row.shift) run.cycles (cycle + row.shift)) (the_net run d is) h) in
+    let after : run.from + row.shift < cycle + row.shift = h.after in
+    record {
+      after = omega (arith, after);
+      within = within;
+      met = λ more. from_stays (Allows range) d row (cycle + row.shift) run.cycles more is.design between (omega (arith, within)) within (λ other from back less. here.met other from less);
+      broken = here.broken;
+    }
+later_over run d row range laters.Never is between h =
+    subst (λ (m : ℕ). HoldsIn range (net_over run.cycles d) m row (run.cycles - 1) → ⊥) is.marks (subst (λ (n : Net). HoldsIn range n run.marks row (run.cycles - 1) → ⊥) (the_net run d is) h)
+later_over run d row range laters.Open is between h = tt
+
+some_later : (run : DesignRun) (d : DesignView) (row : SheetRow) (range : Ends) (later : Option Later) → IsRunOf d run.from run → IsRowBetween (mark_count d.sheets) row
+    → IfSome later (IsLaterIn run row range) → IfSome later (IsLater d row range run.from run.cycles)
+some_later run d row range None is between h = tt
+some_later run d row range (Some later) is between h = later_over run d row range later is between h
+
 row_over : (run : DesignRun) (d : DesignView) (row : SheetRow) (found : RowFound) → IsRunOf d run.from run → IsRowBetween (mark_count d.sheets) row → IsRowIn run row found → IsRowFound d run.from run.cycles row found
 row_over run d row found is between h = record {
   greatest = bound_over Upper run d row found.greatest is between h.greatest;
   least = bound_over Lower run d row found.least is between h.least;
+  asked = h.asked;
+  later = λ range kind. some_later run d row range found.later is between (h.later range kind);
 }
 
 rows_over : (run : DesignRun) (d : DesignView) (rows : List SheetRow) (found : List RowFound) → IsRunOf d run.from run → All (IsRowBetween (mark_count d.sheets)) rows → AllZip (IsRowIn run) rows found

@@ -21,6 +21,8 @@ use Rattle.longer_runs.proofs.Periods.{steady_breaks}
 use Rattle.steady.specs.Extremes.{IsUnboundedOn}
 use Rattle.steady.specs.Found.{IsRunBound, IsSteadySeparation}
 use Rattle.steady.specs.Laws.{VerdictIsRight}
+use Rattle.steady.specs.Step.{IsAllowedBy}
+use Rattle.steady.proofs.Ends.{kept_further, past_any, past_end}
 use Rattle.steady.specs.Verdicts.{IsBrokenAlways, IsBrokenOnce, IsRunVerdict, end_verdict, is_kept, is_steadily_past, worst_of}
 use Rattle.steady.specs.declared.found.RunBound.{RunBound}
 use Rattle.steady.specs.declared.found.RunBound.TheVariants.{Closed, Unbounded, Open}
@@ -29,32 +31,12 @@ use Rattle.steady.specs.declared.verdict.RunVerdict.TheVariants.{Fail, Pass, Und
 
 -- ---- one end
 
--- an end that is not open allows a separation
-abbrev IsAllowedBy : Side → Option ℤ → ℤ → Type 0
-IsAllowedBy side end apart = IfSome end (λ e. IsNotPast side e apart)
-
 -- what a verdict says of an end on its side
 abbrev IsEndSaid : Side → Option ℤ → DesignView → SheetRow → Ends → ℕ → ℕ → RunVerdict → Type 0
 IsEndSaid side end d row range start cycles Pass = (more : ℕ) → HoldsFrom (IsAllowedBy side end) d row start (cycles + more)
 IsEndSaid side end d row range start cycles (Fail at) = IsBrokenAlways d row range
 IsEndSaid side end d row range start cycles (Vary at) = IsBrokenOnce d row range start cycles
 IsEndSaid side end d row range start cycles Undecided = Unit {0}
-
-kept_further : (side : Side) (end value apart : ℤ) → is_kept side (Some end) value ≡ true → IsNotPast side value apart → IsNotPast side end apart
-kept_further Upper end value apart kept h = let most : value ≤ℤ end = le_from_test value end kept in omega (arith, ints, most, h)
-kept_further Lower end value apart kept h = let least : end ≤ℤ value = le_from_test end value kept in omega (arith, ints, least, h)
-
-past_end : (side : Side) (end value : ℤ) → is_kept side (Some end) value ≡ false → IsNotPast side end value → ⊥
-past_end Upper end value past h = let kept : int_le value end ≡ true = test_from_le value end h in absurd (cc (kept, past))
-past_end Lower end value past h = let kept : int_le end value ≡ true = test_from_le end value h in absurd (cc (kept, past))
-
-not_below : (a b e : ℤ) → neg_ℤ e <ℤ (a -ℤ b) → e ≤ℤ (b -ℤ a) → ⊥
-not_below a b e past h = omega (arith, ints, past, h)
-
--- satisfying times are past any number on a side on which a pair is unbounded
-past_any : (side : Side) (net : Net) (from to : EventId) (end : ℤ) → IsUnboundedOn side net from to → (times : List ℤ) × Satisfies times net × (IsNotPast side end (separation times from to) → ⊥)
-past_any Upper net from to end h = let (times, sat, past) = h end in (times, sat, λ most. absurd (omega (arith, ints, past, most)))
-past_any Lower net from to end h = let (times, sat, past) = h (neg_ℤ end) in (times, sat, λ least. not_below (time_of times from) (time_of times to) end past least)
 
 -- ---- the verdict of an end
 

@@ -2,6 +2,8 @@ pub mod Pairs
 pub mod CourseSteps
 pub mod FoldedSteps
 pub mod RowSteps
+pub mod Ends
+pub mod Streaks
 pub mod Bridges
 pub mod Judging
 pub mod Reaching

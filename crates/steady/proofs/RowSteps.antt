@@ -12,6 +12,7 @@ use Rattle.extremes.specs.Ready.{IsReady}
 use Rattle.extremes.specs.declared.extremes.Extremes.{Extremes}
 use Rattle.sheet.specs.declared.row.SheetRow.{SheetRow}
 use Rattle.steady.specs.Found.{is_bound_open, is_row_open}
+use Rattle.steady.specs.Later.{is_later_open}
 use Rattle.steady.specs.Extremes.{IsFurthest, IsFurthestIn}
 use Rattle.steady.specs.Steady.{AttainSteadily}
 use Rattle.steady.specs.Step.{IsBoundIn, IsRowIn, IsSteadying}
@@ -28,8 +29,8 @@ zip_push R [] (b ∷ ys) x y before is = absurd before
 zip_push R (a ∷ xs) [] x y before is = absurd before
 zip_push R (a ∷ xs) (b ∷ ys) x y before is = (before.0, zip_push R xs ys x y before.1 is)
 
-pub row_closed : (found : RowFound) → is_bound_open found.greatest ≡ false → is_bound_open found.least ≡ false → is_row_open found ≡ false
-row_closed found greatest least = rw (greatest, least) refl
+pub row_closed : (found : RowFound) → is_bound_open found.greatest ≡ false → is_bound_open found.least ≡ false → is_later_open found.later ≡ false → is_row_open found ≡ false
+row_closed found greatest least later = rw (greatest, least, later) refl
 
 -- the first rows are found, and the searches go on; if the budget was enough at first, nothing of them is open
 pub record AreRowsSoFar (run : DesignRun) (first extremes : Extremes) (steadying : Steadying) (count : ℕ) (rows : List SheetRow) (found : List RowFound) : Type 0 where

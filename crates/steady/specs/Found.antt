@@ -1,8 +1,10 @@
 -- What is found of a run of a design, and of every longer run.
-use Rattle.std.specs.Prelude.{◌≡◌, ◌<◌, ◌≤◌, ◌+◌, ℕ, ℤ, Bool, true, false, ◌||◌, List, All, Option, None, Some, IfSome}
+use Rattle.std.specs.Prelude.{◌≡◌, ◌<◌, ◌≤◌, ◌+◌, ℕ, ℤ, Bool, true, false, ◌||◌, List, All, Option, None, Some, IfSome, is_some}
 use Rattle.std.specs.List.{AllZip}
+use Rattle.itv_base.specs.Range.{Ends}
 use Rattle.itv_base.specs.declared.names.Side.{Side}
 use Rattle.itv_base.specs.declared.names.Side.TheVariants.{Lower, Upper}
+use Rattle.itv_base.specs.declared.row_kind.RowKind.TheVariants.{Req}
 use Rattle.event_graph.specs.Bounds.{IsInconsistent}
 use Rattle.event_graph.specs.Edges.{cause_choices}
 use Rattle.event_graph.specs.Satisfying.{Satisfies}
@@ -16,6 +18,7 @@ use Rattle.longer_runs.specs.Periods.{IsPeriod}
 use Rattle.longer_runs.specs.PeriodLaws.{IsRowInStep, separation_in}
 use Rattle.longer_runs.specs.Windows.{net_over, over}
 use Rattle.steady.specs.Extremes.{IsUnboundedIn}
+use Rattle.steady.specs.Later.{IsLater, is_later_open, varies}
 use Rattle.steady.specs.declared.design_run.DesignRun.{DesignRun}
 use Rattle.steady.specs.declared.found.RunBound.{RunBound}
 use Rattle.steady.specs.declared.found.RunBound.TheVariants.{Closed, Unbounded, Open}
@@ -54,10 +57,13 @@ IsRunBound side d row start cycles (Closed value steady) = IsExtremeOverRuns sid
 IsRunBound side d row start cycles Unbounded = IsUnboundedIn side (net_over cycles d) (mark_count d.sheets) row start cycles
 IsRunBound side d row start cycles Open = Unit {0}
 
--- both bounds of a row whose from-event is in the first cycle that is asked for or a later one
+-- Both bounds of a row whose from-event is in the first cycle that is asked for or a later one. If it is a requirement that varies, it is also known from which
+-- cycle on it is met.
 pub record IsRowFound (d : DesignView) (from cycles : ℕ) (row : SheetRow) (found : RowFound) : Type 0 where
   pub greatest : IsRunBound Upper d row (from + row.shift) cycles found.greatest
   pub least : IsRunBound Lower d row (from + row.shift) cycles found.least
+  pub asked : is_some found.later ≡ varies row.kind found
+  pub later : (range : Ends) → row.kind ≡ Req range → IfSome found.later (IsLater d row range from cycles)
 
 -- ---- the whole
 
@@ -92,7 +98,7 @@ is_bound_open Unbounded = false
 is_bound_open Open = true
 
 abbrev pub is_row_open : RowFound → Bool
-is_row_open found = is_bound_open found.greatest || is_bound_open found.least
+is_row_open found = is_bound_open found.greatest || (is_bound_open found.least || is_later_open found.later)
 
 -- nothing was left open
 abbrev pub IsFoundOut : RunFound → Type 0

@@ -53,8 +53,8 @@ pub fn furthest(
     Ok(most)
 }
 
-// The greatest or the least separation of a row in a cycle.
-fn in_cycle(
+/// The greatest or the least separation of a row in a cycle.
+pub fn in_cycle(
     alloc: Global,
     net: &Network,
     extremes: &mut Extremes,

@@ -13,11 +13,23 @@ pub enum RunBound {
     Open,
 }
 
-/// Both bounds of a row.
+/// From which cycle on a requirement that varies is met.
+#[derive(Clone, Copy)]
+pub enum Later {
+    /// If its from-event is in this cycle or a later one, it is met in every longer run too. In the cycle before it is broken.
+    Since(u32),
+    /// It is broken in the last cycle of the run too.
+    Never,
+    /// The search ended before it was known.
+    Open,
+}
+
+/// Both bounds of a row, and from which cycle on it is met if it is a requirement that varies.
 #[derive(Clone, Copy)]
 pub struct RowFound {
     pub greatest: RunBound,
     pub least: RunBound,
+    pub later: Option<Later>,
 }
 
 /// What is found of a run of a design.

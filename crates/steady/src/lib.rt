@@ -14,10 +14,11 @@ pub mod laws;
 mod period;
 mod rows;
 mod searching;
+mod streak;
 mod verdict;
 
 pub use design_run::{DesignRun, MAX_FROM};
-pub use found::{RowFound, RunBound, RunFound};
+pub use found::{Later, RowFound, RunBound, RunFound};
 pub use period::Period;
 pub use searching::find;
 pub use verdict::{RunVerdict, verdict_of};

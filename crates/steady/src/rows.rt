@@ -1,24 +1,30 @@
 //! What is found of the rows of a run.
 
-ghost use Rattle.std.specs.Prelude.{◌≡◌, ◌<◌, ◌≤◌, ◌+◌, ◌⊎◌, All, IfOk, IfSome, false};
+ghost use Rattle.std.specs.Prelude.{◌≡◌, ◌<◌, ◌≤◌, ◌+◌, ◌⊎◌, All, IfOk, IfSome, Some, false, is_some};
 ghost use Rattle.std.specs.List.{AllZip};
+ghost use Rattle.itv_base.specs.Range.{Ends};
 ghost use Rattle.itv_base.specs.declared.limits.TheConstants.{MAX_BUDGET};
+ghost use Rattle.itv_base.specs.declared.names.Side.TheVariants.{Lower, Upper};
+ghost use Rattle.itv_base.specs.declared.row_kind.RowKind.TheVariants.{Req};
 ghost use Rattle.event_graph.specs.Edges.{cause_choices};
 ghost use Rattle.unroll.specs.Step.Between.{IsRowBetween};
 ghost use Rattle.extremes.specs.Ready.{IsReady};
 ghost use Rattle.steady.specs.Found.{is_bound_open, is_row_open};
+ghost use Rattle.steady.specs.Later.{is_later_open, varies};
 ghost use Rattle.steady.specs.Steady.{AttainSteadily};
-ghost use Rattle.steady.specs.Step.{IsBoundIn, IsFoldedFor, IsRowIn, IsSteadying, IsWholeRun};
+ghost use Rattle.steady.specs.Step.{IsBoundIn, IsBrokenIn, IsFoldedFor, IsLaterIn, IsRowIn, IsSteadying, IsWholeRun, later_of};
 ghost use Rattle.steady.specs.declared.found.RowFound.{RowFound as RowSeen};
 
 use crate::course::{Course, furthest};
 use crate::design_run::DesignRun;
 use crate::extreme::Extreme;
 use crate::folded::{Folded, fold, steady_separation};
-use crate::found::{RowFound, RunBound};
+use crate::found::{Later, RowFound, RunBound};
 use crate::groups::steps_of;
+use crate::streak::{Streak, streak_over};
+use crate::verdict::{RunVerdict, verdict_of};
 use extremes::Extremes;
-use itv_base::{NoMemory, Side};
+use itv_base::{NoMemory, Range, RowKind, Side};
 use sheet::SheetRow;
 use std::alloc::Global;
 
@@ -75,7 +81,80 @@ fn find_row(
 {
     let greatest = find_bound(alloc, run, extremes, steadying, row, Side::Upper)?;
     let least = find_bound(alloc, run, extremes, steadying, row, Side::Lower)?;
-    Ok(RowFound { greatest, least })
+    let bounds = RowFound {
+        greatest,
+        least,
+        later: None,
+    };
+    let later = find_later(alloc, run, extremes, row, &bounds)?;
+    Ok(RowFound { later, ..bounds })
+}
+
+// From which cycle on a row is met, if it is a requirement that varies.
+fn find_later(
+    alloc: Global,
+    run: &DesignRun,
+    extremes: &mut Extremes,
+    row: &SheetRow,
+    found: &RowFound,
+) -> Result<Option<Later>, NoMemory>
+    requires run { IsWholeRun run.now }
+    requires ready { IsReady run.now.drawn.net extremes.old }
+    requires row { IsRowBetween run.now.marks row.now }
+    requires reach { run.now.from + row.now.shift < run.now.cycles }
+    requires greatest { IsBoundIn Upper run.now row.now found.now.greatest }
+    requires least { IsBoundIn Lower run.now row.now found.now.least }
+    ensures ready { IfOk result (λ _. IsReady run.now.drawn.net extremes.new) }
+    ensures budget { IfOk result (λ _. extremes.new.budget ≡ extremes.old.budget) }
+    ensures asked { IfOk result (λ later. is_some later ≡ varies row.now.kind found.now) }
+    ensures later { IfOk result (λ later. (range : Ends) → row.now.kind ≡ Req range → IfSome later (IsLaterIn run.now row.now range)) }
+    ensures settles { IfOk result (λ later. cause_choices run.now.drawn.net.constraints ≤ extremes.old.budget → is_later_open later ≡ false) }
+{
+    let kind: RowKind = row.kind;
+    match kind {
+        RowKind::Ask => Ok(None),
+        RowKind::Req(range) => match verdict_of(range, found) {
+            RunVerdict::Vary(_) => {
+                let later = met_later(alloc, run, extremes, row, range)?;
+                Ok(Some(later))
+            }
+            RunVerdict::Pass | RunVerdict::Fail(_) | RunVerdict::Undecided => Ok(None),
+        },
+    }
+}
+
+// From which cycle on a requirement is met that some cycle breaks.
+fn met_later(
+    alloc: Global,
+    run: &DesignRun,
+    extremes: &mut Extremes,
+    row: &SheetRow,
+    range: Range,
+) -> Result<Later, NoMemory>
+    requires run { IsWholeRun run.now }
+    requires ready { IsReady run.now.drawn.net extremes.old }
+    requires row { IsRowBetween run.now.marks row.now }
+    requires reach { run.now.from + row.now.shift < run.now.cycles }
+    requires broken { IsBrokenIn run.now row.now range }
+    ensures ready { IfOk result (λ _. IsReady run.now.drawn.net extremes.new) }
+    ensures budget { IfOk result (λ _. extremes.new.budget ≡ extremes.old.budget) }
+    ensures later { IfOk result (IsLaterIn run.now row.now range) }
+    ensures settles { IfOk result (λ later. cause_choices run.now.drawn.net.constraints ≤ extremes.old.budget → is_later_open (Some later) ≡ false) }
+{
+    let course = course_from(run, run.from + row.shift);
+    let streak = streak_over(alloc, run.drawn.network(), extremes, course, row, range)?;
+    Ok(later_of(streak, row.shift, run.cycles))
+}
+
+// The later cycle that a streak over the cycles of a run gives.
+fn later_of(streak: Streak, shift: u32, cycles: u32) -> Later
+    ensures { result ≡ later_of streak shift cycles }
+{
+    match streak {
+        Streak::Since(cycle) if cycle < cycles => Later::Since(cycle.saturating_sub(shift)),
+        Streak::Since(_) => Later::Never,
+        Streak::Whole | Streak::Open => Later::Open,
+    }
 }
 
 // What is found of the greatest or the least separation of a row.
@@ -98,11 +177,7 @@ fn find_bound(
     ensures found { IfOk result (IsBoundIn side run.now row.now) }
     ensures settles { IfOk result (λ found. cause_choices run.now.drawn.net.constraints ≤ extremes.old.budget → is_bound_open found ≡ false) }
 {
-    let course = Course {
-        marks: run.marks,
-        start: run.from + row.shift,
-        cycles: run.cycles,
-    };
+    let course = course_from(run, run.from + row.shift);
     match furthest(alloc, run.drawn.network(), extremes, course, row, side)? {
         Extreme::Closed { value, times } => {
             let steady = find_steady(alloc, run, steadying, row, side, &value, &times)?;
@@ -110,6 +185,17 @@ fn find_bound(
         }
         Extreme::Unbounded => Ok(RunBound::Unbounded),
         Extreme::Open => Ok(RunBound::Open),
+    }
+}
+
+// The cycles of a run from one on.
+fn course_from(run: &DesignRun, start: u32) -> Course
+    ensures course { result ≡ record { marks = run.now.marks; start = start; cycles = run.now.cycles } }
+{
+    Course {
+        marks: run.marks,
+        start,
+        cycles: run.cycles,
     }
 }
 

@@ -62,9 +62,9 @@ fn closed_verdict(side: Side, end: &i64, value: &i64, steady: &Option<i64>) -> R
     }
 }
 
-// Whether a number is not past an end on its side.
-fn is_kept(side: Side, end: &i64, value: &i64) -> bool
-    ensures { result ≡ is_kept side (Some end.now) value.now }
+/// Whether a number is not past an end on its side.
+pub fn is_kept(side: Side, end: &i64, value: &i64) -> bool
+    ensures kept { result ≡ is_kept side (Some end.now) value.now }
 {
     match side {
         Side::Upper => *value <= *end,
