@@ -214,7 +214,8 @@ class Vcd(Trace):
         if is_cut:
             self.notes.append(f"{self.name}: the file ends within a value or a comment")
         if strange:
-            self.notes.append(f"{self.name}: {sum(strange.values())} values of {len(strange)} codes that are not declared are left out, as '{next(iter(strange))[:20]}'")
+            codes = "a code that is" if len(strange) == 1 else f"{len(strange)} codes that are"
+            self.notes.append(f"{self.name}: {sum(strange.values())} values of {codes} not declared are left out, as '{next(iter(strange))[:20]}'")
         if self.factor % self.divisor:
             self.notes.append(f"{self.name}: its times are rounded to whole picoseconds")
 

@@ -139,7 +139,7 @@ export class App {
     this.compare.take(null);
     this.measuring.forget();
     this.answers.forget();
-    byId("examples").value = this.examples.files[design] === files[design] ? design : "";
+    this.showExample(this.examples.files[design] === files[design] ? design : "");
     this.files.replace(files, design);
     for (const file of this.files.list) file.changed = changed.includes(file.name);
     this.edited.forget();
@@ -173,6 +173,12 @@ export class App {
     this.fillExamples(value.slice(UNFOLD.length));
     this.say("the menu has them now");
     byId("examples").focus();
+  }
+
+  /** Shows which example is open. One whose line is folded is not in the menu. */
+  showExample(name) {
+    const menu = byId("examples");
+    menu.value = [...menu.options].some((option) => option.value === name) ? name : "";
   }
 
   openExample(name) {

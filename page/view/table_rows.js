@@ -32,6 +32,11 @@ export function headsOf(sorted) {
   return heads.join("");
 }
 
+/** What a range begins or ends at. A mark stays on the line of its lane's last word. */
+function placeText(title) {
+  return escaped(title.replace(/ (?=\S+$)/, "\u00a0"));
+}
+
 /** A line as a row, which is the one with this number of the table. */
 export function rowOf(line, unit, number) {
   const users = line.users.length ? `<small>${escaped(line.users.join(", "))}${line.grade ? ` grade ${escaped(line.grade)}` : ""}</small>` : "";
@@ -41,7 +46,7 @@ export function rowOf(line, unit, number) {
   return (
     `<tr role="row" aria-rowindex="${number}" data-key="${escaped(line.key)}" class="${line.verdict || ""}${line.isOld ? " old" : ""}" title="${escaped(full)}">` +
     `<th role="rowheader" scope="row">${name}${users}<small class="kind">${escaped(line.kind)}</small></th>` +
-    `<td role="gridcell" class="between">${escaped(line.from)} → ${escaped(line.to)}${shift}</td><td role="gridcell" class="kind">${escaped(line.kind.replace(/^delay (?=after)| of several$/g, ""))}</td>` +
+    `<td role="gridcell" class="between"><span>${placeText(line.from)} → ${placeText(line.to)}</span>${shift}</td><td role="gridcell" class="kind">${escaped(line.kind.replace(/^delay (?=after)| of several$/g, ""))}</td>` +
     `${EDITED.map((side) => endCell(line, side, unit)).join("")}${roomCell(line, unit)}</tr>`
   );
 }

@@ -36,6 +36,11 @@ def the_menu_begins_with_the_boards(page):
     after = page.browser.evaluate(groups)
     assert after[:2] == before[:2] and after[2][1] > 10, after
     page.browser.evaluate("itv.fillExamples()")
+    # An example whose line is folded is not in the menu, which then says that one may be chosen.
+    page.open_example("examples/lint/order.json")
+    assert page.browser.evaluate("document.getElementById('examples').selectedOptions[0].text") == "choose one"
+    page.open_example(FAST)
+    assert page.browser.evaluate("document.getElementById('examples').value") == FAST
 
 
 def the_bars_are_moved(page):

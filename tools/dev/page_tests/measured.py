@@ -41,7 +41,13 @@ def faults_of_captures_are_found(page):
         drawn = page.browser.evaluate("[document.querySelector('figure.measured-run').dataset.run, [...document.querySelectorAll('figure.measured-run circle[data-ps]')].map(e => Number(e.dataset.ps))]")
         # The times of a run are drawn from the cause on that decides.
         assert drawn[0] == run and any({time - begin for time in times} >= set(drawn[1]) for begin in times), (capture, drawn, times)
-    page.browser.screenshot(f"{page.folder}/measured.png")
+    for width in (500, 1000, 1280, 1920):
+        page.browser.resize(width, 900)
+        page.browser.evaluate("document.querySelector('table.measured').scrollIntoView()")
+        page.browser.screenshot(f"{page.folder}/measured-{width}.png")
+        hidden = page.browser.evaluate("[...document.querySelectorAll('table.measured td.verdict')].filter(td => td.getBoundingClientRect().right > innerWidth).length")
+        assert hidden == 0, (width, hidden)
+    page.browser.resize(1280, 900)
     return f"{len(CAPTURES)} captures"
 
 

@@ -161,6 +161,18 @@ def lines_are_sorted_and_found(page):
     page.browser.evaluate("itv.numbers.table.filter('')")
 
 
+def long_names_take_two_lines(page):
+    """What is between two marks is seen whole where its column is narrow, and all rows have one height."""
+    page.open_numbers("examples/stages.json")
+    page.browser.resize(1000, 900)
+    page.rest()
+    spans = "[...document.querySelectorAll('.numbers td.between > span')]"
+    assert page.browser.evaluate(f"{spans}.length > 5 && {spans}.every(span => span.scrollHeight <= span.clientHeight + 1 && span.scrollWidth <= span.clientWidth + 1)")
+    heights = page.browser.evaluate("[...new Set([...document.querySelectorAll('.numbers tr[data-key]')].map(tr => Math.round(tr.getBoundingClientRect().height)))]")
+    assert len(heights) == 1, heights
+    page.browser.resize(1280, 900)
+
+
 def a_column_is_pasted(page):
     page.open_numbers(BUS)
     page.browser.click(cell("examples/cpu.json edge 0", "low"))
@@ -284,6 +296,6 @@ def five_hundred_numbers_scroll_and_edit(page):
 
 
 TESTS = [a_cell_changes_just_its_place, undo_knows_typed_and_made_edits, what_is_not_a_time_stays_in_the_cell, margins_are_those_of_the_program,
-         numbers_that_are_one_text_are_one_line, lines_are_sorted_and_found, a_column_is_pasted, a_refused_edit_keeps_the_table, a_number_that_is_refused_is_shown_as_it_was_typed,
+         numbers_that_are_one_text_are_one_line, lines_are_sorted_and_found, long_names_take_two_lines, a_column_is_pasted, a_refused_edit_keeps_the_table, a_number_that_is_refused_is_shown_as_it_was_typed,
          a_range_that_the_program_reads_otherwise_is_locked, texts_with_escapes_and_comments_are_edited, a_slider_moves_the_answer,
          five_hundred_numbers_scroll_and_edit]
