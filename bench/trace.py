@@ -3,13 +3,13 @@
 
   bench/trace.py [RUNS ..]
 
-Captures of so many reads of a memory, as examples/sram-read.json draws them, are made here; without numbers of 1,000, 10,000 and 40,000. The plain script knows
-this drawing and nothing else. Both are run one after another, and have to find the same times. A time is the least of three runs, in processor seconds with
-those of the programs that the tool runs.
+Captures of so many reads of a memory, as examples/sram-read.json draws them, are made here; without numbers of 1,000, 10,000, 40,000 and 620,000, which has
+100 MB. The plain script knows this drawing and nothing else. Both are run one after another, and have to find the same times. A time is the least of three
+runs, or of one that takes more than 5 seconds, in processor seconds with those of the programs that the tool runs. MB are the most that the tool had in memory.
 """
+import filecmp
 import os
 import random
-import resource
 import subprocess
 import sys
 import tempfile
@@ -57,8 +57,9 @@ for line in open(sys.argv[1]):
 
 
 def capture(count):
-    """A capture of so many reads."""
-    rng, lines, begin = random.Random(count), [HEAD], 1000
+    """The pieces of a capture of so many reads."""
+    yield HEAD
+    rng, begin = random.Random(count), 1000
     for read in range(1, count + 1):
         s, o = begin + rng.randrange(1, 2000), begin + rng.randrange(1, 7000)
         first = max(s, o) + rng.randrange(1, 900)
@@ -67,33 +68,40 @@ def capture(count):
         z = h + rng.randrange(1, 7000)
         changes = [(begin, f"b{read % 65536:b} !"), (s, '0"'), (o, "0#"), (first, f"b{read * 7 % 65521:b} $"), (v, f"b{read * 7 % 65521 + 1:b} $"), (h, "1#"),
                    (h + 500, '1"'), (z, "bz $")]
-        lines += [f"#{time}\n{change}\n" for time, change in sorted(changes)]
+        yield from (f"#{time}\n{change}\n" for time, change in sorted(changes))
         begin = max(z, h + 500) + rng.randrange(3000, 9000)
-    return "".join(lines)
 
 
-def least(words):
-    """The least processor seconds of three runs, and what they print."""
-    seconds = []
-    for _ in range(3):
-        before = resource.getrusage(resource.RUSAGE_CHILDREN)
-        text = subprocess.run(words, cwd=TOP, stdout=subprocess.PIPE, stderr=subprocess.DEVNULL, check=True).stdout
-        after = resource.getrusage(resource.RUSAGE_CHILDREN)
-        seconds.append(after.ru_utime + after.ru_stime - before.ru_utime - before.ru_stime)
-    return min(seconds), text
+def run(words, out):
+    """The processor seconds of a run whose output goes to a file, and the most bytes that it had in memory."""
+    with open(out, "wb") as file:
+        process = subprocess.Popen(words, cwd=TOP, stdout=file, stderr=subprocess.DEVNULL)
+        _, status, used = os.wait4(process.pid, 0)
+    assert status == 0, words
+    return used.ru_utime + used.ru_stime, used.ru_maxrss * 1024
+
+
+def least(words, out):
+    """The least processor seconds of three runs, or of one that takes more than 5 seconds, and the memory of one."""
+    runs = [run(words, out)]
+    while runs[-1][0] < 5 and len(runs) < 3:
+        runs.append(run(words, out))
+    return min(runs)
 
 
 def main():
-    counts = list(map(int, sys.argv[1:])) or [1000, 10_000, 40_000]
-    tables.row(["reads", "bytes", "tools/trace", "plain script", "times"])
+    counts = list(map(int, sys.argv[1:])) or [1000, 10_000, 40_000, 620_000]
+    tables.row(["reads", "bytes", "tools/trace", "MB", "plain script", "times"])
     with tempfile.TemporaryDirectory() as folder:
-        path = os.path.join(folder, "capture.vcd")
+        path, script, found, wanted = (os.path.join(folder, name) for name in ("capture.vcd", "plain.py", "found", "wanted"))
+        tables.lay_out({"plain.py": PLAIN}, folder)
         for count in counts:
-            tables.lay_out({"capture.vcd": capture(count), "plain.py": PLAIN}, folder)
-            took, text = least([os.path.join(TOP, "tools", "trace"), path, "examples/sram-read.json"])
-            plain, wanted = least([sys.executable, os.path.join(folder, "plain.py"), path])
-            same = "same" if text == wanted and text.count(b"\n") == count else "DIFFERENT"
-            tables.row([f"{count:,}", f"{os.path.getsize(path):,}", tables.seconds_of(took), tables.seconds_of(plain), same])
+            with open(path, "w", encoding="utf-8") as file:
+                file.writelines(capture(count))
+            took, memory = least([os.path.join(TOP, "tools", "trace"), path, "examples/sram-read.json"], found)
+            plain, _ = least([sys.executable, script, path], wanted)
+            same = "same" if filecmp.cmp(found, wanted, shallow=False) and sum(1 for _ in open(found, "rb")) == count else "DIFFERENT"
+            tables.row([f"{count:,}", f"{os.path.getsize(path):,}", tables.seconds_of(took), f"{memory / 1e6:.0f}", tables.seconds_of(plain), same])
 
 
 if __name__ == "__main__":

@@ -162,11 +162,11 @@ export class Analysis {
     return { ...found, ...this.exactPlace(said.place, found, names), says: said.says || line, line: said.says ? line : " " };
   }
 
-  /** The place of a reason in the text as it was typed, if that is the text that the program got and the place is within the part that is known to be wrong. */
+  /** The place of a reason in the text as it was typed, if it is within the part that is known to be wrong. */
   exactPlace(place, found, names) {
     const file = place ? names.indexOf(place.name) : -1;
     const read = this.reads[file];
-    if (!read || read.isRelaxed || file !== found.file) return {};
+    if (!read || file !== found.file) return {};
     const start = read.placeOf(place.line, place.column);
     return start > found.start && start < found.end ? { start, end: found.end } : {};
   }

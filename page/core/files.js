@@ -3,6 +3,7 @@
 import { isNetlist, sheetNames } from "./design.js";
 import { scanned } from "./places.js";
 import { readText } from "./relaxed.js";
+import { placeInTyped } from "./strict.js";
 
 /** The text with which a file begins that is not there yet. */
 export const NEW_SHEET = `{
@@ -55,11 +56,12 @@ export class Read {
     return this.strict !== this.text;
   }
 
-  /** Where a line and a column are in the text, both from 1. A column counts characters. */
+  /** Where a line and a column of the strict text are in the text, both from 1. A column counts characters. */
   placeOf(line, column) {
-    const lines = this.text.split("\n");
+    const lines = this.strict.split("\n");
     const before = lines.slice(0, line - 1).reduce((sum, each) => sum + each.length + 1, 0);
-    return before + [...(lines[line - 1] || "")].slice(0, column - 1).join("").length;
+    const place = before + [...(lines[line - 1] || "")].slice(0, column - 1).join("").length;
+    return this.isRelaxed ? placeInTyped(this.text, place) : place;
   }
 
   /** Where a range is drawn in the text: an edge, a wire or a net by its number, or a parameter of a grade. */

@@ -18,21 +18,36 @@ export class NotStrict extends Error {
   }
 }
 
-/** The strict text. */
-export function strictOf(text) {
+/** The pieces of the text: where each begins, how long it is, and what it is in the strict spelling. */
+function piecesOf(text) {
   const pieces = [];
-  let comma = -1;
-  for (let place = 0; place < text.length; ) {
+  let comma = null;
+  for (let place = 0; place < text.length; place = TOKEN.lastIndex) {
     TOKEN.lastIndex = place;
     const match = TOKEN.exec(text);
     if (!match) throw new NotStrict(text.slice(place, place + 20), place);
     const { blank, sign } = match.groups;
-    if ((sign === "}" || sign === "]") && comma >= 0) pieces[comma] = " ";
-    if (!blank) comma = sign === "," ? pieces.length : -1;
-    pieces.push(pieceOf(match.groups, text, place));
-    place = TOKEN.lastIndex;
+    if ((sign === "}" || sign === "]") && comma) comma.strict = " ";
+    const piece = { place, length: match[0].length, strict: pieceOf(match.groups, text, place) };
+    if (!blank) comma = sign === "," ? piece : null;
+    pieces.push(piece);
   }
-  return pieces.join("");
+  return pieces;
+}
+
+/** The strict text. */
+export function strictOf(text) {
+  return piecesOf(text).map(({ strict }) => strict).join("");
+}
+
+/** Where a place of the strict text is in the text, as near as its piece says. */
+export function placeInTyped(text, strictPlace) {
+  let rest = strictPlace;
+  for (const { place, length, strict } of piecesOf(text)) {
+    if (rest < strict.length) return place + Math.min(rest, length - 1);
+    rest -= strict.length;
+  }
+  return text.length;
 }
 
 /** A piece of the text in the strict spelling.

@@ -165,6 +165,24 @@ def diagrams_are_zoomed(page):
     page.browser.screenshot(f"{page.folder}/zoomed.png")
     page.browser.click("#job button[data-zoom=all]")
     assert page.browser.evaluate(view) == full
+    # With Ctrl the wheel zooms where the mouse is, with Shift it moves; what is drawn is dragged. A view stays while numbers change.
+    turn = ("(() => {{ const svg = document.querySelector('#job svg.diagram'), box = svg.getBoundingClientRect(); svg.dispatchEvent(new WheelEvent('wheel', "
+            "{{ bubbles: true, cancelable: true, {key}: true, deltaY: {by}, clientX: box.left + +svg.dataset.left * box.width / svg.getAttribute('width'), clientY: box.top + 9 }})); }})()")
+    page.browser.evaluate(turn.format(key="ctrlKey", by=-1))
+    low, high = page.browser.evaluate(view)
+    assert abs(low - full[0]) < 1 and high < full[1] - 0.1 * (full[1] - full[0]), (full, low, high)
+    page.browser.evaluate(turn.format(key="shiftKey", by=1))
+    moved = page.browser.evaluate(view)
+    assert moved[0] > low and abs((moved[1] - moved[0]) - (high - low)) < 1, (low, high, moved)
+    x, y = page.browser.center("#job svg.diagram text.lane")
+    page.browser.drag([x + 300, y], [x + 360, y])
+    dragged = page.browser.evaluate(view)
+    assert dragged[0] < moved[0] and abs((dragged[1] - dragged[0]) - (high - low)) < 1, (moved, dragged)
+    page.browser.evaluate("itv.numbers.set([{ line: itv.numbers.lines[0], side: 'high', number: 8100 }])")
+    page.rest()
+    assert page.browser.evaluate(view) == dragged and "3.7 ns" in page.sentence(), (page.browser.evaluate(view), page.sentence())
+    page.browser.evaluate("itv.edited.undo()")
+    page.rest()
 
 
 def lanes_are_chosen(page):

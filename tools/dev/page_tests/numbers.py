@@ -191,6 +191,40 @@ def a_column_is_pasted(page):
     assert page.text_of("examples/cpu.json") == before
 
 
+def keys_are_those_of_a_spreadsheet(page):
+    """Tab, Enter and F2, Escape, Home, Page Down, Delete, and a copied cell."""
+    page.open_numbers(BUS)
+    before = page.text_of("examples/cpu.json")
+    at = "[document.activeElement.closest('tr').dataset.key, (document.activeElement.closest('td')).dataset.side, document.activeElement.tagName]"
+    first, second = "examples/cpu.json edge 0", "examples/cpu.json edge 1"
+    page.browser.click(cell(first, "low"))
+    page.browser.key("F2")
+    assert page.browser.evaluate(at) == [first, "low", "INPUT"] and page.browser.evaluate("document.activeElement.value") == "2"
+    page.browser.key("Tab")
+    assert page.browser.evaluate(at) == [first, "high", "TD"]
+    page.browser.key("Enter")
+    page.browser.keys("7")
+    page.browser.key("Escape")
+    assert page.browser.evaluate(at) == [first, "high", "TD"] and page.text_of("examples/cpu.json") == before
+    copied = page.browser.evaluate("(() => { const event = new Event('copy', { bubbles: true, cancelable: true }), kept = {}; event.clipboardData = { setData: (kind, text) => (kept[kind] = text) }; "
+                                   "document.activeElement.dispatchEvent(event); return kept['text/plain']; })()")
+    assert copied == "8", copied
+    page.browser.key("ArrowDown")
+    assert page.browser.evaluate(at) == [second, "high", "TD"]
+    page.browser.key("Delete")
+    page.rest()
+    assert page.text_of("examples/cpu.json") == before.replace("[2000,7000]", "[2000,*]"), page.text_of("examples/cpu.json")
+    assert "nothing bounds it" in page.sentence(), page.sentence()
+    page.browser.key("z", ctrl=True)
+    page.rest()
+    assert page.text_of("examples/cpu.json") == before
+    page.browser.key("PageDown")
+    last = page.browser.evaluate("itv.numbers.lines.at(-1).key")
+    assert page.browser.evaluate(at)[0] == last
+    page.browser.key("Home")
+    assert page.browser.evaluate(at)[0] == first
+
+
 def a_refused_edit_keeps_the_table(page):
     page.open_numbers(BUS)
     count = page.browser.evaluate("itv.numbers.lines.length")
@@ -230,6 +264,17 @@ def a_range_that_the_program_reads_otherwise_is_locked(page):
     assert page.text_of("examples/cpu.json") == before
     assert "otherwise than the program" in page.browser.evaluate("document.getElementById('note').textContent")
     assert page.browser.evaluate(f"document.querySelector({json.dumps(cell('examples/cpu.json edge 0', 'high'))}).getAttribute('aria-readonly')") == "true"
+    # A program that reads another range stands in: of the requirement it prints [0,8].
+    report = "itv report 1\nbudget 9\nevents 2\nevent 0 U.a@0\nevent 1 U.b@0\nfinding consistent\ntimes 0 1\nrows 1\nrow 0 req U.a@0 U.b@0 [0,8]\nmax 5\ntimes 0 5\nmin 0\ntimes 0 0\nverdict pass\nslack 0 3\nend pass\n"
+    sheet = {"signal": [{"name": "A", "wave": "01", "node": ".a"}, {"name": "B", "wave": "01", "node": ".b"}], "edge": ["a->b @lin [0,5]", "a->b @req [0,9]"]}
+    try:
+        page.stand_in({"bounds": report, "why": "", "lint": ""})
+        page.open_sheet(sheet)
+        page.browser.evaluate("itv.showView('numbers')")
+        locked = page.browser.evaluate("[...document.querySelectorAll('#numbers td[data-side=high]')].map(td => td.getAttribute('aria-readonly'))")
+        assert locked == [None, "true"], locked
+    finally:
+        page.stand_back()
 
 
 def texts_with_escapes_and_comments_are_edited(page):
@@ -296,6 +341,6 @@ def five_hundred_numbers_scroll_and_edit(page):
 
 
 TESTS = [a_cell_changes_just_its_place, undo_knows_typed_and_made_edits, what_is_not_a_time_stays_in_the_cell, margins_are_those_of_the_program,
-         numbers_that_are_one_text_are_one_line, lines_are_sorted_and_found, long_names_take_two_lines, a_column_is_pasted, a_refused_edit_keeps_the_table, a_number_that_is_refused_is_shown_as_it_was_typed,
+         numbers_that_are_one_text_are_one_line, lines_are_sorted_and_found, long_names_take_two_lines, a_column_is_pasted, keys_are_those_of_a_spreadsheet, a_refused_edit_keeps_the_table, a_number_that_is_refused_is_shown_as_it_was_typed,
          a_range_that_the_program_reads_otherwise_is_locked, texts_with_escapes_and_comments_are_edited, a_slider_moves_the_answer,
          five_hundred_numbers_scroll_and_edit]
