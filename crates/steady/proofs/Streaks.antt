@@ -15,7 +15,7 @@ use Rattle.longer_runs.specs.Always.{IsNotPast}
 use Rattle.longer_runs.specs.Windows.{EverySeparation, from_in, to_in}
 use Rattle.steady.specs.Extremes.{IsExtremeFound, is_open}
 use Rattle.steady.specs.Later.{is_later_open, is_varying}
-use Rattle.steady.specs.Step.{HoldsBetween, HoldsIn, IsAllowedBy, IsBoundIn, IsBrokenIn, IsHeld, IsLaterIn, IsSinceIn, IsStreak, held_by_both, held_of, is_held_open, is_streak_open, later_of, streak_after}
+use Rattle.steady.specs.Step.{HoldsBetween, HoldsIn, IsAllowedBy, IsBoundIn, IsBrokenIn, IsCycleVerdict, IsLaterIn, IsSinceIn, IsStreak, held_by_both, held_of, is_held_open, is_streak_open, later_of, streak_after}
 use Rattle.steady.specs.Verdicts.{end_verdict, is_kept, is_steadily_past, verdict_of, worst_of}
 use Rattle.steady.specs.declared.course.Course.{Course}
 use Rattle.steady.specs.declared.design_run.DesignRun.{DesignRun}
@@ -26,8 +26,8 @@ use Rattle.steady.specs.declared.found.Later.TheVariants as laters
 use Rattle.steady.specs.declared.found.RowFound.{RowFound}
 use Rattle.steady.specs.declared.found.RunBound.{RunBound}
 use Rattle.steady.specs.declared.found.RunBound.TheVariants as bounds
-use Rattle.steady.specs.declared.streak.Held.{Held}
-use Rattle.steady.specs.declared.streak.Held.TheVariants as held
+use Rattle.steady.specs.declared.streak.CycleVerdict.{CycleVerdict}
+use Rattle.steady.specs.declared.streak.CycleVerdict.TheVariants as held
 use Rattle.steady.specs.declared.streak.Streak.{Streak}
 use Rattle.steady.specs.declared.streak.Streak.TheVariants as streaks
 use Rattle.steady.specs.declared.verdict.RunVerdict.{RunVerdict}
@@ -37,10 +37,10 @@ use Rattle.steady.proofs.Pairs.{none_past}
 
 -- ---- a cycle
 
-pub held_is : (side : Side) (end : Option ℤ) (net : Net) (from to : EventId) (found : Extreme) → IsExtremeFound side net from to found → IsHeld (IsAllowedBy side end) net from to (held_of side end found)
+pub held_is : (side : Side) (end : Option ℤ) (net : Net) (from to : EventId) (found : Extreme) → IsExtremeFound side net from to found → IsCycleVerdict (IsAllowedBy side end) net from to (held_of side end found)
 held_is side None net from to found is = λ times sat. tt
 held_is side (Some end) net from to (extremes.Closed value times) is = by_kept (is_kept side (Some end) value) refl where
-  by_kept : (kept : Bool) → is_kept side (Some end) value ≡ kept → IsHeld (IsAllowedBy side (Some end)) net from to (cond kept held.Met held.Broken)
+  by_kept : (kept : Bool) → is_kept side (Some end) value ≡ kept → IsCycleVerdict (IsAllowedBy side (Some end)) net from to (cond kept held.Met held.Broken)
   by_kept true e = λ ts sat. kept_further side end value _ e (none_past side net from to value is.extreme ts sat)
   by_kept false e = λ all. past_end side end value e (subst (IsNotPast side end) is.attained (all times.items is.satisfied))
 held_is side (Some end) net from to extremes.Unbounded is = λ all. let (ts, sat, past) = past_any side net from to end is in past (all ts sat)
@@ -55,8 +55,8 @@ held_settles side (Some end) (extremes.Closed value times) closed = by_kept (is_
 held_settles side (Some end) extremes.Unbounded closed = refl
 held_settles side (Some end) extremes.Open closed = absurd (cc closed)
 
-pub both_held : (range : Ends) (net : Net) (from to : EventId) (low high : Held) → IsHeld (IsAllowedBy Lower range.low) net from to low → IsHeld (IsAllowedBy Upper range.high) net from to high
-    → IsHeld (Allows range) net from to (held_by_both low high)
+pub both_held : (range : Ends) (net : Net) (from to : EventId) (low high : CycleVerdict) → IsCycleVerdict (IsAllowedBy Lower range.low) net from to low → IsCycleVerdict (IsAllowedBy Upper range.high) net from to high
+    → IsCycleVerdict (Allows range) net from to (held_by_both low high)
 both_held range net from to held.Met held.Met h k = λ ts sat. (h ts sat, k ts sat)
 both_held range net from to held.Met held.Broken h k = λ all. k (λ ts sat. (all ts sat).1)
 both_held range net from to held.Met held.Open h k = tt
@@ -65,7 +65,7 @@ both_held range net from to held.Open held.Broken h k = λ all. k (λ ts sat. (a
 both_held range net from to held.Open held.Met h k = tt
 both_held range net from to held.Open held.Open h k = tt
 
-pub both_settle : (low high : Held) → is_held_open low ≡ false → is_held_open high ≡ false → is_held_open (held_by_both low high) ≡ false
+pub both_settle : (low high : CycleVerdict) → is_held_open low ≡ false → is_held_open high ≡ false → is_held_open (held_by_both low high) ≡ false
 both_settle held.Met high one two = two
 both_settle held.Broken high one two = refl
 both_settle held.Open high one two = absurd (cc one)
@@ -80,8 +80,8 @@ met_more range net marks row start before h here cycle from less = elim (cases_l
   | inr not ↦ let same : before ≡ cycle = omega (arith, less, not) in subst (HoldsIn range net marks row) same here
 ]
 
-pub streak_step : (range : Ends) (net : Net) (marks : ℕ) (row : SheetRow) (start before : ℕ) (streak : Streak) (next : Held) → start ≤ before → IsStreak range net marks row start before streak
-    → IsHeld (Allows range) net (from_in marks before row) (to_in marks before row) next → IsStreak range net marks row start (before + 1) (streak_after streak next before)
+pub streak_step : (range : Ends) (net : Net) (marks : ℕ) (row : SheetRow) (start before : ℕ) (streak : Streak) (next : CycleVerdict) → start ≤ before → IsStreak range net marks row start before streak
+    → IsCycleVerdict (Allows range) net (from_in marks before row) (to_in marks before row) next → IsStreak range net marks row start (before + 1) (streak_after streak next before)
 streak_step range net marks row start before streak held.Broken late h one =
     let same : before ≡ (before + 1) - 1 = omega arith in
     record {
@@ -97,7 +97,7 @@ streak_step range net marks row start before (streaks.Since at) held.Met late h 
 streak_step range net marks row start before streaks.Open held.Met late h one = tt
 streak_step range net marks row start before streak held.Open late h one = tt
 
-pub after_closed : (streak : Streak) (next : Held) (cycle : ℕ) → is_streak_open streak ≡ false → is_held_open next ≡ false → is_streak_open (streak_after streak next cycle) ≡ false
+pub after_closed : (streak : Streak) (next : CycleVerdict) (cycle : ℕ) → is_streak_open streak ≡ false → is_held_open next ≡ false → is_streak_open (streak_after streak next cycle) ≡ false
 after_closed streak held.Met cycle one two = one
 after_closed streak held.Broken cycle one two = refl
 after_closed streak held.Open cycle one two = absurd (cc two)
@@ -121,9 +121,9 @@ no_cycle range net extremes marks row start ready = record {
   settles = λ enough. refl;
 }
 
-pub one_cycle : (range : Ends) (net : Net) (first extremes after : Extremes) (marks : ℕ) (row : SheetRow) (start before : ℕ) (streak new : Streak) (next : Held)
+pub one_cycle : (range : Ends) (net : Net) (first extremes after : Extremes) (marks : ℕ) (row : SheetRow) (start before : ℕ) (streak new : Streak) (next : CycleVerdict)
     → IsStreakSoFar range net first extremes marks row start before streak → IsReady net after → after.budget ≡ extremes.budget
-    → IsHeld (Allows range) net (from_in marks before row) (to_in marks before row) next → (cause_choices net.constraints ≤ extremes.budget → is_held_open next ≡ false)
+    → IsCycleVerdict (Allows range) net (from_in marks before row) (to_in marks before row) next → (cause_choices net.constraints ≤ extremes.budget → is_held_open next ≡ false)
     → new ≡ streak_after streak next before → IsStreakSoFar range net first after marks row start (before + 1) new
 one_cycle range net first extremes after marks row start before streak new next h ready budget held settles is =
     let late : start ≤ before = h.late in

@@ -30,8 +30,8 @@ use Rattle.steady.specs.declared.found.RunFound.{RunFound}
 use Rattle.steady.specs.declared.found.RunFound.TheVariants as found
 use Rattle.steady.specs.declared.period.Period.{Period}
 use Rattle.steady.specs.declared.rows.Steadying.{Steadying}
-use Rattle.steady.specs.declared.streak.Held.{Held}
-use Rattle.steady.specs.declared.streak.Held.TheVariants as held
+use Rattle.steady.specs.declared.streak.CycleVerdict.{CycleVerdict}
+use Rattle.steady.specs.declared.streak.CycleVerdict.TheVariants as held
 use Rattle.steady.specs.declared.streak.Streak.{Streak}
 use Rattle.steady.specs.declared.streak.Streak.TheVariants as streaks
 use Rattle.steady.specs.Extremes.{IsFurthestIn, IsUnboundedIn}
@@ -67,29 +67,29 @@ abbrev pub IsAllowedBy : Side → Option ℤ → ℤ → Type 0
 IsAllowedBy side end apart = IfSome end (λ e. IsNotPast side e apart)
 
 -- what is found of a pair says of an end on its side
-abbrev pub held_of : Side → Option ℤ → Extreme → Held
+abbrev pub held_of : Side → Option ℤ → Extreme → CycleVerdict
 held_of side None found = held.Met
 held_of side (Some end) (extremes.Closed value times) = if is_kept side (Some end) value then held.Met else held.Broken
 held_of side (Some end) extremes.Unbounded = held.Broken
 held_of side (Some end) extremes.Open = held.Open
 
-abbrev pub held_by_both : Held → Held → Held
+abbrev pub held_by_both : CycleVerdict → CycleVerdict → CycleVerdict
 held_by_both held.Met other = other
 held_by_both held.Broken other = held.Broken
 held_by_both held.Open held.Broken = held.Broken
 held_by_both held.Open held.Met = held.Open
 held_by_both held.Open held.Open = held.Open
 
-abbrev pub is_held_open : Held → Bool
+abbrev pub is_held_open : CycleVerdict → Bool
 is_held_open held.Met = false
 is_held_open held.Broken = false
 is_held_open held.Open = true
 
 -- the separations of a pair are all of a kind, or some are not, or nothing is known
-abbrev pub IsHeld : (ℤ → Type 0) → Net → EventId → EventId → Held → Type 0
-IsHeld Is net from to held.Met = EverySeparation Is net from to
-IsHeld Is net from to held.Broken = EverySeparation Is net from to → ⊥
-IsHeld Is net from to held.Open = Unit {0}
+abbrev pub IsCycleVerdict : (ℤ → Type 0) → Net → EventId → EventId → CycleVerdict → Type 0
+IsCycleVerdict Is net from to held.Met = EverySeparation Is net from to
+IsCycleVerdict Is net from to held.Broken = EverySeparation Is net from to → ⊥
+IsCycleVerdict Is net from to held.Open = Unit {0}
 
 -- each satisfying separation of a row in a cycle is in a range
 abbrev pub HoldsIn : Ends → Net → ℕ → SheetRow → ℕ → Type 0
@@ -112,7 +112,7 @@ IsStreak range net marks row start before streaks.Whole = HoldsBetween range net
 IsStreak range net marks row start before (streaks.Since at) = IsSinceIn range net marks row start before at
 IsStreak range net marks row start before streaks.Open = Unit {0}
 
-abbrev pub streak_after : Streak → Held → ℕ → Streak
+abbrev pub streak_after : Streak → CycleVerdict → ℕ → Streak
 streak_after streak held.Broken cycle = streaks.Since (cycle + 1)
 streak_after streak held.Met cycle = streak
 streak_after streak held.Open cycle = streaks.Open

@@ -6,7 +6,7 @@ ghost use Rattle.event_graph.specs.Edges.{cause_choices};
 ghost use Rattle.unroll.specs.Step.Between.{IsRowBetween};
 ghost use Rattle.longer_runs.specs.Windows.{from_in, to_in};
 ghost use Rattle.extremes.specs.Ready.{IsReady};
-ghost use Rattle.steady.specs.Step.{IsAllowedBy, IsHeld, IsStreak, held_by_both, held_of, is_held_open, is_streak_open, streak_after};
+ghost use Rattle.steady.specs.Step.{IsAllowedBy, IsCycleVerdict, IsStreak, held_by_both, held_of, is_held_open, is_streak_open, streak_after};
 
 use crate::course::{Course, in_cycle};
 use crate::extreme::Extreme;
@@ -30,7 +30,7 @@ pub enum Streak {
 
 /// Whether a requirement is met in a cycle.
 #[derive(Clone, Copy)]
-pub enum Held {
+pub enum CycleVerdict {
     Met,
     Broken,
     /// The search ended before it was known.
@@ -65,14 +65,14 @@ pub fn streak_over(
 }
 
 // The same with one more cycle.
-fn streak_after(streak: Streak, held: Held, cycle: u32) -> Streak
+fn streak_after(streak: Streak, held: CycleVerdict, cycle: u32) -> Streak
     requires room { cycle + 1 < 2 ^ 32 }
     ensures { result ≡ streak_after streak held cycle }
 {
     match held {
-        Held::Met => streak,
-        Held::Broken => Streak::Since(cycle + 1),
-        Held::Open => Streak::Open,
+        CycleVerdict::Met => streak,
+        CycleVerdict::Broken => Streak::Since(cycle + 1),
+        CycleVerdict::Open => Streak::Open,
     }
 }
 
@@ -85,7 +85,7 @@ fn held_in(
     row: &SheetRow,
     range: Range,
     cycle: u32,
-) -> Result<Held, NoMemory>
+) -> Result<CycleVerdict, NoMemory>
     requires ready { IsReady net.now extremes.old }
     requires row { IsRowBetween course.marks row.now }
     requires back { row.now.shift ≤ cycle }
@@ -93,7 +93,7 @@ fn held_in(
     requires events { net.now.events ≡ course.cycles * course.marks }
     ensures ready { IsReady net.now extremes.new }
     ensures budget { extremes.new.budget ≡ extremes.old.budget }
-    ensures held { IfOk result (IsHeld (Allows range) net.now (from_in course.marks cycle row.now) (to_in course.marks cycle row.now)) }
+    ensures held { IfOk result (IsCycleVerdict (Allows range) net.now (from_in course.marks cycle row.now) (to_in course.marks cycle row.now)) }
     ensures settles { IfOk result (λ held. cause_choices net.now.constraints ≤ extremes.old.budget → is_held_open held ≡ false) }
 {
     let low = held_on(
@@ -119,14 +119,14 @@ fn held_in(
     Ok(held_by_both(low, high))
 }
 
-fn held_by_both(low: Held, high: Held) -> Held
+fn held_by_both(low: CycleVerdict, high: CycleVerdict) -> CycleVerdict
     ensures { result ≡ held_by_both low high }
 {
     match (low, high) {
-        (Held::Met, _) => high,
-        (Held::Broken, _) => low,
-        (Held::Open, Held::Broken) => high,
-        (Held::Open, Held::Met | Held::Open) => low,
+        (CycleVerdict::Met, _) => high,
+        (CycleVerdict::Broken, _) => low,
+        (CycleVerdict::Open, CycleVerdict::Broken) => high,
+        (CycleVerdict::Open, CycleVerdict::Met | CycleVerdict::Open) => low,
     }
 }
 
@@ -140,7 +140,7 @@ fn held_on(
     side: Side,
     end: Option<i64>,
     cycle: u32,
-) -> Result<Held, NoMemory>
+) -> Result<CycleVerdict, NoMemory>
     requires ready { IsReady net.now extremes.old }
     requires row { IsRowBetween course.marks row.now }
     requires back { row.now.shift ≤ cycle }
@@ -148,11 +148,11 @@ fn held_on(
     requires events { net.now.events ≡ course.cycles * course.marks }
     ensures ready { IsReady net.now extremes.new }
     ensures budget { extremes.new.budget ≡ extremes.old.budget }
-    ensures held { IfOk result (IsHeld (IsAllowedBy side end) net.now (from_in course.marks cycle row.now) (to_in course.marks cycle row.now)) }
+    ensures held { IfOk result (IsCycleVerdict (IsAllowedBy side end) net.now (from_in course.marks cycle row.now) (to_in course.marks cycle row.now)) }
     ensures settles { IfOk result (λ held. cause_choices net.now.constraints ≤ extremes.old.budget → is_held_open held ≡ false) }
 {
     match end {
-        None => Ok(Held::Met),
+        None => Ok(CycleVerdict::Met),
         Some(_) => {
             let found = in_cycle(alloc, net, extremes, course, row, side, cycle)?;
             Ok(held_of(side, end, &found))
@@ -161,28 +161,28 @@ fn held_on(
 }
 
 // What is found of a pair says of an end on its side.
-fn held_of(side: Side, end: Option<i64>, found: &Extreme) -> Held
+fn held_of(side: Side, end: Option<i64>, found: &Extreme) -> CycleVerdict
     ensures { result ≡ held_of side end found.now }
 {
     match end {
-        None => Held::Met,
+        None => CycleVerdict::Met,
         Some(end) => held_at(side, &end, found),
     }
 }
 
 // The same for an end that is not open.
-fn held_at(side: Side, end: &i64, found: &Extreme) -> Held
+fn held_at(side: Side, end: &i64, found: &Extreme) -> CycleVerdict
     ensures { result ≡ held_of side (Some end.now) found.now }
 {
     match found {
         Extreme::Closed { value, .. } => {
             if is_kept(side, end, value) {
-                Held::Met
+                CycleVerdict::Met
             } else {
-                Held::Broken
+                CycleVerdict::Broken
             }
         }
-        Extreme::Unbounded => Held::Broken,
-        Extreme::Open => Held::Open,
+        Extreme::Unbounded => CycleVerdict::Broken,
+        Extreme::Open => CycleVerdict::Open,
     }
 }
