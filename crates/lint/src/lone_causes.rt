@@ -1,4 +1,4 @@
-//! Sheets whose latest and earliest rules all have one cause.
+//! Sheets whose latest and earliest rules have one cause each, and lead into marks of their own.
 
 use crate::asked::part_count;
 use crate::rule::is_linear;
@@ -9,11 +9,12 @@ use itv_base::NoMemory;
 use origin::Origin;
 use sheet::Sheet;
 use std::alloc::Global;
+use std::collections::HashSet;
 
-// With so many rules of one cause, and no other latest or earliest rule, one cause is how the sheet is drawn.
+// With so many rules of one cause, no two of them into one mark, and no other latest or earliest rule, one cause is how the sheet is drawn.
 const LEAST: usize = 3;
 
-/// For each part, whether its sheet draws three latest and earliest rules or more, each with one cause.
+/// For each part, whether its sheet draws three latest and earliest rules or more, each with one cause and a target of its own.
 #[derive(Drop)]
 pub struct LoneCauses {
     parts: Vec<bool>,
@@ -24,12 +25,12 @@ impl LoneCauses {
     pub fn of(alloc: Global, design: &Design<'_>) -> Result<LoneCauses, NoMemory> {
         let mut parts = Vec::new(alloc);
         for part in 0..part_count(design) {
-            parts.push(draws_lone_causes(design.sheet_of(part)))?;
+            parts.push(draws_lone_causes(alloc, design.sheet_of(part))?)?;
         }
         Ok(LoneCauses { parts })
     }
 
-    /// Whether the sheet of an edge draws each latest and earliest rule with one cause. Of an edge of the netlist the answer is no.
+    /// Whether the sheet of an edge draws lone causes. Of an edge of the netlist the answer is no.
     pub fn has(&self, place: DrawnPlace) -> bool {
         match place.origin {
             Origin::Edge(_) => self
@@ -41,10 +42,15 @@ impl LoneCauses {
     }
 }
 
-fn draws_lone_causes(sheet: &Sheet) -> bool {
-    let rules = sheet.rules().as_slice();
-    rules.iter().filter(|rule| is_single(rule)).count() >= LEAST
-        && rules
-            .iter()
-            .all(|rule| is_linear(rule.kind()) || is_single(rule))
+fn draws_lone_causes(alloc: Global, sheet: &Sheet) -> Result<bool, NoMemory> {
+    let mut targets = HashSet::new(alloc);
+    for rule in sheet.rules().as_slice() {
+        if !is_linear(rule.kind()) {
+            if !is_single(rule) || targets.contains(&rule.target()) {
+                return Ok(false);
+            }
+            targets.insert(rule.target())?;
+        }
+    }
+    Ok(LEAST <= targets.len())
 }
