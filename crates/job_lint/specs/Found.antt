@@ -100,8 +100,7 @@ pub record IsConsistentFound (network : Drawn) (budget : ℕ) (found : List Rang
   pub ends : AreEndsFound network budget found
   pub rows : AreRowsSeen (has_order network) network budget seen
 
--- What is found of a design within a budget. Some times satisfy it, and this is found of its ends and rows; or no times satisfy it; or the search for times
--- was left open.
+-- what is found of a design: some times satisfy it, with what is found of its ends and rows; or none do; or the search for times was left open
 abbrev pub IsLintFound : Drawn → ℕ → LintFound → Type 0
 IsLintFound network budget (Consistent ends rows) = IsConsistentFound network budget ends.items rows.items
 IsLintFound network budget (Inconsistent by) = IsConsistency network.net consistency.Inconsistent × ContradictsByOrder network budget by

@@ -14,8 +14,8 @@ use Rattle.narrow_ends.specs.declared.end.EndFound.{EndFound}
 use Rattle.narrow_ends.specs.declared.end.EndFound.TheVariants.{Narrow, Open, Passed, Wide}
 use Rattle.narrow_ends.specs.declared.narrow.TheConstants.{MOST_SEARCHES}
 use Rattle.narrow_ends.specs.Ends.{EndSource, are_alike, source_at}
-use Rattle.narrow_ends.specs.Narrow.{IsAlikeEdge, IsFoundAmong, IsNeverBetween, IsNeverBeyond}
-use Rattle.narrow_ends.specs.Step.{IsFoundAlong, IsFoundOn, IsLookedAlong, joined}
+use Rattle.narrow_ends.specs.Narrow.{IsAlikeEdge, IsFoundAmong}
+use Rattle.narrow_ends.specs.Step.{IsFoundAlong, IsFoundOn, IsLookedAlong, IsNeverBetween, IsNeverBeyond, joined}
 use Rattle.narrow_ends.proofs.Sources.{source_decides}
 
 -- ---- numbers

@@ -77,12 +77,10 @@ pub record EndSource : Type 0 where
   pub part : Option (List ℕ)
 
 abbrev pub source_at : Drawn → EdgeName → EndSource
-source_at drawn name =
-    record { side = name.side; weight = option_map (λ (e : Edge). e.weight) (edge drawn.net name); origin = origin_at drawn name; part = part_at drawn name }
+source_at drawn name = record { side = name.side; weight = option_map (λ (e : Edge). e.weight) (edge drawn.net name); origin = origin_at drawn name; part = part_at drawn name }
 
 abbrev pub same_source : EndSource → EndSource → Bool
-same_source a b =
-    same_side a.side b.side && (option_eq int_eq a.weight b.weight && (option_eq same_origin a.origin b.origin && option_eq bytes_eq a.part b.part))
+same_source a b = same_side a.side b.side && (option_eq int_eq a.weight b.weight && (option_eq same_origin a.origin b.origin && option_eq bytes_eq a.part b.part))
 
 -- the same thing draws two ends, in one cycle or in two: on one side, with one weight and one origin, at targets of one part
 abbrev pub are_alike : Drawn → EdgeName → EdgeName → Bool

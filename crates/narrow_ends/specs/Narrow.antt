@@ -22,14 +22,6 @@ use Rattle.narrow_ends.specs.Ends.{all_ends, are_alike}
 abbrev pub IsReached : Net → ℤ → Edge → Type 0
 IsReached net value e = (times : List ℤ) × Satisfies times net × (separation times e.from e.to ≡ value)
 
--- no satisfying times have a separation along the edge of more than this
-abbrev pub IsNeverBeyond : Net → ℤ → Edge → Type 0
-IsNeverBeyond net value e = (times : List ℤ) → Satisfies times net → separation times e.from e.to ≤ℤ value
-
--- no satisfying times have a separation along the edge from the first number up to below the second one
-abbrev pub IsNeverBetween : Net → ℤ → ℤ → Edge → Type 0
-IsNeverBetween net first next e = (times : List ℤ) → Satisfies times net → first ≤ℤ separation times e.from e.to → next ≤ℤ separation times e.from e.to
-
 -- an edge of one of some ends, which the same thing draws as the end with a name
 pub record IsAlikeEdge (drawn : Drawn) (ends : List EdgeName) (name : EdgeName) (e : Edge) : Type 0 where
   pub other : EdgeName
@@ -52,8 +44,7 @@ end_alone Lower weight = record { low = Some (neg_ℤ weight); high = Some (neg_
 abbrev pub net_alone : Net → EdgeName → ℤ → Net
 net_alone net name weight = with_range net name.constraint name.cause (end_alone name.side weight)
 
--- a search for an end was left open: for the greatest or the least separation along its edge, or, where the range is the end alone, for times or for the
--- least separation
+-- a search for an end was left open: for a separation along its edge, or, where the range is the end alone, for times or for the least separation
 abbrev pub IsSearchOpen : Net → ℕ → EdgeName → Edge → Type 0
 IsSearchOpen net budget name e =
     (IsPairOpen net budget e.from e.to ⊎ IsPairOpen net budget e.to e.from)
@@ -64,21 +55,18 @@ IsSearchOpen net budget name e =
 -- what is found of an end with a weight, among some ends
 abbrev pub IsFoundAmong : Drawn → ℕ → List EdgeName → EdgeName → ℤ → EndFound → Type 0
 IsFoundAmong drawn budget ends name weight (Narrow only) =
-    (only <ℤ weight)
-    × ((e : Edge) → IsAlikeEdge drawn ends name e → IsNeverBeyond drawn.net only e)
+    (only <ℤ weight) × ((e : Edge) → IsAlikeEdge drawn ends name e → (times : List ℤ) → Satisfies times drawn.net → separation times e.from e.to ≤ℤ only)
     × ((e : Edge) × IsAlikeEdge drawn ends name e × IsReached drawn.net only e)
 IsFoundAmong drawn budget ends name weight (Passed only) =
-    (weight <ℤ only)
-    × ((e : Edge) → IsAlikeEdge drawn ends name e → IsNeverBetween drawn.net weight only e)
+    (weight <ℤ only) × ((e : Edge) → IsAlikeEdge drawn ends name e → (times : List ℤ) → Satisfies times drawn.net → weight ≤ℤ separation times e.from e.to → only ≤ℤ separation times e.from e.to)
     × ((e : Edge) × IsAlikeEdge drawn ends name e × IsReached drawn.net only e)
 IsFoundAmong drawn budget ends name weight Wide = (e : Edge) × IsAlikeEdge drawn ends name e × IsReached drawn.net weight e
 IsFoundAmong drawn budget ends name weight Open =
     ((e : Edge) × (alike : IsAlikeEdge drawn ends name e) × IsSearchOpen drawn.net budget alike.other e) ⊎ (MOST_SEARCHES < length ends)
 
--- What is found of an end is right. A narrow end: in every cycle and place that the same thing draws, no satisfying times have a separation of more than
--- `only`, which is below its weight; and some have this one. An end that is passed: in every one of them, none have a separation from the weight up to below
--- `only`, which is past it; and some have this one. A wide end: in one of them some satisfying times have exactly its weight. An end is left open only if a
--- search for it was, or if there are too many ends.
+-- What is found of an end is right, in all cycles and places that the same thing draws. Narrow: no satisfying times have a separation of more than `only`,
+-- which is below its weight. Passed: none have one from the weight up to below `only`, which is past it. In both some have `only`. Wide: some have the weight.
+-- It is left open only if a search for it was, or if there are too many ends.
 pub record IsEndFound (drawn : Drawn) (budget : ℕ) (end : RangeEnd) : Type 0 where
   pub there : edge drawn.net end.name ≡ Some end.edge
   pub found : IsFoundAmong drawn budget (all_ends drawn) end.name end.edge.weight end.found

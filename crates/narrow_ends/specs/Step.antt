@@ -30,7 +30,7 @@ use Rattle.narrow_ends.specs.declared.source.Thing.{Thing}
 use Rattle.narrow_ends.specs.declared.source.Thing.TheVariants as things
 use Rattle.narrow_ends.specs.contracts.source.EndKeyPartialEq.TheImpl as source_eq
 use Rattle.narrow_ends.specs.Ends.{EndSource, cause_count, is_end, is_seen, source_at, with_ends}
-use Rattle.narrow_ends.specs.Narrow.{IsFoundAmong, IsNeverBetween, IsNeverBeyond, IsPairOpen, IsReached, IsSearchOpen}
+use Rattle.narrow_ends.specs.Narrow.{IsFoundAmong, IsPairOpen, IsReached, IsSearchOpen}
 
 -- the constraint and the cause of a name are there, and it is the name of an end
 pub record HasEnd (drawn : Drawn) (name : EdgeName) : Type 0 where
@@ -94,6 +94,14 @@ AreShown net (greatest.Unbounded set) = Unit {0}
 AreShown net (greatest.Open limit attained) = Unit {0}
 
 -- ---- one edge
+
+-- no satisfying times have a separation along the edge of more than this
+abbrev pub IsNeverBeyond : Net → ℤ → Edge → Type 0
+IsNeverBeyond net value e = (times : List ℤ) → Satisfies times net → separation times e.from e.to ≤ℤ value
+
+-- no satisfying times have a separation along the edge from the first number up to below the second one
+abbrev pub IsNeverBetween : Net → ℤ → ℤ → Edge → Type 0
+IsNeverBetween net first next e = (times : List ℤ) → Satisfies times net → first ≤ℤ separation times e.from e.to → next ≤ℤ separation times e.from e.to
 
 -- some satisfying times have a separation along an edge of at least its weight
 abbrev pub IsComeTo : Net → Edge → Type 0
