@@ -15,7 +15,7 @@ use Rattle.narrow_ends.specs.declared.end.EndFound.TheVariants.{Narrow, Open, Pa
 use Rattle.narrow_ends.specs.declared.narrow.TheConstants.{MOST_SEARCHES}
 use Rattle.narrow_ends.specs.Ends.{EndSource, are_alike, source_at}
 use Rattle.narrow_ends.specs.Narrow.{IsAlikeEdge, IsFoundAmong}
-use Rattle.narrow_ends.specs.Step.{IsFoundAlong, IsFoundOn, IsLookedAlong, IsNeverBetween, IsNeverBeyond, joined}
+use Rattle.narrow_ends.specs.Step.{IsFoundAlong, IsFoundOn, IsLookedAlong, IsNeverBetween, IsNeverBeyond, joined_found}
 use Rattle.narrow_ends.proofs.Sources.{source_decides}
 
 -- ---- numbers
@@ -153,7 +153,7 @@ module _ (drawn : Drawn) (budget : ℕ) (names : List EdgeName) (x name : EdgeNa
     ]
 
     joined_own : (before next : EndFound) → IsFoundAmong drawn budget names name e.weight before → IsFoundAlong drawn.net budget x e next
-        → IsFoundAmong drawn budget (names ++ x ∷ []) name e.weight (joined before next)
+        → IsFoundAmong drawn budget (names ++ x ∷ []) name e.weight (joined_found before next)
     joined_own (Narrow only) (Narrow next) found along = both_narrow only next found along
     joined_own (Narrow only) (Passed next) found along = (
       along.0,
@@ -175,21 +175,21 @@ module _ (drawn : Drawn) (budget : ℕ) (names : List EdgeName) (x name : EdgeNa
 
     module _ (weight : ℤ) (own : e.weight ≡ weight) where
       joined_among : (before next : EndFound) → IsFoundAmong drawn budget names name weight before → IsFoundAlong drawn.net budget x e next
-          → IsFoundAmong drawn budget (names ++ x ∷ []) name weight (joined before next)
+          → IsFoundAmong drawn budget (names ++ x ∷ []) name weight (joined_found before next)
       joined_among before next =
           subst (λ (w : ℤ). IsFoundAmong drawn budget names name w before → IsFoundAlong drawn.net budget x e next
-          → IsFoundAmong drawn budget (names ++ x ∷ []) name w (joined before next)) own (joined_own before next)
+          → IsFoundAmong drawn budget (names ++ x ∷ []) name w (joined_found before next)) own (joined_own before next)
 
       module _ (left : ℕ) (few : MOST_SEARCHES ≤ left + length names) where
         -- no searches are left
         many : left ≡ 0 → MOST_SEARCHES < length (names ++ x ∷ [])
         many none = omega (arith, few, none, length-append names (x ∷ []))
 
-        looked_along : (before next last : EndFound) → joined before Open ≡ Open → IsFoundAmong drawn budget names name weight before
-            → IsLookedAlong drawn.net budget left x e next → last ≡ joined before next → IsFoundAmong drawn budget (names ++ x ∷ []) name weight last
+        looked_along : (before next last : EndFound) → joined_found before Open ≡ Open → IsFoundAmong drawn budget names name weight before
+            → IsLookedAlong drawn.net budget left x e next → last ≡ joined_found before next → IsFoundAmong drawn budget (names ++ x ∷ []) name weight last
         looked_along before next last opens found (inl along) is = subst (IsFoundAmong drawn budget (names ++ x ∷ []) name weight) (sym is) (joined_among before next found along)
         looked_along before next last opens found (inr none) is =
-            subst (IsFoundAmong drawn budget (names ++ x ∷ []) name weight) (sym (is ∙ (ap (joined before) none.0 ∙ opens))) (inr (many none.1))
+            subst (IsFoundAmong drawn budget (names ++ x ∷ []) name weight) (sym (is ∙ (ap (joined_found before) none.0 ∙ opens))) (inr (many none.1))
 
         -- an end of the same thing was looked at
         pub looked_on : (found next : EndFound) → IsFoundAmong drawn budget names name weight found → IsFoundOn drawn.net budget left x e found next

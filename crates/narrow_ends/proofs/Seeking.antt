@@ -19,10 +19,10 @@ use Rattle.requirements.specs.declared.separation.Separation.TheVariants.{Closed
 use Rattle.requirements.specs.declared.separation.Separation.TheVariants as separations
 use Rattle.narrow_ends.specs.declared.end.EndFound.{EndFound}
 use Rattle.narrow_ends.specs.declared.end.EndFound.TheVariants.{Narrow, Open, Passed, Wide}
-use Rattle.narrow_ends.specs.declared.reach.Reach.{Reach}
-use Rattle.narrow_ends.specs.declared.reach.Reach.TheVariants as reaches
+use Rattle.narrow_ends.specs.declared.nearness.Nearness.{Nearness}
+use Rattle.narrow_ends.specs.declared.nearness.Nearness.TheVariants as nearness
 use Rattle.narrow_ends.specs.Narrow.{IsPairOpen, IsSearchOpen, net_alone}
-use Rattle.narrow_ends.specs.Step.{AreShown, IsComeTo, IsCutAt, IsFoundAlone, IsFoundAlong, IsFoundOn, IsLeastFound, IsLookedAlong, IsReachOf, end_from, joined, reach_by}
+use Rattle.narrow_ends.specs.Step.{AreShown, IsComeTo, IsCutAt, IsFoundAlone, IsFoundAlong, IsFoundOn, IsLeastFound, IsLookedAlong, IsNearnessOf, end_from, joined_found, nearness_by}
 
 -- ---- the times of a search
 
@@ -82,28 +82,28 @@ unbounded_comes net e set found =
 past_by : (value weight : ℤ) → int_lt value weight ≡ false → weight ≤ℤ value
 past_by value weight is = omega (arith, ints)
 
-closed_reaches : (net : Net) (budget : ℕ) (e : Edge) (value : ℤ) (times : List ℤ) → IsAttainedBy net e.from e.to value times → IsReachOf net budget e (reach_by value e.weight)
+closed_reaches : (net : Net) (budget : ℕ) (e : Edge) (value : ℤ) (times : List ℤ) → IsAttainedBy net e.from e.to value times → IsNearnessOf net budget e (nearness_by value e.weight)
 closed_reaches net budget e value times found = by_less (int_lt value e.weight) refl
   where
-    by_same : (t : Bool) → int_eq value e.weight ≡ t → e.weight ≤ℤ value → IsReachOf net budget e (if t then reaches.There else reaches.Past)
+    by_same : (t : Bool) → int_eq value e.weight ≡ t → e.weight ≤ℤ value → IsNearnessOf net budget e (if t then nearness.There else nearness.Past)
     by_same true is past =
         let same : value ≡ e.weight = (Decides-int_eq value e.weight).0 is in (times, found.satisfies, found.attains ∙ same)
     by_same false is past = (times, found.satisfies, subst (λ (z : ℤ). e.weight ≤ℤ z) (sym found.attains) past)
 
     by_less : (t : Bool) → int_lt value e.weight ≡ t
-        → IsReachOf net budget e (if t then reaches.Short value else (if int_eq value e.weight then reaches.There else reaches.Past))
+        → IsNearnessOf net budget e (if t then nearness.Short value else (if int_eq value e.weight then nearness.There else nearness.Past))
     by_less true is = (omega (arith, ints), found.greatest.most, (times, found.satisfies, found.attains), found.value_within)
     by_less false is = by_same (int_eq value e.weight) refl (past_by value e.weight is)
 
-pub closed_reach : (net : Net) (budget : ℕ) (e : Edge) (weight value : ℤ) (greatest : Greatest) (times : Vec ℤ) (reach : Reach) → e.weight ≡ weight → greatest ≡ Closed value times
-    → reach ≡ reach_by (to_z w64 (of_z w64 value)) (to_z w64 (of_z w64 weight)) → to_z w64 (of_z w64 weight) ≡ weight → IsGreatestFound net e.from e.to greatest → IsReachOf net budget e reach
-closed_reach net budget e weight value greatest times reach same is by kept found =
+pub closed_nearness : (net : Net) (budget : ℕ) (e : Edge) (weight value : ℤ) (greatest : Greatest) (times : Vec ℤ) (reach : Nearness) → e.weight ≡ weight → greatest ≡ Closed value times
+    → reach ≡ nearness_by (to_z w64 (of_z w64 value)) (to_z w64 (of_z w64 weight)) → to_z w64 (of_z w64 weight) ≡ weight → IsGreatestFound net e.from e.to greatest → IsNearnessOf net budget e reach
+closed_nearness net budget e weight value greatest times reach same is by kept found =
     let attained : IsAttainedBy net e.from e.to value times.items = subst (IsGreatestFound net e.from e.to) is found in
-    let whole : reach ≡ reach_by value e.weight = by ∙ (ap (λ z. reach_by z (to_z w64 (of_z w64 weight))) (time_kept value attained.value_within) ∙ ap (reach_by value) (kept ∙ sym same)) in
-    subst (IsReachOf net budget e) (sym whole) (closed_reaches net budget e value times.items attained)
+    let whole : reach ≡ nearness_by value e.weight = by ∙ (ap (λ z. nearness_by z (to_z w64 (of_z w64 weight))) (time_kept value attained.value_within) ∙ ap (nearness_by value) (kept ∙ sym same)) in
+    subst (IsNearnessOf net budget e) (sym whole) (closed_reaches net budget e value times.items attained)
 
-pub unbounded_reach : (net : Net) (e : Edge) (greatest : Greatest) (set : Vec Bool) → greatest ≡ Unbounded set → IsGreatestFound net e.from e.to greatest → IsComeTo net e
-unbounded_reach net e greatest set is found = unbounded_comes net e set.items (subst (IsGreatestFound net e.from e.to) is found)
+pub unbounded_nearness : (net : Net) (e : Edge) (greatest : Greatest) (set : Vec Bool) → greatest ≡ Unbounded set → IsGreatestFound net e.from e.to greatest → IsComeTo net e
+unbounded_nearness net e greatest set is found = unbounded_comes net e set.items (subst (IsGreatestFound net e.from e.to) is found)
 
 -- ---- the least separation in a cut network
 
@@ -196,7 +196,7 @@ pub some_alone : (net cut : Net) (e : Edge) → IsCutAt net e cut → IsComeTo n
 some_alone net cut e is come = (come.0, is.there come.0 come.1 come.2)
 
 -- an end with what is found along one edge more
-pub found_on : (net : Net) (budget left : ℕ) (name : EdgeName) (e : Edge) (before mid next : EndFound) → IsLookedAlong net budget left name e mid → next ≡ joined before mid
+pub found_on : (net : Net) (budget left : ℕ) (name : EdgeName) (e : Edge) (before mid next : EndFound) → IsLookedAlong net budget left name e mid → next ≡ joined_found before mid
     → IsFoundOn net budget left name e before next
 found_on net budget left name e (Narrow only) mid next looked is = (mid, looked, is)
 found_on net budget left name e (Passed only) mid next looked is = (mid, looked, is)
@@ -204,6 +204,6 @@ found_on net budget left name e Wide mid next looked is = is
 found_on net budget left name e Open mid next looked is = is
 
 -- an end that falls short along an edge
-pub short_along : (net : Net) (budget : ℕ) (name : EdgeName) (e : Edge) (only : ℤ) → IsReachOf net budget e (reaches.Short only) → IsFoundAlong net budget name e (Narrow (to_z w64 (of_z w64 only)))
+pub short_along : (net : Net) (budget : ℕ) (name : EdgeName) (e : Edge) (only : ℤ) → IsNearnessOf net budget e (nearness.Short only) → IsFoundAlong net budget name e (Narrow (to_z w64 (of_z w64 only)))
 short_along net budget name e only short =
     subst (λ (z : ℤ). IsFoundAlong net budget name e (Narrow z)) (sym (time_kept only short.3)) (short.0, short.1, short.2)

@@ -19,8 +19,8 @@ use Rattle.narrow_ends.specs.declared.narrow.TheConstants.{MOST_SEARCHES}
 use Rattle.narrow_ends.specs.Ends.{all_ends, are_alike}
 
 -- some satisfying times have exactly this separation along the edge
-abbrev pub IsReached : Net → ℤ → Edge → Type 0
-IsReached net value e = (times : List ℤ) × Satisfies times net × (separation times e.from e.to ≡ value)
+abbrev pub IsExact : Net → ℤ → Edge → Type 0
+IsExact net value e = (times : List ℤ) × Satisfies times net × (separation times e.from e.to ≡ value)
 
 -- an edge of one of some ends, which the same thing draws as the end with a name
 pub record IsAlikeEdge (drawn : Drawn) (ends : List EdgeName) (name : EdgeName) (e : Edge) : Type 0 where
@@ -56,11 +56,11 @@ IsSearchOpen net budget name e =
 abbrev pub IsFoundAmong : Drawn → ℕ → List EdgeName → EdgeName → ℤ → EndFound → Type 0
 IsFoundAmong drawn budget ends name weight (Narrow only) =
     (only <ℤ weight) × ((e : Edge) → IsAlikeEdge drawn ends name e → (times : List ℤ) → Satisfies times drawn.net → separation times e.from e.to ≤ℤ only)
-    × ((e : Edge) × IsAlikeEdge drawn ends name e × IsReached drawn.net only e)
+    × ((e : Edge) × IsAlikeEdge drawn ends name e × IsExact drawn.net only e)
 IsFoundAmong drawn budget ends name weight (Passed only) =
     (weight <ℤ only) × ((e : Edge) → IsAlikeEdge drawn ends name e → (times : List ℤ) → Satisfies times drawn.net → weight ≤ℤ separation times e.from e.to → only ≤ℤ separation times e.from e.to)
-    × ((e : Edge) × IsAlikeEdge drawn ends name e × IsReached drawn.net only e)
-IsFoundAmong drawn budget ends name weight Wide = (e : Edge) × IsAlikeEdge drawn ends name e × IsReached drawn.net weight e
+    × ((e : Edge) × IsAlikeEdge drawn ends name e × IsExact drawn.net only e)
+IsFoundAmong drawn budget ends name weight Wide = (e : Edge) × IsAlikeEdge drawn ends name e × IsExact drawn.net weight e
 IsFoundAmong drawn budget ends name weight Open =
     ((e : Edge) × (alike : IsAlikeEdge drawn ends name e) × IsSearchOpen drawn.net budget alike.other e) ⊎ (MOST_SEARCHES < length ends)
 

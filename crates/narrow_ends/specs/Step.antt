@@ -23,14 +23,14 @@ use Rattle.narrow_ends.specs.declared.end.EndFound.{EndFound}
 use Rattle.narrow_ends.specs.declared.end.EndFound.TheVariants.{Narrow, Open, Passed, Wide}
 use Rattle.narrow_ends.specs.declared.end.RangeEnd.{RangeEnd}
 use Rattle.narrow_ends.specs.declared.found_times.FoundTimes.{FoundTimes}
-use Rattle.narrow_ends.specs.declared.reach.Reach.{Reach}
-use Rattle.narrow_ends.specs.declared.reach.Reach.TheVariants as reaches
+use Rattle.narrow_ends.specs.declared.nearness.Nearness.{Nearness}
+use Rattle.narrow_ends.specs.declared.nearness.Nearness.TheVariants as nearness
 use Rattle.narrow_ends.specs.declared.source.EndKey.{EndKey}
 use Rattle.narrow_ends.specs.declared.source.Thing.{Thing}
 use Rattle.narrow_ends.specs.declared.source.Thing.TheVariants as things
 use Rattle.narrow_ends.specs.contracts.source.EndKeyPartialEq.TheImpl as source_eq
 use Rattle.narrow_ends.specs.Ends.{EndSource, cause_count, is_end, is_seen, source_at, with_ends}
-use Rattle.narrow_ends.specs.Narrow.{IsFoundAmong, IsPairOpen, IsReached, IsSearchOpen}
+use Rattle.narrow_ends.specs.Narrow.{IsFoundAmong, IsPairOpen, IsExact, IsSearchOpen}
 
 -- the constraint and the cause of a name are there, and it is the name of an end
 pub record HasEnd (drawn : Drawn) (name : EdgeName) : Type 0 where
@@ -80,8 +80,8 @@ abbrev pub HasWeight : Edge → Vec ℤ → Type 0
 HasWeight e times = separation times.items e.from e.to ≡ e.weight
 
 -- times have a separation along an edge of at least its weight
-abbrev pub ComesTo : Edge → Vec ℤ → Type 0
-ComesTo e times = e.weight ≤ℤ separation times.items e.from e.to
+abbrev pub HasWeightOrMore : Edge → Vec ℤ → Type 0
+HasWeightOrMore e times = e.weight ≤ℤ separation times.items e.from e.to
 
 -- all kept times satisfy the network
 abbrev pub AreFoundTimes : Net → FoundTimes → Type 0
@@ -108,15 +108,15 @@ abbrev pub IsComeTo : Net → Edge → Type 0
 IsComeTo net e = (times : List ℤ) × Satisfies times net × (e.weight ≤ℤ separation times e.from e.to)
 
 -- how far the greatest separation along an edge comes
-abbrev pub IsReachOf : Net → ℕ → Edge → Reach → Type 0
-IsReachOf net budget e (reaches.Short only) = (only <ℤ e.weight) × IsNeverBeyond net only e × IsReached net only e × IsTime only
-IsReachOf net budget e reaches.There = IsReached net e.weight e
-IsReachOf net budget e reaches.Past = IsComeTo net e
-IsReachOf net budget e reaches.Open = IsPairOpen net budget e.from e.to
+abbrev pub IsNearnessOf : Net → ℕ → Edge → Nearness → Type 0
+IsNearnessOf net budget e (nearness.Short only) = (only <ℤ e.weight) × IsNeverBeyond net only e × IsExact net only e × IsTime only
+IsNearnessOf net budget e nearness.There = IsExact net e.weight e
+IsNearnessOf net budget e nearness.Past = IsComeTo net e
+IsNearnessOf net budget e nearness.Open = IsPairOpen net budget e.from e.to
 
 -- how far a number comes, given a weight
-abbrev pub reach_by : ℤ → ℤ → Reach
-reach_by value weight = if int_lt value weight then reaches.Short value else (if int_eq value weight then reaches.There else reaches.Past)
+abbrev pub nearness_by : ℤ → ℤ → Nearness
+nearness_by value weight = if int_lt value weight then nearness.Short value else (if int_eq value weight then nearness.There else nearness.Past)
 
 -- the satisfying times of a network that come as far as the weight of an edge are those that satisfy the other one
 pub record IsCutAt (net : Net) (e : Edge) (cut : Net) : Type 0 where
@@ -130,8 +130,8 @@ end_from only weight = if int_eq only weight then Wide else Passed only
 -- what is found along one edge by the least separation in a cut network
 abbrev pub IsLeastFound : Net → Net → ℕ → Edge → EndFound → Type 0
 IsLeastFound net cut budget e (Narrow only) = ⊥
-IsLeastFound net cut budget e (Passed only) = (e.weight <ℤ only) × IsNeverBetween net e.weight only e × IsReached net only e
-IsLeastFound net cut budget e Wide = IsReached net e.weight e
+IsLeastFound net cut budget e (Passed only) = (e.weight <ℤ only) × IsNeverBetween net e.weight only e × IsExact net only e
+IsLeastFound net cut budget e Wide = IsExact net e.weight e
 IsLeastFound net cut budget e Open = IsPairOpen cut budget e.to e.from
 
 -- it is found, or the search for times in the cut network was left open
@@ -140,9 +140,9 @@ IsFoundAlone net cut budget e found = IsLeastFound net cut budget e found ⊎ ((
 
 -- what is found along the edge of a name
 abbrev pub IsFoundAlong : Net → ℕ → EdgeName → Edge → EndFound → Type 0
-IsFoundAlong net budget name e (Narrow only) = (only <ℤ e.weight) × IsNeverBeyond net only e × IsReached net only e
-IsFoundAlong net budget name e (Passed only) = (e.weight <ℤ only) × IsNeverBetween net e.weight only e × IsReached net only e
-IsFoundAlong net budget name e Wide = IsReached net e.weight e
+IsFoundAlong net budget name e (Narrow only) = (only <ℤ e.weight) × IsNeverBeyond net only e × IsExact net only e
+IsFoundAlong net budget name e (Passed only) = (e.weight <ℤ only) × IsNeverBetween net e.weight only e × IsExact net only e
+IsFoundAlong net budget name e Wide = IsExact net e.weight e
 IsFoundAlong net budget name e Open = IsSearchOpen net budget name e
 
 -- it is found, or there were no searches left
@@ -152,17 +152,17 @@ IsLookedAlong net budget left name e found = IsFoundAlong net budget name e foun
 -- ---- what is found of ends
 
 -- what is found of an end along some edges and one more
-abbrev pub joined : EndFound → EndFound → EndFound
-joined (Narrow only) (Narrow next) = Narrow (int_max only next)
-joined (Narrow only) (Passed next) = Passed next
-joined (Narrow only) Wide = Wide
-joined (Narrow only) Open = Open
-joined (Passed only) (Narrow next) = Passed only
-joined (Passed only) (Passed next) = Passed (int_min only next)
-joined (Passed only) Wide = Wide
-joined (Passed only) Open = Open
-joined Wide next = Wide
-joined Open next = Open
+abbrev pub joined_found : EndFound → EndFound → EndFound
+joined_found (Narrow only) (Narrow next) = Narrow (int_max only next)
+joined_found (Narrow only) (Passed next) = Passed next
+joined_found (Narrow only) Wide = Wide
+joined_found (Narrow only) Open = Open
+joined_found (Passed only) (Narrow next) = Passed only
+joined_found (Passed only) (Passed next) = Passed (int_min only next)
+joined_found (Passed only) Wide = Wide
+joined_found (Passed only) Open = Open
+joined_found Wide next = Wide
+joined_found Open next = Open
 
 -- what is found of an end is right among some ends
 pub record IsEndAmong (drawn : Drawn) (budget : ℕ) (ends : List EdgeName) (end : RangeEnd) : Type 0 where
@@ -178,8 +178,8 @@ sources_of drawn ends = map (λ (end : RangeEnd). source_at drawn end.name) ends
 
 -- What is found of an end, with one edge more. Where times reach it, or a search was left open, it stays; else the edge is looked along.
 abbrev pub IsFoundOn : Net → ℕ → ℕ → EdgeName → Edge → EndFound → EndFound → Type 0
-IsFoundOn net budget left name e (Narrow only) next = (found : EndFound) × IsLookedAlong net budget left name e found × (next ≡ joined (Narrow only) found)
-IsFoundOn net budget left name e (Passed only) next = (found : EndFound) × IsLookedAlong net budget left name e found × (next ≡ joined (Passed only) found)
+IsFoundOn net budget left name e (Narrow only) next = (found : EndFound) × IsLookedAlong net budget left name e found × (next ≡ joined_found (Narrow only) found)
+IsFoundOn net budget left name e (Passed only) next = (found : EndFound) × IsLookedAlong net budget left name e found × (next ≡ joined_found (Passed only) found)
 IsFoundOn net budget left name e Wide next = next ≡ Wide
 IsFoundOn net budget left name e Open next = next ≡ Open
 

@@ -3,8 +3,8 @@
 ghost use Rattle.std.specs.Prelude.{◌≡◌, ◌≤ℤ◌, ◌-ℤ◌, Any, IsTrue, OnOk};
 ghost use Rattle.event_graph.specs.Network.{Net};
 ghost use Rattle.event_graph.specs.Satisfying.{Satisfies};
-ghost use Rattle.narrow_ends.specs.Narrow.{IsReached};
-ghost use Rattle.narrow_ends.specs.Step.{AreFoundTimes, AreShown, ComesTo, HasWeight, IsComeTo};
+ghost use Rattle.narrow_ends.specs.Narrow.{IsExact};
+ghost use Rattle.narrow_ends.specs.Step.{AreFoundTimes, AreShown, HasWeightOrMore, HasWeight, IsComeTo};
 
 use event_graph::{Edge, time_of};
 use extremes::Greatest;
@@ -36,7 +36,7 @@ impl FoundTimes {
 
     /// Whether some of the kept times have exactly the weight of an edge as their separation along it.
     pub fn reach(&self, edge: Edge) -> bool
-        ensures reached { IsTrue result → (net : Net) → AreFoundTimes net self.now → IsReached net edge.weight edge }
+        ensures reached { IsTrue result → (net : Net) → AreFoundTimes net self.now → IsExact net edge.weight edge }
     {
         some_reach(&self.kept, edge)
     }
@@ -109,14 +109,14 @@ fn is_apart(from: i64, to: i64, weight: i64) -> bool
 
 // Whether some times have a separation along an edge of at least its weight.
 fn some_come_to(kept: &[Vec<i64>], edge: Edge) -> bool
-    ensures { IsTrue result → Any (ComesTo edge) kept.now }
+    ensures { IsTrue result → Any (HasWeightOrMore edge) kept.now }
 {
     kept.iter().any(|times| come_to(times, edge))
 }
 
 // Whether times have a separation along an edge of at least its weight.
 fn come_to(times: &Vec<i64>, edge: Edge) -> bool
-    ensures { IsTrue result → ComesTo edge times.now }
+    ensures { IsTrue result → HasWeightOrMore edge times.now }
 {
     is_past(
         time_of(times, edge.from),

@@ -9,8 +9,8 @@ mod ends;
 mod found_times;
 mod laws;
 mod narrow;
+mod nearness;
 mod passing;
-mod reach;
 mod search;
 mod source;
 

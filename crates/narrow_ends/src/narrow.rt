@@ -6,7 +6,7 @@ ghost use Rattle.itv_base.specs.Range.{IsEnd};
 ghost use Rattle.extremes.specs.Ready.{IsReady};
 ghost use Rattle.narrow_ends.specs.Ends.{ends_of};
 ghost use Rattle.narrow_ends.specs.Narrow.{IsEndFound};
-ghost use Rattle.narrow_ends.specs.Step.{AreEndPlaces, AreFoundTimes, HasEnd, IsLookedOn, IsSeenIn, Stand, joined};
+ghost use Rattle.narrow_ends.specs.Step.{AreEndPlaces, AreFoundTimes, HasEnd, IsLookedOn, IsSeenIn, Stand, joined_found};
 ghost use Rattle.narrow_ends.specs.declared.end.RangeEnd.{RangeEnd as EndSeen};
 ghost use Rattle.itv_base.specs.declared.names.EdgeName.{EdgeName as NameOfEdge};
 
@@ -135,7 +135,7 @@ fn look_on(
         EndFound::Narrow(_) | EndFound::Passed(_) => {
             let next = search(alloc, net, extremes, name, edge, searches)?;
             Ok(RangeEnd {
-                found: joined(end.found, next),
+                found: joined_found(end.found, next),
                 ..end
             })
         }
@@ -144,8 +144,8 @@ fn look_on(
 }
 
 // What is found of an end along some edges and one more.
-fn joined(found: EndFound, next: EndFound) -> EndFound
-    ensures { result ≡ joined found next }
+fn joined_found(found: EndFound, next: EndFound) -> EndFound
+    ensures { result ≡ joined_found found next }
 {
     match (found, next) {
         (EndFound::Narrow(only), EndFound::Narrow(next)) => EndFound::Narrow(only.max(next)),

@@ -6,13 +6,13 @@ ghost use Rattle.event_graph.specs.Network.{Net};
 ghost use Rattle.itv_base.specs.Range.{IsEnd};
 ghost use Rattle.extremes.specs.Found.{IsGreatestFound, IsOpenShown};
 ghost use Rattle.extremes.specs.Ready.{IsReady};
-ghost use Rattle.narrow_ends.specs.Step.{AreFoundTimes, IsFoundAlong, IsLookedAlong, IsReachOf, IsSeenIn, reach_by};
+ghost use Rattle.narrow_ends.specs.Step.{AreFoundTimes, IsFoundAlong, IsLookedAlong, IsNearnessOf, IsSeenIn, nearness_by};
 ghost use Rattle.event_graph.specs.declared.edge.Edge.{Edge as EdgeSeen};
 
 use crate::end::EndFound;
 use crate::end_searches::EndSearches;
+use crate::nearness::Nearness;
 use crate::passing::search_passed;
-use crate::reach::Reach;
 use event_graph::{Edge, Network};
 use extremes::{Extremes, Greatest};
 use itv_base::{EdgeName, NoMemory};
@@ -80,10 +80,10 @@ fn search_anew(
     ensures found { IfOk result (IsFoundAlong net.now extremes.old.budget name edge) }
 {
     match reach(alloc, net, extremes, edge, searches)? {
-        Reach::Short(only) => Ok(EndFound::Narrow(only)),
-        Reach::There => Ok(EndFound::Wide),
-        Reach::Past => search_passed(alloc, net, extremes, name, edge, searches),
-        Reach::Open => Ok(EndFound::Open),
+        Nearness::Short(only) => Ok(EndFound::Narrow(only)),
+        Nearness::There => Ok(EndFound::Wide),
+        Nearness::Past => search_passed(alloc, net, extremes, name, edge, searches),
+        Nearness::Open => Ok(EndFound::Open),
     }
 }
 
@@ -94,7 +94,7 @@ fn reach(
     extremes: &mut Extremes,
     edge: Edge,
     searches: &mut EndSearches,
-) -> Result<Reach, NoMemory>
+) -> Result<Nearness, NoMemory>
     requires ready { IsReady net.now extremes.old }
     requires from { edge.from.0 < net.now.events }
     requires to { edge.to.0 < net.now.events }
@@ -104,38 +104,38 @@ fn reach(
     ensures same { searches.new.budget ≡ searches.old.budget }
     ensures left { searches.new.left ≡ searches.old.left }
     ensures kept { OnOk result (AreFoundTimes net.now searches.new.found) }
-    ensures reach { IfOk result (IsReachOf net.now extremes.old.budget edge) }
+    ensures reach { IfOk result (IsNearnessOf net.now extremes.old.budget edge) }
 {
     if searches.found.come_to(edge) {
-        return Ok(Reach::Past);
+        return Ok(Nearness::Past);
     }
     let greatest = extremes.greatest(alloc, net, edge.from, edge.to)?;
-    let reach = reach_of(&greatest, edge.weight);
+    let reach = nearness_of(&greatest, edge.weight);
     searches.found.keep_shown(greatest)?;
     Ok(reach)
 }
 
 // How far a greatest separation comes, given the weight of its edge.
-fn reach_of(greatest: &Greatest, weight: i64) -> Reach
+fn nearness_of(greatest: &Greatest, weight: i64) -> Nearness
     ensures reach { (net : Net) (budget : ℕ) (e : EdgeSeen) → e.weight ≡ weight → IsGreatestFound net e.from e.to greatest.now
-        → IsOpenShown net budget e.from e.to greatest.now → IsReachOf net budget e result }
+        → IsOpenShown net budget e.from e.to greatest.now → IsNearnessOf net budget e result }
 {
     match greatest {
-        Separation::Closed { value, .. } => reach_by(*value, weight),
-        Separation::Unbounded { .. } => Reach::Past,
-        Separation::Open { .. } => Reach::Open,
+        Separation::Closed { value, .. } => nearness_by(*value, weight),
+        Separation::Unbounded { .. } => Nearness::Past,
+        Separation::Open { .. } => Nearness::Open,
     }
 }
 
 // How far a number comes, given a weight.
-fn reach_by(value: i64, weight: i64) -> Reach
-    ensures { result ≡ reach_by value weight }
+fn nearness_by(value: i64, weight: i64) -> Nearness
+    ensures { result ≡ nearness_by value weight }
 {
     if value < weight {
-        Reach::Short(value)
+        Nearness::Short(value)
     } else if value == weight {
-        Reach::There
+        Nearness::There
     } else {
-        Reach::Past
+        Nearness::Past
     }
 }

@@ -6,6 +6,6 @@ pub returns-in_ok-next-in-Narrow-clause-found : goal.returns-in_ok-next-in-Narro
 returns-in_ok-next-in-Narrow-clause-found c = record {
   name = refl;
   edge = refl;
-  found = found_on c.args.net.now c.args.extremes.now.budget c.args.searches.now.left c.args.name c.args.edge c.args.end.found c.in_ok-next-in-Narrow.next c.joined.result
-      c.in_ok-next-in-Narrow.ensures.found c.joined.ensures;
+  found = found_on c.args.net.now c.args.extremes.now.budget c.args.searches.now.left c.args.name c.args.edge c.args.end.found c.in_ok-next-in-Narrow.next c.joined_found.result
+      c.in_ok-next-in-Narrow.ensures.found c.joined_found.ensures;
 }

@@ -2,7 +2,7 @@
 
 /// How far the greatest separation along an edge comes.
 #[derive(Clone, Copy)]
-pub enum Reach {
+pub enum Nearness {
     /// It is this number of picoseconds, which is below the weight of the edge.
     Short(i64),
     /// It is the weight.
