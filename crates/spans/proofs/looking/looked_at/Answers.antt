@@ -20,5 +20,5 @@ returns-in-Inconsistent-clause-found c = (
 pub returns-in-Open-clause-found : goal.returns-in-Open-clause-found
 returns-in-Open-clause-found c = open_left c.args.sought.now c.args.next.by c.in_ok-probed.probed _ c.in_ok-probed.ensures.probed c.in-Open.is refl
 
-pub returns-in-Spent-clause-found : goal.returns-in-Spent-clause-found
-returns-in-Spent-clause-found c = open_left c.args.sought.now c.args.next.by c.in_ok-probed.probed _ c.in_ok-probed.ensures.probed c.in-Spent.is refl
+pub returns-clause-found : goal.returns-clause-found
+returns-clause-found c = open_left c.args.sought.now c.args.next.by c.in_ok-probed.probed _ c.in_ok-probed.ensures.probed c.in-Spent.is refl
