@@ -1,7 +1,9 @@
 //! The clauses over bounds and sides. Two literals of each are watched.
 
+use crate::building::short;
 use crate::literal::{Literal, SideLiteral, beyond};
 use crate::places::{EMPTY, Stretch, at, put, take};
+use crate::watch_lists::{Watch, WatchLists};
 use edge_clauses::Basis;
 use itv_base::NoMemory;
 use std::alloc::Global;
@@ -15,40 +17,20 @@ pub struct StoredClause {
     pub levels: usize,
 }
 
-/// A watch of a clause: which of its two, and the next watch in the chain. A literal over a bound can't hold where the other bound of its event is at most
-/// `value`.
-#[derive(Clone, Copy)]
-pub struct Watch {
-    pub clause: usize,
-    pub is_second: bool,
-    pub value: i64,
-    pub next: Option<usize>,
-}
-
 const NO_CLAUSE: StoredClause = StoredClause {
     basis: Basis::ByKept(0),
     literals: EMPTY,
     levels: 0,
 };
 
-const NO_WATCH: Watch = Watch {
-    clause: 0,
-    is_second: false,
-    value: i64::MIN,
-    next: None,
-};
-
 const NO_LITERAL: Literal = Literal::Side(SideLiteral(0));
 
-/// The clauses. A watch stands in the chain of what makes its literal false: of the other bound of the event, or of the opposite literal.
+/// The clauses. A watch is in the list of what makes its literal false: of the other bound of the event, or of the opposite literal.
 #[derive(Drop)]
 pub struct ClauseStore {
     clauses: Vec<StoredClause>,
     literals: Vec<Literal>,
-    /// Two for each clause.
-    watches: Vec<Watch>,
-    by_bound: Vec<Option<usize>>,
-    by_literal: Vec<Option<usize>>,
+    watches: WatchLists,
     /// How many clauses were learnt and are not let go.
     learnt: usize,
 }
@@ -59,18 +41,14 @@ impl ClauseStore {
         ClauseStore {
             clauses: Vec::new(alloc),
             literals: Vec::new(alloc),
-            watches: Vec::new(alloc),
-            by_bound: Vec::new(alloc),
-            by_literal: Vec::new(alloc),
+            watches: WatchLists::new(alloc),
             learnt: 0,
         }
     }
 
     /// Gets room for clauses over so many bounds and literals. There are none yet.
     pub fn make_room(&mut self, bounds: usize, literals: usize) -> Result<(), NoMemory> {
-        self.by_bound.resize(bounds, None)?;
-        self.by_literal.resize(literals, None)?;
-        Ok(())
+        self.watches.make_room(bounds, literals)
     }
 
     /// Adds a clause. The literals of a learnt clause are of so many levels. For any other clause the number is 0.
@@ -92,86 +70,50 @@ impl ClauseStore {
             levels,
         })?;
         self.learnt = self.learnt.saturating_add(levels.min(1));
-        self.watches.push(watch_of(clause, false))?;
-        self.watches.push(watch_of(clause, true))?;
         if 1 < stretch.count {
-            self.attach(clause, false);
-            self.attach(clause, true);
+            self.attach(clause, false)?;
+            self.attach(clause, true)?;
         }
         Ok(())
     }
 
-    // Puts a watch of a clause into the chain of what makes its literal false.
-    fn attach(&mut self, clause: usize, is_second: bool) {
-        let place = place_of(clause, is_second);
+    // Puts a watch of a clause into the list of what makes its literal false.
+    fn attach(&mut self, clause: usize, is_second: bool) -> Result<(), NoMemory> {
         let watched = self.watched(clause, is_second);
-        let next = self.first_watch(watched.opposite());
         let value = match watched {
             Literal::Bound(bound) => beyond(bound.value),
             Literal::Side(_) => i64::MAX,
         };
-        put(
-            &mut self.watches,
-            place,
-            Watch {
-                clause,
-                is_second,
-                value,
-                next,
-            },
-        );
-        self.set_first(watched.opposite(), Some(place));
+        let watch = Watch {
+            clause: short(clause),
+            is_second,
+            value,
+            blocker: self.watched(clause, !is_second),
+        };
+        self.watches.add(watched.opposite(), watch)
     }
 
-    // Sets the first watch of the chain of a literal.
-    fn set_first(&mut self, literal: Literal, place: Option<usize>) {
-        match literal {
-            Literal::Bound(bound) => put(&mut self.by_bound, bound.node.place(), place),
-            Literal::Side(side) => put(&mut self.by_literal, side.0, place),
-        }
+    /// Takes out the watches that are to be looked at where a literal has come to hold.
+    pub fn take_watches(&mut self, literal: Literal) -> Vec<Watch> {
+        self.watches.take_out(literal)
     }
 
-    /// The first watch of the chain that is to be looked at where a literal has come to hold.
-    pub fn first_watch(&self, literal: Literal) -> Option<usize> {
-        match literal {
-            Literal::Bound(bound) => at(&self.by_bound, bound.node.place(), None),
-            Literal::Side(side) => at(&self.by_literal, side.0, None),
-        }
+    /// Puts back those of them that stay.
+    pub fn put_watches(&mut self, literal: Literal, kept: Vec<Watch>) -> Result<(), NoMemory> {
+        self.watches.put_back(literal, kept)
     }
 
-    /// The watch at a place.
-    pub fn watch(&self, place: usize) -> Watch {
-        at(&self.watches, place, NO_WATCH)
-    }
-
-    /// How many watches there are.
-    pub fn watches(&self) -> usize {
-        self.watches.len()
-    }
-
-    /// Watches another literal of a clause in place of a watched one. The watch is in the chain of a literal, after the watch `previous` or at its head.
+    /// Watches another literal of a clause, the one with this number, in place of a watched one.
     pub fn move_watch(
         &mut self,
-        place: usize,
+        clause: usize,
+        is_second: bool,
         number: usize,
-        chain: Literal,
-        previous: Option<usize>,
-    ) {
-        let watch = self.watch(place);
-        match previous {
-            Some(other) => {
-                let mut last = self.watch(other);
-                last.next = watch.next;
-                put(&mut self.watches, other, last);
-            }
-            None => self.set_first(chain, watch.next),
-        }
-        let literals = self.clause(watch.clause).literals;
-        self.swap(
-            literals.place(number_of(watch.is_second)),
-            literals.place(number),
-        );
-        self.attach(watch.clause, watch.is_second);
+    ) -> Result<(), NoMemory> {
+        let literals = self.clause(clause).literals;
+        let place = literals.place(number_of(is_second));
+        self.swap(place, literals.place(number));
+        self.attach(clause, is_second)
     }
 
     // Exchanges two literals.
@@ -219,8 +161,6 @@ impl ClauseStore {
         let clauses = take(&mut self.clauses, Vec::new(alloc));
         let literals = take(&mut self.literals, Vec::new(alloc));
         self.watches.clear();
-        self.by_bound.fill(None);
-        self.by_literal.fill(None);
         self.learnt = 0;
         self.push_kept(&mut cut, &clauses, &literals)
     }
@@ -292,29 +232,10 @@ impl Cut {
     }
 }
 
-// A watch in no chain.
-fn watch_of(clause: usize, is_second: bool) -> Watch {
-    Watch {
-        clause,
-        is_second,
-        value: i64::MAX,
-        next: None,
-    }
-}
-
 // The number of a watched literal.
 fn number_of(is_second: bool) -> usize {
     if is_second {
         return 1;
     }
     0
-}
-
-// The place of a watch of a clause.
-fn place_of(clause: usize, is_second: bool) -> usize {
-    let first = clause.saturating_mul(2);
-    if is_second {
-        return first.saturating_add(1);
-    }
-    first
 }

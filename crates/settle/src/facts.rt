@@ -1,10 +1,11 @@
 //! What holds in a search.
 
 use crate::building::Tables;
+use crate::event_order::EventOrder;
 use crate::literal::NodeBound;
 use crate::meter::Meter;
 use crate::node::Node;
-use crate::places::at;
+use crate::places::{at, take};
 use crate::trail::{Reason, Trail};
 use crate::unseen::{KeptLoop, Unseen};
 use event_graph::Network;
@@ -52,7 +53,7 @@ impl Facts {
         let nodes = net.events().saturating_mul(2);
         let bounds = nodes as usize;
         self.unseen.falls.make_room(bounds)?;
-        self.unseen.sweep.begin(nodes)?;
+        self.unseen.sweep.begin(ordered(alloc, net)?)?;
         let from = Node::most(self.scope.from);
         self.trail
             .begin(bounds, literals, from, self.scope.goal.value)?;
@@ -115,4 +116,14 @@ impl Facts {
         self.meter.look(entries);
         self.unseen.clear(self.trail.len());
     }
+}
+
+// The events of a network, causes before what they cause.
+fn ordered(alloc: Global, net: &Network) -> Result<Vec<EventId>, NoMemory> {
+    let mut order = EventOrder::new(alloc);
+    let filled = order.fill(net);
+    let events = take(&mut order.events, Vec::new(alloc));
+    drop(order);
+    filled?;
+    Ok(events)
 }

@@ -12,6 +12,7 @@ mod building;
 mod choosing;
 mod clause_store;
 mod engine;
+mod event_order;
 mod facts;
 mod fall_counts;
 mod literal;
@@ -33,6 +34,7 @@ mod spreading;
 mod sweep;
 mod trail;
 mod unseen;
+mod watch_lists;
 
 pub use edge_clauses::StoredLine;
 pub use run_turns::RunTurns;

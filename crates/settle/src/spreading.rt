@@ -2,12 +2,14 @@
 
 use crate::arcs::Ground;
 use crate::bound_rules::BoundRule;
-use crate::clause_store::{StoredClause, Watch};
+use crate::clause_store::StoredClause;
 use crate::facts::Facts;
 use crate::literal::{Literal, NodeBound, SideLiteral};
 use crate::node::Node;
+use crate::places::{at, put};
 use crate::trail::Reason;
 use crate::unseen::Conflict;
+use crate::watch_lists::{NO_WATCH, Watch};
 use itv_base::NoMemory;
 
 // How many turns a fall of a bound takes. What follows from it is looked at again.
@@ -222,57 +224,61 @@ impl Facts {
         false
     }
 
-    // Looks at the clauses whose watches are in the chain of a literal.
-    fn look_at_clauses(&mut self, chain: Literal) -> Result<(), NoMemory> {
-        let mut previous = None;
-        let mut next = self.tables.clauses.first_watch(chain);
-        for _ in 0..self.tables.clauses.watches() {
-            let Some(place) = next else {
-                return Ok(());
-            };
-            let watch = self.tables.clauses.watch(place);
-            self.meter.look(1);
-            next = watch.next;
-            if self.may_still_hold(chain, watch)
-                || !self.has_moved(place, watch, chain, previous)?
-            {
-                previous = Some(place);
-            }
+    // Looks at the clauses whose watches are in the list of a literal.
+    fn look_at_clauses(&mut self, literal: Literal) -> Result<(), NoMemory> {
+        let mut watches = self.tables.clauses.take_watches(literal);
+        if !watches.is_empty() {
+            let reached = self.reached(literal);
+            self.meter.look(watches.len());
+            let kept = self.look_at_watches(&mut watches, reached)?;
+            watches.truncate(kept);
         }
-        Ok(())
+        self.tables.clauses.put_watches(literal, watches)
     }
 
-    // Whether the literal of a watch may hold, though that of its chain holds.
-    fn may_still_hold(&self, chain: Literal, watch: Watch) -> bool {
-        match chain {
-            Literal::Bound(bound) => watch.value < self.trail.value(bound.node),
-            Literal::Side(_) => false,
+    // The value of the bound of a literal. One of a side has the least number.
+    fn reached(&self, literal: Literal) -> i64 {
+        match literal {
+            Literal::Bound(bound) => self.trail.value(bound.node),
+            Literal::Side(_) => i64::MIN,
         }
+    }
+
+    // Looks at the clauses of watches, where the bound of their list has come to a value. Brings the watches that stay to the front, and says how many they are.
+    fn look_at_watches(
+        &mut self,
+        watches: &mut Vec<Watch>,
+        reached: i64,
+    ) -> Result<usize, NoMemory> {
+        let mut kept = 0usize;
+        for number in 0..watches.len() {
+            let watch = at(watches, number, NO_WATCH);
+            if watch.value < reached || self.trail.holds(watch.blocker) || !self.has_moved(watch)? {
+                put(watches, kept, watch);
+                kept = kept.saturating_add(1);
+            }
+        }
+        Ok(kept)
     }
 
     // Watches a literal that may hold in place of one that can't, and says so. If there is none, the clause makes the literal of the other watch hold.
-    fn has_moved(
-        &mut self,
-        place: usize,
-        watch: Watch,
-        chain: Literal,
-        previous: Option<usize>,
-    ) -> Result<bool, NoMemory> {
-        let other = self.tables.clauses.watched(watch.clause, !watch.is_second);
+    fn has_moved(&mut self, watch: Watch) -> Result<bool, NoMemory> {
+        let place = watch.clause as usize;
+        let other = self.tables.clauses.watched(place, !watch.is_second);
         if self.trail.holds(other) {
             return Ok(false);
         }
-        let clause = self.tables.clauses.clause(watch.clause);
+        let clause = self.tables.clauses.clause(place);
         self.meter.look(clause.literals.count);
         match self.unwatched(clause) {
             Some(number) => {
                 self.tables
                     .clauses
-                    .move_watch(place, number, chain, previous);
+                    .move_watch(place, watch.is_second, number)?;
                 Ok(true)
             }
             None => {
-                self.imply(watch.clause, other)?;
+                self.imply(place, other)?;
                 Ok(false)
             }
         }

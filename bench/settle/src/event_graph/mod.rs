@@ -95,6 +95,10 @@ impl Network {
         self.constraints[constraint as usize].causes[cause as usize]
     }
 
+    pub fn has_cause(&self, constraint: u32, cause: u32) -> bool {
+        self.constraints.get(constraint as usize).is_some_and(|it| it.causes.get(cause as usize).is_some())
+    }
+
     pub fn edge(&self, name: EdgeName) -> Option<Edge> {
         let constraint = self.constraints.get(name.constraint as usize)?;
         let cause = constraint.causes.get(name.cause as usize)?;
