@@ -37,7 +37,7 @@ use Rattle.explanations.specs.declared.finding.Finding.{Finding}
 use Rattle.explanations.specs.declared.finding.Finding.TheVariants.{Inconsistent, Open}
 use Rattle.explanations.specs.declared.row.RowFound.{RowFound}
 use Rattle.requirements.specs.Separations.{bound_of}
-use Rattle.explanations.specs.Answers.{both_of, verdict_by, verdict_in, consistency_of}
+use Rattle.explanations.specs.Answers.{both_of, consistency_of, verdict_in}
 
 -- ---- origins
 
