@@ -3,7 +3,7 @@ use Rattle.std.specs.Prelude.{min}
 use Rattle.std.proofs.lemmas.Bool.{cases_lt}
 use Rattle.std.proofs.Common.{inl, inr, ◌≡◌, ℕ, ◌+◌, ◌*◌, ◌<◌, ◌≤◌, List, [], ◌∷◌, ◌++◌, All, length, get_or, drop, refl, ap, sym, ◌∙◌, arith}
 use Rattle.std.proofs.lemmas.Nat.{mul-le}
-use Rattle.std.proofs.lemmas.List.{append_assoc, append-nil, drop_all, drop_more}
+use Rattle.std.proofs.lemmas.List.{append_assoc, append-nil, drop_all}
 use Rattle.drawn_networks.specs.Drawn.{Drawn}
 use Rattle.sheet.specs.declared.row.SheetRow.{SheetRow}
 use Rattle.slack_report.specs.declared.words.EndWord.{EndWord}
@@ -22,12 +22,9 @@ none_left : (noted : Noted) (drawn : Drawn) (number : ℕ) (rows : List SheetRow
 none_left noted drawn number [] = refl
 none_left noted drawn number (row ∷ rows) = refl
 
-pub one_row : (noted : Noted) (drawn : Drawn) (k : ℕ) (rows : List SheetRow) (found : List RowFound) (row : SheetRow) (one : RowFound) → k < length rows → k < length found
-    → row ≡ get_or rows k row → one ≡ get_or found k one
+one_row : (noted : Noted) (drawn : Drawn) (k : ℕ) (rows : List SheetRow) (found : List RowFound) (row : SheetRow) (one : RowFound) → drop k rows ≡ row ∷ drop (k + 1) rows → drop k found ≡ one ∷ drop (k + 1) found
     → rows_text noted drawn k (drop k rows) (drop k found) ≡ row_text noted drawn k row one ++ rows_text noted drawn (k + 1) (drop (k + 1) rows) (drop (k + 1) found)
-one_row noted drawn k rows found row one within also at there =
-    let first : drop k rows ≡ row ∷ drop (k + 1) rows = drop_more rows k row within ∙ ap (λ r. r ∷ drop (k + 1) rows) (sym at) in
-    let second : drop k found ≡ one ∷ drop (k + 1) found = drop_more found k one also ∙ ap (λ f. f ∷ drop (k + 1) found) (sym there) in
+one_row noted drawn k rows found row one first second =
     ap (λ rs. rows_text noted drawn k rs (drop k found)) first ∙ ap (λ fs. rows_text noted drawn k (row ∷ drop (k + 1) rows) fs) second
 
 pub rows_done : (noted : Noted) (drawn : Drawn) (k : ℕ) (rows : List SheetRow) (found : List RowFound) (before all : List ℕ) → min (length rows) (length found) ≤ k
@@ -39,9 +36,17 @@ rows_done noted drawn k rows found before all past h = sym (append-nil before) �
     | inr past ↦ ap (λ rs. rows_text noted drawn k rs (drop k found)) (drop_all k rows past)
   ]
 
-pub goes_on : (before step rest left all after : List ℕ) → before ++ left ≡ all → left ≡ step ++ rest → after ≡ before ++ step → after ++ rest ≡ all
+goes_on : (before step rest left all after : List ℕ) → before ++ left ≡ all → left ≡ step ++ rest → after ≡ before ++ step → after ++ rest ≡ all
 goes_on before step rest left all after h is pushed =
     ap (λ t. t ++ rest) pushed ∙ append_assoc before step rest ∙ ap (λ t. before ++ t) (sym is) ∙ h
+
+-- the lines of one more row were added
+pub row_goes_on : (noted : Noted) (drawn : Drawn) (k : ℕ) (rows : List SheetRow) (found : List RowFound) (row : SheetRow) (one : RowFound) (before after all : List ℕ)
+    → slice_get rows k ≡ Some row → slice_get found k ≡ Some one → after ≡ before ++ row_text noted drawn k row one
+    → before ++ rows_text noted drawn k (drop k rows) (drop k found) ≡ all → after ++ rows_text noted drawn (k + 1) (drop (k + 1) rows) (drop (k + 1) found) ≡ all
+row_goes_on noted drawn k rows found row one before after all at there pushed h =
+    goes_on before (row_text noted drawn k row one) (rows_text noted drawn (k + 1) (drop (k + 1) rows) (drop (k + 1) found)) (rows_text noted drawn k (drop k rows) (drop k found)) all after h
+    (one_row noted drawn k rows found row one (drop_at rows k row at) (drop_at found k one there)) pushed
 
 -- ---- the word at the end
 
@@ -55,13 +60,12 @@ end_done word k rows found past = sym (elim (cases_lt k (length rows)) [
   | inr past ↦ ap (λ rs. rows_end word rs (drop k found)) (drop_all k rows past)
 ])
 
-pub one_end : (word : EndWord) (k : ℕ) (rows : List SheetRow) (found : List RowFound) (row : SheetRow) (one : RowFound) → k < length rows → k < length found
-    → row ≡ get_or rows k row → one ≡ get_or found k one
-    → rows_end word (drop k rows) (drop k found) ≡ rows_end (end_after_row word row.kind one) (drop (k + 1) rows) (drop (k + 1) found)
-one_end word k rows found row one within also at there =
-    let first : drop k rows ≡ row ∷ drop (k + 1) rows = drop_more rows k row within ∙ ap (λ r. r ∷ drop (k + 1) rows) (sym at) in
-    let second : drop k found ≡ one ∷ drop (k + 1) found = drop_more found k one also ∙ ap (λ f. f ∷ drop (k + 1) found) (sym there) in
-    ap (λ rs. rows_end word rs (drop k found)) first ∙ ap (λ fs. rows_end word (row ∷ drop (k + 1) rows) fs) second
+-- the word after one more row
+pub end_goes_on : (word after all : EndWord) (k : ℕ) (rows : List SheetRow) (found : List RowFound) (row : SheetRow) (one : RowFound) → slice_get rows k ≡ Some row → slice_get found k ≡ Some one
+    → after ≡ end_after_row word row.kind one → rows_end word (drop k rows) (drop k found) ≡ all → rows_end after (drop (k + 1) rows) (drop (k + 1) found) ≡ all
+end_goes_on word after all k rows found row one at there is h =
+    ap (λ w. rows_end w (drop (k + 1) rows) (drop (k + 1) found)) is
+    ∙ sym (ap (λ rs. rows_end word rs (drop k found)) (drop_at rows k row at) ∙ ap (λ fs. rows_end word (row ∷ drop (k + 1) rows) fs) (drop_at found k one there)) ∙ h
 
 -- ---- events
 
