@@ -197,7 +197,7 @@ module _ (call : Call) (files : Files) (budget : ℕ) (plan : PlanView) (drawn :
       → (text : List ℕ) × AnswersLint plan drawn budget (answer_of end.0) text × (call.sink_after ≡ grown call.sink_before text)
   lint_wrote result means end = planned_wrote Lint call files budget plan drawn known asks result means end
 
-  pub lint_clean : (result : Outcome) → OutcomeMeans call result → result ≡ ends.AllPass → IsLintClean plan drawn
+  pub lint_clean : (result : Outcome) → OutcomeMeans call result → result ≡ ends.AllPass → IsLintClean plan drawn budget
   lint_clean result means e =
       let m = answered_by call result answers.AllPass (λ same. cc same) means e in
       let a = lint_said answers.AllPass m in
@@ -210,5 +210,5 @@ module _ (call : Call) (files : Files) (budget : ℕ) (plan : PlanView) (drawn :
         found = a.found;
         is_found = a.is_found;
         silenced = clean;
-        ended = clean_has_searched_all plan a.design drawn a.warnings a.found a.is_found clean;
+        ended = clean_has_searched_all plan a.design drawn a.warnings budget a.found a.is_found clean;
       }

@@ -238,12 +238,12 @@ pub record HasSafeHighs (noted : NotesKept) (drawn : Drawn) (text : List ℕ) : 
   pub safe : AllZip (IsSafeHigh drawn) (numbers_of drawn) found
 
 -- The design that a plan draws has no line to print: all are silenced by notes, and what is found is right. The searches ended: nothing was left open.
-pub record IsLintClean (plan : PlanView) (drawn : Drawn) : Type 0 where
+pub record IsLintClean (plan : PlanView) (drawn : Drawn) (budget : ℕ) : Type 0 where
   pub design : DesignView
   pub is_design : composed_on plan.netlist (sheets_on plan.sheets plan.netlist.parts) ≡ Ok design
   pub warnings : List Warning
   pub found : LintFound
-  pub is_found : IsLintFound drawn found
+  pub is_found : IsLintFound drawn budget found
   pub silenced : is_clean plan design drawn (lines_of design drawn warnings found) ≡ true
   pub ended : HasSearchedAll drawn found
 

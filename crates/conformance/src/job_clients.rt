@@ -233,7 +233,7 @@ pub fn warned_of(alloc: Global, words: &Texts, shelf: &mut ShelfMem, sink: &mut 
     ensures wrote { (budget : ℕ) (plan : PlanView) (drawn : Drawn) → AsksLint words.now shelf.old.files budget plan drawn
         → (end : IsReportEnd result) → WroteOne sink.old sink.new (AnswersLint plan drawn budget (answer_of end.0)) }
     ensures clean { (budget : ℕ) (plan : PlanView) (drawn : Drawn) → AsksLint words.now shelf.old.files budget plan drawn
-        → result ≡ Outcome.AllPass → IsLintClean plan drawn }
+        → result ≡ Outcome.AllPass → IsLintClean plan drawn budget }
 {
     run(alloc, words, shelf, sink)
 }

@@ -32,7 +32,7 @@ all_parts p (x ∷ xs) ys e =
 not_one : {X : Type 0} (p : X → Bool) (x : X) → p x ≡ false → list_all p (x ∷ []) ≡ true → ⊥
 not_one p x fails e = absurd (cc (sym (both_true (p x) true e).0, fails))
 
-module _ (plan : PlanView) (d : DesignView) (network : Drawn) where
+module _ (plan : PlanView) (d : DesignView) (network : Drawn) (budget : ℕ) where
   abbrev silenced : Line → Bool
   silenced line = is_silenced plan d network line
 
@@ -54,7 +54,7 @@ module _ (plan : PlanView) (d : DesignView) (network : Drawn) where
       by_order_of false is true also e = absurd (not_one silenced (OpenRow number (row_place row)) refl e)
       by_order_of false is false also e = inr also
 
-  rows_known : (number : ℕ) (rows : List Row) (seen : List RowSeen) → AllZip (IsRowSeen network) rows seen → list_all silenced (row_lines network number rows seen) ≡ true
+  rows_known : (number : ℕ) (rows : List Row) (seen : List RowSeen) → AllZip (IsRowSeen network budget) rows seen → list_all silenced (row_lines network number rows seen) ≡ true
       → AllZip (IsRowKnown network) rows seen
   rows_known number [] [] are e = are
   rows_known number [] (f ∷ others) are e = absurd are
@@ -64,21 +64,21 @@ module _ (plan : PlanView) (d : DesignView) (network : Drawn) where
       (row_known number row f parts.0, rows_known (number + 1) rows others are.1 parts.1)
 
   -- where no constraint keeps an order, there are no rows
-  rows_by : (has : Bool) (seen : List RowSeen) → AreRowsSeen has network seen → list_all silenced (row_lines network 0 network.rows seen) ≡ true
+  rows_by : (has : Bool) (seen : List RowSeen) → AreRowsSeen has network budget seen → list_all silenced (row_lines network 0 network.rows seen) ≡ true
       → AreRowsKnown has network seen
   rows_by true seen are e = rows_known 0 network.rows seen are e
   rows_by false seen none e = none
 
   -- ---- what is found
 
-  others_known : (seen : LintFound) → IsLintFound network seen → list_all silenced (other_lines network seen) ≡ true → HasSearchedAll network seen
+  others_known : (seen : LintFound) → IsLintFound network budget seen → list_all silenced (other_lines network seen) ≡ true → HasSearchedAll network seen
   others_known (found.Consistent ends rows) is e =
       let parts = all_parts silenced (row_lines network 0 network.rows rows.items) (open_ends_line (count_by is_end_open ends.items)) e in
       (ends_known (count_by is_end_open ends.items) parts.1, rows_by (has_order network) rows.items is.rows parts.0)
   others_known (found.Inconsistent by) is e = absurd (cc e)
   others_known found.Open is e = absurd (cc e)
 
-  pub ended : (warnings : List Warning) (seen : LintFound) → IsLintFound network seen → list_all silenced (lines_of d network warnings seen) ≡ true → HasSearchedAll network seen
+  pub ended : (warnings : List Warning) (seen : LintFound) → IsLintFound network budget seen → list_all silenced (lines_of d network warnings seen) ≡ true → HasSearchedAll network seen
   ended warnings seen is e =
       let drawing = flat_map (drawing_line d network (narrow_lines network seen)) warnings in
       let after = all_parts silenced drawing (map Never (never_places d) ++ (narrow_lines network seen ++ other_lines network seen)) e in
@@ -86,4 +86,4 @@ module _ (plan : PlanView) (d : DesignView) (network : Drawn) where
       others_known seen is (all_parts silenced (narrow_lines network seen) (other_lines network seen) times.1).1
 
 pub clean_has_searched_all : CleanHasSearchedAll
-clean_has_searched_all plan design network warnings found is clean = ended plan design network warnings found is clean
+clean_has_searched_all plan design network warnings budget found is clean = ended plan design network budget warnings found is clean

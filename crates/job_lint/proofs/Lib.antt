@@ -5,3 +5,4 @@ pub mod Texting
 pub mod Whole
 pub mod Cleaning
 pub mod Copying
+pub mod Settling

@@ -24,7 +24,6 @@ module _ (plan : PlanView) (design : DesignView) (network : Drawn) (budget : ℕ
     warnings = is.warnings;
     found = is.found;
     is_found = is.is_found;
-    settles = is.settles;
     is_text = ap (λ (ls : List Line). lint_text plan design network ls) is.are_lines;
     is_answer = by ∙ ap (λ (ls : List Line). answer_by (is_clean plan design network ls)) is.are_lines;
   }

@@ -1,5 +1,5 @@
 -- What a clean end says.
-use Rattle.std.specs.Prelude.{◌≡◌, ◌⊎◌, Bool, true, false, List, [], count_by}
+use Rattle.std.specs.Prelude.{◌≡◌, ◌⊎◌, ℕ, Bool, true, false, List, [], count_by}
 use Rattle.std.specs.List.{AllZip}
 use Rattle.compose.specs.Design.{DesignView}
 use Rattle.drawn_networks.specs.Drawn.{Drawn}
@@ -29,5 +29,5 @@ HasSearchedAll network Open = ⊥
 
 -- where no line is to be printed, the searches ended
 abbrev pub CleanHasSearchedAll : Type 0
-CleanHasSearchedAll = (plan : PlanView) (design : DesignView) (network : Drawn) (warnings : List Warning) (found : LintFound) → IsLintFound network found
+CleanHasSearchedAll = (plan : PlanView) (design : DesignView) (network : Drawn) (warnings : List Warning) (budget : ℕ) (found : LintFound) → IsLintFound network budget found
     → is_clean plan design network (lines_of design network warnings found) ≡ true → HasSearchedAll network found

@@ -64,15 +64,17 @@ abbrev pub narrow_by : RangeEnd → EndFound → Option Origin → List Line
 narrow_by end (ends.Narrow only) None = []
 narrow_by end (ends.Narrow only) (Some origin) =
     Narrow (record { event = end_target end.name.side end.edge; origin = origin }) end.name.side end.edge.weight only ∷ []
+narrow_by end (ends.Passed only) origin = narrow_by end (ends.Narrow only) origin
 narrow_by end ends.Wide origin = []
 narrow_by end ends.Open origin = []
 
--- the line of an end that no times attain
+-- the line of an end that no times reach
 abbrev pub narrow_line : Drawn → RangeEnd → List Line
 narrow_line network end = narrow_by end end.found (origin_at network end.name)
 
 abbrev pub is_open_found : EndFound → Bool
 is_open_found (ends.Narrow only) = false
+is_open_found (ends.Passed only) = false
 is_open_found ends.Wide = false
 is_open_found ends.Open = true
 

@@ -8,7 +8,7 @@ use Rattle.job_base.specs.declared.answer.Answer.TheVariants.{AllPass, SomeFail}
 use Rattle.design_plan.specs.Plan.{PlanView, sheets_on}
 use Rattle.lint.specs.declared.warning.Warning.{Warning}
 use Rattle.job_lint.specs.declared.lint_found.LintFound.{LintFound}
-use Rattle.job_lint.specs.Found.{IsLintFound, LeavesNothingOpen}
+use Rattle.job_lint.specs.Found.{IsLintFound}
 use Rattle.job_lint.specs.Lines.{is_clean, lines_of}
 use Rattle.job_lint.specs.Text.{lint_text}
 
@@ -25,7 +25,6 @@ pub record AnswersLint (plan : PlanView) (network : Drawn) (budget : ℕ) (answe
   pub is_design : composed_on plan.netlist (sheets_on plan.sheets plan.netlist.parts) ≡ Ok design
   pub warnings : List Warning
   pub found : LintFound
-  pub is_found : IsLintFound network found
-  pub settles : LeavesNothingOpen network budget found
+  pub is_found : IsLintFound network budget found
   pub is_text : text ≡ lint_text plan design network (lines_of design network warnings found)
   pub is_answer : answer ≡ answer_by (is_clean plan design network (lines_of design network warnings found))

@@ -168,7 +168,7 @@ abbrev pub end_number : Side → ℤ → ℤ
 end_number Upper value = value
 end_number Lower value = neg_ℤ value
 
--- the end of a range that no times attain, and how far they come
+-- the end of a range that no times reach, and how near they come
 abbrev pub narrow_words : PlanView → Drawn → DrawnAt → Side → ℤ → ℤ → List Word
 narrow_words plan network at side weight only =
     codes "narrow" ∷ at_word network at ∷ end_word side ∷ signed_text (end_number side weight) ∷ codes "only" ∷ signed_text (end_number side only)

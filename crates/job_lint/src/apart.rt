@@ -1,17 +1,15 @@
 //! Searches of the network apart from the order of lanes.
 
-ghost use Rattle.std.specs.Prelude.{◌≡◌, ◌<◌, ◌≤◌, false, IfOk};
+ghost use Rattle.std.specs.Prelude.{◌≡◌, ◌<◌, ◌≤◌, ℕ, IfOk};
 ghost use Rattle.drawn_networks.specs.Drawn.{IsRowOf};
-ghost use Rattle.event_graph.specs.Edges.{cause_choices};
-ghost use Rattle.event_graph.specs.Network.{IsNet};
 ghost use Rattle.explanations.specs.Apart.{net_apart};
-ghost use Rattle.extremes.specs.Found.{IsConsistency};
+ghost use Rattle.extremes.specs.Found.{IsConsistency, IsFindingOpen};
 ghost use Rattle.extremes.specs.Ready.{IsReady};
 ghost use Rattle.itv_base.specs.declared.limits.TheConstants.{MAX_BUDGET};
 ghost use Rattle.requirements.specs.Laws.{IsMet};
-ghost use Rattle.job_lint.specs.Found.{ContradictsByOrder, PassesByOrder, is_order_open};
+ghost use Rattle.job_lint.specs.Found.{ContradictsByOrder, PassesByOrder};
 ghost use Rattle.job_lint.specs.Step.Keeping.{IsExtent, KeepsRange};
-ghost use Rattle.job_lint.specs.Step.Searching.{IsApartEnough, IsApartFor, IsApartSearch, IsEnoughIn};
+ghost use Rattle.job_lint.specs.Step.Searching.{IsApartFor, IsApartSearch};
 
 use crate::by_order::ByOrder;
 use crate::kept::{Extent, RangeKept, extent_by, kept_in, order_by_finding, order_by_kept};
@@ -51,10 +49,8 @@ pub fn contradicts_by_order(
     requires none { IsConsistency drawn.now.net Consistency.Inconsistent }
     requires least { 1 ≤ budget }
     requires most { budget ≤ MAX_BUDGET }
-    ensures order { IfOk result (ContradictsByOrder drawn.now) }
-    ensures settles { IfOk result (λ by. cause_choices drawn.now.net.constraints ≤ budget → is_order_open by ≡ false) }
+    ensures order { IfOk result (ContradictsByOrder drawn.now budget) }
 {
-    drawn.network().is_whole();
     match network_apart(alloc, drawn)? {
         None => Ok(ByOrder::No),
         Some(net) => find_order(alloc, drawn, &net, budget),
@@ -69,11 +65,9 @@ fn find_order(
     budget: u64,
 ) -> Result<ByOrder, NoMemory>
     requires net { net.now ≡ net_apart drawn.now }
-    requires limits { IsNet drawn.now.net }
     requires least { 1 ≤ budget }
     requires most { budget ≤ MAX_BUDGET }
-    ensures order { IfOk result (ContradictsByOrder drawn.now) }
-    ensures settles { IfOk result (λ by. cause_choices drawn.now.net.constraints ≤ budget → is_order_open by ≡ false) }
+    ensures order { IfOk result (ContradictsByOrder drawn.now budget) }
 {
     let found = find_times(alloc, net, budget)?;
     Ok(order_by_finding(found))
@@ -84,7 +78,7 @@ fn find_times(alloc: Global, net: &Network, budget: u64) -> Result<Consistency, 
     requires least { 1 ≤ budget }
     requires most { budget ≤ MAX_BUDGET }
     ensures finding { IfOk result (IsConsistency net.now) }
-    ensures settles { IfOk result (λ found. cause_choices net.now.constraints ≤ budget → found ≡ Consistency.Open → ⊥) }
+    ensures open { IfOk result (λ found. found ≡ Consistency.Open → IsFindingOpen net.now budget) }
 {
     let mut extremes = Extremes::new(alloc, net, budget, run_turns(budget))?;
     let found = extremes.find(alloc, net);
@@ -101,8 +95,7 @@ pub fn find_apart(
     requires some { IsConsistency drawn.now.net Consistency.Consistent }
     requires least { 1 ≤ budget }
     requires most { budget ≤ MAX_BUDGET }
-    ensures apart { IfOk result (IsApartFor drawn.now) }
-    ensures enough { IfOk result (λ apart. cause_choices drawn.now.net.constraints ≤ budget → IsApartEnough drawn.now apart) }
+    ensures apart { IfOk result (IsApartFor drawn.now budget) }
 {
     match network_apart(alloc, drawn)? {
         None => Ok(WithoutOrder::Same),
@@ -121,10 +114,8 @@ fn find_in(
     requires some { IsConsistency drawn.now.net Consistency.Consistent }
     requires least { 1 ≤ budget }
     requires most { budget ≤ MAX_BUDGET }
-    ensures apart { IfOk result (IsApartFor drawn.now) }
-    ensures enough { IfOk result (λ apart. cause_choices drawn.now.net.constraints ≤ budget → IsApartEnough drawn.now apart) }
+    ensures apart { IfOk result (IsApartFor drawn.now budget) }
 {
-    drawn.network().is_whole();
     let mut extremes = Extremes::new(alloc, &net, budget, run_turns(budget))?;
     match extremes.find(alloc, &net) {
         Ok(found) => Ok(found_apart(drawn, net, extremes, found)),
@@ -143,13 +134,11 @@ fn found_apart(
     found: Consistency,
 ) -> WithoutOrder
     requires net { net ≡ net_apart drawn.now }
-    requires limits { IsNet drawn.now.net }
     requires some { IsConsistency drawn.now.net Consistency.Consistent }
     requires finding { IsConsistency net found }
     requires ready { found ≡ Consistency.Consistent → IsReady net extremes }
-    requires settles { cause_choices net.constraints ≤ extremes.budget → found ≡ Consistency.Open → ⊥ }
-    ensures apart { IsApartFor drawn.now result }
-    ensures enough { cause_choices drawn.now.net.constraints ≤ extremes.budget → IsApartEnough drawn.now result }
+    requires open { found ≡ Consistency.Open → IsFindingOpen net extremes.budget }
+    ensures apart { IsApartFor drawn.now extremes.budget result }
 {
     match found {
         Consistency::Consistent => WithoutOrder::Ready(ApartSearch { net, extremes }),
@@ -173,13 +162,10 @@ pub fn passes_by_order(
 ) -> Result<ByOrder, NoMemory>
     requires row { IsRowOf drawn.now.net row.now }
     requires met { IsMet drawn.now.net row.now.from row.now.to range }
-    requires apart { IsApartFor drawn.now apart.old }
-    ensures apart { IfOk result (λ _. IsApartFor drawn.now apart.new) }
-    ensures order { IfOk result (PassesByOrder drawn.now row.now range) }
-    ensures enough { IfOk result (λ _. IsApartEnough drawn.now apart.old → IsApartEnough drawn.now apart.new) }
-    ensures settles { IfOk result (λ by. IsApartEnough drawn.now apart.old → is_order_open by ≡ false) }
+    requires apart { (budget : ℕ) × IsApartFor drawn.now budget apart.old }
+    ensures passes { (budget : ℕ) → IsApartFor drawn.now budget apart.old
+        → IfOk result (λ by. IsApartFor drawn.now budget apart.new × PassesByOrder drawn.now budget row.now range by) }
 {
-    drawn.network().is_whole();
     match apart {
         WithoutOrder::Same => Ok(ByOrder::No),
         WithoutOrder::Ready(search) => passes_apart(alloc, drawn, row, range, search),
@@ -196,13 +182,11 @@ fn passes_apart(
     search: &mut ApartSearch,
 ) -> Result<ByOrder, NoMemory>
     requires row { IsRowOf drawn.now.net row.now }
-    requires limits { IsNet drawn.now.net }
     requires met { IsMet drawn.now.net row.now.from row.now.to range }
     requires search { IsApartSearch drawn.now search.old }
     ensures search { IfOk result (λ _. IsApartSearch drawn.now search.new) }
-    ensures order { IfOk result (PassesByOrder drawn.now row.now range) }
-    ensures enough { IfOk result (λ _. IsEnoughIn drawn.now search.old.extremes → IsEnoughIn drawn.now search.new.extremes) }
-    ensures settles { IfOk result (λ by. IsEnoughIn drawn.now search.old.extremes → is_order_open by ≡ false) }
+    ensures budget { search.new.extremes.budget ≡ search.old.extremes.budget }
+    ensures order { IfOk result (PassesByOrder drawn.now search.old.extremes.budget row.now range) }
 {
     let kept = kept_apart(alloc, row, range, search)?;
     Ok(order_by_kept(kept))
@@ -220,8 +204,7 @@ fn kept_apart(
     ensures net { search.new.net ≡ search.old.net }
     ensures ready { IsReady search.old.net search.new.extremes }
     ensures budget { search.new.extremes.budget ≡ search.old.extremes.budget }
-    ensures kept { IfOk result (KeepsRange search.old.net row.now.from row.now.to range) }
-    ensures settles { IfOk result (λ kept. cause_choices search.old.net.constraints ≤ search.old.extremes.budget → kept ≡ RangeKept.Open → ⊥) }
+    ensures kept { IfOk result (KeepsRange search.old.net search.old.extremes.budget row.now.from row.now.to range) }
 {
     let found = extent(alloc, &search.net, row.from, row.to, &mut search.extremes)?;
     let reversed = extent(alloc, &search.net, row.to, row.from, &mut search.extremes)?;
@@ -241,8 +224,7 @@ fn extent(
     requires to { to.0 < net.now.events }
     ensures ready { IsReady net.now extremes.new }
     ensures budget { extremes.new.budget ≡ extremes.old.budget }
-    ensures extent { IfOk result (IsExtent net.now from to) }
-    ensures settles { IfOk result (λ extent. cause_choices net.now.constraints ≤ extremes.old.budget → extent ≡ Extent.Open → ⊥) }
+    ensures extent { IfOk result (IsExtent net.now extremes.old.budget from to) }
 {
     let found = extremes.greatest(alloc, net, from, to)?;
     Ok(extent_by(&found))

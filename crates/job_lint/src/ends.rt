@@ -13,11 +13,11 @@ use itv_base::{EdgeName, EventId, Side};
 use narrow_ends::{EndFound, RangeEnd};
 use origin::Origin;
 
-/// The line of an end, if no times attain it.
+/// The line of an end, if no times reach it.
 pub fn narrow_line(drawn: &DrawnNetwork, end: &RangeEnd) -> Option<Line>
     ensures line { option_to_list result ≡ narrow_line drawn.now end.now }
 {
-    let EndFound::Narrow(only) = end.found else {
+    let (EndFound::Narrow(only) | EndFound::Passed(only)) = end.found else {
         return None;
     };
     let origin = origin_at(drawn, end.name)?;
@@ -35,7 +35,7 @@ pub fn is_end_open(end: &RangeEnd) -> bool
     ensures open { result ≡ is_end_open end.now }
 {
     match end.found {
-        EndFound::Narrow(_) | EndFound::Wide => false,
+        EndFound::Narrow(_) | EndFound::Passed(_) | EndFound::Wide => false,
         EndFound::Open => true,
     }
 }

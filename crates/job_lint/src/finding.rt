@@ -1,11 +1,10 @@
 //! Searching a design.
 
 ghost use Rattle.std.specs.Prelude.{◌≡◌, ◌≤◌, IfOk};
-ghost use Rattle.event_graph.specs.Edges.{cause_choices};
-ghost use Rattle.extremes.specs.Found.{IsConsistency};
+ghost use Rattle.extremes.specs.Found.{IsConsistency, IsFindingOpen};
 ghost use Rattle.extremes.specs.Ready.{IsReady};
 ghost use Rattle.itv_base.specs.declared.limits.TheConstants.{MAX_BUDGET};
-ghost use Rattle.job_lint.specs.Found.{IsLintFound, LeavesNothingOpen};
+ghost use Rattle.job_lint.specs.Found.{IsLintFound};
 
 use crate::apart::contradicts_by_order;
 use crate::lint_found::LintFound;
@@ -23,8 +22,7 @@ use std::alloc::Global;
 pub fn find_all(alloc: Global, drawn: &DrawnNetwork, budget: u64) -> Result<LintFound, NoMemory>
     requires least { 1 ≤ budget }
     requires most { budget ≤ MAX_BUDGET }
-    ensures found { IfOk result (IsLintFound drawn.now) }
-    ensures settles { IfOk result (LeavesNothingOpen drawn.now budget) }
+    ensures found { IfOk result (IsLintFound drawn.now budget) }
 {
     let net = drawn.network();
     let mut extremes = Extremes::new(alloc, net, budget, run_turns(budget))?;
@@ -47,12 +45,11 @@ fn find_after(
 ) -> Result<LintFound, NoMemory>
     requires finding { IsConsistency drawn.now.net found }
     requires ready { found ≡ Consistency.Consistent → IsReady drawn.now.net extremes }
-    requires settles { cause_choices drawn.now.net.constraints ≤ budget → found ≡ Consistency.Open → ⊥ }
+    requires open { found ≡ Consistency.Open → IsFindingOpen drawn.now.net budget }
     requires same { extremes.budget ≡ budget }
     requires least { 1 ≤ budget }
     requires most { budget ≤ MAX_BUDGET }
-    ensures found { IfOk result (IsLintFound drawn.now) }
-    ensures settles { IfOk result (LeavesNothingOpen drawn.now budget) }
+    ensures found { IfOk result (IsLintFound drawn.now budget) }
 {
     match found {
         Consistency::Consistent => find_behind(alloc, drawn, budget, extremes),
@@ -79,11 +76,10 @@ fn find_behind(
     requires same { extremes.budget ≡ budget }
     requires least { 1 ≤ budget }
     requires most { budget ≤ MAX_BUDGET }
-    ensures found { IfOk result (IsLintFound drawn.now) }
-    ensures settles { IfOk result (LeavesNothingOpen drawn.now budget) }
+    ensures found { IfOk result (IsLintFound drawn.now budget) }
 {
     let mut extremes = extremes;
-    match find_narrow(alloc, drawn, &mut extremes) {
+    match find_narrow(alloc, drawn, &mut extremes, budget) {
         Ok(ends) => {
             let rows = see_rows(alloc, drawn, budget, extremes)?;
             Ok(LintFound::Consistent { ends, rows })

@@ -1,9 +1,8 @@
 //! Searching rows.
 
-ghost use Rattle.std.specs.Prelude.{◌≡◌, ◌<◌, ◌≤◌, false, All, IfOk};
+ghost use Rattle.std.specs.Prelude.{◌≡◌, ◌<◌, ◌≤◌, ℕ, IfOk};
 ghost use Rattle.std.specs.List.{AllZip, list_any};
 ghost use Rattle.drawn_networks.specs.Drawn.{IsRowOf};
-ghost use Rattle.event_graph.specs.Edges.{cause_choices};
 ghost use Rattle.explanations.specs.Apart.{keeps_order};
 ghost use Rattle.extremes.specs.Found.{IsAttainedBy, IsConsistency};
 ghost use Rattle.requirements.specs.declared.consistency.Consistency.TheVariants.{Consistent};
@@ -12,9 +11,8 @@ ghost use Rattle.itv_base.specs.declared.limits.TheConstants.{MAX_BUDGET};
 ghost use Rattle.event_graph.specs.Network.{Net};
 ghost use Rattle.itv_base.specs.declared.names.EventId.{EventId as EventIdOf};
 ghost use Rattle.job_lint.specs.Step.Keeping.{KeepsRange};
-ghost use Rattle.job_lint.specs.Found.{AreRowsSeen, IsPairSeen, IsRowSeen, PassesByOrder, RowPasses, has_order, is_order_open, is_pair_open, is_row_open};
-ghost use Rattle.job_lint.specs.Step.Searching.{IsApartFor, IsApartEnough, IsRowEnough, IsRowSearch};
-ghost use Rattle.job_lint.specs.declared.row_seen.RowSeen.{RowSeen as RowIsSeen};
+ghost use Rattle.job_lint.specs.Found.{AreRowsSeen, IsPairSeen, IsRowSeen, PassesByOrder, RowPasses, has_order};
+ghost use Rattle.job_lint.specs.Step.Searching.{IsApartFor, IsRowSearch};
 
 use crate::apart::{WithoutOrder, find_apart, passes_by_order};
 use crate::by_order::ByOrder;
@@ -50,9 +48,7 @@ pub fn see_rows(
     requires same { extremes.budget ≡ budget }
     requires least { 1 ≤ budget }
     requires most { budget ≤ MAX_BUDGET }
-    ensures rows { IfOk result (λ rows. AreRowsSeen (has_order drawn.now) drawn.now rows.items) }
-    ensures settles { IfOk result (λ rows. cause_choices drawn.now.net.constraints ≤ budget
-        → All (λ (row : RowIsSeen). is_row_open row ≡ false) rows.items) }
+    ensures rows { IfOk result (λ rows. AreRowsSeen (has_order drawn.now) drawn.now budget rows.items) }
 {
     if !has_order(drawn) {
         drop(extremes);
@@ -80,8 +76,7 @@ fn more_memory(alloc: Global, drawn: &DrawnNetwork, budget: u64) -> Result<MoreM
     requires least { 1 ≤ budget }
     requires most { budget ≤ MAX_BUDGET }
     ensures chains { IfOk result (λ more. more.chains.events ≡ drawn.now.net.events) }
-    ensures apart { IfOk result (λ more. IsApartFor drawn.now more.apart) }
-    ensures enough { IfOk result (λ more. cause_choices drawn.now.net.constraints ≤ budget → IsApartEnough drawn.now more.apart) }
+    ensures apart { IfOk result (λ more. IsApartFor drawn.now budget more.apart) }
 {
     let chains = Chains::new(alloc, drawn.network())?;
     let apart = find_apart(alloc, drawn, budget)?;
@@ -97,10 +92,8 @@ fn see_all(
 ) -> Result<Vec<RowSeen>, NoMemory>
     requires ready { IsReady drawn.now.net extremes }
     requires chains { more.chains.events ≡ drawn.now.net.events }
-    requires apart { IsApartFor drawn.now more.apart }
-    ensures rows { IfOk result (λ rows. AllZip (IsRowSeen drawn.now) drawn.now.rows rows.items) }
-    ensures settles { IfOk result (λ rows. cause_choices drawn.now.net.constraints ≤ extremes.budget → IsApartEnough drawn.now more.apart
-        → All (λ (row : RowIsSeen). is_row_open row ≡ false) rows.items) }
+    requires apart { IsApartFor drawn.now extremes.budget more.apart }
+    ensures rows { IfOk result (λ rows. AllZip (IsRowSeen drawn.now extremes.budget) drawn.now.rows rows.items) }
 {
     let mut search = RowSearch {
         extremes,
@@ -137,8 +130,7 @@ fn see_each(
     search: &mut RowSearch,
 ) -> Result<Vec<RowSeen>, NoMemory>
     requires search { IsRowSearch drawn.now search.old }
-    ensures rows { IfOk result (λ rows. AllZip (IsRowSeen drawn.now) drawn.now.rows rows.items) }
-    ensures settles { IfOk result (λ rows. IsRowEnough drawn.now search.old → All (λ (row : RowIsSeen). is_row_open row ≡ false) rows.items) }
+    ensures rows { IfOk result (λ rows. AllZip (IsRowSeen drawn.now search.old.extremes.budget) drawn.now.rows rows.items) }
 {
     let rows = drawn.rows();
     let mut found = Vec::new(alloc);
@@ -159,14 +151,13 @@ fn see_row(
     requires search { IsRowSearch drawn.now search.old }
     requires row { IsRowOf drawn.now.net row.now }
     ensures search { IfOk result (λ _. IsRowSearch drawn.now search.new) }
-    ensures row { IfOk result (IsRowSeen drawn.now row.now) }
-    ensures enough { IfOk result (λ _. IsRowEnough drawn.now search.old → IsRowEnough drawn.now search.new) }
-    ensures settles { IfOk result (λ found. IsRowEnough drawn.now search.old → is_row_open found ≡ false) }
+    ensures budget { IfOk result (λ _. search.new.extremes.budget ≡ search.old.extremes.budget) }
+    ensures row { IfOk result (IsRowSeen drawn.now search.old.extremes.budget row.now) }
 {
     let net = drawn.network();
     let greatest = see_pair(alloc, net, row.from, row.to, search)?;
     let least = see_pair(alloc, net, row.to, row.from, search)?;
-    let passes = row_passes(alloc, drawn, row, &greatest, &least, &mut search.apart)?;
+    let passes = row_passes(alloc, drawn, row, &greatest, &least, search)?;
     Ok(RowSeen {
         greatest,
         least,
@@ -190,8 +181,7 @@ fn see_pair(
     ensures budget { search.new.extremes.budget ≡ search.old.extremes.budget }
     ensures chains { search.new.chains.events ≡ net.now.events }
     ensures apart { search.new.apart ≡ search.old.apart }
-    ensures seen { IfOk result (IsPairSeen net.now from to) }
-    ensures settles { IfOk result (λ found. cause_choices net.now.constraints ≤ search.old.extremes.budget → is_pair_open found ≡ false) }
+    ensures seen { IfOk result (IsPairSeen net.now search.old.extremes.budget from to) }
 {
     match search.extremes.greatest(alloc, net, from, to)? {
         Separation::Closed { value, shown } => {
@@ -217,8 +207,7 @@ fn see_closed(
     requires from { from.0 < net.now.events }
     requires to { to.0 < net.now.events }
     ensures chains { chains.new.events ≡ net.now.events }
-    ensures seen { IfOk result (IsPairSeen net.now from to) }
-    ensures settled { IfOk result (λ found. is_pair_open found ≡ false) }
+    ensures seen { IfOk result (λ found. (budget : ℕ) → IsPairSeen net.now budget from to found) }
 {
     if !chains.find(net, times, from, to) {
         // The times attain the greatest separation, so there is a chain.
@@ -235,21 +224,19 @@ fn row_passes(
     row: &Row,
     greatest: &PairSeen,
     least: &PairSeen,
-    apart: &mut WithoutOrder,
+    search: &mut RowSearch,
 ) -> Result<ByOrder, NoMemory>
     requires row { IsRowOf drawn.now.net row.now }
-    requires greatest { IsPairSeen drawn.now.net row.now.from row.now.to greatest.now }
-    requires least { IsPairSeen drawn.now.net row.now.to row.now.from least.now }
-    requires apart { IsApartFor drawn.now apart.old }
-    ensures apart { IfOk result (λ _. IsApartFor drawn.now apart.new) }
-    ensures passes { IfOk result (RowPasses drawn.now row.now row.now.kind) }
-    ensures enough { IfOk result (λ _. IsApartEnough drawn.now apart.old → IsApartEnough drawn.now apart.new) }
-    ensures settles { IfOk result (λ by. IsApartEnough drawn.now apart.old → is_pair_open greatest.now ≡ false → is_pair_open least.now ≡ false
-        → is_order_open by ≡ false) }
+    requires greatest { IsPairSeen drawn.now.net search.old.extremes.budget row.now.from row.now.to greatest.now }
+    requires least { IsPairSeen drawn.now.net search.old.extremes.budget row.now.to row.now.from least.now }
+    requires search { IsRowSearch drawn.now search.old }
+    ensures search { IfOk result (λ _. IsRowSearch drawn.now search.new) }
+    ensures budget { search.new.extremes.budget ≡ search.old.extremes.budget }
+    ensures passes { IfOk result (RowPasses drawn.now search.old.extremes.budget row.now row.now.kind) }
 {
     match row.kind {
         RowKind::Ask => Ok(ByOrder::No),
-        RowKind::Req(range) => range_passes(alloc, drawn, row, range, greatest, least, apart),
+        RowKind::Req(range) => range_passes(alloc, drawn, row, range, greatest, least, search),
     }
 }
 
@@ -261,20 +248,18 @@ fn range_passes(
     range: Range,
     greatest: &PairSeen,
     least: &PairSeen,
-    apart: &mut WithoutOrder,
+    search: &mut RowSearch,
 ) -> Result<ByOrder, NoMemory>
     requires row { IsRowOf drawn.now.net row.now }
-    requires greatest { IsPairSeen drawn.now.net row.now.from row.now.to greatest.now }
-    requires least { IsPairSeen drawn.now.net row.now.to row.now.from least.now }
-    requires apart { IsApartFor drawn.now apart.old }
-    ensures apart { IfOk result (λ _. IsApartFor drawn.now apart.new) }
-    ensures passes { IfOk result (PassesByOrder drawn.now row.now range) }
-    ensures enough { IfOk result (λ _. IsApartEnough drawn.now apart.old → IsApartEnough drawn.now apart.new) }
-    ensures settles { IfOk result (λ by. IsApartEnough drawn.now apart.old → is_pair_open greatest.now ≡ false → is_pair_open least.now ≡ false
-        → is_order_open by ≡ false) }
+    requires greatest { IsPairSeen drawn.now.net search.old.extremes.budget row.now.from row.now.to greatest.now }
+    requires least { IsPairSeen drawn.now.net search.old.extremes.budget row.now.to row.now.from least.now }
+    requires search { IsRowSearch drawn.now search.old }
+    ensures search { IfOk result (λ _. IsRowSearch drawn.now search.new) }
+    ensures budget { search.new.extremes.budget ≡ search.old.extremes.budget }
+    ensures passes { IfOk result (PassesByOrder drawn.now search.old.extremes.budget row.now range) }
 {
     match seen_kept(range, greatest, least) {
-        RangeKept::All => passes_by_order(alloc, drawn, row, range, apart),
+        RangeKept::All => passes_by_order(alloc, drawn, row, range, &mut search.apart),
         RangeKept::NotAll => Ok(ByOrder::No),
         RangeKept::Open => Ok(ByOrder::Open),
     }
@@ -282,9 +267,8 @@ fn range_passes(
 
 // Whether all satisfying times keep a range, according to what is found of a pair and of the reversed pair.
 fn seen_kept(range: Range, greatest: &PairSeen, least: &PairSeen) -> RangeKept
-    ensures kept { (net : Net) (from to : EventIdOf) → IsPairSeen net from to greatest.now → IsPairSeen net to from least.now
-        → KeepsRange net from to range result }
-    ensures settles { is_pair_open greatest.now ≡ false → is_pair_open least.now ≡ false → result ≡ RangeKept.Open → ⊥ }
+    ensures kept { (net : Net) (budget : ℕ) (from to : EventIdOf) → IsPairSeen net budget from to greatest.now → IsPairSeen net budget to from least.now
+        → KeepsRange net budget from to range result }
 {
     kept_in(range, extent_of(greatest), extent_of(least))
 }

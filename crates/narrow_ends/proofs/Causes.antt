@@ -13,7 +13,7 @@ use Rattle.drawn_networks.specs.Drawn.{Drawn, OriginsFit, name_of}
 use Rattle.narrow_ends.specs.Ends.{cause_count, part_at}
 use Rattle.narrow_ends.proofs.Tables.{place_contains}
 
-some_map : {A B : Type 0} → (f : A → B) (o : Option A) (b : B) → option_map f o ≡ Some b → (a : A) × (o ≡ Some a) × (f a ≡ b)
+pub some_map : {A B : Type 0} → (f : A → B) (o : Option A) (b : B) → option_map f o ≡ Some b → (a : A) × (o ≡ Some a) × (f a ≡ b)
 some_map f None b is = absurd (cc is)
 some_map f (Some a) b is = (a, refl, cc is)
 
@@ -58,3 +58,7 @@ pub last_test : (a b c : Bool) → ((a && b) && c) ≡ true → c ≡ true
 last_test true true c is = is
 last_test true false c is = absurd (cc is)
 last_test false b c is = absurd (cc is)
+
+pub first_test : (a b c : Bool) → ((a && b) && c) ≡ true → a ≡ true
+first_test true b c is = refl
+first_test false b c is = absurd (cc is)

@@ -9,16 +9,21 @@ use Rattle.event_graph.specs.declared.edge.Edge.{Edge}
 use Rattle.event_graph.specs.Network.{Net}
 use Rattle.event_graph.specs.Satisfying.{Satisfies}
 use Rattle.narrow_ends.specs.declared.found_times.FoundTimes.{FoundTimes}
-use Rattle.narrow_ends.specs.Narrow.{IsAttainable}
-use Rattle.narrow_ends.specs.Step.{AreFoundTimes, HasWeight}
+use Rattle.narrow_ends.specs.Narrow.{IsExact}
+use Rattle.narrow_ends.specs.Step.{AreFoundTimes, HasWeightOrMore, HasWeight, IsComeTo}
 
 -- no times are kept
 pub kept_none : (net : Net) (found : FoundTimes) → found.kept.items ≡ [] → AreFoundTimes net found
 kept_none net found none = subst (λ (kept : List (Vec ℤ)). All (λ (times : Vec ℤ). Satisfies times.items net) kept) (sym none) (λ k d within. absurd (omega arith))
 
--- some of the kept times attain
-pub kept_attain : (net : Net) (e : Edge) (found : FoundTimes) → AreFoundTimes net found → Any (HasWeight e) found.kept.items → IsAttainable net e.weight e
-kept_attain net e found satisfy some =
+-- some of the kept times reach the weight of an edge
+pub kept_reach : (net : Net) (e : Edge) (found : FoundTimes) → AreFoundTimes net found → Any (HasWeight e) found.kept.items → IsExact net e.weight e
+kept_reach net e found satisfy some =
+    (some.1.items, subst (λ (t : Vec ℤ). Satisfies t.items net) some.3 (satisfy some.0 some.1 some.2), some.4)
+
+-- some of the kept times come as far as the weight of an edge
+pub kept_come : (net : Net) (e : Edge) (found : FoundTimes) → AreFoundTimes net found → Any (HasWeightOrMore e) found.kept.items → IsComeTo net e
+kept_come net e found satisfy some =
     (some.1.items, subst (λ (t : Vec ℤ). Satisfies t.items net) some.3 (satisfy some.0 some.1 some.2), some.4)
 
 -- times in the place of others

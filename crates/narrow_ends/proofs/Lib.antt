@@ -4,6 +4,9 @@ mod Among
 mod Standing
 mod Along
 mod Keeping
-mod Seeking
 mod Causes
 mod Loops
+mod Cutting
+pub mod Seeking
+pub mod Settling
+mod Copying

@@ -1,5 +1,5 @@
 -- The ends so far, with one name more.
-use Rattle.std.proofs.Common.{◌≡◌, ◌<◌, ℕ, zero, suc, true, false, ◌||◌, if◌then◌else◌, List, [], ◌∷◌, ◌++◌, length, map, set, get_or, All, Option, Some, None, refl, sym, subst, ap, ◌∙◌, inl, inr, arith}
+use Rattle.std.proofs.Common.{◌≡◌, ◌<◌, ◌≤◌, ◌+◌, ℕ, zero, suc, true, false, ◌||◌, if◌then◌else◌, List, [], ◌∷◌, ◌++◌, length, map, set, get_or, All, Option, Some, None, refl, sym, subst, ap, ◌∙◌, inl, inr, arith}
 use Rattle.std.specs.Prelude.{◌↔◌, Contains, IfSome, option_map, slice_get}
 use Rattle.std.specs.List.{list_any}
 use Rattle.std.proofs.lemmas.List.Elements.{All-contains, All-push, All-weaker, Contains-append_left, Contains-push}
@@ -11,12 +11,13 @@ use Rattle.event_graph.specs.Edges.{edge}
 use Rattle.drawn_networks.specs.Drawn.{Drawn}
 use Rattle.narrow_ends.specs.declared.end.EndFound.{EndFound}
 use Rattle.narrow_ends.specs.declared.end.RangeEnd.{RangeEnd}
+use Rattle.narrow_ends.specs.declared.narrow.TheConstants.{MOST_SEARCHES}
 use Rattle.narrow_ends.specs.declared.source.EndKey.{EndKey}
 use Rattle.narrow_ends.specs.Ends.{EndSource, are_alike, same_source, source_at, with_end, with_ends}
 use Rattle.narrow_ends.specs.Narrow.{IsFoundAmong}
-use Rattle.narrow_ends.specs.Step.{AreEndPlaces, IsEndAmong, IsLookedOn, IsSearched, EndPlaces, Stand, key_view, names_of, place_of, same_end_key, sources_of}
+use Rattle.narrow_ends.specs.Step.{AreEndPlaces, IsEndAmong, IsLookedAlong, IsLookedOn, EndPlaces, Stand, key_view, names_of, place_of, same_end_key, sources_of}
 use Rattle.narrow_ends.proofs.Sources.{key_decides, source_decides}
-use Rattle.narrow_ends.proofs.Among.{first_found, looked_on, other_more}
+use Rattle.narrow_ends.proofs.Among.{first_found, looked_on, other_more, own_weight}
 use Rattle.narrow_ends.proofs.Tables.{all_at, any_at, any_none, at_place, contains_place, place_contains, set_cases}
 use Rattle.narrow_ends.proofs.Tables as tables
 
@@ -54,8 +55,8 @@ same_end x y e f found other p q r = cc (p, q, r)
 
 -- ---- no ends
 
-pub stand_none : (drawn : Drawn) (places : EndPlaces) → ((key : EndKey) → place_of places key ≡ None) → Stand drawn [] places []
-stand_none drawn places none = record {
+pub stand_none : (drawn : Drawn) (budget : ℕ) (places : EndPlaces) → ((key : EndKey) → place_of places key ≡ None) → Stand drawn budget [] places []
+stand_none drawn budget places none = record {
   order = refl;
   table = λ key place. ((λ is. absurd (cc (none key, is))), (λ at. absurd (cc at)));
   covers = λ k d within. absurd (omega arith);
@@ -67,8 +68,8 @@ pub no_places : (places : EndPlaces) → places.entries ≡ [] → (key : EndKey
 no_places places empty key = rw empty refl
 
 -- each place is the place of an end
-pub are_places : (drawn : Drawn) (names : List EdgeName) (places : EndPlaces) (ends : List RangeEnd) → Stand drawn names places ends → AreEndPlaces places (length ends)
-are_places drawn names places ends stand key = by (place_of places key) refl
+pub are_places : (drawn : Drawn) (budget : ℕ) (names : List EdgeName) (places : EndPlaces) (ends : List RangeEnd) → Stand drawn budget names places ends → AreEndPlaces places (length ends)
+are_places drawn budget names places ends stand key = by (place_of places key) refl
   where
     by : (place : Option ℕ) → place_of places key ≡ place → IfSome place (λ p. p < length ends)
     by None is = tt
@@ -76,14 +77,14 @@ are_places drawn names places ends stand key = by (place_of places key) refl
 
 -- ---- one name more
 
-module _ (drawn : Drawn) (names : List EdgeName) (x : EdgeName) (key : EndKey) (places : EndPlaces) (ends : List RangeEnd) (e : Edge) (stand : Stand drawn names places ends)
-    (view : key_view key ≡ source_at drawn x) (there : edge drawn.net x ≡ Some e) where
+module _ (drawn : Drawn) (budget left : ℕ) (names : List EdgeName) (x : EdgeName) (key : EndKey) (places : EndPlaces) (ends : List RangeEnd) (e : Edge) (stand : Stand drawn budget names places ends)
+    (view : key_view key ≡ source_at drawn x) (there : edge drawn.net x ≡ Some e) (few : MOST_SEARCHES ≤ left + length names) where
   -- the thing that draws the end at a place has this place in the table
   place_from : (k : ℕ) → slice_get (sources_of drawn ends) k ≡ Some (source_at drawn x) → place_of places key ≡ Some k
   place_from k at = (stand.table key k).1 (at ∙ ap Some (sym view))
 
   -- the same thing as an end before draws this one
-  module _ (place : ℕ) (end next : RangeEnd) (is : place_of places key ≡ Some place) (read : end ≡ get_or ends place end) (on : IsLookedOn drawn.net e end next) where
+  module _ (place : ℕ) (end next : RangeEnd) (is : place_of places key ≡ Some place) (read : end ≡ get_or ends place end) (on : IsLookedOn drawn.net budget left x e end next) where
     here : slice_get (sources_of drawn ends) place ≡ Some (source_at drawn x)
     here = (stand.table key place).0 is ∙ ap Some view
 
@@ -111,26 +112,26 @@ module _ (drawn : Drawn) (names : List EdgeName) (x : EdgeName) (key : EndKey) (
         ∙ ap (λ before. with_end drawn before x) stand.order
         ∙ sym (with_ends-push drawn [] names x)
 
-    on_end : IsEndAmong drawn (names ++ x ∷ []) next
+    on_end : IsEndAmong drawn budget (names ++ x ∷ []) next
     on_end =
-        let before : IsEndAmong drawn names end = at_place (IsEndAmong drawn names) ends stand.found place end at in record {
+        let before : IsEndAmong drawn budget names end = at_place (IsEndAmong drawn budget names) ends stand.found place end at in record {
           there = subst (λ (n : EdgeName). edge drawn.net n ≡ Some next.edge) (sym on.name) (before.there ∙ ap Some (sym on.edge));
           found =
-              subst (λ (n : EdgeName). IsFoundAmong drawn (names ++ x ∷ []) n next.edge.weight next.found) (sym on.name)
-              (subst (λ (f : Edge). IsFoundAmong drawn (names ++ x ∷ []) end.name f.weight next.found) (sym on.edge)
-              (looked_on drawn names x end.name e there alike end.edge.weight end.found next.found before.found on.found));
+              subst (λ (n : EdgeName). IsFoundAmong drawn budget (names ++ x ∷ []) n next.edge.weight next.found) (sym on.name)
+              (subst (λ (f : Edge). IsFoundAmong drawn budget (names ++ x ∷ []) end.name f.weight next.found) (sym on.edge)
+              (looked_on drawn budget names x end.name e there alike end.edge.weight (own_weight drawn x end.name e end.edge there before.there alike) left few end.found next.found before.found on.found));
         }
 
-    other_end : (k : ℕ) (other : RangeEnd) → (k ≡ place → ⊥) → slice_get ends k ≡ Some other → IsEndAmong drawn (names ++ x ∷ []) other
+    other_end : (k : ℕ) (other : RangeEnd) → (k ≡ place → ⊥) → slice_get ends k ≡ Some other → IsEndAmong drawn budget (names ++ x ∷ []) other
     other_end k other apart found =
-        let before : IsEndAmong drawn names other = at_place (IsEndAmong drawn names) ends stand.found k other found in
+        let before : IsEndAmong drawn budget names other = at_place (IsEndAmong drawn budget names) ends stand.found k other found in
         let unlike : source_at drawn other.name ≡ source_at drawn x → ⊥ =
         λ same.
         let there : place_of places key ≡ Some k = place_from k (source_of_place drawn ends k other found ∙ ap Some same) in
         apart (cc (there, is)) in
-        record { there = before.there; found = other_more drawn names x other.name other.edge.weight other.found unlike before.found }
+        record { there = before.there; found = other_more drawn budget names x other.name other.edge.weight other.found unlike before.found }
 
-    pub stand_known : Stand drawn (names ++ x ∷ []) places (set ends place next)
+    pub stand_known : Stand drawn budget (names ++ x ∷ []) places (set ends place next)
     stand_known = record {
       order = known_order;
       table = subst (λ (more : List EndSource). (key : EndKey) (place : ℕ) → (place_of places key ≡ Some place) ↔ (slice_get more place ≡ Some (key_view key))) (sym same_sources) stand.table;
@@ -138,15 +139,15 @@ module _ (drawn : Drawn) (names : List EdgeName) (x : EdgeName) (key : EndKey) (
           subst (λ (more : List EndSource). All (λ name. Contains more (source_at drawn name)) (names ++ x ∷ [])) (sym same_sources)
           (All-push (λ name. Contains (sources_of drawn ends) (source_at drawn name)) names x stand.covers (place_contains (sources_of drawn ends) place (source_at drawn x) here));
       found =
-          all_at (IsEndAmong drawn (names ++ x ∷ [])) (set ends place next) (λ k other is_at. elim (set_cases ends place k next other is_at) [
-            | inl last ↦ subst (IsEndAmong drawn (names ++ x ∷ [])) last.1 on_end
+          all_at (IsEndAmong drawn budget (names ++ x ∷ [])) (set ends place next) (λ k other is_at. elim (set_cases ends place k next other is_at) [
+            | inl last ↦ subst (IsEndAmong drawn budget (names ++ x ∷ [])) last.1 on_end
             | inr apart ↦ other_end k other apart.0 apart.1
           ]);
     }
 
   -- this is the first end of a thing
   module _ (more : EndPlaces) (found : EndFound) (none : place_of places key ≡ None)
-      (put : (other : EndKey) → place_of more other ≡ (if same_end_key key other then Some (length ends) else place_of places other)) (searched : IsSearched drawn.net e e.weight None found) where
+      (put : (other : EndKey) → place_of more other ≡ (if same_end_key key other then Some (length ends) else place_of places other)) (looked : IsLookedAlong drawn.net budget left x e found) where
     abbrev new_end : RangeEnd
     new_end = record { name = x; edge = e; found = found }
 
@@ -180,12 +181,12 @@ module _ (drawn : Drawn) (names : List EdgeName) (x : EdgeName) (key : EndKey) (
         (λ name has. Contains-append_left (sources_of drawn ends) (source_at drawn x ∷ []) (source_at drawn name) has) names stand.covers)
         (Contains-push (sources_of drawn ends) (source_at drawn x)))
 
-    unlike_before : (k : ℕ) (other : RangeEnd) → slice_get ends k ≡ Some other → IsEndAmong drawn (names ++ x ∷ []) other
+    unlike_before : (k : ℕ) (other : RangeEnd) → slice_get ends k ≡ Some other → IsEndAmong drawn budget (names ++ x ∷ []) other
     unlike_before k other at =
-        let before : IsEndAmong drawn names other = at_place (IsEndAmong drawn names) ends stand.found k other at in
+        let before : IsEndAmong drawn budget names other = at_place (IsEndAmong drawn budget names) ends stand.found k other at in
         record {
           there = before.there;
-          found = other_more drawn names x other.name other.edge.weight other.found (λ same. no_place k (source_of_place drawn ends k other at ∙ ap Some same)) before.found;
+          found = other_more drawn budget names x other.name other.edge.weight other.found (λ same. no_place k (source_of_place drawn ends k other at ∙ ap Some same)) before.found;
         }
 
     fresh : (other : EdgeName) → Contains names other → source_at drawn x ≡ source_at drawn other → ⊥
@@ -194,20 +195,20 @@ module _ (drawn : Drawn) (names : List EdgeName) (x : EdgeName) (key : EndKey) (
         let standing = contains_place (sources_of drawn ends) (source_at drawn other) covered in
         no_place standing.0 (standing.1 ∙ ap Some (sym same))
 
-    last_end : IsEndAmong drawn (names ++ x ∷ []) new_end
-    last_end = record { there = there; found = first_found drawn names x e found fresh there searched }
+    last_end : IsEndAmong drawn budget (names ++ x ∷ []) new_end
+    last_end = record { there = there; found = first_found drawn budget left names x e few fresh there found looked }
 
-    stand_first : Stand drawn (names ++ x ∷ []) more (ends ++ new_end ∷ [])
+    stand_first : Stand drawn budget (names ++ x ∷ []) more (ends ++ new_end ∷ [])
     stand_first = record {
       order = new_order;
       table = new_places;
       covers = new_covers;
       found =
-          All-push (IsEndAmong drawn (names ++ x ∷ [])) ends new_end (all_at (IsEndAmong drawn (names ++ x ∷ [])) ends unlike_before) last_end;
+          All-push (IsEndAmong drawn budget (names ++ x ∷ [])) ends new_end (all_at (IsEndAmong drawn budget (names ++ x ∷ [])) ends unlike_before) last_end;
     }
 
     -- whatever the end is made of
-    pub stand_new : (end : RangeEnd) (all : List RangeEnd) → end.name ≡ x → end.edge ≡ e → end.found ≡ found → all ≡ ends ++ end ∷ [] → Stand drawn (names ++ x ∷ []) more all
+    pub stand_new : (end : RangeEnd) (all : List RangeEnd) → end.name ≡ x → end.edge ≡ e → end.found ≡ found → all ≡ ends ++ end ∷ [] → Stand drawn budget (names ++ x ∷ []) more all
     stand_new end all name same what pushed =
         let equal : end ≡ new_end = same_end end.name x end.edge e end.found found name same what in
-        subst (Stand drawn (names ++ x ∷ []) more) (sym (pushed ∙ ap (λ f. ends ++ f ∷ []) equal)) stand_first
+        subst (Stand drawn budget (names ++ x ∷ []) more) (sym (pushed ∙ ap (λ f. ends ++ f ∷ []) equal)) stand_first

@@ -1,8 +1,9 @@
 -- The ends of drawn ranges. An end is an edge of the network: the upper one leads from a cause to its target with the high end as weight, the lower one
 -- back with minus the low end.
-use Rattle.std.specs.Prelude.{◌==◌, ◌&&◌, ℕ, zero, suc, Bool, true, false, not, if◌then◌else◌, List, [], ◌∷◌, ◌++◌, length, Option, Some, None, is_some, option_and_then, option_map, slice_get, unwrap_or}
+use Rattle.std.specs.Prelude.{◌==◌, ◌&&◌, ℕ, ℤ, zero, suc, Bool, true, false, not, if◌then◌else◌, List, [], ◌∷◌, ◌++◌, length, Option, Some, None, is_some, option_and_then, option_map, slice_get, unwrap_or}
 use Rattle.std.specs.List.{list_any}
 use Rattle.std.specs.Option.{option_eq}
+use Rattle.std.specs.Ordering.{int_eq}
 use Rattle.std.specs.Str.{bytes_eq}
 use Rattle.itv_base.specs.declared.names.EdgeName.{EdgeName}
 use Rattle.itv_base.specs.declared.names.RuleKind.{RuleKind}
@@ -12,6 +13,7 @@ use Rattle.itv_base.specs.declared.names.Side.TheVariants.{Lower, Upper}
 use Rattle.origin.specs.declared.origin.Origin.{Origin}
 use Rattle.origin.specs.declared.origin.Origin.TheVariants as origins
 use Rattle.origin.specs.Order.{is_lane}
+use Rattle.event_graph.specs.declared.edge.Edge.{Edge}
 use Rattle.event_graph.specs.Edges.{edge}
 use Rattle.event_graph.specs.Network.{Constraint}
 use Rattle.drawn_networks.specs.Drawn.{Drawn, name_of}
@@ -19,7 +21,7 @@ use Rattle.drawn_networks.specs.Drawn.{Drawn, name_of}
 -- ---- which edges are ends
 
 -- the sides of a range that are looked at, according to the kind of the constraint. The other side of a latest or earliest constraint is often not
--- attained: another cause may always come later, or earlier.
+-- reached: another cause may always come later, or earlier.
 abbrev pub is_end_side : RuleKind → Side → Bool
 is_end_side Lin side = true
 is_end_side Late Lower = false
@@ -67,19 +69,20 @@ same_origin (origins.Pin m k) (origins.Pin n l) = (m == n) && (k == l)
 same_origin (origins.Wire m) (origins.Wire n) = m == n
 same_origin a b = false
 
--- what draws an end: its side, its origin, and the name of the part of its target
+-- what draws an end: its side and its weight, its origin, and the name of the part of its target
 pub record EndSource : Type 0 where
   pub side : Side
+  pub weight : Option ℤ
   pub origin : Option Origin
   pub part : Option (List ℕ)
 
 abbrev pub source_at : Drawn → EdgeName → EndSource
-source_at drawn name = record { side = name.side; origin = origin_at drawn name; part = part_at drawn name }
+source_at drawn name = record { side = name.side; weight = option_map (λ (e : Edge). e.weight) (edge drawn.net name); origin = origin_at drawn name; part = part_at drawn name }
 
 abbrev pub same_source : EndSource → EndSource → Bool
-same_source a b = same_side a.side b.side && (option_eq same_origin a.origin b.origin && option_eq bytes_eq a.part b.part)
+same_source a b = same_side a.side b.side && (option_eq int_eq a.weight b.weight && (option_eq same_origin a.origin b.origin && option_eq bytes_eq a.part b.part))
 
--- the same thing draws two ends, in one cycle or in two: on one side, with one origin, at targets of one part
+-- the same thing draws two ends, in one cycle or in two: on one side, with one weight and one origin, at targets of one part
 abbrev pub are_alike : Drawn → EdgeName → EdgeName → Bool
 are_alike drawn a b = same_source (source_at drawn a) (source_at drawn b)
 

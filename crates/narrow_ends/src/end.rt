@@ -6,10 +6,12 @@ use itv_base::EdgeName;
 /// What is found of the end of a range, in all cycles and places that the same thing draws.
 #[derive(Clone, Copy)]
 pub enum EndFound {
-    /// No satisfying times attain it. This number of picoseconds is the greatest separation along its edges: from the cause to the target for a high
+    /// No satisfying times come as far. This number of picoseconds is the greatest separation along its edges: from the cause to the target for a high
     /// end, and from the target to the cause for a low end, where it is minus the least separation.
     Narrow(i64),
-    /// Some satisfying times attain it, in some cycle and place.
+    /// Some satisfying times come further, and none have it exactly. This is the least separation along its edges that is past it.
+    Passed(i64),
+    /// Some satisfying times have it exactly, in some cycle and place.
     Wide,
     /// It was left open: its searches were, or too many searches came before it.
     Open,

@@ -2,6 +2,7 @@
 
 ghost use Rattle.std.specs.Prelude.{◌≡◌, ◌<◌, ◌++◌, ◌&&◌, All, IfOk, IsSome, OnOk, Some, length};
 ghost use Rattle.event_graph.specs.Edges.{edge};
+ghost use Rattle.itv_base.specs.Range.{IsEnd};
 ghost use Rattle.narrow_ends.specs.Ends.{all_ends, cause_count, end_at, ends_below_cause, is_end, is_end_side};
 ghost use Rattle.narrow_ends.specs.Step.{HasEnd};
 
@@ -105,6 +106,7 @@ pub fn edge_of(net: &Network, name: EdgeName) -> Edge
     ensures edge { edge net.now name ≡ Some result }
     ensures from { result.from.0 < net.now.events }
     ensures to { result.to.0 < net.now.events }
+    ensures weight { IsEnd (Some result.weight) }
 {
     match net.edge(name) {
         Some(edge) => edge,

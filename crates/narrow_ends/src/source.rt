@@ -1,6 +1,8 @@
 //! What draws an end, and where the end of each thing stands.
 
-ghost use Rattle.std.specs.Prelude.{◌≡◌, ◌<◌, Some, if◌then◌else◌, length, OnOk};
+ghost use Rattle.std.specs.Prelude.{◌≡◌, ◌<◌, Some, if◌then◌else◌, length, option_map, OnOk};
+ghost use Rattle.event_graph.specs.Edges.{edge};
+ghost use Rattle.event_graph.specs.declared.edge.Edge.{Edge};
 ghost use Rattle.narrow_ends.specs.Ends.{cause_count, origin_at, source_at};
 ghost use Rattle.narrow_ends.specs.Step.{HasEnd, key_view, origin_of, place_of, same_end_key, side_of};
 ghost use Rattle.narrow_ends.specs.declared.source.EndKey.{EndKey as KeySeen};
@@ -19,20 +21,22 @@ pub enum Thing {
     Wire(u64),
 }
 
-/// What draws an end: the part of its target, what draws its cause, and its side.
+/// What draws an end: the part of its target, what draws its cause, its weight, and its side.
 #[derive(Clone, Copy, PartialEq, Eq, Hash)]
 pub struct EndKey<'a> {
     pub part: &'a str,
     pub thing: Thing,
+    pub weight: i64,
     pub is_upper: bool,
 }
 
 /// Where the end of each thing stands among the ends.
 pub type EndPlaces<'a> = HashMap<EndKey<'a>, usize>;
 
-/// What draws an end that is there.
-pub fn source_of(drawn: &DrawnNetwork, name: EdgeName) -> EndKey<'_>
+/// What draws an end that is there, given its weight.
+pub fn source_of(drawn: &DrawnNetwork, name: EdgeName, weight: i64) -> EndKey<'_>
     requires there { HasEnd drawn.now name }
+    requires weight { option_map (λ (e : Edge). e.weight) (edge drawn.now.net name) ≡ Some weight }
     ensures source { key_view result ≡ source_at drawn.now name }
 {
     let net = drawn.network();
@@ -42,6 +46,7 @@ pub fn source_of(drawn: &DrawnNetwork, name: EdgeName) -> EndKey<'_>
     EndKey {
         part: drawn.name(target).part,
         thing: thing_of(origin_at(drawn, name)),
+        weight,
         is_upper: is_upper(name.side),
     }
 }

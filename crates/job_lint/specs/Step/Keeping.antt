@@ -1,5 +1,5 @@
 -- Whether all satisfying times keep a range, according to what is found of two greatest separations.
-use Rattle.std.specs.Prelude.{◌≡◌, ℤ, neg_ℤ, ◌≤ℤ◌, ◌<ℤ◌, int_le, Bool, if◌then◌else◌, List, Option, Some, None, IfSome, IsSomeAnd, option_map}
+use Rattle.std.specs.Prelude.{◌⊎◌, ℕ, ℤ, neg_ℤ, ◌≤ℤ◌, ◌<ℤ◌, int_le, Bool, if◌then◌else◌, List, Option, Some, None, IfSome, IsSomeAnd, option_map}
 use Rattle.itv_base.specs.Range.{Ends}
 use Rattle.itv_base.specs.declared.names.EventId.{EventId}
 use Rattle.event_graph.specs.Bounds.{IsGreatest, IsUnbounded}
@@ -19,15 +19,16 @@ use Rattle.job_lint.specs.declared.kept.RangeKept.{RangeKept}
 use Rattle.job_lint.specs.declared.kept.RangeKept.TheVariants as kept
 use Rattle.job_lint.specs.declared.pair_seen.PairSeen.{PairSeen}
 use Rattle.job_lint.specs.declared.pair_seen.PairSeen.TheVariants as seen
+use Rattle.narrow_ends.specs.Narrow.{IsPairOpen}
 use Rattle.job_lint.specs.Found.{IsNotMet}
 
 -- ---- extents
 
--- the greatest separation of a pair is this number, is unbounded, or is not known
-abbrev pub IsExtent : Net → EventId → EventId → Extent → Type 0
-IsExtent net from to (extent.Closed value) = IsGreatest net from to value
-IsExtent net from to extent.Unbounded = IsUnbounded net from to
-IsExtent net from to extent.Open = Unit {0}
+-- the greatest separation of a pair is this number, is unbounded, or was left open
+abbrev pub IsExtent : Net → ℕ → EventId → EventId → Extent → Type 0
+IsExtent net budget from to (extent.Closed value) = IsGreatest net from to value
+IsExtent net budget from to extent.Unbounded = IsUnbounded net from to
+IsExtent net budget from to extent.Open = IsPairOpen net budget from to
 
 abbrev pub extent_of : PairSeen → Extent
 extent_of (seen.Closed value chain) = extent.Closed value
@@ -60,17 +61,17 @@ kept_both kept.Open kept.Open = kept.Open
 abbrev pub kept_in : Ends → Extent → Extent → RangeKept
 kept_in range found reversed = kept_both (kept_below range.high found) (kept_below (option_map neg_ℤ range.low) reversed)
 
--- all satisfying times keep below an end, or some do not, or nothing is known
-abbrev pub KeepsBelow : Net → EventId → EventId → Option ℤ → RangeKept → Type 0
-KeepsBelow net from to end kept.All = (times : List ℤ) → Satisfies times net → IfSome end (λ most. separation times from to ≤ℤ most)
-KeepsBelow net from to end kept.NotAll = (times : List ℤ) × Satisfies times net × IsSomeAnd end (λ most. most <ℤ separation times from to)
-KeepsBelow net from to end kept.Open = Unit {0}
+-- all satisfying times keep below an end, or some do not, or the search was left open
+abbrev pub KeepsBelow : Net → ℕ → EventId → EventId → Option ℤ → RangeKept → Type 0
+KeepsBelow net budget from to end kept.All = (times : List ℤ) → Satisfies times net → IfSome end (λ most. separation times from to ≤ℤ most)
+KeepsBelow net budget from to end kept.NotAll = (times : List ℤ) × Satisfies times net × IsSomeAnd end (λ most. most <ℤ separation times from to)
+KeepsBelow net budget from to end kept.Open = IsPairOpen net budget from to
 
--- all satisfying times are in a range, or some are not, or nothing is known
-abbrev pub KeepsRange : Net → EventId → EventId → Ends → RangeKept → Type 0
-KeepsRange net from to range kept.All = IsMet net from to range
-KeepsRange net from to range kept.NotAll = IsNotMet net from to range
-KeepsRange net from to range kept.Open = Unit {0}
+-- all satisfying times are in a range, or some are not, or one of the two searches was left open
+abbrev pub KeepsRange : Net → ℕ → EventId → EventId → Ends → RangeKept → Type 0
+KeepsRange net budget from to range kept.All = IsMet net from to range
+KeepsRange net budget from to range kept.NotAll = IsNotMet net from to range
+KeepsRange net budget from to range kept.Open = IsPairOpen net budget from to ⊎ IsPairOpen net budget to from
 
 -- ---- because of the order of lanes
 

@@ -18,7 +18,7 @@ use Rattle.job_lint.specs.declared.piece.Told.{Told}
 use Rattle.job_lint.specs.declared.piece.Told.TheVariants.{Nothing, One, Two}
 use Rattle.job_lint.specs.declared.line.Line.{Line}
 use Rattle.job_lint.specs.declared.lint_found.LintFound.{LintFound}
-use Rattle.job_lint.specs.Found.{IsLintFound, LeavesNothingOpen}
+use Rattle.job_lint.specs.Found.{IsLintFound}
 use Rattle.job_lint.specs.Lines.{lines_of}
 use Rattle.job_lint.specs.Text.{both_words, place_word, told, told_words}
 
@@ -51,6 +51,5 @@ pub record AreLintLines (plan : PlanView) (design : DesignView) (network : Drawn
   pub is_design : composed_on plan.netlist (sheets_on plan.sheets plan.netlist.parts) ≡ Ok design
   pub warnings : List Warning
   pub found : LintFound
-  pub is_found : IsLintFound network found
-  pub settles : LeavesNothingOpen network budget found
+  pub is_found : IsLintFound network budget found
   pub are_lines : lines ≡ lines_of design network warnings found

@@ -1,9 +1,6 @@
-use Rattle.std.proofs.Common.{ℤ, subst, w64}
-use Rattle.std.proofs.lemmas.Int.{to_z-of_z}
-use Rattle.narrow_ends.specs.Step.{IsSearched}
+use Rattle.narrow_ends.proofs.Seeking.{short_along}
 use Rattle.narrow_ends.proofs.search.search_anew.Goals as goal
 
-pub returns-clause-found : goal.returns-clause-found
-returns-clause-found c =
-    subst (λ (z : ℤ). IsSearched c.args.net.now c.args.edge z c.args.so_far c.found_of-found.result) (to_z-of_z w64 c.args.weight c.ranges.weight)
-    (c.found_of-found.ensures.found c.args.net.now c.args.edge c.in_ok-greatest.ensures.found)
+pub returns-in-Short-clause-found : goal.returns-in-Short-clause-found
+returns-in-Short-clause-found c =
+    short_along c.args.net.now c.args.extremes.now.budget c.args.name c.args.edge c.in-Short.only (rw c.in-Short.is at c.in_ok-only.ensures.reach)

@@ -2,7 +2,7 @@ use Rattle.std.proofs.Common.{rules, tests}
 use Rattle.std.proofs.lemmas.Iterator.{YieldsList-from_slice, cases_from_any}
 use Rattle.narrow_ends.specs.Step.{HasWeight}
 use Rattle.narrow_ends.proofs.Keeping.{any_from_cases}
-use Rattle.narrow_ends.proofs.found_times.some_attain.Goals as goal
+use Rattle.narrow_ends.proofs.found_times.some_reach.Goals as goal
 
 pub returns : goal.returns
 returns c =
