@@ -9,7 +9,7 @@ export const WARNINGS = {
   never: "a rule or a row that is in no cycle",
   single: "a latest or earliest rule with one cause: with several such rules into one mark the shortest decides",
   both: "two rules into one mark, both of which bind",
-  narrow: "an end of a range that no times attain: some other rule is tighter",
+  narrow: "an end of a range that no times are exactly at: other rules or causes decide",
   drivers: "two nets that drive one pin, both of which bind",
   own: "a net into a pin that its own sheet has a rule for",
   held: "a driven mark that its own sheet holds from below: a requirement may be meant",
