@@ -7,6 +7,7 @@ use crate::needs::Needs;
 use crate::node::Node;
 use crate::outbox::Outbox;
 use crate::pace::Pace;
+use crate::probe::Probe;
 use crate::rounds::WalksBack;
 use crate::unseen::Conflict;
 use edge_clauses::{EventBound, StoredLine};
@@ -39,6 +40,7 @@ pub struct Engine {
     pub walks: WalksBack,
     pub outbox: Outbox,
     pub pace: Pace,
+    pub probe: Probe,
 }
 
 impl Engine {
@@ -68,6 +70,7 @@ impl Engine {
             walks: WalksBack::new(alloc),
             outbox: Outbox::new(alloc),
             pace: Pace::new(),
+            probe: Probe::new(),
         };
         match engine.start(net) {
             Ok(()) => Ok(engine),
@@ -83,7 +86,7 @@ impl Engine {
         self.facts.take_up(self.alloc, net)?;
         let sides = self.facts.tables.sides.len();
         let bounds = self.facts.trail.bounds();
-        self.activity.make_room(sides)?;
+        self.activity.make_room(sides, bounds / 2)?;
         self.needs.make_room(bounds)?;
         self.walks.make_room(bounds, sides.saturating_mul(2))
     }
@@ -134,6 +137,7 @@ impl Engine {
             self.outbox.is_over = true;
             return Ok(Proposal::Over);
         }
+        self.probe.see(claim);
         self.facts.scope.goal.value = beyond(claim);
         self.facts.take_goal()?;
         match self.facts.unseen.conflict {
