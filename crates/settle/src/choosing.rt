@@ -10,7 +10,8 @@ use crate::trail::Reason;
 use itv_base::NoMemory;
 use std::alloc::Global;
 
-// A side that may be chosen, or a bound, with how much it was needed lately and with a value in picoseconds. The greatest need goes first, then the least value.
+// A side or a bound that may be chosen, with how much it was needed lately and with a value in picoseconds. The greatest need goes first, then the least
+// value.
 #[derive(Clone, Copy)]
 struct Candidate {
     pick: Literal,
@@ -21,9 +22,8 @@ struct Candidate {
 impl Engine {
     /// Chooses a side of an earliest constraint that the bounds of the times break. It takes the constraint whose sides were needed most lately, of those
     /// sides that may still hold; of two with equal need, the constraint whose target has the least value. Of that constraint it takes the side that is broken
-    /// least. If they break no earliest constraint, they are times. If no block is allowed, the search rests. Where better times come fast, the first
-    /// choice is a guess that the separation is well above the claim. Now and then it takes back all choices. If it has
-    /// then learnt many clauses, half of them go.
+    /// least. If they break no earliest constraint, they are times. If no block is allowed, the search rests. Where better times come fast, the first choice is
+    /// a guess that the separation is well above the claim. Now and then it takes back all choices. If it has then learnt many clauses, half of them go.
     pub fn choose(&mut self) -> Result<Proposal, NoMemory> {
         let Some(candidate) = self.facts.first_candidate(&self.activity) else {
             return Ok(Proposal::Times);

@@ -213,8 +213,8 @@ impl Engine {
         Ok(false)
     }
 
-    // Proposes a loop, if its sum is below 0, it has a clause and is not too large, and something follows from it. Otherwise a bound of a negated time rests: it would fall on
-    // and on in small steps. The times that the search finds do not depend on it.
+    // Proposes a loop, if its sum is below 0, it has a clause and is not too large, and something follows from it. Otherwise a bound of a negated time rests:
+    // it would fall on and on in small steps. The times that the search finds do not depend on it.
     fn propose(&mut self, round: &mut Round) -> Result<(), NoMemory> {
         self.facts.meter.look(round.size());
         if 0 <= round.sum {

@@ -263,7 +263,8 @@ impl Facts {
         }
     }
 
-    // Looks at the clauses of watches, where the bound of their list has come to a value. Brings the watches that stay to the front, and says how many they are.
+    // Looks at the clauses of watches, where the bound of their list has come to a value. Brings the watches that stay to the front, and says how many these
+    // are.
     fn look_at_watches(
         &mut self,
         watches: &mut Vec<Watch>,
