@@ -12,10 +12,10 @@ use Rattle.job_base.specs.declared.answer.Answer.{Answer}
 use Rattle.steady.specs.Found.{IsRunFound, IsRunOf, LeavesNothingOpen}
 use Rattle.steady.specs.declared.design_run.DesignRun.{DesignRun}
 use Rattle.steady.specs.declared.found.RunFound.{RunFound}
-use Rattle.job_why.specs.Text.{Noted}
+use Rattle.origin.specs.NotesKept.{NotesKept}
 use Rattle.job_cycles.specs.Cycles.{SaysCycles, cycles_text, ending_of}
 
-pub says : (noted : Noted) (run : DesignRun) (budget : ℕ) (outcome : RunFound) (answer : Answer) (text : List ℕ) → ((d : DesignView) → IsRunOf d run.from run → IsRunFound d run.from run.cycles outcome)
+pub says : (noted : NotesKept) (run : DesignRun) (budget : ℕ) (outcome : RunFound) (answer : Answer) (text : List ℕ) → ((d : DesignView) → IsRunOf d run.from run → IsRunFound d run.from run.cycles outcome)
     → LeavesNothingOpen run budget outcome → text ≡ cycles_text noted run.drawn run.rows.items run.from run.cycles outcome → answer ≡ answer_of (ending_of run.rows.items outcome)
     → SaysCycles noted run budget answer text
 says noted run budget outcome answer text found settles is word = λ d run_of. record {

@@ -3,6 +3,7 @@ use Rattle.std.specs.Prelude.{◌≡◌, ◌≤◌, ℕ, Bool, true, false, if�
 use Rattle.event_graph.specs.Edges.{cause_choices}
 use Rattle.itv_base.specs.declared.row_kind.RowKind.{RowKind}
 use Rattle.itv_base.specs.declared.row_kind.RowKind.TheVariants.{Ask, Req}
+use Rattle.origin.specs.NotesKept.{NotesKept}
 use Rattle.sheet.specs.declared.row.SheetRow.{SheetRow}
 use Rattle.compose.specs.Design.{DesignView}
 use Rattle.unroll.specs.Cycle.{rows_of}
@@ -23,7 +24,6 @@ use Rattle.steady.specs.declared.found.RunFound.{RunFound}
 use Rattle.steady.specs.declared.found.RunFound.TheVariants as found
 use Rattle.steady.specs.declared.verdict.RunVerdict.{RunVerdict}
 use Rattle.steady.specs.declared.verdict.RunVerdict.TheVariants.{Fail, Pass, Undecided, Vary}
-use Rattle.job_why.specs.Text.{Noted}
 use Rattle.job_cycles.specs.Text.{found_text, head_text}
 
 -- ---- the end
@@ -56,14 +56,14 @@ ending_of rows found.Open = endings.Undecided
 
 -- ---- the whole
 
-abbrev pub cycles_text : Noted → Drawn → List SheetRow → ℕ → ℕ → RunFound → List ℕ
+abbrev pub cycles_text : NotesKept → Drawn → List SheetRow → ℕ → ℕ → RunFound → List ℕ
 cycles_text noted drawn rows from cycles outcome =
     head_text from cycles ++ (found_text noted drawn rows outcome ++ entry_text (ending (ending_of rows outcome)))
 
 -- The text says what is found of each run of a design over at least so many cycles, and of each of its rows whose from-event is in the first cycle that is asked
 -- for or a later one. All of it is right, and a search is left open only if the run has more cause choices than the budget. The answer is given by the word at
 -- the end.
-pub record AnswersCycles (noted : Noted) (d : DesignView) (from cycles budget : ℕ) (answer : Answer) (text : List ℕ) : Type 0 where
+pub record AnswersCycles (noted : NotesKept) (d : DesignView) (from cycles budget : ℕ) (answer : Answer) (text : List ℕ) : Type 0 where
   pub outcome : RunFound
   pub is_found : IsRunFound d from cycles outcome
   pub settles : cause_choices (net_over cycles d).constraints ≤ budget → IsFoundOut outcome
@@ -71,5 +71,5 @@ pub record AnswersCycles (noted : Noted) (d : DesignView) (from cycles budget : 
   pub is_answer : answer ≡ answer_of (ending_of (rows_of d) outcome)
 
 -- the text is an answer for each design of which the run is
-abbrev pub SaysCycles : Noted → DesignRun → ℕ → Answer → List ℕ → Type 0
+abbrev pub SaysCycles : NotesKept → DesignRun → ℕ → Answer → List ℕ → Type 0
 SaysCycles noted run budget answer text = (d : DesignView) → IsRunOf d run.from run → AnswersCycles noted d run.from run.cycles budget answer text

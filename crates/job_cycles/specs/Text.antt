@@ -12,6 +12,7 @@ use Rattle.itv_base.specs.declared.row_kind.RowKind.{RowKind}
 use Rattle.itv_base.specs.declared.row_kind.RowKind.TheVariants as kinds
 use Rattle.line_words.specs.Lines.{spaced}
 use Rattle.line_words.specs.Words.{Word}
+use Rattle.origin.specs.NotesKept.{NotesKept}
 use Rattle.requirements.specs.Slacks.{slack_of}
 use Rattle.requirements.specs.declared.bound.Bound.{Bound}
 use Rattle.requirements.specs.declared.bound.Bound.TheVariants as bounds
@@ -19,7 +20,7 @@ use Rattle.requirements.specs.declared.bound.Slack.{Slack}
 use Rattle.slack_report.specs.Text.{range_word}
 use Rattle.drawn_networks.specs.Drawn.{Drawn, name_of}
 use Rattle.sheet.specs.declared.row.SheetRow.{SheetRow}
-use Rattle.job_why.specs.Text.{Noted, row_origin_words}
+use Rattle.job_why.specs.Text.{row_origin_words}
 use Rattle.longer_runs.specs.Periods.{mark_event}
 use Rattle.steady.specs.Verdicts.{verdict_of}
 use Rattle.steady.specs.declared.found.Later.{Later}
@@ -71,7 +72,7 @@ asked_words drawn row kinds.Ask = codes "ask" ∷ from_word drawn row ∷ to_wor
 asked_words drawn row (kinds.Req range) = codes "req" ∷ from_word drawn row ∷ to_word drawn row ∷ range_word range ∷ []
 
 -- the line of the row with this number, with what draws it
-abbrev pub asked_text : Noted → Drawn → ℕ → SheetRow → List ℕ
+abbrev pub asked_text : NotesKept → Drawn → ℕ → SheetRow → List ℕ
 asked_text noted drawn number row =
     line_by (codes "row") (number_text number ∷ (asked_words drawn row row.kind ++ row_origin_words noted (from_name drawn row).part row.origin))
 
@@ -120,20 +121,20 @@ judged_text kinds.Ask found = []
 judged_text (kinds.Req range) found =
     line_by (codes "verdict") (verdict_words (verdict_of range found)) ++ (later_text found.later ++ slack_text (slack_in range found))
 
-abbrev pub row_text : Noted → Drawn → ℕ → SheetRow → RowFound → List ℕ
+abbrev pub row_text : NotesKept → Drawn → ℕ → SheetRow → RowFound → List ℕ
 row_text noted drawn number row found =
     asked_text noted drawn number row
     ++ (line_by (codes "max") (bound_words found.greatest) ++ (line_by (codes "min") (bound_words found.least) ++ judged_text row.kind found))
 
 -- the texts of rows; the first row has this number
-abbrev pub rows_text : Noted → Drawn → ℕ → List SheetRow → List RowFound → List ℕ
+abbrev pub rows_text : NotesKept → Drawn → ℕ → List SheetRow → List RowFound → List ℕ
 rows_text noted drawn number [] found = []
 rows_text noted drawn number (row ∷ rows) [] = []
 rows_text noted drawn number (row ∷ rows) (found ∷ others) = row_text noted drawn number row found ++ rows_text noted drawn (number + 1) rows others
 
 -- ---- the whole
 
-abbrev pub found_text : Noted → Drawn → List SheetRow → RunFound → List ℕ
+abbrev pub found_text : NotesKept → Drawn → List SheetRow → RunFound → List ℕ
 found_text noted drawn rows found.Inconsistent = codes "finding inconsistent\n"
 found_text noted drawn rows (found.Consistent period all) = period_text period ++ rows_text noted drawn 0 rows all.items
 found_text noted drawn rows found.Open = codes "finding spent\n"

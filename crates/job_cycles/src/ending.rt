@@ -3,6 +3,7 @@
 ghost use Rattle.std.specs.Prelude.{◌≡◌};
 ghost use Rattle.job_cycles.specs.Cycles.{end_after, end_after_row, ending_of, rows_end};
 
+use crate::rows::{found_at, row_at};
 use itv_base::RowKind;
 use sheet::SheetRow;
 use slack_report::EndWord;
@@ -25,8 +26,8 @@ fn rows_end(rows: &[SheetRow], found: &[RowFound]) -> EndWord
 {
     let mut word = EndWord::Pass;
     for k in 0..rows.len().min(found.len()) {
-        let row = &rows[k];
-        let one = &found[k];
+        let row = row_at(rows, k);
+        let one = found_at(found, k);
         word = end_after_row(word, row.kind, one);
     }
     word

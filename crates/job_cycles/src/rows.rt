@@ -1,6 +1,6 @@
 //! The lines of rows.
 
-ghost use Rattle.std.specs.Prelude.{◌≡◌, ◌++◌, All, OnOk};
+ghost use Rattle.std.specs.Prelude.{◌≡◌, ◌<◌, ◌++◌, All, OnOk, Some, length, slice_get};
 ghost use Rattle.std.specs.List.{flat_map};
 ghost use Rattle.line_words.specs.Lines.{spaced};
 ghost use Rattle.requirements.specs.Bounds.{HasTimes};
@@ -33,11 +33,27 @@ pub fn add_rows<N: Notes>(
     ensures added { OnOk result (text.new.items ≡ text.old.items ++ rows_text (N.noted notes.now) drawn.now 0 rows.now found.now) }
 {
     for k in 0..rows.len().min(found.len()) {
-        let row = &rows[k];
-        let one = &found[k];
+        let row = row_at(rows, k);
+        let one = found_at(found, k);
         add_row(text, notes, drawn, k as u64, row, one)?;
     }
     Ok(())
+}
+
+/// The row of a number.
+pub fn row_at(rows: &[SheetRow], number: usize) -> &SheetRow
+    requires there { number < length rows.now }
+    ensures row { slice_get rows.now number ≡ Some result.now }
+{
+    &rows[number]
+}
+
+/// What is found of the row of a number.
+pub fn found_at(found: &[RowFound], number: usize) -> &RowFound
+    requires there { number < length found.now }
+    ensures found { slice_get found.now number ≡ Some result.now }
+{
+    &found[number]
 }
 
 fn add_row<N: Notes>(

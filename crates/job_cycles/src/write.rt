@@ -1,13 +1,14 @@
 //! Writing what holds in every cycle of every run.
 
-ghost use Rattle.std.specs.Prelude.{◌≡◌, ◌≤◌, ◌++◌, All, IfOk, OnOk};
+ghost use Rattle.std.specs.Prelude.{◌≡◌, ◌≤◌, ◌++◌, All, IfOk, OnOk, codes, map};
+ghost use Rattle.itv_base.specs.Numerals.{signed_text};
 ghost use Rattle.itv_base.specs.declared.limits.TheConstants.{MAX_BUDGET};
 ghost use Rattle.unroll.specs.Step.Between.{IsRowBetween};
 ghost use Rattle.job_base.specs.Ending.{answer_of};
 ghost use Rattle.job_base.specs.JobWrote.{Answered, JobWrote};
 ghost use Rattle.steady.specs.Step.{HaveTimes, IsWholeRun};
 ghost use Rattle.job_cycles.specs.Cycles.{SaysCycles, cycles_text, ending_of};
-ghost use Rattle.job_cycles.specs.Text.{found_text, head_text, period_text};
+ghost use Rattle.job_cycles.specs.Text.{found_text, head_text, line_by, period_text};
 
 use crate::ending::ending_of;
 use crate::rows::add_rows;
@@ -126,8 +127,16 @@ fn add_period(text: &mut Vec<u8>, period: &Option<Period>) -> Result<(), NoMemor
         None => add_piece(text, b"finding consistent\n"),
         Some(period) => {
             add_piece(text, b"finding steady\n")?;
-            add_list(text, b"periods", &period.each)?;
-            add_list(text, b"times", &period.times)
+            add_lists(text, &period.each, &period.times)
         }
     }
+}
+
+// Adds the lines of the periods and of the times of steady times.
+fn add_lists(text: &mut Vec<u8>, each: &[i64], times: &[i64]) -> Result<(), NoMemory>
+    ensures { OnOk result (text.new.items ≡ text.old.items
+        ++ (line_by (codes "periods") (map signed_text each.now) ++ line_by (codes "times") (map signed_text times.now))) }
+{
+    add_list(text, b"periods", each)?;
+    add_list(text, b"times", times)
 }

@@ -1,16 +1,14 @@
-use Rattle.std.proofs.Common.{◌<◌, ◌≤◌, ◌+◌, ◌∙◌, ap, sym, length, drop, arith}
+use Rattle.std.proofs.Common.{◌≤◌, ◌∙◌, length, arith}
 use Rattle.std.specs.Prelude.{min}
+use Rattle.slack_report.specs.declared.words.EndWord.TheVariants.{Pass}
 use Rattle.job_cycles.specs.Cycles.{rows_end}
-use Rattle.job_cycles.proofs.Walks.{end_done, one_end}
+use Rattle.job_cycles.proofs.Walks.{end_done, end_goes_on}
 use Rattle.job_cycles.proofs.ending.rows_end.Goals as goal
 
 pub loop-k-preserved : goal.loop-k-preserved
 loop-k-preserved c =
-    let within : c.loop-k.k < length c.args.rows.now = grind arith in
-    let also : c.loop-k.k < length c.args.found.now = grind arith in
-    ap (λ word. rows_end word (drop (c.loop-k.k + 1) c.args.rows.now) (drop (c.loop-k.k + 1) c.args.found.now)) c.end_after_row-word.ensures
-    ∙ sym (one_end c.loop-k.word c.loop-k.k c.args.rows.now c.args.found.now c.index-rows-k.result c.index-found-k.result within also c.index-rows-k.is c.index-found-k.is)
-    ∙ c.loop-k.invariant
+    end_goes_on c.loop-k.word _ (rows_end Pass c.args.rows.now c.args.found.now) c.loop-k.k c.args.rows.now c.args.found.now c.row_at-row.result.now c.found_at-one.result.now
+    c.row_at-row.ensures.row c.found_at-one.ensures.found c.end_after_row-word.ensures c.loop-k.invariant
 
 pub returns : goal.returns
 returns c =
