@@ -4,6 +4,7 @@
 #![tactic(auto)]
 
 mod ending;
+pub mod laws;
 mod rows;
 mod words;
 mod write;
