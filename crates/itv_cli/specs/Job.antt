@@ -81,18 +81,6 @@ abbrev pub whatif_at : List ℕ → ℕ → Drawn → FileReading Ready
 whatif_at edits budget drawn =
     if nat_lt MAX_SESSION_ROWS (length drawn.rows) then refuses Design (refusals.Limits (TooMany SessionRows (length drawn.rows))) else edits_at edits budget drawn
 
--- a drawn network with the measured times in the bytes of a file
-abbrev pub times_in : ℕ → Drawn → List ℕ → FileReading Ready
-times_in within drawn bytes = do
-  runs ← at Times refusals.Times (runs_of drawn.net.events bytes)
-  gives (ready.Measure drawn runs within)
-
--- a drawn network with the measured times of a file, which is fetched
-abbrev pub times_at : List ℕ → ℕ → Drawn → FileReading Ready
-times_at name within drawn = do
-  bytes ← file_at Times name MAX_TIMES_BYTES
-  times_in within drawn bytes
-
 -- the plan of the design of a file, and the network that it draws
 abbrev pub planned_at : List ℕ → FileReading (PlanView × Drawn)
 planned_at name = do
@@ -132,7 +120,9 @@ opening (whatif design edits budget) = do
 opening (margin design list budget) = planned_at design >>= λ both. list_at both.1 list >>= λ numbers. gives (ready.Margin both.0 both.1 numbers budget)
 opening (measure design times within) = do
   drawn ← design_at design
-  times_at times within drawn
+  bytes ← file_at Times times MAX_TIMES_BYTES
+  runs ← at Times refusals.Times (runs_of drawn.net.events bytes)
+  gives (ready.Measure drawn runs within)
 
 -- the files that are made for a task, if it reads no files of the shelf
 abbrev pub made_for : Task → Option Files
