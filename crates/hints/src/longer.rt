@@ -53,10 +53,12 @@ fn passes_longer(alloc: Global, plan: &Plan) -> Result<bool, NoMemory> {
 // Whether a design has a requirement, and each of its rows exists in a drawn cycle.
 fn stays(alloc: Global, design: Design<'_>) -> Result<bool, NoMemory> {
     let cycles = design.cycles();
-    if mark_count(&design) > u64::from(MAX_EVENTS) {
+    if mark_count(&design) > u128::from(MAX_EVENTS) {
         return Ok(false);
     }
-    let rows = all_rows(alloc, &design.over(MAX_CYCLES))?;
+    let all = design.over(MAX_CYCLES);
+    let rows = all_rows(alloc, &all)?;
+    drop(all);
     let asks = rows.iter().any(|row| is_requirement(row.kind));
     Ok(asks && rows.iter().all(|row| row.shift < cycles))
 }
