@@ -1,5 +1,5 @@
 -- What is found of a network and of its rows, with the reasons.
-use Rattle.std.specs.Prelude.{◌≡◌, ◌≤◌, ℕ, ℤ, neg_ℤ, true, Bool, List, [], All, Option, Some, None, IfSome}
+use Rattle.std.specs.Prelude.{◌≡◌, ◌≤◌, ℕ, ℤ, neg_ℤ, true, Bool, List, [], length, All, Option, Some, None, IfSome}
 use Rattle.std.specs.Global.{Vec}
 use Rattle.std.specs.List.{AllZip}
 use Rattle.itv_base.specs.Range.{Ends}
@@ -54,12 +54,13 @@ IsFindingFound net budget Open = IsFindingOpen net budget
 -- ---- a bound
 
 -- the edges behind a greatest separation: some satisfying times attain it, and meet each edge with equality; the edges lead from the one event to the
--- other
+-- other, and are no more than there are events
 pub record Explains (net : Net) (from to : EventId) (value : ℤ) (names : List EdgeName) : Type 0 where
   pub times : List ℤ
   pub satisfied : Satisfies times net
   pub attained : separation times from to ≡ value
   pub chain : IsChain net times from to names
+  pub short : length names ≤ net.events
 
 -- the bound of a row with its reason: a chain behind a number, and a set of events where there is none
 abbrev pub BoundFound : Type 0
