@@ -288,9 +288,9 @@ pub record IsMadeRun (from : ℕ) (plan : PlanView) (run : RunView) : Type 0 whe
 pub run_made : (files : Files) (from : ℕ) (plan : PlanView) (run : RunView) → end_over files (run_at from plan) ≡ ready run → IsMadeRun from plan run
 run_made files from plan run had =
     let (d, made, rest) = told_behind files (at Design refusals.Joins (composed_on plan.netlist (sheets_on plan.sheets plan.netlist.parts)))
-        (λ d. at Design refusals.Limits (unrolled (over (cycles_for from d.cycles (rows_of d)) d)) >>= (λ drawn. gives (record { plan = plan; from = from; cycles = cycles_for from d.cycles (rows_of d) }))) run had in
+    (λ d. at Design refusals.Limits (unrolled (over (cycles_for from d.cycles (rows_of d)) d)) >>= (λ drawn. gives (record { plan = plan; from = from; cycles = cycles_for from d.cycles (rows_of d) }))) run had in
     let (drawn, drew, is) = told_then files (at Design refusals.Limits (unrolled (over (cycles_for from d.cycles (rows_of d)) d)))
-        (λ drawn. record { plan = plan; from = from; cycles = cycles_for from d.cycles (rows_of d) }) run rest in
+    (λ drawn. record { plan = plan; from = from; cycles = cycles_for from d.cycles (rows_of d) }) run rest in
     let composes : IsDesignOf plan d = composed_made files (composed_on plan.netlist (sheets_on plan.sheets plan.netlist.parts)) d made in
     record {
       design = d;
@@ -358,7 +358,6 @@ refused_redraws files (measure design times within) bytes own h =
     let (runs, had, is) = told_then files (at Times refusals.Times (runs_of drawn.net.events file)) (λ rs. given.Measure drawn rs within) h.given behind in
     let answered : Answers (given.Measure drawn runs within) answers.DesignRefused bytes = subst (λ g. Answers g answers.DesignRefused bytes) (sym is) h.answers in
     absurd (never_measured (all_verdict (run_lines drawn within runs)) (sym answered.0))
-
 refused_redraws files (cycles design from budget) bytes own h =
     let (both, draws, comes) = told_behind files (planned_at design) (λ p. run_at from p.0 >>= (λ run. gives (given.Cycles run budget))) h.given h.reads in
     let (run, had, is) = told_then files (run_at from both.0) (λ run. given.Cycles run budget) h.given comes in
