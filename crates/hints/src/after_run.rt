@@ -1,7 +1,7 @@
 //! What is said after a run.
 
 use crate::accepted::put_accepted;
-use crate::answered::{Judged, put_answered};
+use crate::answered::{Requirements, put_answered};
 use crate::budget::put_open;
 use crate::longer::is_judging;
 use crate::margin_fault::put_margin_refusal;
@@ -175,11 +175,11 @@ fn put_of_files(hint: &mut Hint, task: Task<'_>, status: u8, files: &mut ShelfMe
 }
 
 // What a run that ended with this status found of the requirements of its design. Measured times may break one that the rules keep.
-fn judged_by(task: Task<'_>, status: u8) -> Judged {
+fn judged_by(task: Task<'_>, status: u8) -> Requirements {
     match status {
-        0 if is_judging(task) => Judged::AllMet,
-        1 if !matches!(task, Task::Measure { .. }) => Judged::SomeBroken,
-        _ => Judged::Unknown,
+        0 if is_judging(task) => Requirements::AllMet,
+        1 if !matches!(task, Task::Measure { .. }) => Requirements::SomeBroken,
+        _ => Requirements::Unknown,
     }
 }
 

@@ -11,7 +11,7 @@ use refusal_hints::Hint;
 
 /// What a run found of the requirements of a design. `Unknown` if it does not say.
 #[derive(Clone, Copy, PartialEq, Eq)]
-pub enum Judged {
+pub enum Requirements {
     AllMet,
     SomeBroken,
     Unknown,
@@ -19,12 +19,12 @@ pub enum Judged {
 
 /// Puts what is said of a design that was answered: an event that nothing bounds, if its rules let some requirement be broken, or that a pass is one for
 /// every greater number of cycles; sheets without a rule, and how many warnings the drawing has. Nothing is searched.
-pub fn put_answered<H: Shelf>(hint: &mut Hint, design: &str, judged: Judged, shelf: &mut H) {
+pub fn put_answered<H: Shelf>(hint: &mut Hint, design: &str, judged: Requirements, shelf: &mut H) {
     if let Ok(plan) = open_plan(hint.alloc(), design, shelf) {
         match judged {
-            Judged::AllMet => put_longer(hint, design, &plan),
-            Judged::SomeBroken => put_drawn(hint, &plan, shelf),
-            Judged::Unknown => {}
+            Requirements::AllMet => put_longer(hint, design, &plan),
+            Requirements::SomeBroken => put_drawn(hint, &plan, shelf),
+            Requirements::Unknown => {}
         }
         put_unruled(hint, &plan, shelf);
         put_warnings(hint, design, &plan);

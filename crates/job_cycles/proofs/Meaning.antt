@@ -24,13 +24,13 @@ use Rattle.steady.specs.declared.found.RunFound.TheVariants as found
 use Rattle.steady.specs.declared.verdict.RunVerdict.{RunVerdict}
 use Rattle.steady.specs.declared.verdict.RunVerdict.TheVariants.{Fail, Pass, Undecided, Vary}
 use Rattle.steady.proofs.Judging.{verdict_is_right}
-use Rattle.job_cycles.specs.Cycles.{AnswersCycles, end_after, end_after_row, ending_of, rows_end}
+use Rattle.job_cycles.specs.Cycles.{AnswersCycles, word_after, word_after_row, ending_of, rows_end}
 use Rattle.job_cycles.specs.Laws.{AllMetAlways, AnswerMeans, AnswersMean, IsRequirement, SomeBrokenOnce}
 
 -- ---- words at the end
 
 -- after a pass the word was a pass, and so was the verdict
-after_pass : (word : EndWord) (verdict : RunVerdict) → end_after word verdict ≡ endings.Pass → (word ≡ endings.Pass) × (verdict ≡ Pass)
+after_pass : (word : EndWord) (verdict : RunVerdict) → word_after word verdict ≡ endings.Pass → (word ≡ endings.Pass) × (verdict ≡ Pass)
 after_pass word Pass h = (h, refl)
 after_pass word (Fail side) h = absurd (cc h)
 after_pass word (Vary side) h = absurd (cc h)
@@ -46,7 +46,7 @@ IsBad (Fail side) = Unit {0}
 IsBad (Vary side) = Unit {0}
 IsBad Undecided = ⊥
 
-after_fail : (word : EndWord) (verdict : RunVerdict) → end_after word verdict ≡ endings.Fail → (word ≡ endings.Fail) ⊎ IsBad verdict
+after_fail : (word : EndWord) (verdict : RunVerdict) → word_after word verdict ≡ endings.Fail → (word ≡ endings.Fail) ⊎ IsBad verdict
 after_fail word Pass h = inl h
 after_fail word (Fail side) h = inr tt
 after_fail word (Vary side) h = inr tt
@@ -55,7 +55,7 @@ after_fail endings.Fail Undecided h = inl refl
 after_fail endings.Inconsistent Undecided h = absurd (cc h)
 after_fail endings.Undecided Undecided h = absurd (cc h)
 
-after_none : (word : EndWord) (verdict : RunVerdict) → end_after word verdict ≡ endings.Inconsistent → word ≡ endings.Inconsistent
+after_none : (word : EndWord) (verdict : RunVerdict) → word_after word verdict ≡ endings.Inconsistent → word ≡ endings.Inconsistent
 after_none word Pass h = h
 after_none word (Fail side) h = absurd (cc h)
 after_none word (Vary side) h = absurd (cc h)
@@ -64,14 +64,14 @@ after_none endings.Fail Undecided h = absurd (cc h)
 after_none endings.Inconsistent Undecided h = refl
 after_none endings.Undecided Undecided h = absurd (cc h)
 
-row_none : (word : EndWord) (kind : RowKind) (found : RowFound) → end_after_row word kind found ≡ endings.Inconsistent → word ≡ endings.Inconsistent
+row_none : (word : EndWord) (kind : RowKind) (found : RowFound) → word_after_row word kind found ≡ endings.Inconsistent → word ≡ endings.Inconsistent
 row_none word Ask found h = h
 row_none word (Req range) found h = after_none word (verdict_of range found) h
 
 rows_none : (word : EndWord) (rows : List SheetRow) (found : List RowFound) → rows_end word rows found ≡ endings.Inconsistent → word ≡ endings.Inconsistent
 rows_none word [] found h = h
 rows_none word (row ∷ rows) [] h = h
-rows_none word (row ∷ rows) (f ∷ found) h = row_none word row.kind f (rows_none (end_after_row word row.kind f) rows found h)
+rows_none word (row ∷ rows) (f ∷ found) h = row_none word row.kind f (rows_none (word_after_row word row.kind f) rows found h)
 
 -- the words of answers
 pass_word : (word : EndWord) → answer_of word ≡ answers.AllPass → word ≡ endings.Pass
@@ -113,7 +113,7 @@ module _ (d : DesignView) (from cycles : ℕ) (design : IsDesign d) where
   later : (Is : RunVerdict → Type 0) (first : SheetRow) (rows : List SheetRow) (number : ℕ) (row : SheetRow) (range : Ends) → IsJudged Is rows number row range → IsJudged Is (first ∷ rows) (suc number) row range
   later Is first rows number row range h = record { at = h.at; kind = h.kind; one = h.one; is_found = h.is_found; judged = h.judged }
 
-  kind_passes : (word : EndWord) (kind : RowKind) (f : RowFound) → end_after_row word kind f ≡ endings.Pass → (word ≡ endings.Pass) × ((range : Ends) → kind ≡ Req range → verdict_of range f ≡ Pass)
+  kind_passes : (word : EndWord) (kind : RowKind) (f : RowFound) → word_after_row word kind f ≡ endings.Pass → (word ≡ endings.Pass) × ((range : Ends) → kind ≡ Req range → verdict_of range f ≡ Pass)
   kind_passes word Ask f h = (h, λ range is. absurd (cc is))
   kind_passes word (Req own) f h =
       let both = after_pass word (verdict_of own f) h in
@@ -124,7 +124,7 @@ module _ (d : DesignView) (from cycles : ℕ) (design : IsDesign d) where
   all_passed word [] (f ∷ found) all h = absurd all
   all_passed word (first ∷ rows) [] all h = absurd all
   all_passed word (first ∷ rows) (f ∷ found) all h =
-      let others = all_passed (end_after_row word first.kind f) rows found all.1 h in
+      let others = all_passed (word_after_row word first.kind f) rows found all.1 h in
       let own = kind_passes word first.kind f others.0 in
       (own.0, each own.1 others.1)
     where
@@ -147,7 +147,7 @@ module _ (d : DesignView) (from cycles : ℕ) (design : IsDesign d) where
     range : Ends
     judged : IsJudged IsBad rows number row range
 
-  kind_fails : (word : EndWord) (kind : RowKind) (f : RowFound) → end_after_row word kind f ≡ endings.Fail → (word ≡ endings.Fail) ⊎ ((range : Ends) × (kind ≡ Req range) × IsBad (verdict_of range f))
+  kind_fails : (word : EndWord) (kind : RowKind) (f : RowFound) → word_after_row word kind f ≡ endings.Fail → (word ≡ endings.Fail) ⊎ ((range : Ends) × (kind ≡ Req range) × IsBad (verdict_of range f))
   kind_fails word Ask f h = inl h
   kind_fails word (Req own) f h = elim (after_fail word (verdict_of own f) h) [
     | inl before ↦ inl before
@@ -158,7 +158,7 @@ module _ (d : DesignView) (from cycles : ℕ) (design : IsDesign d) where
   some_bad word [] [] all h = inl h
   some_bad word [] (f ∷ found) all h = absurd all
   some_bad word (first ∷ rows) [] all h = absurd all
-  some_bad word (first ∷ rows) (f ∷ found) all h = elim (some_bad (end_after_row word first.kind f) rows found all.1 h) [
+  some_bad word (first ∷ rows) (f ∷ found) all h = elim (some_bad (word_after_row word first.kind f) rows found all.1 h) [
     | inl before ↦ elim (kind_fails word first.kind f before) [
       | inl was ↦ inl was
       | inr (range, kind, bad) ↦ inr (record { number = 0; row = first; range = range; judged = record { at = refl; kind = kind; one = f; is_found = all.0; judged = bad } })

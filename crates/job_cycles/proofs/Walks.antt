@@ -13,7 +13,7 @@ use Rattle.steady.specs.Step.{IsWholeRun}
 use Rattle.steady.specs.declared.design_run.DesignRun.{DesignRun}
 use Rattle.steady.specs.declared.found.RowFound.{RowFound}
 use Rattle.origin.specs.NotesKept.{NotesKept}
-use Rattle.job_cycles.specs.Cycles.{end_after_row, rows_end}
+use Rattle.job_cycles.specs.Cycles.{word_after_row, rows_end}
 use Rattle.job_cycles.specs.Text.{row_text, rows_text}
 
 -- ---- texts
@@ -63,7 +63,7 @@ end_done word k rows found past = sym (elim (cases_lt k (length rows)) [
 
 -- the word after one more row
 pub end_goes_on : (word after all : EndWord) (k : ℕ) (rows : List SheetRow) (found : List RowFound) (row : SheetRow) (one : RowFound) → slice_get rows k ≡ Some row → slice_get found k ≡ Some one
-    → after ≡ end_after_row word row.kind one → rows_end word (drop k rows) (drop k found) ≡ all → rows_end after (drop (k + 1) rows) (drop (k + 1) found) ≡ all
+    → after ≡ word_after_row word row.kind one → rows_end word (drop k rows) (drop k found) ≡ all → rows_end after (drop (k + 1) rows) (drop (k + 1) found) ≡ all
 end_goes_on word after all k rows found row one at there is h =
     ap (λ w. rows_end w (drop (k + 1) rows) (drop (k + 1) found)) is
     ∙ sym (ap (λ rs. rows_end word rs (drop k found)) (drop-read rows k row at) ∙ ap (λ fs. rows_end word (row ∷ drop (k + 1) rows) fs) (drop-read found k one there)) ∙ h

@@ -29,24 +29,24 @@ use Rattle.job_cycles.specs.Text.{found_text, head_text}
 -- ---- the end
 
 -- the word at the end after one more verdict: a failure stays, and what is undecided goes before a pass
-abbrev pub end_after : EndWord → RunVerdict → EndWord
-end_after word Pass = word
-end_after word (Fail side) = endings.Fail
-end_after word (Vary side) = endings.Fail
-end_after endings.Pass Undecided = endings.Undecided
-end_after endings.Fail Undecided = endings.Fail
-end_after endings.Inconsistent Undecided = endings.Inconsistent
-end_after endings.Undecided Undecided = endings.Undecided
+abbrev pub word_after : EndWord → RunVerdict → EndWord
+word_after word Pass = word
+word_after word (Fail side) = endings.Fail
+word_after word (Vary side) = endings.Fail
+word_after endings.Pass Undecided = endings.Undecided
+word_after endings.Fail Undecided = endings.Fail
+word_after endings.Inconsistent Undecided = endings.Inconsistent
+word_after endings.Undecided Undecided = endings.Undecided
 
 -- the same after one more row; an ask has no verdict
-abbrev pub end_after_row : EndWord → RowKind → RowFound → EndWord
-end_after_row word Ask found = word
-end_after_row word (Req range) found = end_after word (verdict_of range found)
+abbrev pub word_after_row : EndWord → RowKind → RowFound → EndWord
+word_after_row word Ask found = word
+word_after_row word (Req range) found = word_after word (verdict_of range found)
 
 abbrev pub rows_end : EndWord → List SheetRow → List RowFound → EndWord
 rows_end word [] found = word
 rows_end word (row ∷ rows) [] = word
-rows_end word (row ∷ rows) (found ∷ others) = rows_end (end_after_row word row.kind found) rows others
+rows_end word (row ∷ rows) (found ∷ others) = rows_end (word_after_row word row.kind found) rows others
 
 -- The word at the end. Where a requirement is broken in some cycle it is `fail`.
 abbrev pub ending_of : List SheetRow → RunFound → EndWord

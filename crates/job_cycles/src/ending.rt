@@ -1,7 +1,7 @@
 //! The word at the end.
 
 ghost use Rattle.std.specs.Prelude.{◌≡◌};
-ghost use Rattle.job_cycles.specs.Cycles.{end_after, end_after_row, ending_of, rows_end};
+ghost use Rattle.job_cycles.specs.Cycles.{word_after, word_after_row, ending_of, rows_end};
 
 use crate::rows::{found_at, row_at};
 use itv_base::RowKind;
@@ -28,24 +28,24 @@ fn rows_end(rows: &[SheetRow], found: &[RowFound]) -> EndWord
     for k in 0..rows.len().min(found.len()) {
         let row = row_at(rows, k);
         let one = found_at(found, k);
-        word = end_after_row(word, row.kind, one);
+        word = word_after_row(word, row.kind, one);
     }
     word
 }
 
 // The word after one more row.
-fn end_after_row(word: EndWord, kind: RowKind, found: &RowFound) -> EndWord
-    ensures { result ≡ end_after_row word kind found.now }
+fn word_after_row(word: EndWord, kind: RowKind, found: &RowFound) -> EndWord
+    ensures { result ≡ word_after_row word kind found.now }
 {
     match kind {
         RowKind::Ask => word,
-        RowKind::Req(range) => end_after(word, verdict_of(range, found)),
+        RowKind::Req(range) => word_after(word, verdict_of(range, found)),
     }
 }
 
 // The word after one more verdict.
-fn end_after(word: EndWord, verdict: RunVerdict) -> EndWord
-    ensures { result ≡ end_after word verdict }
+fn word_after(word: EndWord, verdict: RunVerdict) -> EndWord
+    ensures { result ≡ word_after word verdict }
 {
     match (verdict, word) {
         (RunVerdict::Pass, _) => word,

@@ -8,7 +8,7 @@ use Rattle.job_cycles.proofs.ending.rows_end.Goals as goal
 pub loop-k-preserved : goal.loop-k-preserved
 loop-k-preserved c =
     end_goes_on c.loop-k.word _ (rows_end Pass c.args.rows.now c.args.found.now) c.loop-k.k c.args.rows.now c.args.found.now c.row_at-row.result.now c.found_at-one.result.now
-    c.row_at-row.ensures.row c.found_at-one.ensures.found c.end_after_row-word.ensures c.loop-k.invariant
+    c.row_at-row.ensures.row c.found_at-one.ensures.found c.word_after_row-word.ensures c.loop-k.invariant
 
 pub returns : goal.returns
 returns c =
