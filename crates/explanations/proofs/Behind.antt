@@ -1,5 +1,5 @@
 -- What stands behind a bound.
-use Rattle.std.proofs.Common.{◌≡◌, ◌≤ℤ◌, ℕ, ℤ, neg_ℤ, Bool, List, Option, Some, None, option_map, refl, sym, subst, ap, ◌∙◌}
+use Rattle.std.proofs.Common.{◌≡◌, ◌≤◌, ◌≤ℤ◌, ℕ, ℤ, neg_ℤ, Bool, List, length, Option, Some, None, option_map, refl, sym, subst, ap, ◌∙◌}
 use Rattle.std.specs.Prelude.{IfSome}
 use Rattle.std.specs.Global.{Vec}
 use Rattle.itv_base.specs.declared.names.EdgeName.{EdgeName}
