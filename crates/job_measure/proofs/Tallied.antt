@@ -11,9 +11,9 @@ use Rattle.measured_times.specs.Runs.{MeasuredRun}
 use Rattle.job_measure.specs.declared.look.RunLook.{RunLook}
 use Rattle.job_measure.specs.declared.tally.Found.{Found}
 use Rattle.job_measure.specs.declared.tally.RunTally.{RunTally}
-use Rattle.job_measure.specs.Looks.{looks}
-use Rattle.job_measure.specs.Tally.{first_if, found_in, is_broken, is_close, less, more, no_runs, one_if, with_look}
-use Rattle.job_measure.specs.Laws.{IsFirstRun, IsGreatestOf, IsLeastOf, IsRunTally, TalliesAreCounts, shows, value_of}
+use Rattle.job_measure.specs.Step.Looks.{looks}
+use Rattle.job_measure.specs.Step.Tally.{first_if, found_in, is_broken, is_close, less, more, no_runs, one_if, with_look}
+use Rattle.job_measure.specs.Step.Counts.{IsFirstRun, IsGreatestOf, IsLeastOf, IsRunTally, TalliesAreCounts, shows, value_of}
 
 -- ---- a list with one more element
 

@@ -5,17 +5,15 @@
 #![tactic(auto)]
 
 mod ending;
-mod headed;
 mod heading;
-mod laws;
 mod line;
 mod line_text;
 mod look;
 mod rule;
 mod spare;
+mod subject;
 mod tally;
 mod unseen;
 mod write;
 
-pub use laws::{kept_rules_hold, tallies_are_counts};
 pub use write::write_measure;

@@ -1,4 +1,4 @@
--- What the numbers of job measure mean. These are laws: they follow from the definitions of the text.
+-- What the numbers of a tally are.
 use Rattle.std.specs.Prelude.{◌≡◌, ◌+◌, ℕ, ℤ, neg_ℤ, ◌+ℤ◌, ◌-ℤ◌, ◌≤ℤ◌, ◌<ℤ◌, ◌↔◌, Bool, true, false, List, map, take, count_by, All, Option, Some, None, IfSome, IfNone, IsSomeAnd, option_map, is_some, slice_get}
 use Rattle.std.specs.Option.{option_map_or}
 use Rattle.event_graph.specs.declared.cause.Cause.{Cause}
@@ -9,22 +9,16 @@ use Rattle.job_measure.specs.declared.spare.TheConstants.{FAR}
 use Rattle.job_measure.specs.declared.look.RunLook.{RunLook}
 use Rattle.job_measure.specs.declared.tally.Found.{Found}
 use Rattle.job_measure.specs.declared.tally.RunTally.{RunTally}
-use Rattle.job_measure.specs.Looks.{looks}
-use Rattle.job_measure.specs.Spare.{spare}
-use Rattle.job_measure.specs.Tally.{is_broken, is_close, tally}
+use Rattle.job_measure.specs.Shown.{ranged, tightened}
+use Rattle.job_measure.specs.Step.Looks.{looks}
+use Rattle.job_measure.specs.Step.Spare.{spare}
+use Rattle.job_measure.specs.Step.Tally.{is_broken, is_close, tally}
 
 -- ---- spare
 
--- a constraint with each end of its causes moved outward by a number of picoseconds; a number below 0 moves them inward
-abbrev pub loosened_cause : ℤ → Cause → Cause
-loosened_cause by c = record c { range = record { low = option_map (λ low. low -ℤ by) c.range.low; high = option_map (λ high. high +ℤ by) c.range.high } }
-
-abbrev pub loosened : ℤ → Constraint → Constraint
-loosened by c = record c { causes = map (loosened_cause by) c.causes }
-
--- times keep a constraint by minus a number or more if and only if it holds when its ends are moved outward by this number
+-- times keep a constraint with so much to spare if and only if it holds when its ends are moved inward by this number
 abbrev pub KeptRulesHold : Type 0
-KeptRulesHold = (times : List ℤ) (c : Constraint) (by : ℤ) → neg_ℤ FAR <ℤ by → by <ℤ FAR → (neg_ℤ by ≤ℤ spare times c) ↔ Holds times (loosened by c)
+KeptRulesHold = (times : List ℤ) (c : Constraint) (by : ℤ) → neg_ℤ FAR <ℤ by → by ≤ℤ FAR → (by ≤ℤ spare times c) ↔ Holds times (ranged (tightened by) c)
 
 -- ---- tallies
 

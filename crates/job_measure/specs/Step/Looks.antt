@@ -9,7 +9,7 @@ use Rattle.event_graph.specs.Network.{Constraint}
 use Rattle.event_graph.specs.Times.{separation}
 use Rattle.measured_times.specs.Runs.{MeasuredRun}
 use Rattle.job_measure.specs.declared.look.RunLook.{RunLook}
-use Rattle.job_measure.specs.Spare.{spare}
+use Rattle.job_measure.specs.Step.Spare.{spare}
 
 -- the times of a run; the time of an event that was not seen counts as 0
 abbrev pub times_of : MeasuredRun → List ℤ
@@ -23,8 +23,8 @@ abbrev pub are_seen : MeasuredRun → List Cause → Bool
 are_seen run causes = list_all (λ (cause : Cause). was_seen run cause.event) causes
 
 -- all events of the constraint were seen in the run
-abbrev pub is_shown : MeasuredRun → Constraint → Bool
-is_shown run c = was_seen run c.target && are_seen run c.causes
+abbrev pub are_all_seen : MeasuredRun → Constraint → Bool
+are_all_seen run c = was_seen run c.target && are_seen run c.causes
 
 -- how long after its first cause the target comes
 abbrev pub apart : List ℤ → EventId → List Cause → ℤ
@@ -34,7 +34,7 @@ apart times target (cause ∷ causes) = separation times cause.event target
 -- a constraint with all of its events seen: by how much it is kept, and how long after its first cause its target comes
 abbrev pub look_at : MeasuredRun → Constraint → Option RunLook
 look_at run c =
-    if is_shown run c then Some (record { spare = spare (times_of run) c; least = apart (times_of run) c.target c.causes; greatest = apart (times_of run) c.target c.causes }) else None
+    if are_all_seen run c then Some (record { spare = spare (times_of run) c; least = apart (times_of run) c.target c.causes; greatest = apart (times_of run) c.target c.causes }) else None
 
 -- two looks of one run as one: the less spare, and the least and the greatest separation
 abbrev pub joined : RunLook → RunLook → RunLook

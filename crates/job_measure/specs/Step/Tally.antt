@@ -1,13 +1,11 @@
 -- What some runs show of constraints.
-use Rattle.std.specs.Prelude.{ℕ, ◌+◌, nat_lt, ℤ, pos, neg_ℤ, int_lt, Bool, not, ◌&&◌, if◌then◌else◌, List, fold, Option, Some, None}
+use Rattle.std.specs.Prelude.{ℕ, ◌+◌, ℤ, pos, neg_ℤ, int_lt, Bool, not, ◌&&◌, if◌then◌else◌, List, fold, Option, Some, None}
 use Rattle.event_graph.specs.Network.{Constraint}
 use Rattle.measured_times.specs.Runs.{MeasuredRun}
 use Rattle.job_measure.specs.declared.look.RunLook.{RunLook}
 use Rattle.job_measure.specs.declared.tally.Found.{Found}
 use Rattle.job_measure.specs.declared.tally.RunTally.{RunTally}
-use Rattle.job_measure.specs.declared.tally.RunVerdict.{RunVerdict}
-use Rattle.job_measure.specs.declared.tally.RunVerdict.TheVariants.{Fail, Near, Pass, Unseen}
-use Rattle.job_measure.specs.Looks.{looks}
+use Rattle.job_measure.specs.Step.Looks.{looks}
 
 -- a constraint with this spare is broken by more than the tolerance; it is kept, but not with the tolerance to spare
 abbrev pub is_broken : ℕ → ℤ → Bool
@@ -57,6 +55,6 @@ with_look within t run (Some look) = record {
 abbrev pub tally : ℕ → List Constraint → List MeasuredRun → RunTally
 tally within constraints runs = fold (λ (t : RunTally) run. with_look within t (t.gone + 1) (looks run constraints)) no_runs runs
 
--- broken in some run; or kept, but not with the tolerance to spare in all; or never seen
-abbrev pub verdict_of : RunTally → RunVerdict
-verdict_of t = if nat_lt 0 t.broken then Fail else (if nat_lt 0 t.near then Near else (if nat_lt 0 t.runs then Pass else Unseen))
+-- what is counted of constraints in some runs
+abbrev pub counted : ℕ → List MeasuredRun → List Constraint → RunTally
+counted within runs constraints = tally within constraints runs
