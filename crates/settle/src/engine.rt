@@ -6,6 +6,7 @@ use crate::literal::{NodeBound, beyond};
 use crate::needs::Needs;
 use crate::node::Node;
 use crate::outbox::Outbox;
+use crate::outlook::Outlook;
 use crate::pace::Pace;
 use crate::probe::Probe;
 use crate::rounds::WalksBack;
@@ -94,6 +95,15 @@ impl Engine {
     /// Allows this many blocks from now on, and the turns for them.
     pub fn allow(&mut self, blocks: u64) {
         self.pace.allow(blocks, self.facts.meter.turns());
+    }
+
+    /// How the search goes.
+    pub fn outlook(&self) -> Outlook {
+        Outlook {
+            sides: self.facts.tables.sides.len() as u64,
+            clauses: self.pace.clauses,
+            levels: self.pace.levels,
+        }
     }
 
     /// Gives up: the search proposes the lines that wait, and then nothing more.

@@ -21,6 +21,7 @@ mod meter;
 mod needs;
 mod node;
 mod outbox;
+mod outlook;
 mod pace;
 mod places;
 mod probe;

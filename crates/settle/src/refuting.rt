@@ -218,7 +218,7 @@ impl Engine {
             .clauses
             .push(basis, &learnt.literals, learnt.levels)?;
         self.activity.age();
-        self.pace.count();
+        self.pace.count(learnt.levels);
         self.probe.count();
         self.facts.go_back(learnt.back);
         self.facts.imply(clause, first)
