@@ -18,7 +18,8 @@ use Rattle.design_plan.specs.Plan.{PlanView, sheets_on}
 use Rattle.design_reading.specs.declared.refusal.Refusal.TheVariants.{Joins, Limits}
 use Rattle.design_reading.specs.declared.refusal_place.RefusalPlace.TheVariants.{Design}
 use Rattle.design_reading.specs.declared.stop.Stop.{Stop}
-use Rattle.design_reading.specs.FileReading.{at, gives, ready, ◌>>=◌}
+use Rattle.design_reading.specs.declared.stop.Stop.TheVariants.{Refused, ReadFault, NoMemory as OutOfMemory}
+use Rattle.design_reading.specs.FileReading.{FileReading, at, gives, ◌>>=◌}
 use Rattle.design_reading.specs.Step.{Opens}
 use Rattle.design_reading.proofs.Opens.{at_ok, opens_stop, opens_then}
 use Rattle.job_base.specs.JobWrote.{Answered, JobWrote}
@@ -67,6 +68,12 @@ limited standing plan d from (Ok run) h is cycles =
 limited standing plan d from (Err stop) h is cycles =
     opens_stop (λ (run : DesignRun). run.drawn) (view_of plan) (at Design Limits (unrolled (over (cycles_for from d.cycles (rows_of d)) d)))
     (λ drawn. gives (record { plan = plan; from = from; cycles = cycles_for from d.cycles (rows_of d) })) standing standing stop h
+
+-- why there is nothing, whatever was wanted
+pub stop_same : {A B C : Type 0} (va : B → A) (vb : C → A) (old new : ShelfState) (o : FileReading A) (stop : Stop) → Opens va old new o (Err stop) → Opens vb old new o (Err stop)
+stop_same va vb old new o (Refused place why) h = h
+stop_same va vb old new o (ReadFault place) h = h
+stop_same va vb old new o OutOfMemory h = h
 
 -- the run of the design of a plan, or the limit that it passes
 pub run_read : (standing : ShelfState) (plan : PlanView) (d : DesignView) (from : ℕ) (r : Result DesignRun Stop) → IsDesignOf plan d

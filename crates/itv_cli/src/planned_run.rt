@@ -108,10 +108,10 @@ fn run_from(alloc: Global, design: Design<'_>, from: u32) -> Result<DesignRun, S
     requires from { from ≤ MAX_FROM }
     requires within { IsOk (unrolled design) }
     ensures reads { ReadsAs (λ run. run.drawn)
-        (at RefusalPlace.Design Refusal.Limits (unrolled (over (cycles_for from design.cycles (rows_of design)) design))) result }
-    ensures run { IfOk result (IsRunOf design from) }
+        (at RefusalPlace.Design Refusal.Limits (unrolled (over (cycles_for from design.entry.cycles (rows_of design.entry)) design.entry))) result }
+    ensures run { IfOk result (IsRunOf design.entry from) }
     ensures whole { IfOk result IsWholeRun }
-    ensures cycles { IfOk result (λ run. run.cycles ≡ cycles_for from design.cycles (rows_of design)) }
+    ensures cycles { IfOk result (λ run. run.cycles ≡ cycles_for from design.entry.cycles (rows_of design.entry)) }
 {
     // The call also gives the invariant: the design has a cycle. So it has no more marks than events.
     let _cycles = design.cycles();

@@ -7,6 +7,9 @@ use Rattle.itv_cli.specs.declared.ready.Ready.{Ready}
 use Rattle.itv_cli.specs.declared.ready.Ready.TheVariants.{Cycles}
 use Rattle.itv_cli.proofs.opening.for_cycles.Goals as goal
 
+pub of-requires-clause-from : goal.of-requires-clause-from
+of-requires-clause-from c = c.requires.from
+
 pub returns-in-Ok-clause-reads : goal.returns-in-Ok-clause-reads
 returns-in-Ok-clause-reads c standing =
     opens_then (λ (run : RunView). run) (λ (given : Ready). given) (run_at c.args.from c.args.plan) (λ run. gives (Cycles run c.args.budget)) standing standing standing c.in-Ok.run
