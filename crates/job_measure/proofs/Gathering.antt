@@ -4,7 +4,7 @@ use Rattle.std.specs.Prelude.{fold, zip}
 use Rattle.std.proofs.lemmas.List.Sums.{fold_more}
 use Rattle.std.specs.List.{flat_map}
 use Rattle.std.specs.Option.{option_and_then, option_map_or}
-use Rattle.std.proofs.lemmas.Option.{get_or_from_slice_get, slice_get-get_or, slice_get_within}
+use Rattle.std.proofs.lemmas.Option.{get_or_from_slice_get, slice_get_within}
 use Rattle.itv_base.proofs.Lists.{drop-read, take_get}
 use Rattle.itv_base.specs.Numerals.{number_text}
 use Rattle.itv_base.specs.Range.{Ends}
@@ -21,7 +21,6 @@ use Rattle.slack_report.specs.Order.{is_required}
 use Rattle.slack_report.specs.Text.{row_words}
 use Rattle.line_words.specs.Lines.{line_of, spaced}
 use Rattle.line_words.proofs.Printing.{join_spaced}
-use Rattle.job_measure.specs.declared.subject.Subject.{Subject}
 use Rattle.job_measure.specs.Subjects.{kind_words, mark_word, row_subjects, rule_subject}
 use Rattle.job_measure.specs.Step.Within.{causes_at}
 use Rattle.job_measure.specs.Step.Headings.{from_words, kind_word, row_heading, rule_heading}

@@ -1,9 +1,8 @@
 -- What is counted of constraints is what the claim says of them.
-use Rattle.std.proofs.Common.{◌≡◌, ◌⊎◌, ◌+◌, ◌≤◌, ℕ, zero, suc, ℤ, pos, neg_ℤ, ◌+ℤ◌, ◌≤ℤ◌, ◌<ℤ◌, ◌↔◌, Bool, true, false, cond, if◌then◌else◌, ◌&&◌, ◌||◌, not, int_lt, nat_lt, IsTrue, List, [], ◌∷◌, length, map, take, All, Any, Option, Some, None, IfSome, IsSomeAnd, is_some, option_map, slice_get, count_by, refl, sym, ap, subst, ◌∙◌, arith, add-zero, IfNone}
+use Rattle.std.proofs.Common.{if◌then◌else◌, ◌≡◌, ◌+◌, ◌≤◌, ℕ, zero, suc, ℤ, pos, neg_ℤ, ◌+ℤ◌, ◌≤ℤ◌, ◌<ℤ◌, ◌↔◌, Bool, true, false, cond, ◌&&◌, ◌||◌, not, int_lt, nat_lt, IsTrue, List, [], ◌∷◌, length, map, take, All, Any, Option, Some, None, IfSome, IsSomeAnd, is_some, option_map, slice_get, count_by, refl, sym, ap, subst, ◌∙◌, arith, add-zero, IfNone}
 use Rattle.std.proofs.lemmas.Bool.Decides.{nat_tests}
 use Rattle.std.specs.Prelude.{fold, position}
-use Rattle.std.specs.Int.{int_max, int_min}
-use Rattle.std.specs.List.{AllByRecursion, list_all, list_any, position_from}
+use Rattle.std.specs.List.{AllByRecursion, list_any, position_from}
 use Rattle.std.specs.Option.{option_map_or}
 use Rattle.std.proofs.lemmas.Int.{clamps, ints}
 use Rattle.std.proofs.lemmas.Iterator.Adapters.{position_from-zero}
@@ -18,17 +17,17 @@ use Rattle.itv_base.specs.declared.names.RuleKind.TheVariants.{Lin, Late, Early}
 use Rattle.event_graph.specs.declared.cause.Cause.{Cause}
 use Rattle.event_graph.specs.Network.{Constraint}
 use Rattle.event_graph.specs.Satisfying.{Holds, HoldsAs, IsAfter, IsBefore}
-use Rattle.event_graph.specs.Times.{IsTime, separation, time_of}
+use Rattle.event_graph.specs.Times.{IsTime, time_of}
 use Rattle.measured_times.specs.Runs.{MeasuredRun}
 use Rattle.job_measure.specs.declared.spare.TheConstants.{FAR}
 use Rattle.job_measure.specs.declared.look.RunLook.{RunLook}
 use Rattle.job_measure.specs.declared.tally.Found.{Found}
 use Rattle.job_measure.specs.declared.tally.RunTally.{RunTally}
-use Rattle.job_measure.specs.Shown.{FallShort, IsSlack, IsTally, Keeps, is_shown, ranged, tightened}
+use Rattle.job_measure.specs.Shown.{IsSlack, IsTally, Keeps, is_shown, ranged, tightened}
 use Rattle.job_measure.specs.Step.Counts.{IsLeastOf, IsGreatestOf, IsRunTally, shows, value_of}
-use Rattle.job_measure.specs.Step.Looks.{apart, are_all_seen, are_seen, both, joined, look_at, looks, times_of, was_seen}
+use Rattle.job_measure.specs.Step.Looks.{apart, are_all_seen, both, joined, look_at, looks, times_of, was_seen}
 use Rattle.job_measure.specs.Step.Spare.{spare}
-use Rattle.job_measure.specs.Step.Tally.{counted, is_broken, is_close, less, more, no_runs, tally, with_look}
+use Rattle.job_measure.specs.Step.Tally.{counted, is_broken, is_close, less, more, no_runs, with_look}
 use Rattle.job_measure.specs.Step.Within.{IsTolerance}
 use Rattle.job_measure.proofs.Tallied.{tallies_are_counts}
 use Rattle.job_measure.proofs.Widened.{kept_rules_hold}

@@ -1,6 +1,6 @@
 -- A line is read as a run if and only if it is the text of this run.
-use Rattle.std.proofs.Common.{◌≡◌, ◌==◌, ◌⊎◌, inl, inr, append-nil, ◌+◌, ◌<◌, ℕ, ℤ, arith, neg_ℤ, pos, ◌≤ℤ◌, ◌^◌, Bool, true, false, List, [], ◌∷◌, length, map, All, IsTrue, codes, Option, Some, None, Result, Ok, Err, IfOk, IfSome, refl, sym, ap, subst, ◌∙◌, if◌then◌else◌, eqb, int_le, ◌&&◌}
-use Rattle.std.specs.List.{AllByRecursion, join_with_byte, list_all, slice_split}
+use Rattle.std.proofs.Common.{if◌then◌else◌, ◌≡◌, ◌==◌, ◌⊎◌, inl, inr, append-nil, ◌+◌, ℕ, ℤ, arith, neg_ℤ, ◌≤ℤ◌, Bool, true, false, List, [], ◌∷◌, length, map, All, IsTrue, codes, Option, Some, None, Result, Ok, Err, IfOk, refl, sym, ap, subst, ◌∙◌, eqb, int_le, ◌&&◌}
+use Rattle.std.specs.List.{list_all}
 use Rattle.std.specs.Option.{option_and_then}
 use Rattle.std.specs.Str.{IsUtf8, bytes_eq, is_utf8}
 use Rattle.std.proofs.lemmas.Bool.{and_parts, eqb-true, eq-eqb}
@@ -15,9 +15,9 @@ use Rattle.itv_base.specs.Numerals.{end_text}
 use Rattle.label_grammar.specs.Reading.{end_of}
 use Rattle.label_grammar.proofs.Pieces.{end_again}
 use Rattle.itv_base.specs.Reading.{◌>>=◌, AgreesWith}
-use Rattle.line_words.specs.Lines.{is_feed, line_of}
-use Rattle.line_words.specs.Numbers.{IsLong, IsLongOrOpen, open_in}
-use Rattle.line_words.specs.Words.{Word, keyed, many, split_words, when}
+use Rattle.line_words.specs.Lines.{line_of}
+use Rattle.line_words.specs.Numbers.{IsLongOrOpen, open_in}
+use Rattle.line_words.specs.Words.{Word, many, split_words, when}
 use Rattle.line_words.proofs.Inverts.{Inverts, bind_some, keyed_inverts, many_inverts, when_some, word_is, word_same}
 use Rattle.line_words.proofs.NumberLaws.{open_inverts}
 use Rattle.line_words.proofs.Plain.{ArePlain, end_plain, line_is_text, map_plain, split-join}

@@ -1,5 +1,5 @@
 -- Files of measured times: a line for each run, with a line end.
-use Rattle.std.specs.Prelude.{◌≡◌, ◌+◌, ◌==◌, ℕ, ℤ, neg_ℤ, int_le, ◌&&◌, nat_lt, Bool, true, false, IsTrue, if◌then◌else◌, List, [], ◌∷◌, length, map, drop, All, codes, Option, Result, Ok, Err}
+use Rattle.std.specs.Prelude.{if◌then◌else◌, ◌≡◌, ◌+◌, ◌==◌, ℕ, ℤ, neg_ℤ, int_le, ◌&&◌, nat_lt, Bool, true, false, IsTrue, List, [], ◌∷◌, length, map, drop, All, codes, Option, Result, Ok, Err}
 use Rattle.std.specs.List.{list_all, slice_split}
 use Rattle.std.specs.Option.{option_and_then, option_map_or}
 use Rattle.std.specs.Str.{bytes_eq}

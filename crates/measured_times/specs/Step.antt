@@ -1,5 +1,5 @@
 -- Words of contracts within this crate: a line that is read word by word.
-use Rattle.std.specs.Prelude.{◌==◌, ℕ, ℤ, if◌then◌else◌, List, length, codes, Option, Some, None, Result, Ok, Err}
+use Rattle.std.specs.Prelude.{if◌then◌else◌, ◌==◌, ℕ, ℤ, List, length, codes, Option, Some, None, Result, Ok, Err}
 use Rattle.std.specs.Str.{is_utf8}
 use Rattle.line_words.specs.Numbers.{open_in}
 use Rattle.line_words.specs.Words.{◌>>=◌, Word, keyed, many, split_words, when}

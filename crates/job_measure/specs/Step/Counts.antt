@@ -1,7 +1,6 @@
 -- What the numbers of a tally are.
-use Rattle.std.specs.Prelude.{◌≡◌, ◌+◌, ℕ, ℤ, neg_ℤ, ◌+ℤ◌, ◌-ℤ◌, ◌≤ℤ◌, ◌<ℤ◌, ◌↔◌, Bool, true, false, List, map, take, count_by, All, Option, Some, None, IfSome, IfNone, IsSomeAnd, option_map, is_some, slice_get}
+use Rattle.std.specs.Prelude.{◌≡◌, ◌+◌, ℕ, ℤ, neg_ℤ, ◌≤ℤ◌, ◌<ℤ◌, ◌↔◌, Bool, true, false, List, take, count_by, All, Option, Some, None, IfSome, IfNone, IsSomeAnd, option_map, is_some, slice_get}
 use Rattle.std.specs.Option.{option_map_or}
-use Rattle.event_graph.specs.declared.cause.Cause.{Cause}
 use Rattle.event_graph.specs.Network.{Constraint}
 use Rattle.event_graph.specs.Satisfying.{Holds}
 use Rattle.measured_times.specs.Runs.{MeasuredRun}

@@ -15,7 +15,7 @@ use Rattle.drawn_networks.specs.Drawn.{Drawn, name_of}
 use Rattle.drawn_networks.specs.declared.row.Row.{Row}
 use Rattle.slack_report.specs.Text.{row_words}
 use Rattle.job_measure.specs.declared.subject.Subject.{Subject}
-use Rattle.job_measure.specs.Subjects.{kind_words, mark_word}
+use Rattle.job_measure.specs.Subjects.{mark_word}
 
 abbrev pub kind_word : RuleKind → Word
 kind_word Lin = codes "lin"

@@ -1,5 +1,5 @@
 -- What a run shows of constraints.
-use Rattle.std.specs.Prelude.{ℤ, pos, Bool, false, ◌&&◌, if◌then◌else◌, List, [], ◌∷◌, map, slice_get, fold, Option, Some, None, is_some, unwrap_or}
+use Rattle.std.specs.Prelude.{if◌then◌else◌, ℤ, pos, Bool, false, ◌&&◌, List, [], ◌∷◌, map, slice_get, fold, Option, Some, None, is_some, unwrap_or}
 use Rattle.std.specs.Int.{int_max, int_min}
 use Rattle.std.specs.List.{list_all}
 use Rattle.std.specs.Option.{option_map_or}

@@ -1,5 +1,5 @@
 -- What some runs show of constraints.
-use Rattle.std.specs.Prelude.{ℕ, ◌+◌, ℤ, pos, neg_ℤ, int_lt, Bool, not, ◌&&◌, if◌then◌else◌, List, fold, Option, Some, None}
+use Rattle.std.specs.Prelude.{if◌then◌else◌, ℕ, ◌+◌, ℤ, pos, neg_ℤ, int_lt, Bool, not, ◌&&◌, List, fold, Option, Some, None}
 use Rattle.event_graph.specs.Network.{Constraint}
 use Rattle.measured_times.specs.Runs.{MeasuredRun}
 use Rattle.job_measure.specs.declared.look.RunLook.{RunLook}

@@ -1,5 +1,5 @@
 -- The text as it is gathered.
-use Rattle.std.specs.Prelude.{ℕ, zero, suc, ◌==◌, Bool, not, if◌then◌else◌, List, [], ◌∷◌, ◌++◌, codes, count_by, length}
+use Rattle.std.specs.Prelude.{if◌then◌else◌, ℕ, zero, suc, ◌==◌, Bool, not, List, [], ◌∷◌, ◌++◌, codes, count_by, length}
 use Rattle.std.specs.List.{flat_map}
 use Rattle.itv_base.specs.Numerals.{number_text}
 use Rattle.itv_base.specs.declared.names.EventId.{EventId}
