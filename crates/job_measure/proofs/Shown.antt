@@ -1,5 +1,5 @@
 -- What is counted of constraints is what the claim says of them.
-use Rattle.std.proofs.Common.{if◌then◌else◌, ◌≡◌, ◌+◌, ◌≤◌, ℕ, zero, suc, ℤ, pos, neg_ℤ, ◌+ℤ◌, ◌≤ℤ◌, ◌<ℤ◌, ◌↔◌, Bool, true, false, cond, ◌&&◌, ◌||◌, not, int_lt, nat_lt, IsTrue, List, [], ◌∷◌, length, map, take, All, Any, Option, Some, None, IfSome, IsSomeAnd, is_some, option_map, slice_get, count_by, refl, sym, ap, subst, ◌∙◌, arith, add-zero, IfNone}
+use Rattle.std.proofs.Common.{if◌then◌else◌, ◌≡◌, ◌+◌, ℕ, zero, suc, ℤ, pos, neg_ℤ, ◌+ℤ◌, ◌≤ℤ◌, ◌<ℤ◌, ◌↔◌, Bool, true, false, cond, ◌&&◌, ◌||◌, not, int_lt, nat_lt, IsTrue, List, [], ◌∷◌, length, map, take, All, Any, Option, Some, None, IfSome, IsSomeAnd, is_some, option_map, slice_get, count_by, refl, sym, ap, subst, ◌∙◌, arith, add-zero, IfNone}
 use Rattle.std.proofs.lemmas.Bool.Decides.{nat_tests}
 use Rattle.std.specs.Prelude.{fold, position}
 use Rattle.std.specs.List.{AllByRecursion, list_any, position_from}
