@@ -23,11 +23,11 @@ use Rattle.job_measure.specs.declared.spare.TheConstants.{FAR}
 use Rattle.job_measure.specs.declared.look.RunLook.{RunLook}
 use Rattle.job_measure.specs.declared.tally.Found.{Found}
 use Rattle.job_measure.specs.declared.tally.RunTally.{RunTally}
-use Rattle.job_measure.specs.Shown.{IsSlack, IsTally, Keeps, is_shown, ranged, tightened}
-use Rattle.job_measure.specs.Step.Counts.{IsLeastOf, IsGreatestOf, IsRunTally, shows, value_of}
+use Rattle.job_measure.specs.Shown.{IsSlack, IsRunTally, KeepsBy, is_shown, ranged, tightened}
+use Rattle.job_measure.specs.Step.Counts.{IsLeastOf, IsGreatestOf, IsLookTally, shows, value_of}
 use Rattle.job_measure.specs.Step.Looks.{apart, are_all_seen, both, joined, look_at, looks, times_of, was_seen}
 use Rattle.job_measure.specs.Step.Spare.{spare}
-use Rattle.job_measure.specs.Step.Tally.{counted, is_broken, is_close, less, more, no_runs, with_look}
+use Rattle.job_measure.specs.Step.Tally.{tally_over, is_broken, is_close, less, more, no_runs, with_look}
 use Rattle.job_measure.specs.Step.Within.{IsTolerance}
 use Rattle.job_measure.proofs.Tallied.{tallies_are_counts}
 use Rattle.job_measure.proofs.Widened.{kept_rules_hold}
@@ -123,13 +123,13 @@ greatest_join by a b h k = omega (arith, ints, clamps)
 
 -- a run keeps constraints with so much to spare if and only if what it shows of them leaves so much
 module _ (cs : List Constraint) (by : ℤ) (near : neg_ℤ FAR <ℤ by) (far : by ≤ℤ FAR) (run : MeasuredRun) where
-  keeps_from : IfSome (looks run cs) (λ look. by ≤ℤ look.spare) → Keeps cs by run
+  keeps_from : IfSome (looks run cs) (λ look. by ≤ℤ look.spare) → KeepsBy cs by run
   keeps_from h =
       All-from_recursion (λ c. IsTrue (is_shown run c) → Holds (times_of run) (ranged (tightened by) c)) cs
       (looks_give run (λ look. by ≤ℤ look.spare) (spare_parts by) (spare_join by) (λ c. Holds (times_of run) (ranged (tightened by) c)) (look_for run) (λ c. refl) cs
       (each_by (λ c. by ≤ℤ spare (times_of run) c → Holds (times_of run) (ranged (tightened by) c)) (λ c. (kept_rules_hold (times_of run) c by near far).0) cs) h)
 
-  keeps_leaves : Keeps cs by run → IfSome (looks run cs) (λ look. by ≤ℤ look.spare)
+  keeps_leaves : KeepsBy cs by run → IfSome (looks run cs) (λ look. by ≤ℤ look.spare)
   keeps_leaves h =
       looks_take run (λ look. by ≤ℤ look.spare) (spare_parts by) (spare_join by) (λ c. Holds (times_of run) (ranged (tightened by) c)) (look_for run) (λ c. refl) cs
       (each_by (λ c. Holds (times_of run) (ranged (tightened by) c) → by ≤ℤ spare (times_of run) c) (λ c. (kept_rules_hold (times_of run) c by near far).1) cs)
@@ -246,7 +246,7 @@ module _ (cs : List Constraint) (single : All (λ (c : Constraint). length c.cau
   ones : AllByRecursion (λ (c : Constraint). length c.causes ≡ 1) cs
   ones = recursion_from_All (λ (c : Constraint). length c.causes ≡ 1) cs single
 
-  apart_from : IfSome (looks run cs) (λ look. by ≤ℤ look.least) → Keeps (map (ranged from_zero) cs) by run
+  apart_from : IfSome (looks run cs) (λ look. by ≤ℤ look.least) → KeepsBy (map (ranged from_zero) cs) by run
   apart_from h =
       All-from_recursion (λ c. IsTrue (is_shown run c) → Holds (times_of run) (ranged (tightened by) c)) (map (ranged from_zero) cs)
       (to_ranged run by from_zero cs
@@ -254,7 +254,7 @@ module _ (cs : List Constraint) (single : All (λ (c : Constraint). length c.cau
       (each_given (λ (c : Constraint). length c.causes ≡ 1) (λ c. by ≤ℤ (look_for run c).least → Holds (times_of run) (ranged (tightened by) (ranged from_zero c)))
       (λ c one. low_holds run by c.kind c.target c.causes one) cs ones) h))
 
-  leaves_apart : Keeps (map (ranged from_zero) cs) by run → IfSome (looks run cs) (λ look. by ≤ℤ look.least)
+  leaves_apart : KeepsBy (map (ranged from_zero) cs) by run → IfSome (looks run cs) (λ look. by ≤ℤ look.least)
   leaves_apart h =
       looks_take run (λ look. by ≤ℤ look.least) (least_parts by) (least_join by) (λ c. Holds (times_of run) (ranged (tightened by) (ranged from_zero c))) (look_for run) (λ c. refl) cs
       (each_given (λ (c : Constraint). length c.causes ≡ 1) (λ c. Holds (times_of run) (ranged (tightened by) (ranged from_zero c)) → by ≤ℤ (look_for run c).least)
@@ -262,7 +262,7 @@ module _ (cs : List Constraint) (single : All (λ (c : Constraint). length c.cau
       (from_ranged run by from_zero cs
       (recursion_from_All (λ c. IsTrue (is_shown run c) → Holds (times_of run) (ranged (tightened by) c)) (map (ranged from_zero) cs) h))
 
-  within_from : IfSome (looks run cs) (λ look. by ≤ℤ neg_ℤ look.greatest) → Keeps (map (ranged to_zero) cs) by run
+  within_from : IfSome (looks run cs) (λ look. by ≤ℤ neg_ℤ look.greatest) → KeepsBy (map (ranged to_zero) cs) by run
   within_from h =
       All-from_recursion (λ c. IsTrue (is_shown run c) → Holds (times_of run) (ranged (tightened by) c)) (map (ranged to_zero) cs)
       (to_ranged run by to_zero cs
@@ -270,7 +270,7 @@ module _ (cs : List Constraint) (single : All (λ (c : Constraint). length c.cau
       (each_given (λ (c : Constraint). length c.causes ≡ 1) (λ c. by ≤ℤ neg_ℤ (look_for run c).greatest → Holds (times_of run) (ranged (tightened by) (ranged to_zero c)))
       (λ c one. high_holds run by c.kind c.target c.causes one) cs ones) h))
 
-  leaves_within : Keeps (map (ranged to_zero) cs) by run → IfSome (looks run cs) (λ look. by ≤ℤ neg_ℤ look.greatest)
+  leaves_within : KeepsBy (map (ranged to_zero) cs) by run → IfSome (looks run cs) (λ look. by ≤ℤ neg_ℤ look.greatest)
   leaves_within h =
       looks_take run (λ look. by ≤ℤ neg_ℤ look.greatest) (greatest_parts by) (greatest_join by) (λ c. Holds (times_of run) (ranged (tightened by) (ranged to_zero c))) (look_for run) (λ c. refl) cs
       (each_given (λ (c : Constraint). length c.causes ≡ 1) (λ c. Holds (times_of run) (ranged (tightened by) (ranged to_zero c)) → by ≤ℤ neg_ℤ (look_for run c).greatest)
@@ -328,12 +328,12 @@ first_run test runs (Some number) h =
 
 -- ---- the least that is left
 
-module _ (cs : List Constraint) (value : RunLook → ℤ) (kept : List Constraint) (from : (by : ℤ) (run : MeasuredRun) → IsTime by → IfSome (looks run cs) (λ look. by ≤ℤ value look) → Keeps kept by run)
-    (leaves : (by : ℤ) (run : MeasuredRun) → IsTime by → Keeps kept by run → IfSome (looks run cs) (λ look. by ≤ℤ value look)) where
+module _ (cs : List Constraint) (value : RunLook → ℤ) (kept : List Constraint) (from : (by : ℤ) (run : MeasuredRun) → IsTime by → IfSome (looks run cs) (λ look. by ≤ℤ value look) → KeepsBy kept by run)
+    (leaves : (by : ℤ) (run : MeasuredRun) → IsTime by → KeepsBy kept by run → IfSome (looks run cs) (λ look. by ≤ℤ value look)) where
   abbrev falls : ℤ → MeasuredRun → Bool
   falls by run = option_map_or (λ look. int_lt (value look) by) (looks run cs) false
 
-  falls_is : (by : ℤ) → IsTime by → (run : MeasuredRun) → (falls by run ≡ false) ↔ Keeps kept by run
+  falls_is : (by : ℤ) → IsTime by → (run : MeasuredRun) → (falls by run ≡ false) ↔ KeepsBy kept by run
   falls_is by time run = (λ h. from by run time (left_none (looks run cs) value by h), λ h. none_left (looks run cs) value by (leaves by run time h))
 
   -- the values of runs, each of which is at least a number
@@ -468,9 +468,9 @@ found_in_all within cs t (run ∷ runs) h = found_in_all within cs (with_look wi
 
 module _ (within : ℕ) (tolerance : IsTolerance within) (runs : List MeasuredRun) (cs : List Constraint) where
   abbrev told : RunTally
-  told = counted within runs cs
+  told = tally_over within runs cs
 
-  told_is : IsRunTally within cs runs told
+  told_is : IsLookTally within cs runs told
   told_is = tallies_are_counts within cs runs
 
   minus_time : IsTime (neg_ℤ (pos within))
@@ -479,13 +479,13 @@ module _ (within : ℕ) (tolerance : IsTolerance within) (runs : List MeasuredRu
   plus_time : IsTime (pos within)
   plus_time = (omega (arith, ints), omega (arith, ints))
 
-  spare_from : (by : ℤ) (run : MeasuredRun) → IsTime by → IfSome (looks run cs) (λ look. by ≤ℤ look.spare) → Keeps cs by run
+  spare_from : (by : ℤ) (run : MeasuredRun) → IsTime by → IfSome (looks run cs) (λ look. by ≤ℤ look.spare) → KeepsBy cs by run
   spare_from by run time h = let z = near_zero by time in keeps_from cs by z.0 z.1 run h
 
-  spare_leaves : (by : ℤ) (run : MeasuredRun) → IsTime by → Keeps cs by run → IfSome (looks run cs) (λ look. by ≤ℤ look.spare)
+  spare_leaves : (by : ℤ) (run : MeasuredRun) → IsTime by → KeepsBy cs by run → IfSome (looks run cs) (λ look. by ≤ℤ look.spare)
   spare_leaves by run time h = let z = near_zero by time in keeps_leaves cs by z.0 z.1 run h
 
-  spare_falls : (by : ℤ) → IsTime by → (run : MeasuredRun) → (falls cs (λ look. look.spare) cs spare_from spare_leaves by run ≡ false) ↔ Keeps cs by run
+  spare_falls : (by : ℤ) → IsTime by → (run : MeasuredRun) → (falls cs (λ look. look.spare) cs spare_from spare_leaves by run ≡ false) ↔ KeepsBy cs by run
   spare_falls by time run = falls_is cs (λ look. look.spare) cs spare_from spare_leaves by time run
 
   slack_by : (o : Option Found) → IsLeastOf (value_of (λ look. look.spare) cs) runs o → IfSome o (λ f. IsSlack cs runs f.value f.run)
@@ -522,7 +522,7 @@ module _ (within : ℕ) (tolerance : IsTolerance within) (runs : List MeasuredRu
   greatest_by single (Some f) h =
       let (k, is, here, each, earlier) = h.1 in
       let from = λ (by : ℤ) (run : MeasuredRun) (time : IsTime by) (h : IfSome (looks run cs) (λ look. by ≤ℤ neg_ℤ look.greatest)). within_from cs single by run h in
-      let leaves = λ (by : ℤ) (run : MeasuredRun) (time : IsTime by) (h : Keeps (map (ranged to_zero) cs) by run). leaves_within cs single by run h in
+      let leaves = λ (by : ℤ) (run : MeasuredRun) (time : IsTime by) (h : KeepsBy (map (ranged to_zero) cs) by run). leaves_within cs single by run h in
       is_slack cs (λ look. neg_ℤ look.greatest) (map (ranged to_zero) cs) from leaves runs (neg_ℤ f.value) f.run k is
       (some_weaker cs (λ look. neg_ℤ look.greatest) (map (ranged to_zero) cs) from leaves runs k (λ run. option_map (λ look. look.greatest) (looks run cs) ≡ Some f.value)
       (λ run. option_map (λ look. neg_ℤ look.greatest) (looks run cs) ≡ Some (neg_ℤ f.value)) (λ run. turned (looks run cs) f.value) here)
@@ -532,7 +532,7 @@ module _ (within : ℕ) (tolerance : IsTolerance within) (runs : List MeasuredRu
       (λ run. IfSome (option_map (λ look. look.greatest) (looks run cs)) (λ v. v <ℤ f.value))
       (λ run. IfSome (option_map (λ look. neg_ℤ look.greatest) (looks run cs)) (λ v. neg_ℤ f.value <ℤ v)) (λ run. turned_lt (looks run cs) f.value) earlier)
 
-  pub is_tally : IsTally within runs cs told
+  pub is_tally : IsRunTally within runs cs told
   is_tally =
       let found = found_in_all within cs no_runs runs (refl, refl, refl) in
       record {

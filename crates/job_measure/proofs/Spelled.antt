@@ -13,7 +13,7 @@ use Rattle.job_base.specs.declared.answer.Answer.{Answer}
 use Rattle.measured_times.specs.Runs.{MeasuredRun}
 use Rattle.job_measure.specs.declared.line.RunLine.{RunLine}
 use Rattle.job_measure.specs.Measure.{AnswersMeasure, line_text, lines_of, verdict_of, whole_verdict}
-use Rattle.job_measure.specs.Step.Tally.{counted}
+use Rattle.job_measure.specs.Step.Tally.{tally_over}
 use Rattle.job_measure.specs.Step.Text.{ending_text, head_text, hint_text, hints, judged_if, line_body, measure_body, separation_words}
 use Rattle.job_measure.specs.Step.Within.{IsTolerance}
 use Rattle.job_measure.proofs.Shown.{is_tally}
@@ -65,12 +65,12 @@ same_text drawn within runs lines =
 
 -- what was found and gathered is an answer of the job
 pub answers : (drawn : Drawn) (within : ℕ) (runs : List MeasuredRun) (answer : Answer) (text : List ℕ) (lines : List RunLine) (is_broken is_short : Bool) → IsTolerance within
-    → lines ≡ lines_of drawn (counted within runs) → text ≡ measure_body drawn within runs lines
+    → lines ≡ lines_of drawn (tally_over within runs) → text ≡ measure_body drawn within runs lines
     → is_broken ≡ list_any (λ (line : RunLine). line.about.is_judged && nat_lt 0 line.tally.broken) lines
     → is_short ≡ list_any (λ (line : RunLine). line.about.is_judged && (nat_lt 0 line.tally.near || line.tally.runs == 0)) lines → answer ≡ (verdict_of is_broken is_short).1
     → AnswersMeasure drawn within runs answer text
 answers drawn within runs answer text lines is_broken is_short tolerance found gathered broken short is = record {
-  tally = counted within runs;
+  tally = tally_over within runs;
   is_tally = λ cs. is_tally within tolerance runs cs;
   unseen = hints runs drawn.net.events;
   is_answer = is ∙ (ap (λ b. (verdict_of b is_short).1) broken ∙ (ap (λ b. (verdict_of (list_any (λ (line : RunLine). line.about.is_judged && nat_lt 0 line.tally.broken) lines) b).1) short

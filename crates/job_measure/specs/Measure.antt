@@ -14,19 +14,19 @@ use Rattle.job_base.specs.declared.answer.Answer.{Answer}
 use Rattle.job_base.specs.declared.answer.Answer.TheVariants.{AllPass, SomeFail, Undecided}
 use Rattle.measured_times.specs.Runs.{MeasuredRun}
 use Rattle.job_measure.specs.declared.spare.TheConstants.{FAR}
-use Rattle.job_measure.specs.declared.subject.Subject.{Subject}
+use Rattle.job_measure.specs.declared.subject.LineSubject.{LineSubject}
 use Rattle.job_measure.specs.declared.line.RunLine.{RunLine}
 use Rattle.job_measure.specs.declared.tally.Found.{Found}
 use Rattle.job_measure.specs.declared.tally.RunTally.{RunTally}
-use Rattle.job_measure.specs.Shown.{IsTally}
+use Rattle.job_measure.specs.Shown.{IsRunTally}
 use Rattle.job_measure.specs.Subjects.{subjects}
 
 -- ---- lines
 
 -- a line more, of all constraints with the heading of a subject, unless there is one
-abbrev pub with_line : (List Constraint → RunTally) → List Subject → List RunLine → Subject → List RunLine
+abbrev pub with_line : (List Constraint → RunTally) → List LineSubject → List RunLine → LineSubject → List RunLine
 with_line tally all lines s = if list_any (λ (line : RunLine). bytes_eq line.about.heading s.heading) lines then lines
-    else lines ++ record { about = s; tally = tally (map (λ (t : Subject). t.rule) (filter (λ (t : Subject). bytes_eq t.heading s.heading) all)) } ∷ []
+    else lines ++ record { about = s; tally = tally (map (λ (t : LineSubject). t.rule) (filter (λ (t : LineSubject). bytes_eq t.heading s.heading) all)) } ∷ []
 
 -- a line for each heading, given what is counted of constraints
 abbrev pub lines_of : Drawn → (List Constraint → RunTally) → List RunLine
@@ -63,7 +63,7 @@ line_text line =
 -- What the job answers and writes. Lines of events that were not seen are hints: which there are, and what they count, is not said.
 pub record AnswersMeasure (drawn : Drawn) (within : ℕ) (runs : List MeasuredRun) (answer : Answer) (text : List ℕ) : Type 0 where
   pub tally : List Constraint → RunTally
-  pub is_tally : (cs : List Constraint) → IsTally within runs cs (tally cs)
+  pub is_tally : (cs : List Constraint) → IsRunTally within runs cs (tally cs)
   pub unseen : List (EventId × ℕ)
   pub is_answer : answer ≡ (whole_verdict (lines_of drawn tally)).1
   pub is_text : text ≡ codes "itv measure 1\nwithin " ++ (number_text within ++ (codes "\nruns " ++ (number_text (length runs) ++ (codes "\n" ++ (flat_map line_text (lines_of drawn tally)

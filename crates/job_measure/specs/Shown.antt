@@ -25,13 +25,13 @@ abbrev pub tightened : ℤ → Ends → Ends
 tightened by range = record { low = option_map (λ low. low +ℤ by) range.low; high = option_map (λ high. high -ℤ by) range.high }
 
 -- The run keeps constraints with so many picoseconds to spare: each whose events it shows holds at its times with its ends moved inward by them.
-abbrev pub Keeps : List Constraint → ℤ → MeasuredRun → Type 0
-Keeps cs by run = All (λ c. IsTrue (is_shown run c) → Holds (map (λ time. unwrap_or time (pos 0)) run) (ranged (tightened by) c)) cs
+abbrev pub KeepsBy : List Constraint → ℤ → MeasuredRun → Type 0
+KeepsBy cs by run = All (λ c. IsTrue (is_shown run c) → Holds (map (λ time. unwrap_or time (pos 0)) run) (ranged (tightened by) c)) cs
 
 -- how many runs do not keep constraints with so much to spare, and the first of them, counted from 1
 abbrev pub FallShort : List Constraint → ℤ → List MeasuredRun → ℕ → Option ℕ → Type 0
 FallShort cs by runs count first =
-    (falls : MeasuredRun → Bool) × ((run : MeasuredRun) → (falls run ≡ false) ↔ Keeps cs by run) × (count ≡ count_by falls runs) × (first ≡ option_map (λ k. k + 1) (position falls runs))
+    (falls : MeasuredRun → Bool) × ((run : MeasuredRun) → (falls run ≡ false) ↔ KeepsBy cs by run) × (count ≡ count_by falls runs) × (first ≡ option_map (λ k. k + 1) (position falls runs))
 
 -- all runs keep constraints with so much to spare, and with more this run is the first that does not; of numbers of 2^61 and more nothing is said
 abbrev pub IsSlack : List Constraint → List MeasuredRun → ℤ → ℕ → Type 0
@@ -40,7 +40,7 @@ IsSlack cs runs slack run =
 
 -- What is counted of constraints: runs that show one of them; runs that do not keep them with minus the tolerance to spare, and that do, but not with the
 -- tolerance; the slack. For single causes the least separation is the slack of a low end at 0, and the greatest is minus the slack of a high end at 0.
-pub record IsTally (within : ℕ) (runs : List MeasuredRun) (cs : List Constraint) (t : RunTally) : Type 0 where
+pub record IsRunTally (within : ℕ) (runs : List MeasuredRun) (cs : List Constraint) (t : RunTally) : Type 0 where
   pub seen : t.runs ≡ count_by (λ run. list_any (is_shown run) cs) runs
   pub broken : FallShort cs (neg_ℤ (pos within)) runs t.broken t.first
   pub near : (first : Option ℕ) × FallShort cs (pos within) runs (t.broken + t.near) first

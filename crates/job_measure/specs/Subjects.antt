@@ -15,7 +15,7 @@ use Rattle.line_words.specs.Words.{Word}
 use Rattle.redraw.specs.Drawing.{demand_of}
 use Rattle.slack_report.specs.Order.{is_required}
 use Rattle.slack_report.specs.Text.{row_words}
-use Rattle.job_measure.specs.declared.subject.Subject.{Subject}
+use Rattle.job_measure.specs.declared.subject.LineSubject.{LineSubject}
 
 -- a part, a full stop and a mark, without a cycle
 abbrev pub mark_word : Name → Word
@@ -28,12 +28,12 @@ kind_words drawn Late causes = codes "late" ∷ []
 kind_words drawn Early causes = codes "early" ∷ []
 
 -- a rule: its kind, its marks, and what draws its first cause. The constraints that it draws in several cycles have one heading.
-abbrev pub rule_subject : Drawn → Constraint × List Origin → Subject
+abbrev pub rule_subject : Drawn → Constraint × List Origin → LineSubject
 rule_subject drawn (c, origins) =
     record { heading = line_of (codes "rule" ∷ (kind_words drawn c.kind c.causes ++ (mark_word (name_of drawn c.target) ∷ map origin_text (take 1 origins)))); rule = c; is_judged = true }
 
 -- rows, from the row of a number on
-abbrev pub row_subjects : Drawn → ℕ → List Row → List Subject
+abbrev pub row_subjects : Drawn → ℕ → List Row → List LineSubject
 row_subjects drawn number [] = []
 row_subjects drawn number (row ∷ rows) = record {
   heading = line_of (codes "row" ∷ number_text number ∷ row_words row.kind (name_of drawn row.from) (name_of drawn row.to));
@@ -42,5 +42,5 @@ row_subjects drawn number (row ∷ rows) = record {
 } ∷ row_subjects drawn (number + 1) rows
 
 -- all constraints and rows
-abbrev pub subjects : Drawn → List Subject
+abbrev pub subjects : Drawn → List LineSubject
 subjects drawn = map (rule_subject drawn) (zip drawn.net.constraints drawn.origins) ++ row_subjects drawn 0 drawn.rows

@@ -5,10 +5,10 @@ ghost use Rattle.std.specs.List.{list_any};
 ghost use Rattle.std.specs.Str.{bytes_eq};
 ghost use Rattle.job_measure.specs.Measure.{lines_of, with_line};
 ghost use Rattle.job_measure.specs.Step.Headings.{under};
-ghost use Rattle.job_measure.specs.Step.Tally.{counted};
+ghost use Rattle.job_measure.specs.Step.Tally.{tally_over};
 ghost use Rattle.job_measure.specs.Step.Within.{IsRunWithin, IsTolerance};
 
-use crate::subject::{Subject, subjects, under};
+use crate::subject::{LineSubject, subjects, under};
 use crate::tally::{RunTally, tally_of};
 use drawn_networks::DrawnNetwork;
 use itv_base::NoMemory;
@@ -18,7 +18,7 @@ use std::alloc::Global;
 /// A line: what it is about, and what the runs show.
 #[derive(Drop)]
 pub struct RunLine {
-    pub about: Subject,
+    pub about: LineSubject,
     pub tally: RunTally,
 }
 
@@ -31,7 +31,7 @@ pub fn lines_of(
 ) -> Result<Vec<RunLine>, NoMemory>
     requires within { IsTolerance within }
     requires runs { All IsRunWithin runs.now }
-    ensures lines { IfOk result (λ lines. lines.items ≡ lines_of drawn.now (counted within runs.now)) }
+    ensures lines { IfOk result (λ lines. lines.items ≡ lines_of drawn.now (tally_over within runs.now)) }
 {
     let mut lines: Vec<RunLine> = Vec::new(alloc);
     let all = subjects(alloc, drawn)?;
@@ -45,11 +45,11 @@ fn add_lines(
     alloc: Global,
     within: u64,
     runs: &[MeasuredRun],
-    all: &[Subject],
+    all: &[LineSubject],
 ) -> Result<(), NoMemory>
     requires within { IsTolerance within }
     requires runs { All IsRunWithin runs.now }
-    ensures { OnOk result (lines.new.items ≡ fold (with_line (counted within runs.now) all.now) lines.old.items all.now) }
+    ensures { OnOk result (lines.new.items ≡ fold (with_line (tally_over within runs.now) all.now) lines.old.items all.now) }
 {
     for one in all {
         add_line(lines, alloc, within, runs, all, one)?;
@@ -63,12 +63,12 @@ fn add_line(
     alloc: Global,
     within: u64,
     runs: &[MeasuredRun],
-    all: &[Subject],
-    one: &Subject,
+    all: &[LineSubject],
+    one: &LineSubject,
 ) -> Result<(), NoMemory>
     requires within { IsTolerance within }
     requires runs { All IsRunWithin runs.now }
-    ensures { OnOk result (lines.new.items ≡ with_line (counted within runs.now) all.now lines.old.items one.now) }
+    ensures { OnOk result (lines.new.items ≡ with_line (tally_over within runs.now) all.now lines.old.items one.now) }
 {
     if has_heading(lines.as_slice(), one.heading.as_slice()) {
         return Ok(());
@@ -89,13 +89,13 @@ fn line_of(
     alloc: Global,
     within: u64,
     runs: &[MeasuredRun],
-    all: &[Subject],
-    one: &Subject,
+    all: &[LineSubject],
+    one: &LineSubject,
 ) -> Result<RunLine, NoMemory>
     requires within { IsTolerance within }
     requires runs { All IsRunWithin runs.now }
     ensures about { IfOk result (λ line. line.about ≡ one.now) }
-    ensures tally { IfOk result (λ line. line.tally ≡ counted within runs.now (under one.now.heading all.now)) }
+    ensures tally { IfOk result (λ line. line.tally ≡ tally_over within runs.now (under one.now.heading all.now)) }
 {
     let rules = under(alloc, one.heading.as_slice(), all)?;
     let about = one.copied(alloc)?;

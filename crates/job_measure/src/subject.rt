@@ -18,21 +18,21 @@ use std::alloc::Global;
 
 /// What a line is about: a constraint with the heading of the rule that draws it, or a row.
 #[derive(Drop)]
-pub struct Subject {
+pub struct LineSubject {
     pub heading: Listing<u8>,
     pub rule: RuleCopy,
     /// Whether it is judged. A question is not.
     pub is_judged: bool,
 }
 
-impl Subject {
+impl LineSubject {
     /// A copy.
-    pub fn copied(&self, alloc: Global) -> Result<Subject, NoMemory>
+    pub fn copied(&self, alloc: Global) -> Result<LineSubject, NoMemory>
         ensures copy { IfOk result (λ subject. subject ≡ self.now) }
     {
         let rule = self.rule.copied(alloc)?;
         let heading = Vec::from_slice(alloc, self.heading.as_slice())?;
-        Ok(Subject {
+        Ok(LineSubject {
             heading: Listing::from(heading),
             rule,
             is_judged: self.is_judged,
@@ -41,17 +41,17 @@ impl Subject {
 }
 
 /// All constraints of a network in order, and then its rows.
-pub fn subjects(alloc: Global, drawn: &DrawnNetwork) -> Result<Vec<Subject>, NoMemory>
+pub fn subjects(alloc: Global, drawn: &DrawnNetwork) -> Result<Vec<LineSubject>, NoMemory>
     ensures subjects { IfOk result (λ all. all.items ≡ subjects drawn.now) }
 {
-    let mut all: Vec<Subject> = Vec::new(alloc);
+    let mut all: Vec<LineSubject> = Vec::new(alloc);
     add_rules(&mut all, alloc, drawn)?;
     add_rows(&mut all, alloc, drawn)?;
     Ok(all)
 }
 
 /// The constraints with this heading, in order.
-pub fn under(alloc: Global, heading: &[u8], all: &[Subject]) -> Result<Vec<RuleCopy>, NoMemory>
+pub fn under(alloc: Global, heading: &[u8], all: &[LineSubject]) -> Result<Vec<RuleCopy>, NoMemory>
     ensures under { IfOk result (λ rules. rules.items ≡ under heading.now all.now) }
 {
     let mut rules: Vec<RuleCopy> = Vec::new(alloc);
@@ -65,7 +65,11 @@ pub fn under(alloc: Global, heading: &[u8], all: &[Subject]) -> Result<Vec<RuleC
 
 // ---- rules
 
-fn add_rules(all: &mut Vec<Subject>, alloc: Global, drawn: &DrawnNetwork) -> Result<(), NoMemory>
+fn add_rules(
+    all: &mut Vec<LineSubject>,
+    alloc: Global,
+    drawn: &DrawnNetwork,
+) -> Result<(), NoMemory>
     ensures { OnOk result (all.new.items ≡ all.old.items
         ++ map (rule_subject drawn.now) (zip drawn.now.net.constraints drawn.now.origins)) }
 {
@@ -76,7 +80,7 @@ fn add_rules(all: &mut Vec<Subject>, alloc: Global, drawn: &DrawnNetwork) -> Res
 }
 
 // The constraint of a number with its heading.
-fn rule_at(alloc: Global, drawn: &DrawnNetwork, number: u32) -> Result<Subject, NoMemory>
+fn rule_at(alloc: Global, drawn: &DrawnNetwork, number: u32) -> Result<LineSubject, NoMemory>
     requires there { number < length drawn.now.net.constraints }
     ensures { IfOk result (λ subject. map (rule_subject drawn.now) (zip (drop number drawn.now.net.constraints) (drop number drawn.now.origins))
         ≡ subject ∷ map (rule_subject drawn.now) (zip (drop (number + 1) drawn.now.net.constraints) (drop (number + 1) drawn.now.origins))) }
@@ -85,7 +89,7 @@ fn rule_at(alloc: Global, drawn: &DrawnNetwork, number: u32) -> Result<Subject, 
     net.is_whole();
     let rule = RuleCopy::of(alloc, net, number)?;
     let heading = rule_heading(alloc, drawn, &rule, origins_of(drawn, number))?;
-    Ok(Subject {
+    Ok(LineSubject {
         heading: Listing::from(heading),
         rule,
         is_judged: true,
@@ -102,7 +106,7 @@ fn origins_of(drawn: &DrawnNetwork, number: u32) -> &[Origin]
 
 // ---- rows
 
-fn add_rows(all: &mut Vec<Subject>, alloc: Global, drawn: &DrawnNetwork) -> Result<(), NoMemory>
+fn add_rows(all: &mut Vec<LineSubject>, alloc: Global, drawn: &DrawnNetwork) -> Result<(), NoMemory>
     ensures { OnOk result (all.new.items ≡ all.old.items ++ row_subjects drawn.now 0 drawn.now.rows) }
 {
     let rows = drawn.rows().as_slice();
@@ -112,13 +116,18 @@ fn add_rows(all: &mut Vec<Subject>, alloc: Global, drawn: &DrawnNetwork) -> Resu
     Ok(())
 }
 
-fn row_at(alloc: Global, drawn: &DrawnNetwork, number: u64, row: &Row) -> Result<Subject, NoMemory>
+fn row_at(
+    alloc: Global,
+    drawn: &DrawnNetwork,
+    number: u64,
+    row: &Row,
+) -> Result<LineSubject, NoMemory>
     requires row { IsRowOf drawn.now.net row.now }
     ensures { IfOk result (λ subject. row_subjects drawn.now number (row.now ∷ []) ≡ subject ∷ []) }
 {
     let rule = RuleCopy::linear(alloc, row.from, row.to, demand_of(row.kind))?;
     let heading = row_heading(alloc, drawn, number, row)?;
-    Ok(Subject {
+    Ok(LineSubject {
         heading: Listing::from(heading),
         rule,
         is_judged: is_required(row.kind),

@@ -1,7 +1,7 @@
 //! What some runs show.
 
 ghost use Rattle.std.specs.Prelude.{◌≡◌, ◌≤◌, ◌^◌, All};
-ghost use Rattle.job_measure.specs.Step.Tally.{counted, first_if, found_in, is_broken, is_close, less, more, no_runs, one_if, tally, with_look};
+ghost use Rattle.job_measure.specs.Step.Tally.{tally_over, first_if, found_in, is_broken, is_close, less, more, no_runs, one_if, tally, with_look};
 ghost use Rattle.job_measure.specs.Step.Within.{CountsUpTo, IsRunWithin, IsTolerance};
 
 use crate::look::{RunLook, looks};
@@ -40,7 +40,7 @@ pub struct RunTally {
 pub fn tally_of(within: u64, rules: &[RuleCopy], runs: &[MeasuredRun]) -> RunTally
     requires within { IsTolerance within }
     requires runs { All IsRunWithin runs.now }
-    ensures tally { result ≡ counted within runs.now rules.now }
+    ensures tally { result ≡ tally_over within runs.now rules.now }
 {
     let mut tally = RunTally {
         gone: 0,

@@ -5,7 +5,7 @@ ghost use Rattle.std.specs.List.{flat_map};
 ghost use Rattle.measured_times.specs.Runs.{IsRunFor};
 ghost use Rattle.job_base.specs.JobWrote.{Answered, JobWrote};
 ghost use Rattle.job_measure.specs.Measure.{AnswersMeasure, lines_of};
-ghost use Rattle.job_measure.specs.Step.Tally.{counted};
+ghost use Rattle.job_measure.specs.Step.Tally.{tally_over};
 ghost use Rattle.job_measure.specs.Step.Text.{ending_text, head_text, line_body, measure_body};
 ghost use Rattle.job_measure.specs.Step.Within.{IsRunWithin, IsTolerance};
 
@@ -83,7 +83,7 @@ fn decision_of(
     lines: &[RunLine],
 ) -> Result<Decision, NoMemory>
     requires within { IsTolerance within }
-    requires lines { lines.now ≡ lines_of drawn.now (counted within runs.now) }
+    requires lines { lines.now ≡ lines_of drawn.now (tally_over within runs.now) }
     ensures { IfOk result (λ t. AnswersMeasure drawn.now within runs.now t.answer t.text.items) }
 {
     let text = text_of(alloc, drawn, within, runs, lines)?;

@@ -49,7 +49,7 @@ IsGreatestOf value runs greatest =
     × All (λ run. IfSome (value run) (λ v. v ≤ℤ f.value)) runs × All (λ run. IfSome (value run) (λ v. v <ℤ f.value)) (take k runs))
 
 -- what a tally of runs says
-pub record IsRunTally (within : ℕ) (constraints : List Constraint) (runs : List MeasuredRun) (t : RunTally) : Type 0 where
+pub record IsLookTally (within : ℕ) (constraints : List Constraint) (runs : List MeasuredRun) (t : RunTally) : Type 0 where
   pub seen : t.runs ≡ count_by (λ run. is_some (looks run constraints)) runs
   pub broken : t.broken ≡ count_by (shows constraints (λ look. is_broken within look.spare)) runs
   pub near : t.near ≡ count_by (shows constraints (λ look. is_close within look.spare)) runs
@@ -59,4 +59,4 @@ pub record IsRunTally (within : ℕ) (constraints : List Constraint) (runs : Lis
   pub greatest : IsGreatestOf (value_of (λ look. look.greatest) constraints) runs t.greatest
 
 abbrev pub TalliesAreCounts : Type 0
-TalliesAreCounts = (within : ℕ) (constraints : List Constraint) (runs : List MeasuredRun) → IsRunTally within constraints runs (tally within constraints runs)
+TalliesAreCounts = (within : ℕ) (constraints : List Constraint) (runs : List MeasuredRun) → IsLookTally within constraints runs (tally within constraints runs)

@@ -14,7 +14,7 @@ use Rattle.event_graph.specs.Network.{Constraint}
 use Rattle.drawn_networks.specs.Drawn.{Drawn, name_of}
 use Rattle.drawn_networks.specs.declared.row.Row.{Row}
 use Rattle.slack_report.specs.Text.{row_words}
-use Rattle.job_measure.specs.declared.subject.Subject.{Subject}
+use Rattle.job_measure.specs.declared.subject.LineSubject.{LineSubject}
 use Rattle.job_measure.specs.Subjects.{mark_word}
 
 abbrev pub kind_word : RuleKind → Word
@@ -38,5 +38,5 @@ abbrev pub row_heading : Drawn → ℕ → Row → List ℕ
 row_heading drawn number row = codes "row" ++ flat_map spaced (number_text number ∷ row_words row.kind (name_of drawn row.from) (name_of drawn row.to))
 
 -- the constraints under a heading
-abbrev pub under : List ℕ → List Subject → List Constraint
-under heading all = map (λ (t : Subject). t.rule) (filter (λ (t : Subject). bytes_eq t.heading heading) all)
+abbrev pub under : List ℕ → List LineSubject → List Constraint
+under heading all = map (λ (t : LineSubject). t.rule) (filter (λ (t : LineSubject). bytes_eq t.heading heading) all)

@@ -56,5 +56,5 @@ abbrev pub tally : ℕ → List Constraint → List MeasuredRun → RunTally
 tally within constraints runs = fold (λ (t : RunTally) run. with_look within t (t.gone + 1) (looks run constraints)) no_runs runs
 
 -- what is counted of constraints in some runs
-abbrev pub counted : ℕ → List MeasuredRun → List Constraint → RunTally
-counted within runs constraints = tally within constraints runs
+abbrev pub tally_over : ℕ → List MeasuredRun → List Constraint → RunTally
+tally_over within runs constraints = tally within constraints runs
