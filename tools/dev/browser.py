@@ -105,7 +105,7 @@ class Browser:
         raise BrowserError("nothing was saved")
 
     def family(self):
-        """The processes of the browser: of each what /proc says of it, from its state on, and its resident pages."""
+        """The processes of the browser by their numbers: of each what /proc says of it, from its state on, and its resident pages."""
         stats, pages = {}, {}
         for name in os.listdir("/proc"):
             try:
@@ -117,15 +117,15 @@ class Browser:
         names = {str(process.pid) for process in self.processes}
         while more := {name for name, stat in stats.items() if stat[1] in names} - names:
             names |= more
-        return [(stats[name], pages[name]) for name in names if name in pages]
+        return {int(name): (stats[name], pages[name]) for name in names if name in pages}
 
     def memory(self):
         """The resident memory of the browser's processes, in bytes."""
-        return sum(pages for _, pages in self.family()) * os.sysconf("SC_PAGE_SIZE")
+        return sum(pages for _, pages in self.family().values()) * os.sysconf("SC_PAGE_SIZE")
 
     def processor_time(self):
         """The processor seconds that the browser's processes took up to now."""
-        return sum(int(stat[11]) + int(stat[12]) for stat, _ in self.family()) / os.sysconf("SC_CLK_TCK")
+        return sum(int(stat[11]) + int(stat[12]) for stat, _ in self.family().values()) / os.sysconf("SC_CLK_TCK")
 
 
 class Chromium(Browser):
