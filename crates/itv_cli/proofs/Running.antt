@@ -1,5 +1,5 @@
 -- A run of the design of a plan.
-use Rattle.std.proofs.Common.{◌≡◌, ◌*◌, ◌≤◌, ℕ, Bool, true, false, nat_lt, cond, IsOk, List, Option, Some, Result, Ok, Err, IfOk, refl, sym, ap, ◌∙◌, arith}
+use Rattle.std.proofs.Common.{◌≡◌, ◌*◌, ◌≤◌, ℕ, Bool, true, false, nat_lt, cond, IsOk, List, Option, Some, Result, Ok, Err, IfOk, refl, sym, ◌∙◌, arith}
 use Rattle.std.proofs.lemmas.Bool.{ltb-false}
 use Rattle.std.proofs.lemmas.Nat.{mul-le}
 use Rattle.itv_base.specs.Outside.{ShelfState, SinkState}
@@ -10,7 +10,7 @@ use Rattle.compose.specs.Numbers.{mark_count}
 use Rattle.drawn_networks.specs.Drawn.{Drawn}
 use Rattle.unroll.specs.Cycle.{rows_of}
 use Rattle.unroll.specs.Drawn.{drawn_of}
-use Rattle.unroll.specs.Limits.{counts_of, first_passed, unrolled, within}
+use Rattle.unroll.specs.Limits.{unrolled, within}
 use Rattle.unroll.specs.declared.counted.Counted.{Counted}
 use Rattle.longer_runs.specs.Windows.{over}
 use Rattle.design_plan.specs.Notes.{plan_notes}

@@ -24,7 +24,7 @@ use Rattle.steady.specs.declared.found.RunFound.TheVariants as found
 use Rattle.steady.specs.declared.verdict.RunVerdict.{RunVerdict}
 use Rattle.steady.specs.declared.verdict.RunVerdict.TheVariants.{Fail, Pass, Undecided, Vary}
 use Rattle.steady.proofs.Judging.{verdict_is_right}
-use Rattle.job_cycles.specs.Cycles.{AnswersCycles, word_after, word_after_row, ending_of, rows_end}
+use Rattle.job_cycles.specs.Cycles.{word_after, word_after_row, ending_of, rows_end}
 use Rattle.job_cycles.specs.Laws.{AllMetAlways, AnswerMeans, AnswersMean, IsRequirement, SomeBrokenOnce}
 
 -- ---- words at the end

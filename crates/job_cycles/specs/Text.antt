@@ -1,11 +1,10 @@
 -- The text of job cycles.
-use Rattle.std.specs.Prelude.{ℕ, ◌+◌, ℤ, Bool, if◌then◌else◌, nat_eq, List, [], ◌∷◌, ◌++◌, map, codes, Option, Some, None}
-use Rattle.std.specs.List.{flat_map, list_any}
+use Rattle.std.specs.Prelude.{ℕ, ◌+◌, ℤ, if◌then◌else◌, nat_eq, List, [], ◌∷◌, ◌++◌, map, codes, Option, Some, None}
+use Rattle.std.specs.List.{flat_map}
 use Rattle.std.specs.Ordering.{int_eq}
 use Rattle.itv_base.specs.Names.{Name}
 use Rattle.itv_base.specs.Numerals.{end_text, number_text, signed_text}
 use Rattle.itv_base.specs.Range.{Ends}
-use Rattle.itv_base.specs.declared.names.EventId.{EventId}
 use Rattle.itv_base.specs.declared.names.Side.{Side}
 use Rattle.itv_base.specs.declared.names.Side.TheVariants.{Lower, Upper}
 use Rattle.itv_base.specs.declared.row_kind.RowKind.{RowKind}

@@ -24,4 +24,7 @@ loop-k-preserved g c =
 pub returns : goal.returns
 returns g c =
     let past : min (length c.args.rows.now) (length c.args.found.now) ≤ c.loop-k.k = grind arith in
-    record { added = rows_done (g.N.Notes.noted c.args.notes.now) c.args.drawn.now c.loop-k.k c.args.rows.now c.args.found.now c.loop-k.text.items _ past c.loop-k.invariant }
+    record {
+      added = rows_done (g.N.Notes.noted c.args.notes.now) c.args.drawn.now c.loop-k.k c.args.rows.now c.args.found.now c.loop-k.text.items
+          (c.args.text.now.items ++ rows_text (g.N.Notes.noted c.args.notes.now) c.args.drawn.now 0 c.args.rows.now c.args.found.now) past c.loop-k.invariant;
+    }
