@@ -1,9 +1,8 @@
 //! Writing what holds in every cycle of every run.
 
-ghost use Rattle.std.specs.Prelude.{◌≡◌, ◌≤◌, ◌++◌, All, IfOk, OnOk, codes, map};
+ghost use Rattle.std.specs.Prelude.{◌≡◌, ◌≤◌, ◌++◌, IfOk, OnOk, codes, map};
 ghost use Rattle.itv_base.specs.Numerals.{signed_text};
 ghost use Rattle.itv_base.specs.declared.limits.TheConstants.{MAX_BUDGET};
-ghost use Rattle.unroll.specs.Step.Between.{IsRowBetween};
 ghost use Rattle.job_base.specs.Ending.{answer_of};
 ghost use Rattle.job_base.specs.JobWrote.{Answered, JobWrote};
 ghost use Rattle.steady.specs.Step.{HaveTimes, IsWholeRun};
