@@ -1,5 +1,5 @@
 -- Kept times.
-use Rattle.std.proofs.Common.{◌≡◌, ◌∷◌, ◌++◌, ◌<◌, ◌≤ℤ◌, ℕ, ℤ, Bool, true, false, MatchBool, IsTrue, List, [], length, get_or, All, subst, sym, arith}
+use Rattle.std.proofs.Common.{◌≡◌, ◌∷◌, ◌++◌, ◌<◌, ℕ, ℤ, Bool, true, false, MatchBool, IsTrue, List, [], length, get_or, All, subst, sym, arith}
 use Rattle.std.specs.List.{AllWithin, HoldsAt}
 use Rattle.std.specs.Prelude.{Any, set}
 use Rattle.std.specs.Global.{Vec}
