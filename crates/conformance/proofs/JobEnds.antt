@@ -54,7 +54,8 @@ use Rattle.command_words.specs.declared.job.SearchJob.TheVariants.{Bounds, Settl
 use Rattle.command_words.specs.declared.job.CheckJob.TheVariants.{Check, Confirm}
 use Rattle.command_words.specs.Task as said
 use Rattle.itv_cli.specs.Task.{checked, generated, matrix, measure, searched, taken, task, whatif}
-use Rattle.itv_cli.specs.Job.{Answers, edits_at, edits_in, made_for, matrix_at, opening, times_at, times_in, turns_for, whatif_at}
+use Rattle.itv_cli.specs.Job.{Answers, edits_at, made_for, matrix_at, opening, times_at, times_in, turns_for, whatif_at}
+use Rattle.itv_cli.specs.Step.{edits_in}
 use Rattle.itv_cli.specs.Run.{Call, HasRead, ReadsOver, HasAnswered, OutcomeMeans, outcome_of}
 use Rattle.itv_cli.specs.declared.outcome.Outcome.{Outcome}
 use Rattle.itv_cli.specs.declared.outcome.Outcome.TheVariants as ends

@@ -44,14 +44,13 @@ use Rattle.job_measure.specs.declared.tally.RunVerdict.TheVariants.{Fail, Near, 
 use Rattle.range_edits.specs.EditsFile.{edits_of}
 use Rattle.range_edits.specs.declared.edit.RangeEdit.{RangeEdit}
 use Rattle.range_edits.specs.declared.file.TheConstants.{MAX_EDITS_BYTES}
-use Rattle.itv_base.specs.declared.row_kind.RowKind.{RowKind}
 use Rattle.unroll.specs.declared.fault.UnrollFault.TheVariants.{TooMany}
 use Rattle.unroll.specs.declared.limit.Limit.TheVariants.{Numbers}
 use Rattle.unroll.specs.declared.limit.TheConstants.{MAX_NUMBERS, MAX_SESSION_ROWS}
-use Rattle.whatif.specs.Session.{SessionView}
+use Rattle.whatif.specs.Runs.{notes_of}
 use Rattle.job_whatif.specs.Text.{ending_of, last_note}
 use Rattle.right_report.specs.RowTally.{kinds_of}
-use Rattle.job_whatif.specs.Whatif.{AnswersFrom}
+use Rattle.job_whatif.specs.Whatif.{AnswersWhatif}
 use Rattle.design_reading.specs.declared.refusal.Refusal.{Refusal}
 use Rattle.design_reading.specs.AskedFor.{files_at}
 use Rattle.design_reading.specs.Design.{design_at}
@@ -73,8 +72,9 @@ use Rattle.job_lint.specs.Lint.{answer_by}
 use Rattle.job_lint.specs.Lines.{is_clean, lines_of}
 use Rattle.job_margin.specs.Text.{are_left_open, end_of}
 use Rattle.job_why.specs.Text.{ending_of as explained_ending}
-use Rattle.itv_cli.specs.Job.{Answers, edits_at, edits_in, fall_at, fall_in, list_at, made_for, matrix_at, opening, planned_at, times_at, times_in, whatif_at}
-use Rattle.itv_cli.specs.Run.{Call, HasRead, Completes, OutcomeBy, ReadsOver, FilesDecide, HasAnswered, HasRefused, IsRefused, OutcomeMeans, Wrote, call_of}
+use Rattle.itv_cli.specs.Job.{Answers, edits_at, fall_at, fall_in, list_at, made_for, matrix_at, opening, planned_at, times_at, times_in, whatif_at}
+use Rattle.itv_cli.specs.Step.{edits_in}
+use Rattle.itv_cli.specs.Run.{Call, HasRead, Completes, OutcomeBy, ReadsOver, FilesDecide, HasAnswered, IsRefused, OutcomeMeans, Wrote, call_of}
 use Rattle.itv_cli.specs.declared.outcome.Outcome.{Outcome}
 use Rattle.itv_cli.specs.declared.outcome.Outcome.TheVariants as ends
 use Rattle.itv_cli.specs.declared.ready.Ready.{Ready}
@@ -210,6 +210,10 @@ refused_so : (call : Call) (files : Files) (bytes : List ℕ) → call.shelf_bef
     → IsRefusalOf files asked bytes
 refused_so call files bytes known m is asked asks = record { place = m.place; why = m.why; reads = refused_over call files asked m.place m.why known asks m.came; text = sym is }
 
+-- the files are refused; or all was read, the job refuses the design, and the line of this refusal was written
+abbrev pub HasRefused : Call → Type 0
+HasRefused call = IsRefused call ⊎ HasAnswered call answers.DesignRefused
+
 -- the line that a refused run wrote
 abbrev pub refused_line : (call : Call) → HasRefused call → List ℕ
 refused_line call (inl m) = refusal_text m.place m.why
@@ -248,8 +252,8 @@ never_checked drawn Check read bytes a = a
 never_checked drawn Confirm read bytes a = a
 
 -- a job of edits refuses nothing for what it found
-never_from : (drawn : Drawn) (first : SessionView) (kinds : List RowKind) (edits : List RangeEdit) (text : List ℕ) → AnswersFrom drawn first kinds edits answers.DesignRefused text → ⊥
-never_from drawn first kinds edits text a = never_refused (ending_of kinds (last_note a.note a.notes).found (last_note a.note a.notes).answers) a.is_answer
+never_from : (drawn : Drawn) (budget : ℕ) (edits : List RangeEdit) (text : List ℕ) → AnswersWhatif drawn budget edits answers.DesignRefused text → ⊥
+never_from drawn budget edits text a = never_refused (ending_of (kinds_of drawn.rows) (last_note a.note (notes_of a.later)).found (last_note a.note (notes_of a.later)).answers) a.is_answer
 
 -- a job of measured times refuses nothing for what it found
 pub never_measured : (verdict : RunVerdict) → measured_answer verdict ≡ answers.DesignRefused → ⊥
@@ -305,7 +309,7 @@ refused_redraws files (whatif design edits budget) bytes own h =
     let (file, fetched, behind) = told_behind files (file_at Edits edits MAX_EDITS_BYTES) (edits_in budget drawn) h.given few in
     let (list, had, is) = told_then files (at Edits refusals.Edits (edits_of drawn file)) (λ es. given.Whatif drawn es budget) h.given behind in
     let answered : Answers (given.Whatif drawn list budget) answers.DesignRefused bytes = subst (λ g. Answers g answers.DesignRefused bytes) (sym is) h.answers in
-    absurd (never_from drawn answered.0 (kinds_of drawn.rows) list bytes answered.2)
+    absurd (never_from drawn budget list bytes answered)
 refused_redraws files (margin design list budget) bytes own h =
     let (both, draws, comes) = told_behind files (planned_at design) (λ p. list_at p.1 list >>= (λ numbers. gives (given.Margin p.0 p.1 numbers budget))) h.given h.reads in
     let (numbers, had, is) = told_then files (list_at both.1 list) (λ ns. given.Margin both.0 both.1 ns budget) h.given comes in

@@ -29,6 +29,7 @@ use Rattle.explanations.specs.declared.finding.Finding.TheVariants.{Consistent, 
 use Rattle.explanations.specs.declared.row.RowFound.{RowFound}
 use Rattle.requirements.specs.Separations.{bound_of}
 use Rattle.explanations.specs.Answers.{IsBoundSettled, IsFindingFound, IsRowSettled, both_of}
+use Rattle.explanations.proofs.Settling.{found_settles}
 use Rattle.explanations.proofs.Standing.{contradiction_is_inconsistent}
 use Rattle.job_why.specs.Text.{ending_of}
 use Rattle.job_why.specs.Why.{AnswersWhy}
@@ -163,7 +164,7 @@ module _ (call : Call) (files : Files) (budget : ℕ) (plan : PlanView) (drawn :
       let m = answered_by call result answers.Undecided (λ same. cc same) means e in
       let a = why_said answers.Undecided m in
       below_choices (cause_choices drawn.net.constraints) budget
-      (λ enough. let (settled, all) = a.settles enough in settled_end drawn.rows a.finding a.found settled all a.is_answer)
+      (λ enough. let (settled, all) = found_settles drawn budget a.finding a.found a.is_net a.is_finding a.are_found enough in settled_end drawn.rows a.finding a.found settled all a.is_answer)
 
 -- ---- job brief
 
@@ -180,7 +181,7 @@ module _ (call : Call) (files : Files) (budget : ℕ) (csv : Bool) (plan : PlanV
       let m = answered_by call result answers.Undecided (λ same. cc same) means e in
       let a = brief_said answers.Undecided m in
       below_choices (cause_choices drawn.net.constraints) budget
-      (λ enough. let (settled, all) = a.settles enough in settled_end drawn.rows a.finding a.found settled all a.is_answer)
+      (λ enough. let (settled, all) = found_settles drawn budget a.finding a.found a.is_net a.is_finding a.are_found enough in settled_end drawn.rows a.finding a.found settled all a.is_answer)
 
 -- ---- job lint
 

@@ -47,7 +47,7 @@ use Rattle.redraw.proofs.Names.{names_differ}
 use Rattle.redraw_laws.specs.DesignAgain.{IsPastEnd, row_again}
 use Rattle.redraw_laws.proofs.DesignAgain.{redrawn_is_read}
 use Rattle.redraw_laws.proofs.Breaks.{redrawn_breaks}
-use Rattle.job_redraw.specs.Failed.{Failed, IsBroken, is_end_at, is_same, is_wide_on}
+use Rattle.job_redraw.specs.Failed.{Failed, IsBroken, is_end_at, is_wide_on}
 use Rattle.job_redraw.specs.Redraw.{AnswersRedraw, Draws, AnswersEndWord, is_wide}
 use Rattle.command_words.specs.declared.job.SearchJob.TheVariants.{Bounds, Redraw}
 use Rattle.command_words.specs.Task.{KeepsLimits, searched, taken, task}
@@ -86,14 +86,14 @@ not_above a b e = elim (below_or_not a b) [
   | inr other ↦ absurd (cc (test_from_le b a other, e))
 ]
 
-under_limit : (high : ℤ) → IsEnd (Some high) → is_same high END_LIMIT ≡ false → IsInnerHigh high
+under_limit : (high : ℤ) → IsEnd (Some high) → (int_le high END_LIMIT && int_le END_LIMIT high) ≡ false → IsInnerHigh high
 under_limit high h e = (h.0, not_above high END_LIMIT (other_false (int_le high END_LIMIT) (int_le END_LIMIT high) (test_from_le high END_LIMIT h.1) e))
 
 first_of : (a b : Bool) → b ≡ true → (a && b) ≡ false → a ≡ false
 first_of true b e h = cc (e, h)
 first_of false b e h = refl
 
-over_limit : (low : ℤ) → IsEnd (Some low) → is_same low (neg_ℤ END_LIMIT) ≡ false → IsInnerLow low
+over_limit : (low : ℤ) → IsEnd (Some low) → (int_le low (neg_ℤ END_LIMIT) && int_le (neg_ℤ END_LIMIT) low) ≡ false → IsInnerLow low
 over_limit low h e = (not_above (neg_ℤ END_LIMIT) low (first_of (int_le low (neg_ℤ END_LIMIT)) (int_le (neg_ℤ END_LIMIT) low) (test_from_le (neg_ℤ END_LIMIT) low h.0) e), h.1)
 
 past_high : (high : Option ℤ) (s : ℤ) → IsEnd high → is_end_at high END_LIMIT ≡ false → IsSomeAnd high (λ h. h <ℤ s) → IsSomeAnd high (λ h. IsInnerHigh h × (h <ℤ s))

@@ -1,5 +1,5 @@
 -- What stands behind a bound.
-use Rattle.std.proofs.Common.{◌≡◌, ◌≤ℤ◌, ℕ, ℤ, neg_ℤ, Bool, List, Option, Some, None, option_map, refl, sym, subst, ap, ◌∙◌}
+use Rattle.std.proofs.Common.{◌≡◌, ◌≤◌, ◌≤ℤ◌, ℕ, ℤ, neg_ℤ, Bool, List, length, Option, Some, None, option_map, refl, sym, subst, ap, ◌∙◌}
 use Rattle.std.specs.Prelude.{IfSome}
 use Rattle.std.specs.Global.{Vec}
 use Rattle.itv_base.specs.declared.names.EdgeName.{EdgeName}
@@ -81,10 +81,17 @@ are_best net from to value times is = record {
 }
 
 pub closed_explained : (net : Net) (budget : ℕ) (pair : Pair) (value : ℤ) (times : List ℤ) (names : List EdgeName) (chain : Vec EdgeName) → chain.items ≡ names
-    → IsAttainedBy net pair.from pair.to value times → IsChain net times pair.from pair.to names → IsExplained net budget findings.Consistent pair (separations.Closed value chain)
-closed_explained net budget pair value times names chain same is leads = record {
+    → IsAttainedBy net pair.from pair.to value times → IsChain net times pair.from pair.to names → length names ≤ net.events
+    → IsExplained net budget findings.Consistent pair (separations.Closed value chain)
+closed_explained net budget pair value times names chain same is leads most = record {
   bound = record { bound = (refl, is.greatest); shown = tt; times = is.value_within };
-  behind = record { times = times; satisfied = is.satisfies; attained = is.attains; chain = subst (IsChain net times pair.from pair.to) (sym same) leads };
+  behind = record {
+    times = times;
+    satisfied = is.satisfies;
+    attained = is.attains;
+    chain = subst (IsChain net times pair.from pair.to) (sym same) leads;
+    short = subst (λ (edges : List EdgeName). length edges ≤ net.events) (sym same) most;
+  };
 }
 
 pub unbounded_explained : (net : Net) (budget : ℕ) (word : Consistency) (pair : Pair) (set : Vec Bool) → IsPairFound net budget word pair (separations.Unbounded set)

@@ -1,4 +1,5 @@
 -- Rows, and whether their verdicts rest on the order of a lane.
+use Rattle.std.specs.List.{AllZip}
 use Rattle.std.proofs.Common.{◌≡◌, ◌<◌, ◌+◌, ℕ, All, get_or, length, take, List, [], ◌∷◌, ◌++◌, Option, refl, sym, subst, ap, ◌∙◌, arith}
 use Rattle.std.proofs.lemmas.List.{take_more}
 use Rattle.std.proofs.lemmas.List.Elements.{All-push}
@@ -11,7 +12,7 @@ use Rattle.right_report.specs.Right.ReportState.{greatest, least_by}
 use Rattle.drawn_networks.specs.Drawn.{Drawn}
 use Rattle.drawn_networks.specs.declared.row.Row.{Row}
 use Rattle.requirements.specs.Separations.{bound_of}
-use Rattle.explanations.specs.Answers.{AreRowBounds, AreRowsFound, HasRowTimes, IsApartOf, IsBoundFound, IsRowFound}
+use Rattle.explanations.specs.Answers.{AreRowBounds, HasRowTimes, IsApartOf, IsBoundFound, IsRowFound}
 use Rattle.explanations.specs.Apart.{net_apart}
 use Rattle.explanations.specs.Answers.{BoundFound}
 use Rattle.explanations.specs.declared.desk.Desk.{Desk}
@@ -57,8 +58,8 @@ row_found drawn net apart budget word there row turned most searched fewest both
     record { greatest = one; least = two; apart = told_of (net_apart drawn) budget there row row.kind (record { greatest = most; least = fewest; apart = rests }) is_told }
 
 -- one row more
-rows_more : (drawn : Drawn) (budget : ℕ) (word there : Consistency) (rows : List Row) (found : List RowFound) (row : Row) (last : RowFound) → AreRowsFound drawn budget word there rows found
-    → IsRowFound drawn budget word there row last → AreRowsFound drawn budget word there (rows ++ row ∷ []) (found ++ last ∷ [])
+rows_more : (drawn : Drawn) (budget : ℕ) (word there : Consistency) (rows : List Row) (found : List RowFound) (row : Row) (last : RowFound) → AllZip (IsRowFound drawn budget word there) rows found
+    → IsRowFound drawn budget word there row last → AllZip (IsRowFound drawn budget word there) (rows ++ row ∷ []) (found ++ last ∷ [])
 rows_more drawn budget word there [] [] row last before is = (is, tt)
 rows_more drawn budget word there [] (f ∷ found) row last before is = absurd before
 rows_more drawn budget word there (r ∷ rows) [] row last before is = absurd before
@@ -69,7 +70,7 @@ abbrev pub FindsRow : Drawn → Desk → Row → RowFound → Type 0
 FindsRow drawn desk row found = IsRowFound drawn desk.searches.extremes.budget desk.searches.word (word_apart desk) row found
 
 abbrev pub FindsRows : Drawn → Desk → List Row → List RowFound → Type 0
-FindsRows drawn desk rows found = AreRowsFound drawn desk.searches.extremes.budget desk.searches.word (word_apart desk) rows found
+FindsRows drawn desk rows found = AllZip (IsRowFound drawn desk.searches.extremes.budget desk.searches.word (word_apart desk)) rows found
 
 -- the first `count` rows are found; the desk keeps the findings and the budget of the first one
 pub record AreSoFar (drawn : Drawn) (first : Desk) (count : ℕ) (rows : List Row) (found : List RowFound) (desk : Desk) : Type 0 where

@@ -1,4 +1,5 @@
 -- What a budget is enough for.
+use Rattle.std.specs.List.{AllZip}
 use Rattle.std.proofs.Common.{◌≡◌, ◌<◌, ◌≤◌, ◌*◌, ℕ, zero, suc, Bool, true, false, List, [], ◌∷◌, All, length, Option, Some, None, refl, sym, subst, arith}
 use Rattle.std.specs.Prelude.{IfOk, if◌then◌else◌, Result, Ok, Err}
 use Rattle.std.proofs.Math.Nat.{mul_comm, mul-le-mul_left}
@@ -26,7 +27,7 @@ use Rattle.origin.specs.declared.origin.Origin.{Origin}
 use Rattle.drawn_networks.specs.Drawn.{Drawn}
 use Rattle.drawn_networks.specs.declared.row.Row.{Row}
 use Rattle.requirements.specs.Separations.{bound_of}
-use Rattle.explanations.specs.Answers.{AreFound, AreRowsFound, AreSettledApart, FoundSettles, IsApart, IsApartOf, IsBoundSettled, IsBoundShown, IsFindingApart, IsFindingFound, IsRowFound, IsRowSettled, RestsOnOrder, SettlesWithin, verdict_in}
+use Rattle.explanations.specs.Answers.{AreFound, AreSettledApart, FoundSettles, IsApart, IsApartOf, IsBoundSettled, IsBoundShown, IsFindingApart, IsFindingFound, IsRowFound, IsRowSettled, RestsOnOrder, SettlesWithin, verdict_in}
 use Rattle.explanations.specs.Apart.{constraints_apart, keeps_order, net_apart}
 use Rattle.explanations.specs.declared.finding.Finding.TheVariants.{Consistent, Inconsistent, Open}
 use Rattle.explanations.specs.declared.network.NetworkFound.{NetworkFound}
@@ -122,7 +123,7 @@ module _ (drawn : Drawn) (budget : ℕ) (word word_apart : Consistency) (is_net 
     apart = apart_settled (net_apart drawn) budget word_apart row (is_net_apart drawn is_net) (suffices_apart drawn budget is_net enough) settled_apart row.kind found is.apart;
   }
 
-  pub rows_settled : (rows : List Row) (found : List RowFound) → AreRowsFound drawn budget word word_apart rows found → All IsRowSettled found
+  pub rows_settled : (rows : List Row) (found : List RowFound) → AllZip (IsRowFound drawn budget word word_apart) rows found → All IsRowSettled found
   rows_settled [] [] are k d h = absurd (omega arith)
   rows_settled [] (f ∷ found) are k d h = absurd are
   rows_settled (r ∷ rows) [] are k d h = absurd are
@@ -146,3 +147,8 @@ pub explained_settles : {E : Type 0} (drawn : Drawn) (budget : ℕ) (result : Re
     → IfOk result (λ (found : NetworkFound). SettlesWithin drawn.net budget found.finding found.rows.items)
 explained_settles drawn budget (Ok found) is_net finding rows = found_settles drawn budget found.finding found.rows.items is_net finding rows
 explained_settles drawn budget (Err e) is_net finding rows = tt
+
+-- a fact of a network holds beside each result
+pub network_is : {A E : Type 0} {Is : Type 0} → Is → (result : Result A E) → IfOk result (λ found. Is)
+network_is is (Ok found) = is
+network_is is (Err e) = tt

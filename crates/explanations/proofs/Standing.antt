@@ -16,11 +16,11 @@ use Rattle.requirements.specs.declared.consistency.Consistency.{Consistency}
 use Rattle.requirements.specs.declared.consistency.Consistency.TheVariants as findings
 use Rattle.drawn_networks.specs.Drawn.{Drawn}
 use Rattle.drawn_networks.specs.declared.row.Row.{Row}
-use Rattle.explanations.specs.Answers.{IsFindingApart, RestsOnOrder, verdict_by}
+use Rattle.explanations.specs.Answers.{IsFindingApart, RestsOnOrder}
 use Rattle.explanations.specs.Apart.{net_apart}
 use Rattle.explanations.specs.declared.desk.Apart.{Apart}
 use Rattle.explanations.specs.declared.searches.Searches.{Searches}
-use Rattle.explanations.specs.Step.Resting.{AreBoundsApart}
+use Rattle.explanations.specs.Step.Resting.{AreBoundsApart, verdict_by}
 use Rattle.explanations.specs.Step.Standing.{FindingAllows, HasFound, HasSameBudget, IsFresh, IsSearchable, IsSearchableAfter, IsSettledApart, net_in, word_in}
 use Rattle.explanations.proofs.Wider.{always_is_wider, apart_is_wider}
 

@@ -1,6 +1,7 @@
 -- What is found of a network and of its rows, with the reasons.
-use Rattle.std.specs.Prelude.{◌≡◌, ◌≤◌, ℕ, ℤ, neg_ℤ, true, Bool, List, [], ◌∷◌, All, Option, Some, None, IfSome}
+use Rattle.std.specs.Prelude.{◌≡◌, ◌≤◌, ℕ, ℤ, neg_ℤ, true, Bool, List, [], length, All, Option, Some, None, IfSome}
 use Rattle.std.specs.Global.{Vec}
+use Rattle.std.specs.List.{AllZip}
 use Rattle.itv_base.specs.Range.{Ends}
 use Rattle.itv_base.specs.declared.names.EdgeName.{EdgeName}
 use Rattle.itv_base.specs.declared.names.EventId.{EventId}
@@ -53,12 +54,13 @@ IsFindingFound net budget Open = IsFindingOpen net budget
 -- ---- a bound
 
 -- the edges behind a greatest separation: some satisfying times attain it, and meet each edge with equality; the edges lead from the one event to the
--- other
+-- other, and are no more than there are events
 pub record Explains (net : Net) (from to : EventId) (value : ℤ) (names : List EdgeName) : Type 0 where
   pub times : List ℤ
   pub satisfied : Satisfies times net
   pub attained : separation times from to ≡ value
   pub chain : IsChain net times from to names
+  pub short : length names ≤ net.events
 
 -- the bound of a row with its reason: a chain behind a number, and a set of events where there is none
 abbrev pub BoundFound : Type 0
@@ -92,9 +94,6 @@ both_of found = record { least = bound_of found.least; greatest = bound_of found
 abbrev pub verdict_in : Ends → RowFound → Verdict
 verdict_in range found = verdict_of range (bound_of found.least) (bound_of found.greatest)
 
-abbrev pub verdict_by : Ends → BothBounds → Verdict
-verdict_by range both = verdict_of range both.least both.greatest
-
 -- The one finding of the network apart after a finding of the drawn network. After a consistent one a search of its own makes it, and it is open only
 -- where that search used the budget up. After an unsettled one nothing is searched, and the network apart is unsettled too.
 abbrev pub IsFindingApart : Net → ℕ → Consistency → Consistency → Type 0
@@ -113,14 +112,12 @@ pub record AreRowBounds (net : Net) (budget : ℕ) (word : Consistency) (row : R
 -- a requirement that passes in the drawn network passes in the network apart too, with bounds that are found there; or the bounds that are given are
 -- found there, and it does not pass with them
 abbrev pub RestsOnOrder : Net → ℕ → Consistency → Row → Ends → Option BothBounds → Type 0
-RestsOnOrder apart budget word row range None = (both : BothBounds) × AreRowBounds apart budget word row both × (verdict_by range both ≡ verdicts.Pass)
-RestsOnOrder apart budget word row range (Some both) = AreRowBounds apart budget word row both × (verdict_by range both ≡ verdicts.Pass → ⊥)
+RestsOnOrder apart budget word row range None = (both : BothBounds) × AreRowBounds apart budget word row both × (verdict_of range both.least both.greatest ≡ verdicts.Pass)
+RestsOnOrder apart budget word row range (Some both) = AreRowBounds apart budget word row both × (verdict_of range both.least both.greatest ≡ verdicts.Pass → ⊥)
 
 abbrev pub IsApart : Net → ℕ → Consistency → Row → Ends → Verdict → Option BothBounds → Type 0
 IsApart apart budget word row range verdicts.Pass rests = RestsOnOrder apart budget word row range rests
-IsApart apart budget word row range verdicts.FailHigh rests = rests ≡ None
-IsApart apart budget word row range verdicts.FailLow rests = rests ≡ None
-IsApart apart budget word row range verdicts.Undecided rests = rests ≡ None
+IsApart apart budget word row range verdict rests = rests ≡ None
 
 -- a row that only asks has no bounds apart
 abbrev pub IsApartOf : Net → ℕ → Consistency → Row → RowKind → RowFound → Type 0
@@ -134,25 +131,16 @@ pub record IsRowFound (drawn : Drawn) (budget : ℕ) (word word_apart : Consiste
   pub least : IsBoundFound drawn.net budget word row (least_by (bound_of found.greatest)) found.least
   pub apart : IsApartOf (net_apart drawn) budget word_apart row row.kind found
 
--- what is found of each row, in order
-abbrev pub AreRowsFound : Drawn → ℕ → Consistency → Consistency → List Row → List RowFound → Type 0
-AreRowsFound drawn budget word word_apart [] [] = Unit {0}
-AreRowsFound drawn budget word word_apart [] (found ∷ others) = ⊥
-AreRowsFound drawn budget word word_apart (row ∷ rows) [] = ⊥
-AreRowsFound drawn budget word word_apart (row ∷ rows) (found ∷ others) =
-    IsRowFound drawn budget word word_apart row found × AreRowsFound drawn budget word word_apart rows others
-
 -- what is found of each row after a finding of the drawn network and the one finding of the network apart
 pub record AreFoundBehind (drawn : Drawn) (budget : ℕ) (word : Consistency) (found : List RowFound) : Type 0 where
   pub word_apart : Consistency
   pub finding_apart : IsFindingApart (net_apart drawn) budget word word_apart
-  pub rows : AreRowsFound drawn budget word word_apart drawn.rows found
+  pub rows : AllZip (IsRowFound drawn budget word word_apart) drawn.rows found
 
 -- what is found of each row; after an inconsistent finding there is nothing
 abbrev pub AreFound : Drawn → ℕ → Finding → List RowFound → Type 0
-AreFound drawn budget Consistent found = AreFoundBehind drawn budget findings.Consistent found
 AreFound drawn budget (Inconsistent set) found = found ≡ []
-AreFound drawn budget Open found = AreFoundBehind drawn budget findings.Open found
+AreFound drawn budget finding found = AreFoundBehind drawn budget (consistency_of finding) found
 
 -- ---- what a budget is enough for
 

@@ -1,5 +1,6 @@
 //! What is found of a network and of all its rows.
 
+ghost use Rattle.event_graph.specs.Network.{IsNet};
 ghost use Rattle.std.specs.Prelude.{◌≤◌, All, IfOk};
 ghost use Rattle.itv_base.specs.declared.limits.TheConstants.{MAX_BUDGET};
 ghost use Rattle.explanations.specs.Answers.{AreFound, HasRowTimes, IsFindingFound, SettlesWithin};
@@ -31,6 +32,7 @@ pub struct NetworkFound {
 pub fn explain(alloc: Global, drawn: &DrawnNetwork, budget: u64) -> Result<NetworkFound, NoMemory>
     requires least { 1 ≤ budget }
     requires most { budget ≤ MAX_BUDGET }
+    ensures net { IfOk result (λ found. IsNet drawn.now.net) }
     ensures finding { IfOk result (λ found. IsFindingFound drawn.now.net budget found.finding) }
     ensures rows { IfOk result (λ found. AreFound drawn.now budget found.finding found.rows.items) }
     ensures settles { IfOk result (λ found. SettlesWithin drawn.now.net budget found.finding found.rows.items) }

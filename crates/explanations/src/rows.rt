@@ -1,8 +1,9 @@
 //! What is found of all rows.
 
+ghost use Rattle.std.specs.List.{AllZip};
 ghost use Rattle.std.specs.Prelude.{◌≡◌, ◌<◌, All, IfOk};
 ghost use Rattle.drawn_networks.specs.Drawn.{IsRowOf};
-ghost use Rattle.explanations.specs.Answers.{AreFoundBehind, AreRowsFound, HasRowTimes, IsRowFound};
+ghost use Rattle.explanations.specs.Answers.{AreFoundBehind, HasRowTimes, IsRowFound};
 ghost use Rattle.explanations.specs.Step.Standing.{HasFound, IsDeskFor, IsReady, KeepsFindings, word_apart};
 
 use crate::desk::{Desk, settle_apart};
@@ -38,7 +39,7 @@ fn explain_each(
     desk: &mut Desk,
 ) -> Result<Vec<RowFound>, NoMemory>
     requires ready { IsReady drawn.now desk.old }
-    ensures rows { IfOk result (λ found. AreRowsFound drawn.now desk.old.searches.extremes.budget desk.old.searches.word (word_apart desk.old)
+    ensures rows { IfOk result (λ found. AllZip (IsRowFound drawn.now desk.old.searches.extremes.budget desk.old.searches.word (word_apart desk.old))
         drawn.now.rows found.items) }
     ensures times { IfOk result (λ found. All HasRowTimes found.items) }
 {

@@ -1,9 +1,10 @@
 //! What is said after a run.
 
+use crate::accepted::put_accepted;
 use crate::answered::put_answered;
 use crate::budget::put_open;
 use crate::margin_fault::put_margin_refusal;
-use command_words::{Invocation, PlanJob, Task, read_words};
+use command_words::{CheckJob, Invocation, PlanJob, Task, read_words};
 use itv_base::{NoMemory, Shelf, ShelfMem, Texts};
 use refusal_hints::{
     Hint, NameLook, NamedFiles, copy_files, files_of, put_refusal, put_unread, put_words_fault,
@@ -88,7 +89,8 @@ fn put_task<H: Shelf, L: NameLook>(
     }
 }
 
-// Puts what is said of a task whose files are read once more. Job lint prints its warnings itself, and jobs check and confirm judge a report.
+// Puts what is said of a task whose files are read once more. Job lint prints its warnings itself, and of jobs check and confirm something is said of
+// the report alone.
 fn put_read_again<H: Shelf, L: NameLook>(
     hint: &mut Hint,
     task: Task<'_>,
@@ -98,6 +100,7 @@ fn put_read_again<H: Shelf, L: NameLook>(
 ) {
     let is_refused = status == 4;
     if !is_refused && !is_about_design(task) {
+        put_of_report(hint, task, shelf, look);
         return;
     }
     let most = if is_refused { u64::MAX } else { MOST_READ };
@@ -117,6 +120,18 @@ fn put_read_again<H: Shelf, L: NameLook>(
     }
     if is_refused && hint.is_empty() {
         put_plain(hint, REFUSED);
+    }
+}
+
+// Puts the last line of a report that job check accepted. Job confirm prints it itself.
+fn put_of_report<H: Shelf, L: NameLook>(hint: &mut Hint, task: Task<'_>, shelf: &mut H, look: &L) {
+    if let Task::Checked {
+        job: CheckJob::Check,
+        report,
+        ..
+    } = task
+    {
+        put_accepted(hint, report, shelf, look);
     }
 }
 

@@ -13,7 +13,7 @@ use Rattle.design_reading.specs.Step.{Opens, stop_of}
 use Rattle.design_reading.proofs.Opens.{at_err, at_ok, opens_stop, opens_then}
 use Rattle.itv_cli.specs.declared.ready.Ready.{Ready}
 use Rattle.itv_cli.specs.declared.ready.Ready.TheVariants.{Whatif}
-use Rattle.itv_cli.specs.Job.{edits_in}
+use Rattle.itv_cli.specs.Step.{edits_in}
 
 module _ (standing : ShelfState) (drawn : Drawn) (budget : ℕ) (bytes : List ℕ) where
   -- the edits were read

@@ -64,17 +64,12 @@ fall_in budget cert drawn (Err choices) = refuses Design (refusals.Mixed choices
 abbrev pub fall_at : ℕ → Bool → Drawn → FileReading Ready
 fall_at budget cert drawn = fall_in budget cert drawn (view_of drawn.net)
 
--- a drawn network with the edits in the bytes of a file
-abbrev pub edits_in : ℕ → Drawn → List ℕ → FileReading Ready
-edits_in budget drawn bytes = do
-  edits ← at Edits refusals.Edits (edits_of drawn bytes)
-  gives (ready.Whatif drawn edits budget)
-
 -- a drawn network with the edits of a file, which is fetched
 abbrev pub edits_at : List ℕ → ℕ → Drawn → FileReading Ready
 edits_at name budget drawn = do
   bytes ← file_at Edits name MAX_EDITS_BYTES
-  edits_in budget drawn bytes
+  edits ← at Edits refusals.Edits (edits_of drawn bytes)
+  gives (ready.Whatif drawn edits budget)
 
 -- a drawn network for edits; it is refused if it has too many rows, before its edits are fetched
 abbrev pub whatif_at : List ℕ → ℕ → Drawn → FileReading Ready

@@ -17,4 +17,5 @@ pub mod Run
 pub mod Status
 pub mod Job
 pub mod Bounds
+pub mod Laws
 pub mod Step

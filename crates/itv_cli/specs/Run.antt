@@ -1,5 +1,5 @@
 -- What the end of a run says: where it comes from, and what was written. The claim is `OutcomeMeans`; the definitions above it are its words,
--- and the definitions below follow from it. Nothing here is about one job: `Job` says what each job reads and answers.
+-- and the definitions below follow from it, as `Laws` says. Nothing here is about one job: `Job` says what each job reads and answers.
 use Rattle.std.specs.Prelude.{◌≡◌, ◌<◌, ◌⊎◌, ℕ, List, Option, Some, None, IfSome, codes}
 use Rattle.itv_base.specs.Outside.{Files, ShelfState, SinkState, FaultCounted, grown, CutShort}
 use Rattle.job_base.specs.declared.answer.Answer.{Answer}
@@ -79,10 +79,6 @@ pub record IsRefused (call : Call) : Type 0 where
   pub came : HasRead call (refused place why)
   pub wrote : Wrote call (refusal_text place why)
 
--- the files are refused; or all was read, the job refuses the design, and the line of this refusal was written
-abbrev pub HasRefused : Call → Type 0
-HasRefused call = IsRefused call ⊎ HasAnswered call answers.DesignRefused
-
 -- the fetch of a file failed in this run, and the line that names its place was written
 pub record HasReadFault (call : Call) : Type 0 where
   pub place : RefusalPlace
@@ -114,14 +110,14 @@ pub record HasHelped (call : Call) : Type 0 where
   pub wrote : Wrote call text
   pub shelf : IsShelfUnchanged call
 
--- what each end says of a run
+-- what each end says of a run; a design is also refused if all was read, and the job refuses it with a line of its own
 abbrev pub OutcomeMeans : Call → Outcome → Type 0
 OutcomeMeans call AllPass = HasAnswered call answers.AllPass
 OutcomeMeans call Help = HasHelped call
 OutcomeMeans call SomeFail = HasAnswered call answers.SomeFail
 OutcomeMeans call Inconsistent = HasAnswered call answers.Inconsistent
 OutcomeMeans call Undecided = HasAnswered call answers.Undecided
-OutcomeMeans call Refused = HasRefused call
+OutcomeMeans call Refused = IsRefused call ⊎ HasAnswered call answers.DesignRefused
 OutcomeMeans call ReadFault = HasReadFault call
 OutcomeMeans call WriteFault = HasWriteFault call
 OutcomeMeans call NoMemory = IsUntouched call

@@ -9,6 +9,7 @@ use Rattle.falling.specs.View.{IsViewOf}
 use Rattle.slack_report.specs.Entry.{IsName}
 use Rattle.job_bounds.specs.Reports.{HasRowRanges}
 use Rattle.unroll.specs.declared.limit.TheConstants.{MAX_SESSION_ROWS}
+use Rattle.range_edits.specs.EditsFile.{edits_of}
 use Rattle.range_edits.specs.Subject.{IsThere}
 use Rattle.measured_times.specs.Runs.{IsRunFor}
 use Rattle.job_base.specs.declared.answer.Answer.{Answer}
@@ -22,7 +23,7 @@ use Rattle.design_plan.specs.Plan.{PlanView, sheets_on}
 use Rattle.moves.specs.declared.number_seen.NumberSeen.{NumberSeen}
 use Rattle.job_margin.specs.Named.{numbers_in}
 use Rattle.design_reading.specs.declared.refusal.Refusal.TheVariants as refusals
-use Rattle.design_reading.specs.declared.refusal_place.RefusalPlace.TheVariants.{Design}
+use Rattle.design_reading.specs.declared.refusal_place.RefusalPlace.TheVariants.{Design, Edits}
 use Rattle.command_words.specs.Task.{IsBudget, Task}
 use Rattle.command_words.specs.declared.task.TheConstants.{MAX_TOLERANCE}
 use Rattle.itv_cli.specs.declared.outcome.Outcome.{Outcome}
@@ -44,6 +45,10 @@ list_in drawn list = option_map_or (λ text. at Design refusals.Number (numbers_
 -- what is read for job margin, given a plan and the network that it draws
 abbrev pub margin_at : PlanView → Drawn → Option (List ℕ) → ℕ → FileReading Ready
 margin_at plan drawn list budget = list_at drawn list >>= λ numbers. gives (given.Margin plan drawn numbers budget)
+
+-- a drawn network with the edits in the bytes of a file
+abbrev pub edits_in : ℕ → Drawn → List ℕ → FileReading Ready
+edits_in budget drawn bytes = at Edits refusals.Edits (edits_of drawn bytes) >>= λ edits. gives (given.Whatif drawn edits budget)
 
 -- what a job may be given
 abbrev pub IsAllowed : Ready → Type 0

@@ -5,6 +5,7 @@
 #![tactic(auto)]
 
 mod job;
+pub mod laws;
 mod opening;
 mod outcome;
 mod planned_network;

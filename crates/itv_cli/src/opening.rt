@@ -8,8 +8,8 @@ ghost use Rattle.command_words.specs.Task as said;
 ghost use Rattle.command_words.specs.View.{task_view};
 ghost use Rattle.command_words.specs.declared.task.TheConstants.{MAX_TOLERANCE};
 ghost use Rattle.unroll.specs.declared.limit.TheConstants.{MAX_SESSION_ROWS};
-ghost use Rattle.itv_cli.specs.Job.{edits_at, edits_in, fall_at, list_at, matrix_at, opening, times_at, times_in, whatif_at};
-ghost use Rattle.itv_cli.specs.Step.{IsAllowed, OpensFor, OpensMade, list_in, margin_at};
+ghost use Rattle.itv_cli.specs.Job.{edits_at, fall_at, list_at, matrix_at, opening, times_at, times_in, whatif_at};
+ghost use Rattle.itv_cli.specs.Step.{IsAllowed, OpensFor, OpensMade, edits_in, list_in, margin_at};
 ghost use Rattle.moves.specs.Listed.{numbers_of};
 
 use crate::planned_network::{PlannedNetwork, open_planned};

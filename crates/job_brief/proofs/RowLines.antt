@@ -1,4 +1,5 @@
 -- What the line of a run says, and the lines of all runs.
+use Rattle.origin.specs.NotesKept.{NotesKept}
 use Rattle.std.proofs.Common.{◌≡◌, ◌<◌, ◌+◌, ℕ, zero, suc, Bool, true, false, List, [], ◌∷◌, ◌++◌, length, map, drop, get_or, Option, Some, None, slice_get, refl, sym, subst, ap, ◌∙◌, append_assoc, arith}
 use Rattle.std.specs.List.{flat_map}
 use Rattle.std.specs.Prelude.{codes, is_some}
@@ -19,13 +20,13 @@ use Rattle.explanations.specs.declared.row.RowFound.{RowFound}
 use Rattle.requirements.specs.Separations.{bound_of}
 use Rattle.slack_report.specs.Text.{bound_words, name_word, row_words}
 use Rattle.job_why.specs.Step.{by_words}
-use Rattle.job_why.specs.Text.{Noted, grade_word, part_of, row_origin_words, some_word}
+use Rattle.job_why.specs.Text.{grade_word, part_of, row_origin_words, some_word}
 use Rattle.job_brief.specs.declared.line.RowLine.{RowLine}
 use Rattle.job_brief.specs.declared.run_place.RunPlace.{RunPlace}
-use Rattle.job_brief.specs.Lines.{cycle_of, cycle_words, judged_words, order_words, run_words}
+use Rattle.job_brief.specs.Lines.{cycle_of, cycle_words, judged_words, order_words}
 use Rattle.job_brief.specs.Rows.{NumberedRow, RowRun, ordered, runs_of}
-use Rattle.job_brief.specs.Step.{back_words, front_words, judged_in, judgement_cells, judgement_words, numbered_rows, order_word, row_line_cells, row_line_text, row_line_words, run_place, run_places}
-use Rattle.job_brief.specs.Table.{cells_text, in_quotes, judged_cells, kind_word, quoted, range_cells, run_cells}
+use Rattle.job_brief.specs.Step.{back_words, front_words, judged_in, judgement_cells, judgement_words, numbered_rows, order_word, row_line_cells, row_line_text, row_line_words, run_place, run_places, cells_text, run_words}
+use Rattle.job_brief.specs.Table.{in_quotes, judged_cells, kind_word, quoted, range_cells, run_cells}
 use Rattle.job_brief.specs.Text.{run_text}
 use Rattle.job_brief.proofs.Folding.{HasRows}
 use Rattle.job_brief.proofs.Numbered.{Each}
@@ -49,7 +50,7 @@ at_place drawn found (run ∷ runs) (suc k) d each h =
     let at = at_place drawn found runs k d each.1 (omega arith) in record { run = at.run; has = at.has; first = at.first; last = at.last; left = at.left }
 
 -- the rows of a place are there, what is found of the first one is there, and the line of the run is the next
-pub record IsNext (csv : Bool) (noted : Noted) (drawn : Drawn) (found : List RowFound) (k number last : ℕ) : Type 0 where
+pub record IsNext (csv : Bool) (noted : NotesKept) (drawn : Drawn) (found : List RowFound) (k number last : ℕ) : Type 0 where
   pub first_in_rows : number < length drawn.rows
   pub last_in_rows : last < length drawn.rows
   pub in_found : number < length found
@@ -59,7 +60,7 @@ pub record IsNext (csv : Bool) (noted : Noted) (drawn : Drawn) (found : List Row
       ++ flat_map (run_text csv noted drawn) (drop (k + 1) (ordered (runs_of drawn (numbered_rows drawn found))))
 
 -- the line of a run says of its last row the cycle alone
-text_same : (csv : Bool) (noted : Noted) (drawn : Drawn) (run : RowRun) (first last : NumberedRow) → run.first ≡ first → run.last.row ≡ last.row
+text_same : (csv : Bool) (noted : NotesKept) (drawn : Drawn) (run : RowRun) (first last : NumberedRow) → run.first ≡ first → run.last.row ≡ last.row
     → run_text csv noted drawn run ≡ run_text csv noted drawn (record { first = first; last = last })
 text_same false noted drawn run first last a b =
     ap (λ row. run_text false noted drawn (record { first = row; last = run.last })) a
@@ -68,7 +69,7 @@ text_same true noted drawn run first last a b =
     ap (λ row. run_text true noted drawn (record { first = row; last = run.last })) a
     ∙ ap (λ row. run_text true noted drawn (record { first = first; last = record { number = last.number; row = row; found = last.found } })) b
 
-next_of : (csv : Bool) (noted : Noted) (drawn : Drawn) (found : List RowFound) (k : ℕ) (place : RunPlace)
+next_of : (csv : Bool) (noted : NotesKept) (drawn : Drawn) (found : List RowFound) (k : ℕ) (place : RunPlace)
     → AtPlace drawn found (ordered (runs_of drawn (numbered_rows drawn found))) k place → IsNext csv noted drawn found k place.first.number place.last
 next_of csv noted drawn found k place at = record {
   first_in_rows = subst (λ n. n < length drawn.rows) at.first (slice_get_within drawn.rows at.run.first.number at.run.first.row at.has.first.is_row);
@@ -101,7 +102,7 @@ next_of csv noted drawn found k place at = record {
     told_same numbered number row found a b c = rw (← a, ← b, ← c) refl
 
 -- the run of the place at each number is the next
-pub next_is : (csv : Bool) (noted : Noted) (drawn : Drawn) (found : List RowFound) (places : List RunPlace) (k : ℕ) (d : RunPlace) → places ≡ run_places drawn found → k < length places
+pub next_is : (csv : Bool) (noted : NotesKept) (drawn : Drawn) (found : List RowFound) (places : List RunPlace) (k : ℕ) (d : RunPlace) → places ≡ run_places drawn found → k < length places
     → IsNext csv noted drawn found k (get_or places k d).first.number (get_or places k d).last
 next_is csv noted drawn found places k d is h =
     subst (λ ps. IsNext csv noted drawn found k (get_or ps k d).first.number (get_or ps k d).last) (sym is)
@@ -111,7 +112,7 @@ next_is csv noted drawn found places k d is h =
 -- ---- what a line says
 
 -- What a line says is what the text says of a run: of its first row all, and of its last row the cycle.
-pub record IsLineOf (noted : Noted) (drawn : Drawn) (first last : NumberedRow) (line : RowLine) : Type 0 where
+pub record IsLineOf (noted : NotesKept) (drawn : Drawn) (first last : NumberedRow) (line : RowLine) : Type 0 where
   pub number : line.number ≡ first.number
   pub kind : line.kind ≡ first.row.kind
   pub from : name_view line.from ≡ name_of drawn first.row.from
@@ -160,7 +161,7 @@ cells_same : (number number' : ℕ) (kind kind' : RowKind) (from from' to to' : 
 cells_same number number' kind kind' from from' to to' least least' most most' judged judged' origin origin' note note' grade grade' order order' first first' last last' a b c d e f g h i j k l m =
     rw (a, b, c, d, e, f, g, h, i, j, k, l, m) refl
 
-module _ (noted : Noted) (drawn : Drawn) (first last : NumberedRow) (line : RowLine) (is : IsLineOf noted drawn first last line) where
+module _ (noted : NotesKept) (drawn : Drawn) (first last : NumberedRow) (line : RowLine) (is : IsLineOf noted drawn first last line) where
   from_cycle : line.from.cycle ≡ cycle_of drawn first
   from_cycle = ap (λ (name : Name). name.cycle) is.from
 

@@ -1,21 +1,23 @@
 -- What job brief answers and writes.
+use Rattle.origin.specs.NotesKept.{NotesKept}
+use Rattle.event_graph.specs.Network.{IsNet}
 use Rattle.std.specs.Prelude.{◌≡◌, ℕ, Bool, List}
 use Rattle.drawn_networks.specs.Drawn.{Drawn}
 use Rattle.job_base.specs.Ending.{answer_of}
 use Rattle.job_base.specs.declared.answer.Answer.{Answer}
 use Rattle.explanations.specs.declared.finding.Finding.{Finding}
 use Rattle.explanations.specs.declared.row.RowFound.{RowFound}
-use Rattle.explanations.specs.Answers.{AreFound, IsFindingFound, SettlesWithin}
-use Rattle.job_why.specs.Text.{Noted, ending_of}
+use Rattle.explanations.specs.Answers.{AreFound, IsFindingFound}
+use Rattle.job_why.specs.Text.{ending_of}
 use Rattle.job_brief.specs.Text.{brief_text}
 
 -- The text says what is found of each row, and in lines of words also what is found of the network. All that is found is right, and the finding
 -- or a bound is open only if a search by cases used the budget up. The word at the end of the lines gives the answer, of a table too, where it does not stand.
-pub record AnswersBrief (noted : Noted) (drawn : Drawn) (budget : ℕ) (csv : Bool) (answer : Answer) (text : List ℕ) : Type 0 where
+pub record AnswersBrief (noted : NotesKept) (drawn : Drawn) (budget : ℕ) (csv : Bool) (answer : Answer) (text : List ℕ) : Type 0 where
   pub finding : Finding
   pub found : List RowFound
+  pub is_net : IsNet drawn.net
   pub is_finding : IsFindingFound drawn.net budget finding
   pub are_found : AreFound drawn budget finding found
-  pub settles : SettlesWithin drawn.net budget finding found
   pub is_text : text ≡ brief_text csv noted drawn finding found
   pub is_answer : answer ≡ answer_of (ending_of drawn.rows finding found)

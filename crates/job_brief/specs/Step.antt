@@ -1,5 +1,7 @@
 -- What the steps of job brief promise one another.
-use Rattle.std.specs.Prelude.{◌≡◌, ◌==◌, ◌&&◌, ◌||◌, ℕ, zero, suc, nat_lt, Bool, true, false, if◌then◌else◌, List, [], ◌∷◌, ◌++◌, map, slice_get, count_by, Option, Some, None, codes}
+use Rattle.origin.specs.NotesKept.{NotesKept}
+use Rattle.std.specs.List.{join_with_byte}
+use Rattle.std.specs.Prelude.{◌≡◌, ◌==◌, ◌&&◌, ◌||◌, ℕ, zero, suc, nat_lt, Bool, true, false, if◌then◌else◌, List, [], ◌∷◌, ◌++◌, map, slice_get, count_by, Option, Some, None, codes, fold}
 use Rattle.itv_base.specs.Names.{name_view}
 use Rattle.itv_base.specs.Numerals.{end_text, number_text}
 use Rattle.itv_base.specs.declared.row_kind.RowKind.{RowKind}
@@ -25,10 +27,26 @@ use Rattle.job_brief.specs.declared.line.RowLine.{RowLine}
 use Rattle.job_brief.specs.declared.outline.Outline.{Outline}
 use Rattle.job_brief.specs.declared.row_rank.RowRank.{RowRank}
 use Rattle.job_brief.specs.declared.run_place.RunPlace.{RunPlace}
-use Rattle.job_brief.specs.Lines.{cycle_words}
-use Rattle.job_brief.specs.Rows.{NumberedRow, RowRun, goes_on, is_worse, lesser, misses_by, misses_of, numbered_from, ordered, rank_of, runs_of, verdict_rank, worst_of}
-use Rattle.job_brief.specs.Table.{cells_text, in_quotes, kind_word, quoted, range_cells}
+use Rattle.job_brief.specs.Lines.{cycle_words, numbered_row_words, cycle_of}
+use Rattle.job_brief.specs.Rows.{NumberedRow, RowRun, goes_on, is_worse, lesser, misses_by, misses_of, numbered_from, ordered, rank_of, runs_of, verdict_rank, worst_of, folded, inserted}
+use Rattle.job_brief.specs.Table.{in_quotes, kind_word, quoted, range_cells, cells_end}
 use Rattle.job_brief.specs.Text.{count_words}
+
+-- the words of the first row, and of a run of several rows their cycles
+abbrev pub run_words : NotesKept → Drawn → RowRun → List Word
+run_words noted drawn run = numbered_row_words noted drawn run.first ++ cycle_words (cycle_of drawn run.first) (cycle_of drawn run.last)
+
+-- a line of cells, with a comma between two of them
+abbrev pub cells_text : List (List ℕ) → List ℕ
+cells_text cells = join_with_byte 44 cells ++ cells_end
+
+-- runs with more rows, which are taken in their order
+abbrev pub folded_onto : Drawn → List RowRun → List NumberedRow → List RowRun
+folded_onto drawn runs rows = fold (λ (done : List RowRun) (row : NumberedRow). folded drawn row done) runs rows
+
+-- runs in their order, after other runs were put in order
+abbrev pub ordered_onto : List RowRun → List RowRun → List RowRun
+ordered_onto done runs = fold (λ (before : List RowRun) (run : RowRun). inserted run before) done runs
 
 -- ---- the judgement of rows
 

@@ -1,6 +1,7 @@
 -- The lines of job brief as a table of comma-separated values: a line of cells for each run of rows.
+use Rattle.origin.specs.NotesKept.{NotesKept}
 use Rattle.std.specs.Prelude.{◌==◌, ℕ, if◌then◌else◌, List, [], ◌∷◌, ◌++◌, codes}
-use Rattle.std.specs.List.{flat_map, join_with_byte}
+use Rattle.std.specs.List.{flat_map}
 use Rattle.itv_base.specs.Numerals.{end_text, number_text}
 use Rattle.itv_base.specs.declared.row_kind.RowKind.{RowKind}
 use Rattle.itv_base.specs.declared.row_kind.RowKind.TheVariants as kinds
@@ -12,7 +13,7 @@ use Rattle.drawn_networks.specs.Drawn.{Drawn}
 use Rattle.explanations.specs.declared.row.RowFound.{RowFound}
 use Rattle.requirements.specs.Separations.{bound_of}
 use Rattle.explanations.specs.Answers.{verdict_in}
-use Rattle.job_why.specs.Text.{Noted, name_in, part_of}
+use Rattle.job_why.specs.Text.{name_in, part_of}
 use Rattle.job_brief.specs.Rows.{RowRun, slack_in}
 use Rattle.job_brief.specs.Lines.{cycle_of, order_words}
 
@@ -34,10 +35,6 @@ quoted text = in_quotes (flat_map doubled text)
 abbrev pub cells_end : List ℕ
 cells_end = 13 ∷ 10 ∷ []
 
--- a line of cells, with a comma between two of them
-abbrev pub cells_text : List (List ℕ) → List ℕ
-cells_text cells = join_with_byte 44 cells ++ cells_end
-
 -- ---- the line of a run
 
 abbrev pub kind_word : RowKind → Word
@@ -57,7 +54,7 @@ judged_cells (kinds.Req range) found =
 
 -- What the line of the run says, a word in a cell or several words with spaces. Names, notes and grades are quoted, and an origin, which has no double
 -- quote. A note, a grade or an order that is not there leaves its cell empty.
-abbrev pub run_cells : Noted → Drawn → RowRun → List (List ℕ)
+abbrev pub run_cells : NotesKept → Drawn → RowRun → List (List ℕ)
 run_cells noted drawn run =
     number_text run.first.number ∷ kind_word run.first.row.kind ∷ quoted (name_in drawn run.first.row.from) ∷ quoted (name_in drawn run.first.row.to)
     ∷ (range_cells run.first.row.kind ++ (line_of (bound_words (bound_of run.first.found.least)) ∷ line_of (bound_words (bound_of run.first.found.greatest))

@@ -1,10 +1,11 @@
 //! Writing the text of the job.
 
+ghost use Rattle.event_graph.specs.Network.{IsNet};
 ghost use Rattle.std.specs.Prelude.{◌≡◌, ◌≤◌, ℕ, List, All, IfOk, OnErr, false, length, true};
 ghost use Rattle.itv_base.specs.Outside.{CutShort, Puts, grown};
 ghost use Rattle.itv_base.specs.declared.limits.TheConstants.{MAX_BUDGET};
 ghost use Rattle.job_base.specs.JobWrote.{Answered, JobWrote};
-ghost use Rattle.explanations.specs.Answers.{AreFound, HasRowTimes, IsFindingFound, SettlesWithin};
+ghost use Rattle.explanations.specs.Answers.{AreFound, HasRowTimes, IsFindingFound};
 ghost use Rattle.job_brief.specs.Brief.{AnswersBrief};
 ghost use Rattle.job_brief.specs.Step.{IsOutline, numbered_rows};
 ghost use Rattle.job_brief.specs.Table.{header_text};
@@ -59,14 +60,12 @@ fn put_found<N: Notes, K: Sink>(
     requires rows { (budget : ℕ) × AreFound drawn.now budget found.now.finding found.now.rows.items }
     requires times { All HasRowTimes found.now.rows.items }
     requires outline { IsOutline drawn.now found.now.finding found.now.rows.items outline.now }
-    ensures answers { (budget : ℕ) → IsFindingFound drawn.now.net budget found.now.finding
+    ensures answers { (budget : ℕ) → IsNet drawn.now.net → IsFindingFound drawn.now.net budget found.now.finding
         → AreFound drawn.now budget found.now.finding found.now.rows.items
-        → SettlesWithin drawn.now.net budget found.now.finding found.now.rows.items
         → IfOk result (λ answer. (text : List ℕ) × AnswersBrief (N.noted notes.now) drawn.now budget csv answer text
         × (K.state sink.new ≡ grown (K.state sink.old) text)) }
-    ensures begins { (budget : ℕ) → IsFindingFound drawn.now.net budget found.now.finding
+    ensures begins { (budget : ℕ) → IsNet drawn.now.net → IsFindingFound drawn.now.net budget found.now.finding
         → AreFound drawn.now budget found.now.finding found.now.rows.items
-        → SettlesWithin drawn.now.net budget found.now.finding found.now.rows.items
         → OnErr result ((text : List ℕ) × Answered (AnswersBrief (N.noted notes.now) drawn.now budget csv) text
         × CutShort (K.state sink.old) (K.state sink.new) text) }
 {

@@ -1,4 +1,5 @@
 -- The parts of a right text, of its rows, and of the proofs in it, where they stand.
+use Rattle.std.specs.List.{AllZip}
 use Rattle.std.proofs.Common.{◌≡◌, ◌⊎◌, inl, inr, ◌<◌, ℕ, zero, suc, ℤ, true, List, [], ◌∷◌, ◌++◌, length, drop, Some, slice_get, sym, ap, subst, ◌∙◌, append_assoc, append-nil, arith}
 use Rattle.std.specs.Global.{Vec}
 use Rattle.event_graph.specs.Network.{Net}
@@ -18,7 +19,7 @@ use Rattle.job_settle.specs.declared.finding.Finding.{Finding}
 use Rattle.job_settle.specs.declared.finding.Finding.TheVariants.{Consistent, Inconsistent, Open}
 use Rattle.job_settle.specs.declared.proof.Proof.{Proof}
 use Rattle.job_settle.specs.declared.row.RowFound.{RowFound}
-use Rattle.job_settle.specs.Answers.{AreFound, AreRowsFound, IsBound, IsFinding, IsPastOf, IsRowFound}
+use Rattle.job_settle.specs.Answers.{AreFound, IsBound, IsFinding, IsPastOf, IsRowFound}
 use Rattle.job_settle.specs.Settle.{IsSettleText}
 use Rattle.job_settle.specs.Text.{behind_text, bound_text, ending_of, finding_text, front_text, judged_text, row_text, rows_text}
 use Rattle.job_confirm.specs.Step.{AreSameRows, IsSameFinding}
@@ -79,11 +80,11 @@ row_parts drawn net text place number at row shown more same is other shows stan
 -- all rows stand after a consistent finding
 pub rows_stand : (drawn : Drawn) (text : List ℕ) (place : ℕ) (finding shown : Finding) (times : _) (found : List RowFound) (more : List ℕ) → finding ≡ Consistent times → IsSameFinding shown finding
     → AreFound true drawn.net drawn.rows shown found → drop place text ≡ behind_text drawn true shown found ++ more
-    → AreRowsFound true drawn.net drawn.rows found × (drop place text ≡ entry_text (line.rows (length drawn.rows)) ++ (rows_text drawn true 0 drawn.rows found ++ more))
+    → AllZip (IsRowFound true drawn.net) drawn.rows found × (drop place text ≡ entry_text (line.rows (length drawn.rows)) ++ (rows_text drawn true 0 drawn.rows found ++ more))
 rows_stand drawn text place finding shown times found more is same are stands =
     by_shown shown (subst (IsSameFinding shown) is same) are stands where
       by_shown : (shown : Finding) → IsSameFinding shown (Consistent times) → AreFound true drawn.net drawn.rows shown found → drop place text ≡ behind_text drawn true shown found ++ more
-          → AreRowsFound true drawn.net drawn.rows found × (drop place text ≡ entry_text (line.rows (length drawn.rows)) ++ (rows_text drawn true 0 drawn.rows found ++ more))
+          → AllZip (IsRowFound true drawn.net) drawn.rows found × (drop place text ≡ entry_text (line.rows (length drawn.rows)) ++ (rows_text drawn true 0 drawn.rows found ++ more))
       by_shown (Consistent other) same are stands =
           (are, stands ∙ append_assoc (entry_text (line.rows (length drawn.rows))) (rows_text drawn true 0 drawn.rows found) more)
       by_shown (Inconsistent proof) same are stands = absurd same

@@ -1,4 +1,5 @@
 -- A right text is read part by part.
+use Rattle.std.specs.List.{AllZip}
 use Rattle.std.proofs.Common.{◌≡◌, ◌+◌, ◌-◌, ◌<◌, ◌≤◌, ℕ, zero, suc, true, List, [], ◌∷◌, ◌++◌, length, take, drop, Some, slice_get, refl, sym, ap, subst, ◌∙◌, append_assoc, append-nil, drop-drop, drop_at, arith, length-drop, take_all}
 use Rattle.std.specs.Prelude.{IsErrAnd, Result, Ok, Err}
 use Rattle.std.proofs.lemmas.Option.{same_Some}
@@ -9,7 +10,7 @@ use Rattle.slack_report.specs.Text.{entry_text}
 use Rattle.drawn_networks.specs.Drawn.{Drawn, name_of}
 use Rattle.drawn_networks.specs.declared.row.Row.{Row}
 use Rattle.job_settle.specs.declared.row.RowFound.{RowFound}
-use Rattle.job_settle.specs.Answers.{AreRowsFound, IsRowFound}
+use Rattle.job_settle.specs.Answers.{IsRowFound}
 use Rattle.job_settle.specs.Text.{bound_text, judged_text, row_text, rows_text}
 use Rattle.job_confirm.specs.declared.check_stop.CheckStop.{CheckStop}
 use Rattle.job_confirm.specs.Step.{AreSameRows, Gives, IsSameRow, IsWant}
@@ -70,12 +71,12 @@ pub record RowsLeft (drawn : Drawn) (found : List RowFound) (more : List ℕ) (n
   pub rows_are : drop number drawn.rows ≡ rows
   pub all : front ++ left ≡ found
   pub same : AreSameRows front read
-  pub are_found : AreRowsFound true drawn.net rows left
+  pub are_found : AllZip (IsRowFound true drawn.net) rows left
   pub stands : rest ≡ rows_text drawn true number rows left ++ more
 
 -- however right rows go on, the rows so far were read
 abbrev pub AreReading : Drawn → List ℕ → ℕ → List RowFound → List ℕ → Type 0
-AreReading drawn text number read rest = (found : List RowFound) (more : List ℕ) → AreRowsFound true drawn.net drawn.rows found → text ≡ rows_text drawn true 0 drawn.rows found ++ more
+AreReading drawn text number read rest = (found : List RowFound) (more : List ℕ) → AllZip (IsRowFound true drawn.net) drawn.rows found → text ≡ rows_text drawn true 0 drawn.rows found ++ more
     → RowsLeft drawn found more number read rest
 
 pub starts_rows : (drawn : Drawn) (text rest : List ℕ) (read : List RowFound) → read ≡ [] → rest ≡ text → AreReading drawn text 0 read rest
@@ -114,15 +115,15 @@ pub record RowNext (drawn : Drawn) (found : List RowFound) (more : List ℕ) (nu
   pub rows_are : drop (number + 1) drawn.rows ≡ rows
   pub all : front ++ shown ∷ others ≡ found
   pub same : AreSameRows front read
-  pub are_found : AreRowsFound true drawn.net rows others
+  pub are_found : AllZip (IsRowFound true drawn.net) rows others
 
 pub next_row : (drawn : Drawn) (found : List RowFound) (more : List ℕ) (number : ℕ) (read : List RowFound) (row : Row) (rest : List ℕ) → slice_get drawn.rows number ≡ Some row
     → RowsLeft drawn found more number read rest → RowNext drawn found more number read row rest
 next_row drawn found more number read row rest at h =
     let (others, is) = drop_some drawn.rows number row at in
-    by_left h.left h.all others (subst (λ (rows : List Row). AreRowsFound true drawn.net rows h.left) (sym h.rows_are ∙ is) h.are_found)
+    by_left h.left h.all others (subst (λ (rows : List Row). AllZip (IsRowFound true drawn.net) rows h.left) (sym h.rows_are ∙ is) h.are_found)
     (subst (λ (rows : List Row). rest ≡ rows_text drawn true number rows h.left ++ more) (sym h.rows_are ∙ is) h.stands) (drop_next drawn.rows number row others is).1 where
-      by_left : (left : List RowFound) → h.front ++ left ≡ found → (others : List Row) → AreRowsFound true drawn.net (row ∷ others) left
+      by_left : (left : List RowFound) → h.front ++ left ≡ found → (others : List Row) → AllZip (IsRowFound true drawn.net) (row ∷ others) left
           → rest ≡ rows_text drawn true number (row ∷ others) left ++ more → drop (number + 1) drawn.rows ≡ others → RowNext drawn found more number read row rest
       by_left [] all others are stands behind = absurd are
       by_left (shown ∷ left) all others are stands behind = record {
@@ -164,7 +165,7 @@ rows_done drawn found more number read rest past h =
       none_past (r ∷ rows) zero past = absurd (omega (arith, past))
       none_past (r ∷ rows) (suc number) past = none_past rows number (omega (arith, past))
 
-      by_rows : (rows : List Row) (left : List RowFound) → [] ≡ rows → h.front ++ left ≡ found → AreRowsFound true drawn.net rows left
+      by_rows : (rows : List Row) (left : List RowFound) → [] ≡ rows → h.front ++ left ≡ found → AllZip (IsRowFound true drawn.net) rows left
           → rest ≡ rows_text drawn true number rows left ++ more → AreSameRows found read × (rest ≡ more)
       by_rows [] [] none all are stands = (subst (λ (fs : List RowFound). AreSameRows fs read) (sym (append-nil h.front) ∙ all) h.same, stands)
       by_rows [] (f ∷ left) none all are stands = absurd are
@@ -181,7 +182,7 @@ piece_found text slice bytes other more place same within is is_bytes most stand
 pub row_read : (drawn : Drawn) (text rest : List ℕ) (number : ℕ) (read : List RowFound) (P : RowFound → List ℕ → Type 0) → number < length drawn.rows → AreReading drawn text number read rest
     → ((row : Row) (shown : RowFound) (more : List ℕ) → slice_get drawn.rows number ≡ Some row → IsRowFound true drawn.net row shown
     → rest ≡ row_text drawn true number row shown ++ more → P shown more)
-    → (found : List RowFound) (more : List ℕ) → AreRowsFound true drawn.net drawn.rows found → text ≡ rows_text drawn true 0 drawn.rows found ++ more
+    → (found : List RowFound) (more : List ℕ) → AllZip (IsRowFound true drawn.net) drawn.rows found → text ≡ rows_text drawn true 0 drawn.rows found ++ more
     → (row : Row) × (h : RowNext drawn found more number read row rest) × P h.shown (rows_text drawn true (number + 1) h.rows h.others ++ more)
 row_read drawn text rest number read P within reading next found more shown stands =
     let (row, at) = found_below drawn.rows number within in
@@ -192,7 +193,7 @@ row_read drawn text rest number read P within reading next found more shown stan
 pub row_wants : (drawn : Drawn) (text rest : List ℕ) (number : ℕ) (read : List RowFound) (e : CheckStop) → number < length drawn.rows → AreReading drawn text number read rest
     → ((row : Row) (shown : RowFound) (more : List ℕ) → slice_get drawn.rows number ≡ Some row → IsRowFound true drawn.net row shown
     → rest ≡ row_text drawn true number row shown ++ more → IsWant e)
-    → (found : List RowFound) (more : List ℕ) → AreRowsFound true drawn.net drawn.rows found → text ≡ rows_text drawn true 0 drawn.rows found ++ more → IsWant e
+    → (found : List RowFound) (more : List ℕ) → AllZip (IsRowFound true drawn.net) drawn.rows found → text ≡ rows_text drawn true 0 drawn.rows found ++ more → IsWant e
 row_wants drawn text rest number read e within reading next found more shown stands =
     let (row, h, want) = row_read drawn text rest number read (λ r behind. IsWant e) within reading next found more shown stands in want
 

@@ -2,7 +2,7 @@
 use Rattle.std.specs.Prelude.{◌≡◌, ◌≤◌, ℕ, List, true, codes}
 use Rattle.job_base.specs.Ending.{answer_of}
 use Rattle.job_base.specs.declared.answer.Answer.{Answer}
-use Rattle.job_base.specs.declared.answer.Answer.TheVariants.{AllPass, SomeFail, Inconsistent, Undecided, CheckRefused, DesignRefused}
+use Rattle.job_base.specs.declared.answer.Answer.TheVariants.{AllPass, CheckRefused}
 use Rattle.slack_report.specs.declared.words.EndWord.{EndWord}
 use Rattle.slack_report.specs.declared.words.EndWord.TheVariants as ends
 use Rattle.drawn_networks.specs.Drawn.{Drawn}
@@ -29,8 +29,5 @@ confirmed_text ends.Undecided = codes "report accepted end undecided\n"
 -- text says of the network and of each row is right, and each of its proofs is a proof; and a text that job settle wrote with its proofs is accepted.
 abbrev pub AnswersConfirm : Drawn → List ℕ → Answer → List ℕ → Type 0
 AnswersConfirm drawn bytes AllPass text = (word : EndWord) × IsSettledTo drawn bytes word × (text ≡ confirmed_text word)
-AnswersConfirm drawn bytes SomeFail text = ⊥
-AnswersConfirm drawn bytes Inconsistent text = ⊥
-AnswersConfirm drawn bytes Undecided text = ⊥
 AnswersConfirm drawn bytes CheckRefused text = (line : ℕ) × MayRefuse drawn bytes line × (text ≡ refused_text line)
-AnswersConfirm drawn bytes DesignRefused text = ⊥
+AnswersConfirm drawn bytes answer text = ⊥

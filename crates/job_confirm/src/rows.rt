@@ -1,10 +1,11 @@
 //! Checking the rows.
 
+ghost use Rattle.std.specs.List.{AllZip};
 ghost use Rattle.std.specs.Prelude.{◌≡◌, ◌<◌, ◌≤◌, ◌++◌, ℕ, true, Some, IfOk, List, drop, length, slice_get};
 ghost use Rattle.requirements.specs.Bounds.{HasTimes};
 ghost use Rattle.drawn_networks.specs.Drawn.{IsRowOf};
 ghost use Rattle.drawn_networks.specs.declared.row.Row.{Row as DrawnRow};
-ghost use Rattle.job_settle.specs.Answers.{AreFound, AreRowsFound, IsBound, IsPastOf, IsRowFound, bound_of};
+ghost use Rattle.job_settle.specs.Answers.{AreFound, IsBound, IsPastOf, IsRowFound, bound_of};
 ghost use Rattle.job_settle.specs.Text.{behind_text, bound_text, judged_text, row_text, rows_text};
 ghost use Rattle.job_settle.specs.declared.bound.SettledBound.{SettledBound};
 ghost use Rattle.job_settle.specs.declared.finding.Finding.{Finding};
@@ -75,9 +76,9 @@ fn all_rows(
 ) -> Result<RowsRead, CheckStop>
     requires views { AreViewsOf drawn.now.net views.now }
     requires start { start ≤ length text.now }
-    ensures found { IfOk result (λ read. AreRowsFound true drawn.now.net drawn.now.rows read.found.items) }
+    ensures found { IfOk result (λ read. AllZip (IsRowFound true drawn.now.net) drawn.now.rows read.found.items) }
     ensures behind { IfOk result (λ read. IsPieceAt text.now start (rows_text drawn.now true 0 drawn.now.rows read.found.items) read.place) }
-    ensures read { (found : List RowFound) → (more : List ℕ) → AreRowsFound true drawn.now.net drawn.now.rows found
+    ensures read { (found : List RowFound) → (more : List ℕ) → AllZip (IsRowFound true drawn.now.net) drawn.now.rows found
         → drop start text.now ≡ rows_text drawn.now true 0 drawn.now.rows found ++ more
         → Gives (λ read. AreSameRows found read.found.items × (drop read.place text.now ≡ more)) result }
 {

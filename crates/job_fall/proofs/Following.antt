@@ -1,5 +1,5 @@
 -- Which pieces may follow in the text of a job, and which lines begin what comes next.
-use Rattle.std.proofs.Common.{◌≡◌, ◌+◌, ◌||◌, ◌≤◌, ℕ, zero, suc, ℤ, Bool, true, false, List, [], ◌∷◌, ◌++◌, drop, length, map, refl, sym, subst, ap, arith}
+use Rattle.std.proofs.Common.{◌≡◌, ◌+◌, ◌||◌, ◌≤◌, ℕ, zero, suc, ℤ, Bool, true, false, List, [], ◌∷◌, ◌++◌, drop, length, refl, sym, subst, ap, arith}
 use Rattle.itv_base.specs.Outside.{SinkState}
 use Rattle.event_graph.specs.Network.{Net}
 use Rattle.falling.specs.declared.answer.Fallen.{Fallen}

@@ -31,7 +31,7 @@ use Rattle.drawn_networks.specs.Drawn.{AreTimes}
 use Rattle.requirements.specs.declared.consistency.Consistency.TheVariants as founds
 use Rattle.falling.specs.declared.view.View.{View}
 use Rattle.falling.specs.declared.view.View.TheVariants.{Plain, Negated}
-use Rattle.job_fall.specs.Shows.{CanRise, IsFallBound, IsExtreme, IsFinding, first_event, shown_by}
+use Rattle.job_fall.specs.Shows.{IsFallBound, IsExtreme, IsFinding, first_event, shown_by}
 use Rattle.job_fall.specs.Step.{BeginsFrom, HasFound, ShowsFinding, found_by, shown_bound, shown_finding}
 use Rattle.job_fall.specs.Text.{consistent}
 use Rattle.falling.specs.View.{IsViewOf}
@@ -245,9 +245,8 @@ attained Max r times value e = e
 attained Min r times value e = turned (time_of times r.from) (time_of times r.to) value e
 
 can_rise : (net : Net) (which : Which) (r : Row) (times : List ℤ) (ray : List Bool) → IsNet net → IsRay net (source Plain which r) (target Plain which r) times ray
-    → CanRise which net r (moved r.from times) ray
-can_rise net Max r times ray is_net shown = ray-moved net r.from r.from r.to times ray is_net shown
-can_rise net Min r times ray is_net shown = ray-moved net r.from r.to r.from times ray is_net shown
+    → IsRay net (source Plain which r) (target Plain which r) (moved r.from times) ray
+can_rise net which r times ray is_net shown = ray-moved net r.from (source Plain which r) (target Plain which r) times ray is_net shown
 
 module _ (net : Net) (which : Which) (r : Row) (is_net : IsNet net) (in_from : r.from.0 < net.events) (in_to : r.to.0 < net.events) where
   are_times : (times : List ℤ) → Satisfies times net → AreTimes net r (moved r.from times)

@@ -9,7 +9,7 @@ use Rattle.job_base.specs.declared.answer.Answer.{Answer}
 use Rattle.job_base.specs.Ending.{answer_of}
 use Rattle.job_base.specs.declared.answer.Answer.TheVariants as answers
 use Rattle.slack_report.specs.declared.words.EndWord.{EndWord}
-use Rattle.slack_report.specs.declared.words.EndWord.TheVariants.{Pass, Fail, Inconsistent, Undecided}
+use Rattle.slack_report.specs.declared.words.EndWord.TheVariants.{Pass, Inconsistent, Undecided}
 use Rattle.slack_report.specs.declared.words.Which.{Which}
 use Rattle.slack_report.specs.declared.words.Which.TheVariants.{Max, Min}
 use Rattle.slack_report.specs.Entry as line
@@ -18,7 +18,7 @@ use Rattle.drawn_networks.specs.declared.row.Row.{Row}
 use Rattle.slack_report.specs.Text.{entry_text}
 use Rattle.falling.specs.declared.view.View.{View}
 use Rattle.job_fall.specs.Shows.{IsFallBound, IsFinding, first_event}
-use Rattle.job_fall.specs.Text.{FallBound, Finding, bound_spent, bound_text, consistent, finding_spent, finding_text, front_text, inconsistent, closed, printed, unbounded}
+use Rattle.job_fall.specs.Text.{FallBound, Finding, bound_spent, bound_text, consistent, finding_spent, finding_text, front_text, inconsistent, printed}
 use Rattle.falling.specs.View.{IsViewOf}
 use Rattle.job_fall.specs.View.{seen, source}
 
@@ -56,9 +56,8 @@ behind_finding inconsistent = at_end Inconsistent
 behind_finding finding_spent = at_end Undecided
 
 abbrev pub is_spent : FallBound → Bool
-is_spent (closed value list) = false
-is_spent (unbounded list set) = false
 is_spent bound_spent = true
+is_spent value = false
 
 -- the state after a bound of a row: the least bound comes after the greatest, and the rows that are left come after the least
 abbrev pub behind_bound : FallRow → Which → Bool → TextState

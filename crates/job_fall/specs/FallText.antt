@@ -9,23 +9,14 @@ use Rattle.falling.specs.declared.line.FallLine.{FallLine}
 use Rattle.falling.specs.declared.line.Reason.{Reason}
 use Rattle.falling.specs.declared.line.Reason.TheVariants.{ByEdge, ByLatest}
 
--- the first word of a line, according to its reason
-abbrev pub reason_name : Reason → Word
-reason_name (ByEdge edge) = codes "fall"
-reason_name (ByLatest number) = codes "late"
+-- the first word of a line according to its reason, and what the reason names: an edge, or the number of a constraint
+abbrev pub reason_words : Reason → Word × Word
+reason_words (ByEdge edge) = (codes "fall", edge_word edge)
+reason_words (ByLatest number) = (codes "late", number_text number)
 
--- what a reason names: an edge, or the number of a constraint
-abbrev pub reason_word : Reason → Word
-reason_word (ByEdge edge) = edge_word edge
-reason_word (ByLatest number) = number_text number
-
--- the words of a line: the kind of its reason, the event, the value in picoseconds, and what the reason names
-abbrev pub fall_words : FallLine → List Word
-fall_words line = reason_name line.reason ∷ number_text line.event.0 ∷ signed_text line.value ∷ reason_word line.reason ∷ []
-
--- the line with its end
+-- a line: the kind of its reason, the event, the value in picoseconds, and what the reason names
 abbrev pub fall_line_text : FallLine → List ℕ
-fall_line_text line = ended (line_of (fall_words line))
+fall_line_text line = ended (line_of ((reason_words line.reason).0 ∷ number_text line.event.0 ∷ signed_text line.value ∷ (reason_words line.reason).1 ∷ []))
 
 -- the text of lines of a derivation
 abbrev pub fall_text : List FallLine → List ℕ

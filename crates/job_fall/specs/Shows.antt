@@ -1,4 +1,5 @@
 -- What a finding or a bound says of the network, and what the lines of its derivation show.
+use Rattle.falling.specs.declared.view.View.TheVariants.{Plain}
 use Rattle.std.specs.Prelude.{◌≡◌, ◌<◌, ℕ, ℤ, pos, neg_ℤ, Bool, List, [], All}
 use Rattle.itv_base.specs.declared.names.EventId.{EventId}
 use Rattle.event_graph.specs.Bounds.{IsGreatest, IsInconsistent, IsLeast, IsRay}
@@ -59,11 +60,6 @@ abbrev pub shown_by : Which → ℤ → ℤ
 shown_by Max value = value
 shown_by Min value = neg_ℤ value
 
--- the set can be raised without end. It raises the to-event for a greatest separation, and the from-event for a least separation
-abbrev pub CanRise : Which → Net → Row → List ℤ → List Bool → Type 0
-CanRise Max net r list set = IsRay net r.from r.to list set
-CanRise Min net r list set = IsRay net r.to r.from list set
-
 -- the number is the bound. The printed times satisfy and attain it, and the from-event is at 0. They are the times of the derivation's values, which
 -- give the number
 pub record IsNumberBy (view : View) (net : Net) (which : Which) (r : Row) (lines : List FallLine) (value : ℤ) (list : List ℤ) : Type 0 where
@@ -74,11 +70,12 @@ pub record IsNumberBy (view : View) (net : Net) (which : Which) (r : Row) (lines
   pub derived : Derives view net (source view which r) lines
       (λ values. (time_of values (target view which r) ≡ shown_by which value) × (list ≡ moved r.from (times_seen view values)))
 
--- the printed times satisfy, the from-event is at 0, and the set can be raised from them. They are the times of the derivation's values
+-- The printed times satisfy, the from-event is at 0, and the set can be raised from them without end: it has the to-event for a greatest separation, and
+-- the from-event for a least one. They are the times of the derivation's values.
 pub record IsUnboundedBy (view : View) (net : Net) (which : Which) (r : Row) (lines : List FallLine) (list : List ℤ) (set : List Bool) : Type 0 where
   pub times : AreTimes net r list
   pub printed : All IsPrintedTime list
-  pub raised : CanRise which net r list set
+  pub raised : IsRay net (source Plain which r) (target Plain which r) list set
   pub derived : Derives view net (source view which r) lines (λ values. list ≡ moved r.from (times_seen view values))
 
 abbrev pub IsFallBound : View → Net → ℕ → Which → Row → List FallLine → FallBound → Type 0

@@ -1,5 +1,5 @@
 -- The texts of job fall.
-use Rattle.std.specs.Prelude.{ℕ, ℤ, Bool, true, false, List, [], ◌∷◌, ◌++◌, length, codes}
+use Rattle.std.specs.Prelude.{ℕ, ℤ, Bool, true, false, List, [], ◌∷◌, ◌++◌, codes}
 use Rattle.line_words.specs.Lines.{ended, line_of}
 use Rattle.requirements.specs.declared.bound.Bound.TheVariants.{Closed, Unbounded}
 use Rattle.falling.specs.declared.line.FallLine.{FallLine}

@@ -17,7 +17,7 @@ use Rattle.requirements.specs.declared.consistency.Consistency.TheVariants as fi
 use Rattle.slack_report.specs.Entry.{finding}
 use Rattle.slack_report.specs.Text.{entry_text}
 use Rattle.drawn_networks.specs.Drawn.{Drawn}
-use Rattle.job_matrix.specs.Matrix.{AnswersMatrix, AreRootEntries, IsMatrixText, entry_in, matrix_text, row_text}
+use Rattle.job_matrix.specs.Matrix.{AnswersMatrix, AreRootEntries, IsMatrixText, matrix_text, row_of, row_text}
 use Rattle.job_base.specs.Events.{event_of}
 use Rattle.job_matrix.specs.Step.{entries_of, numbers_of}
 
@@ -27,7 +27,7 @@ at_map f [] i d = refl
 at_map f (x ∷ xs) zero d = refl
 at_map f (x ∷ xs) (suc i) d = at_map f xs i d
 
-entry_is : (rows : List (List ℤ)) (from to : EventId) → entry_in (entries_of rows) from to ≡ entry_of rows from to
+entry_is : (rows : List (List ℤ)) (from to : EventId) → get_or (row_of (entries_of rows) from.0) to.0 None ≡ entry_of rows from to
 entry_is rows from to = ap (λ row. get_or row to.0 None) (at_map numbers_of rows from.0 []) ∙ at_map number_of (get_or rows from.0 []) to.0 ABSENT
 
 -- a stored matrix of root bounds has the entries of the root bounds of all pairs

@@ -8,7 +8,7 @@ use Rattle.event_graph.specs.Network.{Net}
 use Rattle.event_graph.specs.RootBound.{HasNoRoot, IsRootBound, MeetsAlways}
 use Rattle.line_words.specs.Lines.{ended, line_of}
 use Rattle.job_base.specs.declared.answer.Answer.{Answer}
-use Rattle.job_base.specs.declared.answer.Answer.TheVariants.{AllPass, SomeFail, Inconsistent, Undecided, CheckRefused, DesignRefused}
+use Rattle.job_base.specs.declared.answer.Answer.TheVariants.{AllPass, Inconsistent}
 use Rattle.requirements.specs.declared.consistency.Consistency.TheVariants as findings
 use Rattle.slack_report.specs.Entry.{finding}
 use Rattle.drawn_networks.specs.Drawn.{Drawn}
@@ -23,15 +23,11 @@ Entries = List (List (Option ℤ))
 abbrev pub row_of : Entries → ℕ → List (Option ℤ)
 row_of rows from = slice_index_or rows from []
 
--- the entry from one event to another
-abbrev pub entry_in : Entries → EventId → EventId → Option ℤ
-entry_in rows from to = slice_index_or (row_of rows from.0) to.0 None
-
 -- the entry of each pair of events is the greatest separation of the pair over the times that meet the always-edges, or none where it is unbounded
 pub record AreRootEntries (net : Net) (rows : Entries) : Type 0 where
   pub count : length rows ≡ net.events
   pub counts : (from : ℕ) → from < net.events → length (row_of rows from) ≡ net.events
-  pub bounds : (from to : EventId) → from.0 < net.events → to.0 < net.events → IsRootBound net from to (entry_in rows from to)
+  pub bounds : (from to : EventId) → from.0 < net.events → to.0 < net.events → IsRootBound net from to (slice_index_or (row_of rows from.0) to.0 None)
 
 -- ---- texts
 
@@ -56,7 +52,4 @@ pub record IsMatrixText (drawn : Drawn) (text : List ℕ) : Type 0 where
 abbrev pub AnswersMatrix : Drawn → Answer → List ℕ → Type 0
 AnswersMatrix drawn AllPass text = IsMatrixText drawn text
 AnswersMatrix drawn Inconsistent text = HasNoRoot drawn.net × (text ≡ entry_text (finding findings.Inconsistent))
-AnswersMatrix drawn SomeFail text = ⊥
-AnswersMatrix drawn Undecided text = ⊥
-AnswersMatrix drawn CheckRefused text = ⊥
-AnswersMatrix drawn DesignRefused text = ⊥
+AnswersMatrix drawn answer text = ⊥

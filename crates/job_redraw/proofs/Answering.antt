@@ -18,7 +18,7 @@ use Rattle.design_reading.specs.Refusal.{refusal_text}
 use Rattle.redraw.specs.Drawing.{demand_of, nowhere, row_at}
 use Rattle.redraw.specs.Text.{redrawn}
 use Rattle.job_redraw.specs.Failed.{Failed, IsBroken, first_failed, is_wide_on}
-use Rattle.job_redraw.specs.Redraw.{AnswersRedraw, Draws, AnswersEndWord, failed_answer, failed_text, is_wide}
+use Rattle.job_redraw.specs.Redraw.{AnswersRedraw, Draws, AnswersEndWord, is_wide}
 use Rattle.job_redraw.specs.Step.{IsReportKept, IsTextOf, ShowsFail, fail_view}
 use Rattle.job_redraw.specs.declared.scan.Fail.{Fail as Seen_fail}
 use Rattle.job_redraw.specs.declared.search.KeptReport.{KeptReport}

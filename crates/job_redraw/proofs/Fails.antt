@@ -1,4 +1,5 @@
 -- A report that ends with a fail has a first failed row, with times that break its requirement.
+use Rattle.job_redraw.specs.Step.{scanned}
 use Rattle.std.proofs.Common.{◌≡◌, ◌⊎◌, ◌+◌, ◌||◌, ℕ, zero, suc, ℤ, Bool, true, false, if◌then◌else◌, List, [], ◌∷◌, ◌++◌, length, All, drop, Option, Some, None, slice_get, inl, inr, ◌∙◌, refl, sym, ap, subst, add-one}
 use Rattle.itv_base.specs.Range.{Ends}
 use Rattle.itv_base.specs.declared.row_kind.RowKind.{RowKind}
@@ -27,7 +28,7 @@ use Rattle.right_report.specs.ReportContents.{end_in}
 use Rattle.right_report.proofs.Ending.{same_ending}
 use Rattle.job_bounds.specs.Reports.{IsWrittenReport}
 use Rattle.job_bounds.specs.Written.{written}
-use Rattle.job_redraw.specs.Failed.{Failed, IsBroken, Scan, found_by, scan_start, scanned, failed_verdict, with_line}
+use Rattle.job_redraw.specs.Failed.{Failed, IsBroken, Scan, found_by, scan_start, failed_verdict, with_line}
 use Rattle.job_redraw.specs.Laws.{FailIsShown}
 
 -- ---- what a scan has seen

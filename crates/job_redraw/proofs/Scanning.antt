@@ -1,9 +1,10 @@
 -- A scan, line by line.
+use Rattle.job_redraw.specs.Step.{scanned}
 use Rattle.std.proofs.Common.{◌≡◌, ◌+◌, ◌≤◌, ℕ, zero, suc, List, [], ◌∷◌, ◌++◌, length, take, fold, Some, slice_get, ◌∙◌, refl, sym, ap, add-one, arith}
 use Rattle.std.proofs.lemmas.List.{take_all}
 use Rattle.std.proofs.lemmas.List.Sums.{fold-append}
 use Rattle.slack_report.specs.Entry.{Entry}
-use Rattle.job_redraw.specs.Failed.{Scan, first_failed, scan_start, scanned, with_line}
+use Rattle.job_redraw.specs.Failed.{Scan, first_failed, scan_start, with_line}
 
 take_one : {X : Type 0} (xs : List X) (k : ℕ) (x : X) → slice_get xs k ≡ Some x → take (suc k) xs ≡ take k xs ++ x ∷ []
 take_one [] zero x e = absurd (cc e)

@@ -5,8 +5,8 @@ use Rattle.itv_base.specs.declared.limits.TheConstants.{END_LIMIT}
 use Rattle.itv_base.specs.declared.row_kind.RowKind.TheVariants.{Req}
 use Rattle.event_graph.specs.Times.{IsTime}
 use Rattle.requirements.specs.declared.verdict.Verdict.{Verdict}
-use Rattle.requirements.specs.declared.verdict.Verdict.TheVariants.{Pass, FailHigh, FailLow, Undecided}
-use Rattle.slack_report.specs.Entry.{Entry, heading, budget, events, event, proof, finding, times, rows, row, bound, raise, verdict, slack, ending}
+use Rattle.requirements.specs.declared.verdict.Verdict.TheVariants.{FailHigh, FailLow}
+use Rattle.slack_report.specs.Entry.{Entry, times, row, verdict, slack}
 use Rattle.drawn_networks.specs.Drawn.{AreTimes, Drawn}
 use Rattle.drawn_networks.specs.declared.row.Row.{Row}
 use Rattle.right_report.specs.Right.LineClaims.{BreaksEnd}
@@ -30,10 +30,9 @@ scan_start = record { row = 0; side = None; found = None }
 
 -- the side of a verdict, if it is a fail; times come after such a verdict
 abbrev pub failed_verdict : Verdict → Option Verdict
-failed_verdict Pass = None
 failed_verdict FailHigh = Some FailHigh
 failed_verdict FailLow = Some FailLow
-failed_verdict Undecided = None
+failed_verdict word = None
 
 -- times after a fail are the times of its row; it is the first failed row, unless one was found before
 abbrev pub found_by : ℕ → Option Verdict → List ℤ → Option Failed → Option Failed
@@ -45,27 +44,15 @@ abbrev pub with_times : Scan → List ℤ → Scan
 with_times scan list = record scan { found = found_by scan.row scan.side list scan.found }
 
 abbrev pub with_line : Scan → Entry → Scan
-with_line scan heading = scan
-with_line scan (budget most) = scan
-with_line scan (events number) = scan
-with_line scan (event number name) = scan
-with_line scan (proof line) = scan
-with_line scan (finding word) = scan
 with_line scan (times list) = with_times scan list
-with_line scan (rows number) = scan
 with_line scan (row number kind from to) = record scan { row = number; side = None }
-with_line scan (bound which value) = scan
-with_line scan (raise set) = scan
 with_line scan (verdict word) = record scan { side = failed_verdict word }
 with_line scan (slack value) = record scan { side = None }
-with_line scan (ending word) = scan
-
-abbrev pub scanned : Scan → List Entry → Scan
-scanned scan lines = fold with_line scan lines
+with_line scan line = scan
 
 -- the first row of a report whose verdict is a fail, with the times after the verdict
 abbrev pub first_failed : List Entry → Option Failed
-first_failed lines = (scanned scan_start lines).found
+first_failed lines = (fold with_line scan_start lines).found
 
 -- ---- what the first failed row is
 
@@ -82,17 +69,13 @@ pub record IsBroken (drawn : Drawn) (failed : Failed) : Type 0 where
 
 -- ---- ends that no drawing can be past
 
-abbrev pub is_same : ℤ → ℤ → Bool
-is_same a b = int_le a b && int_le b a
-
 -- the end is a number
 abbrev pub is_end_at : Option ℤ → ℤ → Bool
 is_end_at None limit = false
-is_end_at (Some end) limit = is_same end limit
+is_end_at (Some end) limit = int_le end limit && int_le limit end
 
 -- The end on the side is the limit of finite ends itself, or on the low side minus that limit.
 abbrev pub is_wide_on : Ends → Verdict → Bool
-is_wide_on ends Pass = false
 is_wide_on ends FailHigh = is_end_at ends.high END_LIMIT
 is_wide_on ends FailLow = is_end_at ends.low (neg_ℤ END_LIMIT)
-is_wide_on ends Undecided = false
+is_wide_on ends side = false

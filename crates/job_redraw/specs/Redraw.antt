@@ -19,23 +19,16 @@ use Rattle.job_redraw.specs.Failed.{Failed, IsBroken, first_failed, is_wide_on}
 abbrev pub is_wide : Drawn → Failed → Bool
 is_wide drawn failed = is_wide_on (demand_of (row_at drawn failed.row).kind) failed.side
 
--- the answer if a row fails
-abbrev pub failed_answer : Drawn → Failed → Answer
-failed_answer drawn failed = if is_wide drawn failed then DesignRefused else SomeFail
-
--- the text if a row fails: the drawing of the row at times that break it, or the refusal that its end is too wide for a drawing
-abbrev pub failed_text : Drawn → Failed → List ℕ
-failed_text drawn failed = if is_wide drawn failed then refusal_text Design (Wide failed.row) else redrawn drawn failed.row failed.times
-
--- the answer and the text for the first failed row of a report; the row is between events, and each event has a name
+-- The answer and the text for the first failed row of a report: the drawing of the row at times that break it, or the refusal that its end is too wide
+-- for a drawing. The row is between events, and each event has a name.
 pub record Draws (drawn : Drawn) (lines : List Entry) (answer : Answer) (text : List ℕ) : Type 0 where
   pub failed : Failed
   pub first : first_failed lines ≡ Some failed
   pub broken : IsBroken drawn failed
   pub within : IsRowOf drawn.net broken.asked
   pub named : length drawn.names ≡ drawn.net.events
-  pub is_answer : answer ≡ failed_answer drawn failed
-  pub is_text : text ≡ failed_text drawn failed
+  pub is_answer : answer ≡ (if is_wide drawn failed then DesignRefused else SomeFail)
+  pub is_text : text ≡ (if is_wide drawn failed then refusal_text Design (Wide failed.row) else redrawn drawn failed.row failed.times)
 
 -- the answer and the text for a report, according to the word at its end
 abbrev pub AnswersEndWord : Drawn → List Entry → EndWord → Answer → List ℕ → Type 0

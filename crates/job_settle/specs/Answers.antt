@@ -1,6 +1,6 @@
 -- What is found of a network and of its rows.
-use Rattle.std.specs.Prelude.{◌≡◌, ◌+◌, ◌*◌, ◌≤◌, ℕ, ℤ, pos, neg_ℤ, ◌<ℤ◌, Bool, List, [], ◌∷◌, length, All, None, IsTrue}
-use Rattle.std.specs.List.{sum_by}
+use Rattle.std.specs.Prelude.{◌≡◌, ◌+◌, ◌*◌, ◌≤◌, ℕ, ℤ, pos, neg_ℤ, ◌<ℤ◌, Bool, List, [], length, All, None, IsTrue}
+use Rattle.std.specs.List.{sum_by, AllZip}
 use Rattle.itv_base.specs.Range.{Ends}
 use Rattle.itv_base.specs.declared.names.EventId.{EventId}
 use Rattle.itv_base.specs.declared.row_kind.RowKind.{RowKind}
@@ -111,8 +111,7 @@ verdict_in range found = verdict_of range (bound_of found.least) (bound_of found
 abbrev pub IsViolation : Net → Row → Ends → Verdict → List ℤ → Type 0
 IsViolation net row range verdicts.FailHigh past = ArePrintedTimes net row.from past × BreaksEnd row range verdicts.FailHigh past
 IsViolation net row range verdicts.FailLow past = ArePrintedTimes net row.from past × BreaksEnd row range verdicts.FailLow past
-IsViolation net row range verdicts.Pass past = past ≡ []
-IsViolation net row range verdicts.Undecided past = past ≡ []
+IsViolation net row range word past = past ≡ []
 
 -- a row that only asks has no broken end, and no times
 abbrev pub IsPastOf : Net → Row → RowKind → RowFound → Type 0
@@ -125,18 +124,10 @@ pub record IsRowFound (cert : Bool) (net : Net) (row : Row) (found : RowFound) :
   pub least : IsBound cert net Min row found.least
   pub past : IsPastOf net row row.kind found
 
--- what is found of each row, in order
-abbrev pub AreRowsFound : Bool → Net → List Row → List RowFound → Type 0
-AreRowsFound cert net [] [] = Unit {0}
-AreRowsFound cert net [] (found ∷ others) = ⊥
-AreRowsFound cert net (row ∷ rows) [] = ⊥
-AreRowsFound cert net (row ∷ rows) (found ∷ others) = IsRowFound cert net row found × AreRowsFound cert net rows others
-
 -- after a consistent finding: what is found of each row; after any other finding: nothing
 abbrev pub AreFound : Bool → Net → List Row → Finding → List RowFound → Type 0
-AreFound cert net rows (Consistent times) found = AreRowsFound cert net rows found
-AreFound cert net rows (Inconsistent proof) found = found ≡ []
-AreFound cert net rows Open found = found ≡ []
+AreFound cert net rows (Consistent times) found = AllZip (IsRowFound cert net) rows found
+AreFound cert net rows finding found = found ≡ []
 
 -- ---- what the turns bound
 

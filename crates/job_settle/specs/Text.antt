@@ -63,15 +63,13 @@ row_text drawn cert number row found =
 
 -- rows; the first has a number
 abbrev pub rows_text : Drawn → Bool → ℕ → List Row → List RowFound → List ℕ
-rows_text drawn cert number [] found = []
-rows_text drawn cert number (row ∷ rows) [] = []
 rows_text drawn cert number (row ∷ rows) (found ∷ others) = row_text drawn cert number row found ++ rows_text drawn cert (number + 1) rows others
+rows_text drawn cert number rows found = []
 
 -- after a consistent finding the number of rows and each row; after any other finding nothing
 abbrev pub behind_text : Drawn → Bool → Finding → List RowFound → List ℕ
 behind_text drawn cert (Consistent times) found = entry_text (line.rows (length drawn.rows)) ++ rows_text drawn cert 0 drawn.rows found
-behind_text drawn cert (Inconsistent proof) found = []
-behind_text drawn cert Open found = []
+behind_text drawn cert finding found = []
 
 -- the word at the end, as a report with these bounds has it
 abbrev pub ending_of : List Row → Finding → List RowFound → EndWord

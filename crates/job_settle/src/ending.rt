@@ -1,9 +1,10 @@
 //! The word at the end.
 
+ghost use Rattle.std.specs.List.{AllZip};
 ghost use Rattle.std.specs.Prelude.{◌≡◌, Bool, map};
 ghost use Rattle.right_report.specs.Right.ReportState.{tally_of};
 ghost use Rattle.right_report.specs.RowTally.{kinds_of, with_rows};
-ghost use Rattle.job_settle.specs.Answers.{AreFound, AreRowsFound, both_of};
+ghost use Rattle.job_settle.specs.Answers.{AreFound, both_of, IsRowFound};
 ghost use Rattle.job_settle.specs.Text.{ending_of};
 
 use crate::bound::both_of;
@@ -29,7 +30,7 @@ pub fn ending_of(drawn: &DrawnNetwork, finding: &Finding, found: &[RowFound]) ->
 
 // The tally of all rows of a consistent network.
 fn tally_rows(drawn: &DrawnNetwork, found: &[RowFound]) -> ReportTally
-    requires found { (cert : Bool) × AreRowsFound cert drawn.now.net drawn.now.rows found.now }
+    requires found { (cert : Bool) × AllZip (IsRowFound cert drawn.now.net) drawn.now.rows found.now }
     ensures tally { result ≡ with_rows (tally_of Consistency.Consistent) (kinds_of drawn.now.rows) (map both_of found.now) }
 {
     let mut tally = ReportTally::new(Consistency::Consistent);

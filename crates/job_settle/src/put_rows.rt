@@ -1,5 +1,6 @@
 //! Putting what was found of the rows.
 
+ghost use Rattle.std.specs.List.{AllZip};
 ghost use Rattle.std.specs.Prelude.{◌++◌, if◌then◌else◌, [], length};
 ghost use Rattle.itv_base.specs.Outside.{Puts};
 ghost use Rattle.requirements.specs.Bounds.{HasTimes};
@@ -7,7 +8,7 @@ ghost use Rattle.right_report.specs.Right.ReportState.{is_fail};
 ghost use Rattle.slack_report.specs.Entry.{rows, times};
 ghost use Rattle.slack_report.specs.Text.{entry_text};
 ghost use Rattle.drawn_networks.specs.Drawn.{IsRowOf};
-ghost use Rattle.job_settle.specs.Answers.{AreFound, AreRowsFound, bound_of};
+ghost use Rattle.job_settle.specs.Answers.{AreFound, bound_of, IsRowFound};
 ghost use Rattle.job_settle.specs.Text.{behind_text, judged_text, row_text, rows_text};
 
 use crate::bound::both_of;
@@ -48,7 +49,7 @@ fn put_rows<K: Sink>(
     buffer: &mut LineBuffer,
     sink: &mut K,
 ) -> Result<(), PutFailed>
-    requires found { AreRowsFound cert drawn.now.net drawn.now.rows found.now }
+    requires found { AllZip (IsRowFound cert drawn.now.net) drawn.now.rows found.now }
     ensures puts { Puts (K.state sink.old) (K.state sink.new)
         (entry_text (rows (length drawn.now.rows)) ++ rows_text drawn.now cert 0 drawn.now.rows found.now) result }
 {
@@ -65,7 +66,7 @@ fn put_each<K: Sink>(
     buffer: &mut LineBuffer,
     sink: &mut K,
 ) -> Result<(), PutFailed>
-    requires found { AreRowsFound cert drawn.now.net drawn.now.rows found.now }
+    requires found { AllZip (IsRowFound cert drawn.now.net) drawn.now.rows found.now }
     ensures puts { Puts (K.state sink.old) (K.state sink.new) (rows_text drawn.now cert 0 drawn.now.rows found.now) result }
 {
     for number in 0..drawn.rows().len() as u32 {

@@ -1,11 +1,11 @@
 //! Finding what the rows ask for.
 
 ghost use Rattle.std.specs.Prelude.{◌≡◌, ◌+◌, ◌≤◌, ℤ, List, All, IfOk};
-ghost use Rattle.std.specs.List.{sum_by};
+ghost use Rattle.std.specs.List.{sum_by, AllZip};
 ghost use Rattle.event_graph.specs.Satisfying.{Satisfies};
 ghost use Rattle.drawn_networks.specs.Drawn.{IsRowOf};
 ghost use Rattle.settle.specs.ShownAnswer.{IsMadeFor};
-ghost use Rattle.job_settle.specs.Answers.{AreFound, AreRowsFound, IsFinding, IsRowFound, IsRowWithin, lines_in_row};
+ghost use Rattle.job_settle.specs.Answers.{AreFound, IsFinding, IsRowFound, IsRowWithin, lines_in_row};
 
 use crate::bounding::find_bound;
 use crate::finding::Finding;
@@ -53,7 +53,7 @@ fn find_all(
     requires made { IsMadeFor drawn.now.net settler.now }
     requires consistent { (times : List ℤ) × Satisfies times drawn.now.net }
     requires each { left.old.each ≡ wanted.turns }
-    ensures found { IfOk result (λ found. AreRowsFound wanted.cert drawn.now.net drawn.now.rows found.items) }
+    ensures found { IfOk result (λ found. AllZip (IsRowFound wanted.cert drawn.now.net) drawn.now.rows found.items) }
     ensures within { IfOk result (λ found. All (IsRowWithin wanted.turns) found.items) }
     ensures lines { IfOk result (λ found. sum_by lines_in_row found.items + left.new.left ≤ left.old.left) }
 {

@@ -1,3 +1,4 @@
 mod Noted
 mod Texts
 pub mod Passing
+mod Answering

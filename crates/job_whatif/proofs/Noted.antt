@@ -1,4 +1,5 @@
 -- The notes of a session of rows, and of the sessions through which edits lead.
+use Rattle.whatif.specs.Step.Bounds.{pair_search, left_by}
 use Rattle.std.proofs.Common.{◌≡◌, ◌+◌, ◌<◌, ℕ, suc, List, [], ◌∷◌, length, get_or, map, All, inl, inr, refl, sym, subst, ap, ◌∙◌, arith, None, Some}
 use Rattle.std.proofs.lemmas.List.{length-map}
 use Rattle.std.proofs.lemmas.List.Elements.{All-cons, All-head, All-map, All-tail}
@@ -16,15 +17,14 @@ use Rattle.branch.proofs.Close.{separation_time}
 use Rattle.range_edits.specs.declared.edit.RangeEdit.{RangeEdit}
 use Rattle.whatif.specs.declared.change.Change.{Change}
 use Rattle.whatif.specs.Runs.{IsRun, Note, Runs, EditedSession, note_of, notes_of}
-use Rattle.whatif.specs.Session.{IsRight, IsRightBound, KeptBound, SessionView, answers_of, left_by, pair_search}
+use Rattle.whatif.specs.Session.{IsRight, IsRightBound, KeptBound, SessionView, answers_of}
 use Rattle.whatif.proofs.Sessions.{count_bounds}
 use Rattle.drawn_networks.specs.Drawn.{Drawn, IsRowOf}
 use Rattle.drawn_networks.specs.declared.row.Row.{Row}
 use Rattle.whatif.specs.Session.{IsPairOf}
 use Rattle.event_graph.specs.declared.pair.Pair.{Pair}
-use Rattle.job_whatif.specs.Step.{IsNoteOf, IsTimed}
+use Rattle.job_whatif.specs.Step.{IsNoteOf, IsTimed, pair_of, pairs_of}
 use Rattle.job_whatif.specs.Text.{last_note}
-use Rattle.job_whatif.specs.Whatif.{pair_of, pairs_of}
 
 -- ---- numbers
 

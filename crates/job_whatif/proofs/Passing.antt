@@ -1,4 +1,5 @@
 -- What the end of job whatif says of the network with all edits.
+use Rattle.whatif.specs.Step.Bounds.{pair_search, left_by}
 use Rattle.std.proofs.Common.{◌≡◌, ◌⊎◌, inl, inr, ℕ, zero, suc, ℤ, Bool, true, false, ◌||◌, List, [], ◌∷◌, map, All, Option, Some, None, slice_get, refl, sym, ap, subst, ◌∙◌}
 use Rattle.std.specs.Prelude.{IsSomeAnd}
 use Rattle.std.proofs.lemmas.List.Elements.{All-head, All-tail}
@@ -15,7 +16,7 @@ use Rattle.requirements.specs.declared.bound.Bound.{Bound}
 use Rattle.requirements.specs.declared.bound.Bound.TheVariants.{Closed, Unbounded, Within}
 use Rattle.requirements.specs.declared.consistency.Consistency.{Consistency}
 use Rattle.requirements.specs.declared.consistency.Consistency.TheVariants.{Consistent, Inconsistent, Open}
-use Rattle.requirements.specs.Bounds.{IsGreatestBound, IsLeastBound}
+use Rattle.requirements.specs.Bounds.{IsGreatestBound, IsLeastBound, reversed}
 use Rattle.requirements.specs.Laws.{IsMet, IsWithin}
 use Rattle.requirements.specs.Verdicts.{verdict_of}
 use Rattle.requirements.specs.declared.bound.BothBounds.{BothBounds}
@@ -40,10 +41,12 @@ use Rattle.range_edits.specs.declared.edit.RangeEdit.{RangeEdit}
 use Rattle.whatif.specs.declared.change.Change.{Change}
 use Rattle.event_graph.specs.declared.pair.Pair.{Pair}
 use Rattle.whatif.specs.Runs.{EditedSession, Note, Runs, edited, last_of, note_of, notes_of}
-use Rattle.whatif.specs.Session.{IsRight, IsRightBound, IsRightFinding, KeptBound, SessionView, answers_of, both_ways, left_by, pair_search}
+use Rattle.whatif.specs.Session.{IsRight, IsRightBound, IsRightFinding, KeptBound, SessionView, answers_of, both_ways}
 use Rattle.job_whatif.specs.Laws.{PassedEditsAreMet}
-use Rattle.job_whatif.specs.Text.{both_of, bounds_of, ending_of, last_note, least_bound}
-use Rattle.job_whatif.specs.Whatif.{AnswersWhatif, no_change, pair_of, pairs_of}
+use Rattle.whatif.proofs.Following.{net_of}
+use Rattle.job_whatif.specs.Step.{both_of, no_change, pair_of, pairs_of}
+use Rattle.job_whatif.specs.Text.{bounds_of, ending_of, last_note}
+use Rattle.job_whatif.specs.Whatif.{AnswersWhatif}
 
 -- ---- the last session
 
@@ -136,18 +139,18 @@ module _ (net : Net) (budget : ℕ) where
       greatest_by (pair_search net b.pair budget) (left_by right.answers.0 right.answers.1 b.times b.ray) b.answer right.answers.2 right.satisfies
 
   row_met : (row : Row) (range : Ends) (a b : KeptBound) → a.pair ≡ pair_of row → b.pair ≡ record { from = row.to; to = row.from } → IsRightBound net budget a
-      → IsRightBound net budget b → row.kind ≡ kinds.Req range → is_within (least_bound b.answer) ≡ false → is_within a.answer ≡ false
-      → NoFail row.kind (least_bound b.answer) a.answer → IsMet net row.from row.to range
+      → IsRightBound net budget b → row.kind ≡ kinds.Req range → is_within (reversed b.answer) ≡ false → is_within a.answer ≡ false
+      → NoFail row.kind (reversed b.answer) a.answer → IsMet net row.from row.to range
   row_met row range a b is_a is_b right_a right_b kind low high fine =
       let most : IsGreatestBound net row.from row.to a.answer =
       subst (λ (p : Pair). IsGreatestBound net p.from p.to a.answer) is_a (greatest_is a right_a) in
       let other : IsGreatestBound net row.to row.from b.answer =
       subst (λ (p : Pair). IsGreatestBound net p.from p.to b.answer) is_b (greatest_is b right_b) in
-      let least : IsLeastBound net row.from row.to (least_bound b.answer) = (reversed_greatest_is_least net row.from row.to b.answer).0 other in
-      let no_fail : is_fail (verdict_of range (least_bound b.answer) a.answer) ≡ false =
-      subst (λ k. NoFail k (least_bound b.answer) a.answer) kind fine in
-      pass_is_met net row.from row.to range (least_bound b.answer) a.answer (record { is_least = least; is_greatest = most })
-      (pass_of range (least_bound b.answer) a.answer (verdict_of range (least_bound b.answer) a.answer) refl no_fail low high)
+      let least : IsLeastBound net row.from row.to (reversed b.answer) = (reversed_greatest_is_least net row.from row.to b.answer).0 other in
+      let no_fail : is_fail (verdict_of range (reversed b.answer) a.answer) ≡ false =
+      subst (λ k. NoFail k (reversed b.answer) a.answer) kind fine in
+      pass_is_met net row.from row.to range (reversed b.answer) a.answer (record { is_least = least; is_greatest = most })
+      (pass_of range (reversed b.answer) a.answer (verdict_of range (reversed b.answer) a.answer) refl no_fail low high)
 
   -- all rows with a clean tally are met
   rows_met : (rows : List Row) (kept : List KeptBound) (tally : ReportTally) → map (λ (b : KeptBound). b.pair) kept ≡ both_ways (pairs_of rows) → All (IsRightBound net budget) kept
@@ -204,17 +207,15 @@ pass_word endings.Inconsistent e = absurd (cc e)
 pass_word endings.Undecided e = absurd (cc e)
 
 pub passed_edits_are_met : PassedEditsAreMet
-passed_edits_are_met drawn budget edits text (first, new, a) =
-    let last : SessionView = last_of first a.run.later in
-    let noted = last_noted no_change first a.run.later in
-    let note : last_note a.note a.notes ≡ note_of noted.0 last =
-    ap (λ (n : Note). last_note n a.notes) a.noted ∙ (ap (last_note (note_of no_change first)) a.run.noted ∙ noted.1) in
-    let word : ending_of (kinds_of drawn.rows) (last_note a.note a.notes).found (last_note a.note a.notes).answers ≡ endings.Pass =
-    pass_word (ending_of (kinds_of drawn.rows) (last_note a.note a.notes).found (last_note a.note a.notes).answers) a.is_answer in
+passed_edits_are_met drawn budget edits text a =
+    let last : SessionView = last_of a.first a.later in
+    let noted = last_noted no_change a.first a.later in
+    let note : last_note a.note (notes_of a.later) ≡ note_of noted.0 last = ap (λ (n : Note). last_note n (notes_of a.later)) a.noted ∙ noted.1 in
+    let word : ending_of (kinds_of drawn.rows) (last_note a.note (notes_of a.later)).found (last_note a.note (notes_of a.later)).answers ≡ endings.Pass =
+    pass_word (ending_of (kinds_of drawn.rows) (last_note a.note (notes_of a.later)).found (last_note a.note (notes_of a.later)).answers) a.is_answer in
     let ends : ending_of (kinds_of drawn.rows) last.found (answers_of last.found last.bounds) ≡ endings.Pass =
     subst (λ (n : Note). ending_of (kinds_of drawn.rows) n.found n.answers ≡ endings.Pass) note word in
-    let net : last.net ≡ edited drawn drawn.net edits =
-    ap (λ (s : SessionView). s.net) (sym a.run.is_last) ∙ (a.run.net ∙ ap (λ (n : Net). edited drawn n edits) new.net_is) in
+    let net : last.net ≡ edited drawn drawn.net edits = net_of drawn a.first edits a.later a.runs ∙ ap (λ (n : Net). edited drawn n edits) a.net_is in
     subst (λ (n : Net). SomeSatisfy n × AllMet (record drawn { net = n })) net
-    (met_by drawn last last.found refl (last_right drawn first edits a.run.later a.run.runs new.right)
-    (last_pairs drawn first edits a.run.later a.run.runs ∙ new.pairs_are) ends)
+    (met_by drawn last last.found refl (last_right drawn a.first edits a.later a.runs a.right)
+    (last_pairs drawn a.first edits a.later a.runs ∙ a.pairs_are) ends)

@@ -16,8 +16,9 @@ use Rattle.right_report.specs.RowTally.{with_row, with_rows}
 use Rattle.right_report.specs.declared.tally.ReportTally.{ReportTally}
 use Rattle.range_edits.specs.declared.edit.RangeEdit.{RangeEdit}
 use Rattle.whatif.specs.Runs.{Note}
-use Rattle.job_whatif.specs.Step.{IsCountFor}
-use Rattle.job_whatif.specs.Text.{both_of, bounds_of, found_text, judged_words, last_note, least_bound, row_words, rows_text, state_words, states_text}
+use Rattle.requirements.specs.Bounds.{reversed}
+use Rattle.job_whatif.specs.Step.{IsCountFor, both_of}
+use Rattle.job_whatif.specs.Text.{bounds_of, found_text, judged_words, last_note, row_words, rows_text, state_words, states_text}
 
 -- ---- the line of a row
 
@@ -69,7 +70,7 @@ rows_none number (kind ∷ rows) (a ∷ list) none = absurd (omega (arith, none)
 
 -- the line of the row at a place stands after a text
 pub rows_step : (whole text next : List ℕ) (rows : List RowKind) (list : List Bound) (k : ℕ) (kind c : RowKind) (most least d e : Bound) (low high : Bound) → k < length rows
-    → 2 * k + 1 < length list → kind ≡ get_or rows k c → most ≡ get_or list (2 * k) d → least ≡ get_or list (2 * k + 1) e → low ≡ least_bound least
+    → 2 * k + 1 < length list → kind ≡ get_or rows k c → most ≡ get_or list (2 * k) d → least ≡ get_or list (2 * k + 1) e → low ≡ reversed least
     → high ≡ most → text ++ rows_text k (drop k rows) (drop (2 * k) list) ≡ whole → next ≡ text ++ ended (line_of (row_words k kind low high))
     → next ++ rows_text (k + 1) (drop (k + 1) rows) (drop (2 * (k + 1)) list) ≡ whole
 rows_step whole text next rows list k kind c most least d e low high within enough is_kind is_most is_least is_low is_high before is_next =

@@ -21,14 +21,6 @@ use Rattle.whatif.specs.Runs.{Note}
 
 -- ---- a row
 
--- the least bound of a pair, from the answer for the reversed pair
-abbrev pub least_bound : Bound → Bound
-least_bound answer = reversed answer
-
--- both bounds of a pair, from the answers for it and for the reversed pair
-abbrev pub both_of : Bound → Bound → BothBounds
-both_of most least = record { least = least_bound least; greatest = most }
-
 -- the words of the verdict on a requirement. A question has no verdict
 abbrev pub judged_words : RowKind → Bound → Bound → List Word
 judged_words kinds.Ask least most = []
@@ -39,13 +31,12 @@ abbrev pub row_words : ℕ → RowKind → Bound → Bound → List Word
 row_words number kind least most =
     codes "row" ∷ number_text number ∷ codes "max" ∷ (bound_words most ++ (codes "min" ∷ (bound_words least ++ judged_words kind least most)))
 
--- the lines of rows of these kinds, where the first row has this number. There are two answers for each row. Without answers there are no lines
+-- The lines of rows of these kinds, where the first row has this number. There are two answers for each row: for its pair, and for the reversed pair.
+-- Without answers there are no lines.
 abbrev pub rows_text : ℕ → List RowKind → List Bound → List ℕ
-rows_text number [] found = []
-rows_text number (kind ∷ others) [] = []
-rows_text number (kind ∷ others) (most ∷ []) = []
 rows_text number (kind ∷ others) (most ∷ least ∷ found) =
-    ended (line_of (row_words number kind (least_bound least) most)) ++ rows_text (number + 1) others found
+    ended (line_of (row_words number kind (reversed least) most)) ++ rows_text (number + 1) others found
+rows_text number rows found = []
 
 -- ---- a state
 
@@ -61,18 +52,16 @@ state_words number e note =
 
 -- the states after edits, where the first of these states has this number
 abbrev pub states_text : ℕ → List RowKind → List RangeEdit → List Note → List ℕ
-states_text number rows [] notes = []
-states_text number rows (e ∷ edits) [] = []
 states_text number rows (e ∷ edits) (note ∷ notes) =
     ended (line_of (state_words number e note)) ++ (found_text rows note.found note.answers ++ states_text (number + 1) rows edits notes)
+states_text number rows edits notes = []
 
 -- ---- the end
 
 -- both bounds of each row; there are two answers for a row
 abbrev pub bounds_of : List Bound → List BothBounds
-bounds_of [] = []
-bounds_of (most ∷ []) = []
-bounds_of (most ∷ least ∷ found) = both_of most least ∷ bounds_of found
+bounds_of (most ∷ least ∷ found) = record { least = reversed least; greatest = most } ∷ bounds_of found
+bounds_of list = []
 
 -- the word at the end, according to a finding and the answers for rows. A report of that state ends with the same word
 abbrev pub ending_of : List RowKind → Consistency → List Bound → EndWord

@@ -2,7 +2,7 @@
 
 ghost use Rattle.std.specs.Prelude.{◌≡◌, IfOk};
 ghost use Rattle.right_report.specs.RowTally.{kinds_of};
-ghost use Rattle.job_whatif.specs.Whatif.{pair_of, pairs_of};
+ghost use Rattle.job_whatif.specs.Step.{pair_of, pairs_of};
 
 use drawn_networks::Row;
 use itv_base::{NoMemory, RowKind};

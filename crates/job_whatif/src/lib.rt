@@ -11,5 +11,5 @@ mod rows;
 mod states;
 mod write;
 
-pub use laws::passed_edits_are_met;
+pub use laws::{answers_by_run, passed_edits_are_met};
 pub use write::write_whatif;

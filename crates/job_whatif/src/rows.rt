@@ -3,11 +3,11 @@
 ghost use Rattle.std.specs.Prelude.{◌≡◌, ◌++◌, ◌≤◌, All, OnOk, length};
 ghost use Rattle.std.specs.List.{flat_map};
 ghost use Rattle.line_words.specs.Lines.{ended, line_of, spaced};
-ghost use Rattle.requirements.specs.Bounds.{HasTimes};
+ghost use Rattle.requirements.specs.Bounds.{HasTimes, reversed};
 ghost use Rattle.slack_report.specs.Text.{bound_words};
 ghost use Rattle.whatif.specs.declared.session.TheConstants.{MAX_PAIRS};
-ghost use Rattle.job_whatif.specs.Step.{IsCountFor, IsTimed};
-ghost use Rattle.job_whatif.specs.Text.{both_of, judged_words, least_bound, row_words, rows_text};
+ghost use Rattle.job_whatif.specs.Step.{IsCountFor, IsTimed, both_of};
+ghost use Rattle.job_whatif.specs.Text.{judged_words, row_words, rows_text};
 
 use itv_base::{NoMemory, RowKind};
 use requirements::{BothBounds, Bound, judge};
@@ -36,7 +36,7 @@ pub fn both_of(most: Bound, least: Bound) -> BothBounds
     requires most { IsTimed most }
     requires least { IsTimed least }
     ensures greatest { result.greatest ≡ most }
-    ensures least { result.least ≡ least_bound least }
+    ensures least { result.least ≡ reversed least }
     ensures both { result ≡ both_of most least }
     ensures most_times { HasTimes result.greatest }
     ensures least_times { HasTimes result.least }

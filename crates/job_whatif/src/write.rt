@@ -3,11 +3,12 @@
 ghost use Rattle.std.specs.Prelude.{◌≡◌, ◌<◌, ◌≤◌, All, IfOk, length};
 ghost use Rattle.range_edits.specs.Subject.{IsThere};
 ghost use Rattle.job_base.specs.JobWrote.{Answered, JobWrote};
+ghost use Rattle.right_report.specs.RowTally.{kinds_of};
 ghost use Rattle.whatif.specs.Session.{IsPairOf};
 ghost use Rattle.whatif.specs.declared.session.TheConstants.{MAX_PAIRS};
-ghost use Rattle.job_whatif.specs.Step.{IsNoteOf};
+ghost use Rattle.job_whatif.specs.Step.{AnswersFor, AnswersFrom, IsNoteOf, pairs_of};
 ghost use Rattle.job_whatif.specs.Text.{last_note, whatif_text};
-ghost use Rattle.job_whatif.specs.Whatif.{AnswersFor, AnswersFrom, AnswersWhatif};
+ghost use Rattle.job_whatif.specs.Whatif.{AnswersWhatif};
 
 use crate::asked::{kinds_of, pairs_of};
 use crate::ending::{end_word, last_of};
@@ -35,6 +36,23 @@ pub fn write_whatif<K: Sink>(
     requires there { All (IsThere drawn.now) edits.now }
     ensures works { JobWrote (AnswersWhatif drawn.now budget edits.now) (Answered (AnswersWhatif drawn.now budget edits.now))
         (K.state sink.old) (K.state sink.new) result }
+{
+    write_rows(alloc, drawn, edits, budget, sink)
+}
+
+// Writes the states of a new session of the pairs of all rows.
+fn write_rows<K: Sink>(
+    alloc: Global,
+    drawn: &DrawnNetwork,
+    edits: &Edits,
+    budget: u64,
+    sink: &mut K,
+) -> Result<Answer, Unanswered>
+    requires rows { length drawn.now.rows ≤ MAX_PAIRS }
+    requires budget { 0 < budget }
+    requires there { All (IsThere drawn.now) edits.now }
+    ensures works { JobWrote (AnswersFor drawn.now (pairs_of drawn.now.rows) (kinds_of drawn.now.rows) budget edits.now)
+        (Answered (AnswersFor drawn.now (pairs_of drawn.now.rows) (kinds_of drawn.now.rows) budget edits.now)) (K.state sink.old) (K.state sink.new) result }
 {
     let rows = drawn.rows().as_slice();
     let pairs = pairs_of(alloc, rows)?;

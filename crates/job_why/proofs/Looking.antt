@@ -1,4 +1,6 @@
 -- What is known of the rows that were found, of constraints, and of what draws their causes.
+use Rattle.origin.specs.NotesKept.{NotesKept}
+use Rattle.std.specs.List.{AllZip}
 use Rattle.std.proofs.Common.{◌≡◌, ◌<◌, ◌≤◌, ◌⊎◌, inl, inr, ℕ, zero, suc, List, [], ◌∷◌, length, map, All, Some, None, Option, slice_get, refl, subst, ap, ◌∙◌, arith}
 use Rattle.std.specs.Prelude.{IsSome, option_and_then, unwrap_or}
 use Rattle.std.proofs.lemmas.Option.{slice_get-get_or, slice_get_within, unwrap_or-slice_get}
@@ -14,14 +16,14 @@ use Rattle.requirements.specs.declared.consistency.Consistency.{Consistency}
 use Rattle.drawn_networks.specs.Drawn.{Drawn, OriginsFit}
 use Rattle.drawn_networks.specs.declared.row.Row.{Row}
 use Rattle.requirements.specs.Separations.{bound_of}
-use Rattle.explanations.specs.Answers.{AreFound, AreFoundBehind, AreRowsFound, HasRowTimes, IsBehind, IsFindingFound, consistency_of}
+use Rattle.explanations.specs.Answers.{AreFound, AreFoundBehind, HasRowTimes, IsBehind, IsFindingFound, consistency_of, IsRowFound}
 use Rattle.explanations.specs.Answers.{BoundFound}
 use Rattle.requirements.specs.declared.separation.Separation.TheVariants as separations
 use Rattle.explanations.specs.declared.finding.Finding.{Finding}
 use Rattle.explanations.specs.declared.finding.Finding.TheVariants.{Consistent, Inconsistent, Open}
 use Rattle.explanations.specs.declared.row.RowFound.{RowFound}
 use Rattle.job_why.specs.Step.{HasFlags, IsWritable, constraint_at, no_constraint, origins_at}
-use Rattle.job_why.specs.Text.{Noted, drawn_words, origin_words, part_of}
+use Rattle.job_why.specs.Text.{drawn_words, origin_words, part_of}
 
 -- ---- lists
 
@@ -40,14 +42,14 @@ flags net row greatest (separations.Unbounded set) b = b.2.count
 flags net row (least_by most) (separations.Unbounded set) b = b.2.count
 flags net row side (separations.Open limit attained) b = tt
 
-pub rows_count : (drawn : Drawn) (budget : ℕ) (word apart : Consistency) (rows : List Row) (found : List RowFound) → AreRowsFound drawn budget word apart rows found → length found ≡ length rows
+pub rows_count : (drawn : Drawn) (budget : ℕ) (word apart : Consistency) (rows : List Row) (found : List RowFound) → AllZip (IsRowFound drawn budget word apart) rows found → length found ≡ length rows
 rows_count drawn budget word apart [] [] are = refl
 rows_count drawn budget word apart [] (f ∷ found) are = absurd are
 rows_count drawn budget word apart (r ∷ rows) [] are = absurd are
 rows_count drawn budget word apart (r ∷ rows) (f ∷ found) are = ap suc (rows_count drawn budget word apart rows found are.1)
 
 -- what is found of each row can be written
-pub rows_told : (drawn : Drawn) (budget : ℕ) (word apart : Consistency) (rows : List Row) (found : List RowFound) → AreRowsFound drawn budget word apart rows found → All HasRowTimes found
+pub rows_told : (drawn : Drawn) (budget : ℕ) (word apart : Consistency) (rows : List Row) (found : List RowFound) → AllZip (IsRowFound drawn budget word apart) rows found → All HasRowTimes found
     → All (IsWritable drawn.net.events) found
 rows_told drawn budget word apart [] [] are times k d h = absurd (omega arith)
 rows_told drawn budget word apart [] (f ∷ found) are times k d h = absurd are
@@ -140,7 +142,7 @@ edge_there drawn name some = go (slice_get drawn.net.constraints name.constraint
     go (Some c) e some = (slice_get_within drawn.net.constraints name.constraint c e, rw e (inner c (slice_get c.causes name.cause) refl some))
 
 -- the words of what draws an edge
-pub drawn_words_are : (noted : Noted) (drawn : Drawn) (name : EdgeName) (part : List ℕ) (origin : Origin) → name.constraint < length drawn.net.constraints → name.constraint < length drawn.origins
+pub drawn_words_are : (noted : NotesKept) (drawn : Drawn) (name : EdgeName) (part : List ℕ) (origin : Origin) → name.constraint < length drawn.net.constraints → name.constraint < length drawn.origins
     → part ≡ part_of drawn (constraint_at drawn name.constraint).target → slice_get (origins_at drawn name.constraint) name.cause ≡ Some origin
     → origin_words noted part origin ≡ drawn_words noted drawn name
 drawn_words_are noted drawn name part origin in_net in_origins is_part is_origin =

@@ -1,4 +1,5 @@
 -- What the steps of job why promise one another.
+use Rattle.origin.specs.NotesKept.{NotesKept}
 use Rattle.std.specs.Prelude.{◌≡◌, ◌<◌, ℕ, List, [], ◌∷◌, ◌++◌, length, slice_get, unwrap_or, codes}
 use Rattle.itv_base.specs.Names.{name_view}
 use Rattle.itv_base.specs.Numerals.{number_text, signed_text}
@@ -17,7 +18,7 @@ use Rattle.job_why.specs.declared.drawn_by.DrawnBy.{DrawnBy}
 use Rattle.job_why.specs.declared.line.Line.{Line}
 use Rattle.job_why.specs.declared.line.Line.TheVariants as lines
 use Rattle.job_why.specs.declared.drawn_cause.DrawnCause.{DrawnCause}
-use Rattle.job_why.specs.Text.{Noted, cause_words, causes_text, grade_word, rule_word, some_word}
+use Rattle.job_why.specs.Text.{cause_words, causes_text, grade_word, rule_word, some_word}
 
 -- ---- lines
 
@@ -64,11 +65,11 @@ abbrev pub origins_at : Drawn → ℕ → List Origin
 origins_at drawn number = unwrap_or (slice_get drawn.origins number) []
 
 -- the texts of the causes of a constraint
-abbrev pub causes_at : Noted → Drawn → ℕ → List ℕ
+abbrev pub causes_at : NotesKept → Drawn → ℕ → List ℕ
 causes_at noted drawn number = causes_text noted drawn (constraint_at drawn number) (constraint_at drawn number).causes (origins_at drawn number)
 
 -- the words of a cause of a constraint, and of what draws it
-abbrev pub rule_words : Noted → Drawn → DrawnCause → List Word
+abbrev pub rule_words : NotesKept → Drawn → DrawnCause → List Word
 rule_words noted drawn rule = cause_words noted drawn (record { kind = rule.kind; target = rule.target; causes = [] }) rule.cause rule.origin
 
 -- the cause and the target are events of the network

@@ -1,10 +1,11 @@
 //! Writing the text of the job.
 
+ghost use Rattle.event_graph.specs.Network.{IsNet};
 ghost use Rattle.std.specs.Prelude.{◌≡◌, ◌≤◌, ℕ, List, All, IfOk, OnErr};
 ghost use Rattle.itv_base.specs.Outside.{CutShort, Puts, grown};
 ghost use Rattle.itv_base.specs.declared.limits.TheConstants.{MAX_BUDGET};
 ghost use Rattle.job_base.specs.JobWrote.{Answered, JobWrote};
-ghost use Rattle.explanations.specs.Answers.{AreFound, HasRowTimes, IsFindingFound, SettlesWithin};
+ghost use Rattle.explanations.specs.Answers.{AreFound, HasRowTimes, IsFindingFound};
 ghost use Rattle.job_why.specs.Text.{ending_of, found_text, why_text};
 ghost use Rattle.job_why.specs.Why.{AnswersWhy};
 
@@ -52,14 +53,12 @@ fn put_found<N: Notes, K: Sink>(
     requires finding { (budget : ℕ) × IsFindingFound drawn.now.net budget found.now.finding }
     requires rows { (budget : ℕ) × AreFound drawn.now budget found.now.finding found.now.rows.items }
     requires times { All HasRowTimes found.now.rows.items }
-    ensures answers { (budget : ℕ) → IsFindingFound drawn.now.net budget found.now.finding
+    ensures answers { (budget : ℕ) → IsNet drawn.now.net → IsFindingFound drawn.now.net budget found.now.finding
         → AreFound drawn.now budget found.now.finding found.now.rows.items
-        → SettlesWithin drawn.now.net budget found.now.finding found.now.rows.items
         → IfOk result (λ answer. (text : List ℕ) × AnswersWhy (N.noted notes.now) drawn.now budget answer text
         × (K.state sink.new ≡ grown (K.state sink.old) text)) }
-    ensures begins { (budget : ℕ) → IsFindingFound drawn.now.net budget found.now.finding
+    ensures begins { (budget : ℕ) → IsNet drawn.now.net → IsFindingFound drawn.now.net budget found.now.finding
         → AreFound drawn.now budget found.now.finding found.now.rows.items
-        → SettlesWithin drawn.now.net budget found.now.finding found.now.rows.items
         → OnErr result ((text : List ℕ) × Answered (AnswersWhy (N.noted notes.now) drawn.now budget) text
         × CutShort (K.state sink.old) (K.state sink.new) text) }
 {

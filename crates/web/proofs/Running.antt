@@ -4,7 +4,8 @@ use Rattle.std.proofs.lemmas.Bool.{cases_lt}
 use Rattle.itv_base.specs.Memory.{ShelfMemView, SinkMemView, shelf_state, sink_state}
 use Rattle.itv_cli.specs.declared.outcome.Outcome.{Outcome}
 use Rattle.itv_cli.specs.declared.outcome.Outcome.TheVariants.{AllPass, Help, SomeFail, Inconsistent, Undecided, Refused, ReadFault, WriteFault, NoMemory, BadWords, CheckRefused}
-use Rattle.itv_cli.specs.Run.{call_of}
+use Rattle.itv_cli.specs.Run.{Call, OutcomeMeans, call_of}
+use Rattle.itv_cli.proofs.Ending.{completes, refuses_words, shows_faults}
 use Rattle.itv_cli.specs.Status.{code_of}
 use Rattle.web.specs.declared.TheConstants.{UNFIT, NO_ROOM}
 use Rattle.web.specs.Given.{Given, IsFit, files_in, words_in}
@@ -15,6 +16,15 @@ use Rattle.web.proofs.Cutting.{shelf_of}
 -- no number is below itself
 not_below : {A : Type 0} (n : ℕ) → n < n → A
 not_below n lt = absurd (lt_irrefl n lt)
+
+-- all clauses follow from what the end says
+pub all_hold : (call : Call) (outcome : Outcome) → OutcomeMeans call outcome → ClausesHold call outcome
+all_hold call outcome means = record {
+  means = means;
+  completes = completes call outcome means;
+  refuses_words = refuses_words call outcome means;
+  shows_faults = shows_faults call outcome means;
+}
 
 -- where memory is missing before a run, the call answers like a run that ends for lack of memory
 without : (given : Given) (out : List ℕ) → IsFit given → IsAnswered given (code_of NoMemory) 0 out

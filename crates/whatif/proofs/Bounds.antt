@@ -21,8 +21,8 @@ use Rattle.whatif.specs.declared.bound.TheConstants.{MAX_KEPT_EDGES, MAX_KEPT_LI
 use Rattle.event_graph.specs.declared.pair.Pair.{Pair}
 use Rattle.whatif.specs.Step.Keeping.{KeeperGrew, KeeperView, KeptOn}
 use Rattle.whatif.specs.Laws.{IsSettledAnswer, SettledBoundsAgree}
-use Rattle.whatif.specs.Session.{left_by, pair_search, HasProof, IsRightBound, IsSearchedAnew, KeepsProof, KeptBound, MayKeep, MayKeepAs}
-use Rattle.whatif.specs.Step.Bounds.{IsPairSearched, kept_of}
+use Rattle.whatif.specs.Session.{HasProof, IsRightBound, IsSearchedAnew, KeepsProof, KeptBound, MayKeep, MayKeepAs}
+use Rattle.whatif.specs.Step.Bounds.{IsPairSearched, kept_of, pair_search, left_by}
 
 -- ---- a bound that is kept
 

@@ -73,7 +73,7 @@ module _ (drawn : Drawn) where
   last_more s [] t = refl
   last_more s (u ∷ later) t = last_more u.session later t
 
-  net_of : (s : SessionView) (edits : List RangeEdit) (later : List EditedSession) → Runs drawn s edits later → (last_of s later).net ≡ edited drawn s.net edits
+  pub net_of : (s : SessionView) (edits : List RangeEdit) (later : List EditedSession) → Runs drawn s edits later → (last_of s later).net ≡ edited drawn s.net edits
   net_of s [] [] runs = refl
   net_of s [] (u ∷ later) runs = absurd runs
   net_of s (f ∷ edits) [] runs = absurd runs

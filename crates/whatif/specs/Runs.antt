@@ -19,9 +19,8 @@ pub record EditedSession : Type 0 where
 -- number draws in the drawn network
 abbrev pub Runs : Drawn → SessionView → List RangeEdit → List EditedSession → Type 0
 Runs drawn s [] [] = Unit {0}
-Runs drawn s [] (t ∷ later) = ⊥
-Runs drawn s (e ∷ edits) [] = ⊥
 Runs drawn s (e ∷ edits) (t ∷ later) = IsEdited s (causes_at drawn e.subject) e.range t.session t.change × IsRight t.session × Runs drawn t.session edits later
+Runs drawn s edits later = ⊥
 
 -- the session after all edits
 abbrev pub last_of : SessionView → List EditedSession → SessionView

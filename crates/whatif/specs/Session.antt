@@ -7,7 +7,7 @@ use Rattle.event_graph.specs.Proof.{Bound as BoundGoal, IsProof, ProofLine}
 use Rattle.event_graph.specs.Reading.{AtEachSplit}
 use Rattle.event_graph.specs.Satisfying.{Satisfies}
 use Rattle.event_graph.specs.Times.{separation}
-use Rattle.branch.specs.Answers.{IsGreatestAnswer, Evidence, Finds, PairSearch}
+use Rattle.branch.specs.Answers.{IsGreatestAnswer, Finds}
 use Rattle.branch.specs.Lines.{IsAccepted}
 use Rattle.branch.specs.Needed.{IsNeededToBound, IsNeededToFind}
 use Rattle.branch.specs.Work.{IsClose}
@@ -66,20 +66,13 @@ HasProof net pair value None = (lines : List ProofLine) × AreTooMany net pair l
 -- a closed bound has a proof, or its lines were too many to keep; no other bound keeps a proof
 abbrev pub KeepsProof : Net → Pair → Option (List ProofLine) → Bound → Type 0
 KeepsProof net pair proof (Closed value) = HasProof net pair value proof
-KeepsProof net pair proof Unbounded = proof ≡ None
-KeepsProof net pair proof (Within limit attained) = proof ≡ None
+KeepsProof net pair proof answer = proof ≡ None
 
--- the search for the greatest separation of a pair, which closes at most `budget` cases
-abbrev pub pair_search : Net → Pair → ℕ → PairSearch
-pair_search net pair budget = record { net = net; from = pair.from; to = pair.to; budget = budget }
-
--- what a search left
-abbrev pub left_by : List ProofLine → ℕ → List ℤ → List Bool → Evidence
-left_by lines leaves times ray = record { lines = lines; leaves = leaves; times = times; ray = ray }
-
--- the bound is right for a network and a budget: it is what a search may answer there, its times satisfy, and its proof is kept if it fits
+-- The bound is right for a network and a budget: it is what a search for the greatest separation of its pair may answer there, its times satisfy, and
+-- its proof is kept if it fits.
 pub record IsRightBound (net : Net) (budget : ℕ) (b : KeptBound) : Type 0 where
-  pub answers : (lines : List ProofLine) × (leaves : ℕ) × IsGreatestAnswer (pair_search net b.pair budget) (left_by lines leaves b.times b.ray) b.answer
+  pub answers : (lines : List ProofLine) × (leaves : ℕ) × IsGreatestAnswer (record { net = net; from = b.pair.from; to = b.pair.to; budget = budget })
+      (record { lines = lines; leaves = leaves; times = b.times; ray = b.ray }) b.answer
   pub satisfies : Satisfies b.times net
   pub close : All IsClose b.times
   pub proof : KeepsProof net b.pair b.proof b.answer
@@ -134,8 +127,7 @@ bound_at Open bounds number = None
 -- the answer of each bound, if the finding is consistent
 abbrev pub answers_of : Consistency → List KeptBound → List Bound
 answers_of Consistent bounds = map (λ (b : KeptBound). b.answer) bounds
-answers_of Inconsistent bounds = []
-answers_of Open bounds = []
+answers_of found bounds = []
 
 -- what is lent of a bound: its times, its events to raise and its proof
 pub record IsLent (lent : Kept) (b : KeptBound) : Type 0 where
@@ -160,24 +152,21 @@ pub record IsSearchedAnew (net : Net) (budget : ℕ) (known : List ℤ) (old new
 -- two.
 abbrev pub AreUpdated : (KeptBound → Type 0) → (KeptBound → KeptBound → Type 0) → List KeptBound → List KeptBound → ℕ → ℕ → Type 0
 AreUpdated May Searched [] [] kept searched = (kept ≡ 0) × (searched ≡ 0)
-AreUpdated May Searched [] (b ∷ now) kept searched = ⊥
-AreUpdated May Searched (a ∷ before) [] kept searched = ⊥
 AreUpdated May Searched (a ∷ before) (b ∷ now) kept searched =
     ((fewer : ℕ) × (kept ≡ fewer + 1) × May a × (b ≡ a) × AreUpdated May Searched before now fewer searched)
     ⊎ ((fewer : ℕ) × (searched ≡ fewer + 1) × (May a → ⊥) × Searched a b × AreUpdated May Searched before now kept fewer)
+AreUpdated May Searched before now kept searched = ⊥
 
 -- which bounds an edit may keep: if the finding before it was consistent, all that may be kept for the network after it, and otherwise none
 abbrev pub MayKeepFrom : Consistency → Net → KeptBound → Type 0
 MayKeepFrom Consistent net b = MayKeep net b
-MayKeepFrom Inconsistent net b = ⊥
-MayKeepFrom Open net b = ⊥
+MayKeepFrom found net b = ⊥
 
 -- what becomes of the bounds: each is kept or searched anew if the finding is consistent now, and otherwise all stay as they are
 abbrev pub AreBoundsUpdated : Net → ℕ → Consistency → Consistency → List KeptBound → List KeptBound → Change → Type 0
 AreBoundsUpdated net budget was Consistent before now change =
     (known : List ℤ) × Satisfies known net × AreUpdated (MayKeepFrom was net) (IsSearchedAnew net budget known) before now change.kept change.searched
-AreBoundsUpdated net budget was Inconsistent before now change = (now ≡ before) × (change.kept ≡ 0) × (change.searched ≡ 0)
-AreBoundsUpdated net budget was Open before now change = (now ≡ before) × (change.kept ≡ 0) × (change.searched ≡ 0)
+AreBoundsUpdated net budget was found before now change = (now ≡ before) × (change.kept ≡ 0) × (change.searched ≡ 0)
 
 -- an edit of the ranges of causes: all of them get this range, and then the bounds are kept or searched once
 pub record IsEdited (old : SessionView) (causes : List CauseName) (range : Ends) (new : SessionView) (change : Change) : Type 0 where

@@ -1,17 +1,25 @@
 -- Searches for the bounds of a session.
-use Rattle.std.specs.Prelude.{ℕ, ℤ, ◌≤ℤ◌, List, All, Option, None}
+use Rattle.std.specs.Prelude.{ℕ, ℤ, ◌≤ℤ◌, Bool, List, All, Option, None}
 use Rattle.event_graph.specs.Network.{Net}
 use Rattle.event_graph.specs.Proof.{ProofLine}
 use Rattle.event_graph.specs.Reading.{AtEachSplit}
 use Rattle.event_graph.specs.Satisfying.{Satisfies}
 use Rattle.event_graph.specs.Times.{separation}
-use Rattle.branch.specs.Answers.{IsGreatestAnswer, Evidence}
+use Rattle.branch.specs.Answers.{IsGreatestAnswer, Evidence, PairSearch}
 use Rattle.branch.specs.Needed.{IsNeededToBound}
 use Rattle.branch.specs.Work.{IsClose, IsStart}
 use Rattle.requirements.specs.declared.bound.Bound.{Bound}
 use Rattle.requirements.specs.declared.bound.Bound.TheVariants.{Closed, Unbounded, Within}
 use Rattle.event_graph.specs.declared.pair.Pair.{Pair}
-use Rattle.whatif.specs.Session.{IsPairOf, KeptBound, pair_search}
+use Rattle.whatif.specs.Session.{IsPairOf, KeptBound}
+
+-- the search for the greatest separation of a pair, which closes at most `budget` cases
+abbrev pub pair_search : Net → Pair → ℕ → PairSearch
+pair_search net pair budget = record { net = net; from = pair.from; to = pair.to; budget = budget }
+
+-- what a search left
+abbrev pub left_by : List ProofLine → ℕ → List ℤ → List Bool → Evidence
+left_by lines leaves times ray = record { lines = lines; leaves = leaves; times = times; ray = ray }
 
 -- what is kept of the lines of a search, according to its answer: the lines of a closed bound, and none of others
 abbrev pub kept_of : Bound → Option (List ProofLine) → Option (List ProofLine)

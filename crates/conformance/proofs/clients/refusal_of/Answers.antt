@@ -2,9 +2,9 @@ use Rattle.std.proofs.Common.{◌⊎◌, ◌∙◌, refl, sym, ap}
 use Rattle.itv_base.specs.Memory.{SinkMemView, shelf_state, sink_state}
 use Rattle.job_base.specs.declared.answer.Answer.TheVariants.{DesignRefused}
 use Rattle.command_words.specs.Task.{Task}
-use Rattle.itv_cli.specs.Run.{Call, HasRefused, call_of}
+use Rattle.itv_cli.specs.Run.{Call, call_of}
 use Rattle.conformance.specs.Clients.{Asks, IsAnswerOf, IsRefusalOf}
-use Rattle.conformance.proofs.KnownFiles.{refused_line, refused_others, refused_over_files, refused_wrote, sink_holds}
+use Rattle.conformance.proofs.KnownFiles.{refused_line, refused_others, refused_over_files, refused_wrote, sink_holds, HasRefused}
 use Rattle.conformance.proofs.clients.refusal_of.Goals as goal
 
 pub returns-in-Refused : goal.returns-in-Refused

@@ -1,7 +1,7 @@
+use Rattle.explanations.specs.Step.Resting.{verdict_by}
 use Rattle.std.proofs.Common.{◌≡◌, rules}
 use Rattle.std.proofs.lemmas.Result.{IfOk-weaker}
 use Rattle.requirements.specs.declared.verdict.Verdict.TheVariants as verdicts
-use Rattle.explanations.specs.Answers.{verdict_by}
 use Rattle.explanations.proofs.Standing.{judged_apart}
 use Rattle.explanations.proofs.resting.bounds_apart.Goals as goal
 

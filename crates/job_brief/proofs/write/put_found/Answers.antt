@@ -8,13 +8,13 @@ pub put_text-requires-clause-count : goal.put_text-requires-clause-count
 put_text-requires-clause-count g c = few_found c.args.drawn.now c.requires.rows.0 c.args.found.now.finding c.args.found.now.rows.items c.requires.rows.1
 
 pub returns-in_err-put_text-clause-begins : goal.returns-in_err-put_text-clause-begins
-returns-in_err-put_text-clause-begins g c = λ budget finding rows settles. begins_brief (g.N.Notes.noted c.args.notes.now) c.args.drawn.now budget c.args.csv c.args.found.now.finding c.args.found.now.rows.items finding rows settles
+returns-in_err-put_text-clause-begins g c = λ budget net finding rows. begins_brief (g.N.Notes.noted c.args.notes.now) c.args.drawn.now budget c.args.csv c.args.found.now.finding c.args.found.now.rows.items net finding rows
     c.from_residual.result _ _ c.in_err-put_text.ensures.puts
 
 pub returns-clause-answers : goal.returns-clause-answers
-returns-clause-answers g c = λ budget finding rows settles. (
+returns-clause-answers g c = λ budget net finding rows. (
   brief_text c.args.csv (g.N.Notes.noted c.args.notes.now) c.args.drawn.now c.args.found.now.finding c.args.found.now.rows.items,
-  answers_brief (g.N.Notes.noted c.args.notes.now) c.args.drawn.now budget c.args.csv c.args.found.now.finding c.args.found.now.rows.items finding rows settles c.answer_of.result
+  answers_brief (g.N.Notes.noted c.args.notes.now) c.args.drawn.now budget c.args.csv c.args.found.now.finding c.args.found.now.rows.items net finding rows c.answer_of.result
       (c.answer_of.ensures ∙ ap answer_of c.requires.outline.ending),
   c.in_ok-put_text.ensures.puts,
 )

@@ -1,5 +1,4 @@
-use Rattle.std.proofs.Common.{◌+◌, Bool, false, List, drop, length, map, ap, refl, sym, ◌∙◌, arith}
-use Rattle.std.proofs.lemmas.List.{length-map}
+use Rattle.std.proofs.Common.{◌+◌, Bool, false, List, drop, length, ap, refl, sym, ◌∙◌, arith}
 use Rattle.slack_report.specs.Entry.{rows}
 use Rattle.drawn_networks.specs.declared.row.Row.{Row}
 use Rattle.slack_report.specs.Text.{entry_text}

@@ -1,6 +1,6 @@
 use Rattle.std.proofs.Common.{◌≡◌, take}
-use Rattle.job_redraw.specs.Failed.{scan_start, scanned}
-use Rattle.job_redraw.specs.Step.{seen_view}
+use Rattle.job_redraw.specs.Failed.{scan_start}
+use Rattle.job_redraw.specs.Step.{seen_view, scanned}
 use Rattle.job_redraw.proofs.scan.first_failed.Given as goal
 
 -- the first lines are scanned

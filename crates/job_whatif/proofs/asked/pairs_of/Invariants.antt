@@ -1,5 +1,5 @@
 use Rattle.std.proofs.Common.{◌≡◌, take}
-use Rattle.job_whatif.specs.Whatif.{pairs_of}
+use Rattle.job_whatif.specs.Step.{pairs_of}
 use Rattle.job_whatif.proofs.asked.pairs_of.Given as goal
 
 -- the pairs so far
