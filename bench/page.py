@@ -1,11 +1,14 @@
 #!/usr/bin/env python3
 """Measures how long the page takes from a key to the drawn answer, in real browsers.
 
-  bench/page.py [--in NAMES] [--keys N] PAGE.html
+  bench/page.py [--in NAMES] [--keys N] [--first] PAGE.html
 
 PAGE.html is what tools/dev/pack-page has made. In each design a blank is typed after the last brace, N times (without it 7), which changes no answer. A line of a
 design has the least, the median and the greatest milliseconds. The last line of a browser is a row of the table of docs/release.md: the greatest median of the
 examples and boards with its design, and the medians of sixteen parts and of 64 cycles. The browsers are those of tools/dev/test-browser.
+
+With --first, which only root may use, the browsers come before all other programs: they are a session of their own with the highest priority, so on a busy
+machine an answer comes nearly as soon as on an idle one.
 """
 import argparse
 import os
@@ -65,12 +68,26 @@ def measure(engine, options):
         browser.close()
 
 
+def come_first():
+    """Gives this program and what it starts the highest priority, also against other sessions."""
+    if os.fork():
+        _, status = os.wait()
+        sys.exit(os.waitstatus_to_exitcode(status))
+    os.setsid()
+    with open("/proc/self/autogroup", "w", encoding="ascii") as group:
+        group.write("-20")
+    os.setpriority(os.PRIO_PROCESS, 0, -20)
+
+
 def main():
     parser = argparse.ArgumentParser(prog="bench/page.py", description=__doc__, formatter_class=argparse.RawDescriptionHelpFormatter)
     parser.add_argument("--in", dest="engines", metavar="NAMES", default="", help="the browsers, as chromium,webkit; without it all three")
     parser.add_argument("--keys", metavar="N", type=int, default=7, help="how many keys in each design")
+    parser.add_argument("--first", action="store_true", help="gives the browsers the highest priority")
     parser.add_argument("page", metavar="PAGE.html")
     options = parser.parse_args()
+    if options.first:
+        come_first()
     chosen = options.engines.lower().split(",") if options.engines else [engine.name.lower() for engine in ENGINES]
     for engine in ENGINES:
         if engine.name.lower() in chosen:

@@ -9,7 +9,7 @@ function numberOf(word) {
 
 /** The greatest or the least separation of a row in every cycle. `kind` is `number`, `unbounded` or `spent`. `steady` is what times attain that repeat for
  * ever, and null where no such times are known. */
-export class EveryBound {
+class EveryBound {
   constructor([word, kind, attained]) {
     this.kind = word === "unbounded" || word === "spent" ? word : "number";
     this.value = this.kind === "number" ? Number(word) : null;
@@ -19,14 +19,16 @@ export class EveryBound {
 
 /** A row of the drawing: its two marks, what is demanded, what draws it, its bounds and its verdict. `later` is the cycle from which on a row is met that varies, or
  * `spent`; null where the text has none. */
-export class EveryRow {
+class EveryRow {
   constructor([number, kind, start, end, ...words]) {
     this.number = Number(number);
     this.kind = kind;
     this.start = start;
     this.end = end;
     const range = kind === "req" ? words.shift() : "[*,*]";
-    [this.low, this.high] = range.slice(1, -1).split(",").map(numberOf);
+    const [low, high] = range.slice(1, -1).split(",").map(numberOf);
+    this.low = low;
+    this.high = high;
     this.origin = new Origin(words);
     this.bounds = {};
     this.verdict = this.side = this.later = null;

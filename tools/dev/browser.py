@@ -92,10 +92,12 @@ class Browser:
 
     def downloaded(self, seconds=60):
         """The name and the bytes of the file that the page has saved, which is then taken away."""
-        end = time.monotonic() + seconds
+        end, size = time.monotonic() + seconds, None
         while time.monotonic() < end:
             names = [entry.name for entry in os.scandir(self.downloads) if entry.is_file() and not entry.name.startswith(".")]
-            if names and not any(name.endswith(UNFINISHED) for name in names):
+            before, size = size, [os.path.getsize(os.path.join(self.downloads, name)) for name in names if os.path.exists(os.path.join(self.downloads, name))]
+            # Not each browser gives a file another name until it is whole.
+            if names and size == before and not any(name.endswith(UNFINISHED) for name in names):
                 path = os.path.join(self.downloads, names[0])
                 with open(path, "rb") as file:
                     data = file.read()
