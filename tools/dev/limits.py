@@ -24,7 +24,7 @@ LIMITS = (
     ("bytes and lines of a file of edits", ["MAX_EDITS_BYTES", "MAX_EDITS"]),
     ("bytes of a file of measured times; a time in it, in picoseconds, also below 0", ["MAX_TIMES_BYTES", "MAX_TIME"]),
     ("bytes of a report that is checked", ["REPORT_LIMIT"]),
-    ("`--budget N`, `--size N`, `--within PS`", ["MAX_BUDGET", "MAX_SELF_SIZE", "MAX_TOLERANCE"]),
+    ("`--budget N`, `--size N`, `--within PS`, `--from K`", ["MAX_BUDGET", "MAX_SELF_SIZE", "MAX_TOLERANCE", "MAX_FROM"]),
 )
 
 

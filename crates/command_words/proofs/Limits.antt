@@ -1,5 +1,5 @@
 -- The numbers of a task are within their limits.
-use Rattle.std.proofs.Common.{◌≤◌, ℕ, Bool, true, false, List, [], ◌∷◌, Option, Some, None, IfSome, cond, option_map, option_and_then, lit≤, codes}
+use Rattle.std.proofs.Common.{◌≤◌, ℕ, Bool, true, false, List, [], ◌∷◌, Option, Some, None, IfSome, cond, option_map, option_and_then, lit≤, arith, codes}
 use Rattle.std.specs.Option.{option_map_or}
 use Rattle.std.specs.Str.{bytes_eq}
 use Rattle.clap.specs.Faults.{fault_of}
@@ -16,8 +16,8 @@ use Rattle.command_words.specs.declared.job.PlanJob.{PlanJob}
 use Rattle.command_words.specs.declared.job.PlanJob.TheVariants.{Why, Brief, Lint}
 use Rattle.command_words.specs.declared.job.CheckJob.{CheckJob}
 use Rattle.command_words.specs.declared.job.CheckJob.TheVariants.{Check, Confirm}
-use Rattle.command_words.specs.Task.{IsBudget, IsSize, IsWithinLimits, KeepsLimits, Task, answer_by, answer_for, budget_of, checked, checked_of, fall, fall_of, files, files_of, generated, generated_of, has_flag, margin, margin_of, matrix, matrix_of, measure, measure_of, number_in, planned, planned_of, refusal_for, searched, searched_of, size_of, taken, task_named, task_of, whatif, whatif_of, within_of}
-use Rattle.command_words.specs.declared.task.TheConstants.{MAX_TOLERANCE}
+use Rattle.command_words.specs.Task.{IsBudget, IsSize, IsWithinLimits, KeepsLimits, Task, answer_by, answer_for, budget_of, checked, checked_of, cycles, cycles_of, fall, fall_of, files, files_of, from_of, generated, generated_of, has_flag, margin, margin_of, matrix, matrix_of, measure, measure_of, number_in, planned, planned_of, refusal_for, searched, searched_of, size_of, taken, task_named, task_of, whatif, whatif_of, within_of}
+use Rattle.command_words.specs.declared.task.TheConstants.{MAX_FROM, MAX_TOLERANCE}
 use Rattle.command_words.proofs.Numbers.{number_limits}
 
 budget_limits : (given : Option Text) → IfSome (option_map_or (number_in 1 MAX_BUDGET) given (Some DEFAULT_BUDGET)) IsBudget
@@ -36,11 +36,12 @@ size_limits (Some text) = go (number_in 1 MAX_SELF_SIZE text) (number_limits 1 M
     go None h = tt
     go (Some n) h = record { low = h.0; high = h.1 }
 
-within_limits : (given : Option Text) → IfSome (option_map_or (number_in 0 MAX_TOLERANCE) given (Some 0)) (λ n. n ≤ MAX_TOLERANCE)
-within_limits None = lit≤ tt
-within_limits (Some text) = go (number_in 0 MAX_TOLERANCE text) (number_limits 0 MAX_TOLERANCE text)
+-- a number that is 0 if none is given
+from_zero : (most : ℕ) (given : Option Text) → IfSome (option_map_or (number_in 0 most) given (Some 0)) (λ n. n ≤ most)
+from_zero most None = omega arith
+from_zero most (Some text) = go (number_in 0 most text) (number_limits 0 most text)
   where
-    go : (n : Option ℕ) → IfSome n (λ n. (0 ≤ n) × (n ≤ MAX_TOLERANCE)) → IfSome n (λ n. n ≤ MAX_TOLERANCE)
+    go : (n : Option ℕ) → IfSome n (λ n. (0 ≤ n) × (n ≤ most)) → IfSome n (λ n. n ≤ most)
     go None h = tt
     go (Some n) h = h.1
 
@@ -95,6 +96,13 @@ measure_limits (Some d) None within below = tt
 measure_limits (Some d) (Some t) None below = tt
 measure_limits (Some d) (Some t) (Some w) below = below
 
+cycles_limits : (design : Option Text) (from budget : Option ℕ) → IfSome from (λ n. n ≤ MAX_FROM) → IfSome budget IsBudget
+    → IfSome (option_and_then (λ (d : Text). option_and_then (λ (k : ℕ). option_map (cycles d k) budget) from) design) IsWithinLimits
+cycles_limits None from budget below within = tt
+cycles_limits (Some d) None budget below within = tt
+cycles_limits (Some d) (Some k) None below within = tt
+cycles_limits (Some d) (Some k) (Some b) below within = (below, within)
+
 by_name : (is_named : Bool) (task others : Option Task) → IfSome task IsWithinLimits → IfSome others IsWithinLimits → IfSome (cond is_named task others) IsWithinLimits
 by_name true task others one two = one
 by_name false task others one two = two
@@ -121,8 +129,10 @@ named_limits rows (Some name) =
     (by_name (bytes_eq name (codes "lint")) (planned_of Lint rows) _ (planned_limits Lint rows budgets)
     (by_name (bytes_eq name (codes "margin")) (margin_of rows) _ (margin_limits rows budgets)
     (by_name (bytes_eq name (codes "files")) (files_of rows) _ (files_limits design)
-    (by_name (bytes_eq name (codes "measure")) (measure_of rows) None
-    (measure_limits design (first_of (codes "times") rows) (within_of rows) (within_limits (first_of (codes "within") rows))) tt))))))))))))))
+    (by_name (bytes_eq name (codes "measure")) (measure_of rows) _
+    (measure_limits design (first_of (codes "times") rows) (within_of rows) (from_zero MAX_TOLERANCE (first_of (codes "within") rows)))
+    (by_name (bytes_eq name (codes "cycles")) (cycles_of rows) None
+    (cycles_limits design (from_of rows) (budget_of rows) (from_zero MAX_FROM (first_of (codes "from") rows)) budgets) tt)))))))))))))))
 
 task_limits : (task : Option Task) → IfSome task IsWithinLimits → KeepsLimits (answer_for task)
 task_limits None within = tt

@@ -1,12 +1,12 @@
 -- The command line of the program, as `clap` gets it: `itv [--job JOB] [--budget N] [--cert] [--csv] [--report FILE] [--edits FILE] [--size N] [--together LIST]
--- [--times FILE] [--within PS] [DESIGN]`.
+-- [--times FILE] [--within PS] [--from K] [DESIGN]`.
 use Rattle.std.specs.Prelude.{ℕ, List, [], ◌∷◌, Some, true, codes}
 use Rattle.itv_base.specs.declared.limits.TheConstants.{MAX_BUDGET, MAX_SELF_SIZE}
 use Rattle.clap.specs.Simple.{App, new_app, new_rule, on_top, with_rule}
 use Rattle.clap.specs.Walk.{Rule}
 use Rattle.clap.specs.declared.builder.action.ArgAction.TheVariants.{Set, SetTrue}
 use Rattle.clap.specs.declared.builder.value_parser.ValueParser.TheVariants.{Unsigned}
-use Rattle.command_words.specs.declared.task.TheConstants.{MAX_TOLERANCE}
+use Rattle.command_words.specs.declared.task.TheConstants.{MAX_FROM, MAX_TOLERANCE}
 
 -- an option with a text
 abbrev pub text_rule : List ℕ → Rule
@@ -51,6 +51,10 @@ times_rule = text_rule (codes "times")
 abbrev pub within_rule : Rule
 within_rule = record (text_rule (codes "within")) { parser = Some (Unsigned 0 MAX_TOLERANCE) }
 
+-- the first cycle may be 0
+abbrev pub from_rule : Rule
+from_rule = record (text_rule (codes "from")) { parser = Some (Unsigned 0 MAX_FROM) }
+
 abbrev pub design_rule : Rule
 design_rule = record (new_rule (codes "design")) { action = Some Set; value_names = 1 }
 
@@ -60,5 +64,5 @@ bare_command = on_top (λ top. record top { no_binary_name = true }) (new_app (c
 
 abbrev pub command : App
 command =
-    with_rule (with_rule (with_rule (with_rule (with_rule (with_rule (with_rule (with_rule (with_rule (with_rule (with_rule bare_command job_rule) budget_rule) cert_rule) csv_rule)
-    report_rule) edits_rule) size_rule) together_rule) times_rule) within_rule) design_rule
+    with_rule (with_rule (with_rule (with_rule (with_rule (with_rule (with_rule (with_rule (with_rule (with_rule (with_rule (with_rule bare_command job_rule) budget_rule) cert_rule)
+    csv_rule) report_rule) edits_rule) size_rule) together_rule) times_rule) within_rule) from_rule) design_rule

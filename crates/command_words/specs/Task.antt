@@ -18,12 +18,12 @@ use Rattle.command_words.specs.declared.job.PlanJob.{PlanJob}
 use Rattle.command_words.specs.declared.job.PlanJob.TheVariants.{Why, Brief, Lint}
 use Rattle.command_words.specs.declared.job.CheckJob.{CheckJob}
 use Rattle.command_words.specs.declared.job.CheckJob.TheVariants.{Check, Confirm}
-use Rattle.command_words.specs.declared.task.TheConstants.{MAX_TOLERANCE}
+use Rattle.command_words.specs.declared.task.TheConstants.{MAX_FROM, MAX_TOLERANCE}
 
 -- A job with what it needs. The first three share what they read with other jobs: the name of the design, the job, and the budget of each search or the
 -- name of the report. The others have, in this order: the name of the design and of the edits, or the size of the generated design; the list of numbers, if
 -- there is one; the budget of each search; and whether proofs are wanted. Job measure has the name of the design, the name of the file of measured times,
--- and the tolerance.
+-- and the tolerance. Job cycles has the name of the design, the first cycle, and the budget.
 pub data Task : Type 0 where
   searched : Text → SearchJob → ℕ → Task
   planned : Text → PlanJob → ℕ → Task
@@ -34,6 +34,7 @@ pub data Task : Type 0 where
   whatif : Text → Text → ℕ → Task
   margin : Text → Option Text → ℕ → Task
   measure : Text → Text → ℕ → Task
+  cycles : Text → ℕ → ℕ → Task
   files : Text → Task
 
 -- a task, a wish for help, or words that are neither
@@ -57,6 +58,10 @@ size_of rows = option_and_then (number_in 1 MAX_SELF_SIZE) (first_of (codes "siz
 -- the tolerance, which is 0 if the words name none
 abbrev pub within_of : List Row → Option ℕ
 within_of rows = option_map_or (number_in 0 MAX_TOLERANCE) (first_of (codes "within") rows) (Some 0)
+
+-- the first cycle, which is 0 if the words name none
+abbrev pub from_of : List Row → Option ℕ
+from_of rows = option_map_or (number_in 0 MAX_FROM) (first_of (codes "from") rows) (Some 0)
 
 -- an option without a value is there
 abbrev pub has_flag : Text → List Row → Bool
@@ -96,6 +101,10 @@ abbrev pub measure_of : List Row → Option Task
 measure_of rows =
     option_and_then (λ design. option_and_then (λ times. option_map (measure design times) (within_of rows)) (first_of (codes "times") rows)) (first_of (codes "design") rows)
 
+abbrev pub cycles_of : List Row → Option Task
+cycles_of rows =
+    option_and_then (λ design. option_and_then (λ from. option_map (cycles design from) (budget_of rows)) (from_of rows)) (first_of (codes "design") rows)
+
 abbrev pub files_of : List Row → Option Task
 files_of rows = option_map files (first_of (codes "design") rows)
 
@@ -117,7 +126,8 @@ task_named rows name =
     else (if bytes_eq name (codes "margin") then margin_of rows
     else (if bytes_eq name (codes "files") then files_of rows
     else (if bytes_eq name (codes "measure") then measure_of rows
-    else None))))))))))))))
+    else (if bytes_eq name (codes "cycles") then cycles_of rows
+    else None)))))))))))))))
 
 abbrev pub task_of : List Row → Option Task
 task_of rows = option_and_then (task_named rows) (first_of (codes "job") rows)
@@ -164,6 +174,7 @@ IsWithinLimits (generated size budget) = IsSize size × IsBudget budget
 IsWithinLimits (whatif design edits budget) = IsBudget budget
 IsWithinLimits (margin design list budget) = IsBudget budget
 IsWithinLimits (measure design times within) = within ≤ MAX_TOLERANCE
+IsWithinLimits (cycles design from budget) = (from ≤ MAX_FROM) × IsBudget budget
 IsWithinLimits (files design) = Unit {0}
 
 abbrev pub KeepsLimits : Invocation → Type 0

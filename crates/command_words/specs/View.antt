@@ -16,6 +16,7 @@ task_view (wanted.Generated size budget) = said.generated size budget
 task_view (wanted.Whatif design edits budget) = said.whatif design.now edits.now budget
 task_view (wanted.Margin design list budget) = said.margin design.now (option_map (λ text. text.now) list) budget
 task_view (wanted.Measure design times within) = said.measure design.now times.now within
+task_view (wanted.Cycles design from budget) = said.cycles design.now from budget
 task_view (wanted.Files design) = said.files design.now
 
 abbrev pub answer_view : Invocation → said.Invocation

@@ -3,9 +3,9 @@
 ghost use Rattle.std.specs.Prelude.{◌≡◌, IfOk, false, codes};
 ghost use Rattle.clap.specs.Simple.{app_of};
 ghost use Rattle.clap.specs.Walk.{rule_of};
-ghost use Rattle.command_words.specs.Command.{bare_command, command, design_rule, flag_rule, job_rule, number_rule, text_rule, within_rule};
+ghost use Rattle.command_words.specs.Command.{bare_command, command, design_rule, flag_rule, from_rule, job_rule, number_rule, text_rule, within_rule};
 
-use crate::task::MAX_TOLERANCE;
+use crate::task::{MAX_FROM, MAX_TOLERANCE};
 use clap::builder::ValueParser;
 use clap::{Arg, ArgAction, Command};
 use itv_base::{MAX_BUDGET, MAX_SELF_SIZE};
@@ -61,6 +61,15 @@ fn within_option<'a>(alloc: Global) -> Arg<'a>
 
 const WITHIN: &str =
     "The tolerance of job measure in picoseconds, 0 to 10,000,000,000,000 [default: 0]";
+
+fn from_option<'a>(alloc: Global) -> Arg<'a>
+    ensures rule { rule_of result ≡ from_rule }
+    ensures own { result.global ≡ false }
+{
+    text_option(alloc, "from", "K", FROM).value_parser(ValueParser::unsigned(0, MAX_FROM as u64))
+}
+
+const FROM: &str = "The cycle from which on job cycles takes the rows, 0 to 191 [default: 0]";
 
 fn design_argument<'a>(alloc: Global) -> Arg<'a>
     ensures rule { rule_of result ≡ design_rule }
@@ -122,5 +131,6 @@ pub fn command<'a>(alloc: Global) -> Result<Command<'a>, AllocError>
             "The measured times, one line for each run",
         ))?
         .arg(within_option(alloc))?
+        .arg(from_option(alloc))?
         .arg(design_argument(alloc))
 }

@@ -38,7 +38,7 @@ impl JobNeeds {
 }
 
 /// The jobs, in the order in which they are listed. The first one is done if the words name no job.
-pub const JOBS: [JobWord; 15] = [
+pub const JOBS: [JobWord; 16] = [
     JobWord {
         name: "bounds",
         needs: JobNeeds::Design,
@@ -63,6 +63,11 @@ pub const JOBS: [JobWord; 15] = [
         name: "margin",
         needs: JobNeeds::Design,
         about: "Prints how far each number may move before a requirement breaks, and which row breaks then",
+    },
+    JobWord {
+        name: "cycles",
+        needs: JobNeeds::Design,
+        about: "Bounds each question and requirement in every cycle, however many cycles the design runs",
     },
     JobWord {
         name: "check",

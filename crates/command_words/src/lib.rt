@@ -13,4 +13,4 @@ mod task;
 pub use job::{CheckJob, PlanJob, SearchJob};
 pub use job_word::{JOBS, JobNeeds, JobWord, job_named};
 pub use read::read_words;
-pub use task::{Invocation, MAX_TOLERANCE, Task};
+pub use task::{Invocation, MAX_FROM, MAX_TOLERANCE, Task};

@@ -5,13 +5,14 @@ ghost use Rattle.clap.specs.Matches.{found_of};
 ghost use Rattle.clap.specs.Values.{kind_of};
 ghost use Rattle.clap.specs.Walk.{first_of, rows_of};
 ghost use Rattle.clap.specs.declared.error.kind.ErrorKind.{ErrorKind};
-ghost use Rattle.command_words.specs.Task.{KeepsLimits, answer_for, budget_of, checked_of, fall_of, files_of, generated_of, has_flag, margin_of, matrix_of, measure_of, number_in, planned_of, refusal_for, searched_of, size_of, taken, task_named, task_of, whatif_of, within_of};
+ghost use Rattle.command_words.specs.Task.{KeepsLimits, answer_for, budget_of, checked_of, cycles_of, fall_of, files_of, from_of, generated_of, has_flag, margin_of, matrix_of, measure_of, number_in, planned_of, refusal_for, searched_of, size_of, taken, task_named, task_of, whatif_of, within_of};
+ghost use Rattle.command_words.specs.declared.task.TheConstants.{MAX_FROM};
 ghost use Rattle.command_words.specs.View.{answer_view, task_view};
 
 use crate::command::command;
 use crate::help::help_text;
 use crate::job::{CheckJob, PlanJob, SearchJob};
-use crate::task::{Invocation, MAX_TOLERANCE, Task};
+use crate::task::{Invocation, MAX_FROM, MAX_TOLERANCE, Task};
 use clap::error::ErrorKind;
 use clap::{ArgMatches, Error};
 use itv_base::{DEFAULT_BUDGET, MAX_BUDGET, MAX_SELF_SIZE, NoMemory, Texts};
@@ -100,6 +101,8 @@ fn task_named<'a>(matches: &ArgMatches<'a>, name: &str) -> Option<Task<'a>>
         files_task(matches)
     } else if name == "measure" {
         measure_task(matches)
+    } else if name == "cycles" {
+        cycles_task(matches)
     } else {
         None
     }
@@ -213,6 +216,19 @@ fn measure_task<'a>(matches: &ArgMatches<'a>) -> Option<Task<'a>>
     })
 }
 
+fn cycles_task<'a>(matches: &ArgMatches<'a>) -> Option<Task<'a>>
+    ensures { option_map task_view result ≡ cycles_of (rows_of (found_of matches.now)) }
+{
+    let design = text_of(matches, "design")?;
+    let from = from_of(matches)?;
+    let budget = budget_of(matches)?;
+    Some(Task::Cycles {
+        design,
+        from,
+        budget,
+    })
+}
+
 fn budget_of(matches: &ArgMatches<'_>) -> Option<u64>
     ensures { result ≡ budget_of (rows_of (found_of matches.now)) }
 {
@@ -237,6 +253,24 @@ fn within_of(matches: &ArgMatches<'_>) -> Option<u64>
         Some(text) => number_in(text, 0, MAX_TOLERANCE),
         None => Some(0),
     }
+}
+
+// The first cycle, which is 0 if the words name none.
+fn from_of(matches: &ArgMatches<'_>) -> Option<u32>
+    ensures { result ≡ from_of (rows_of (found_of matches.now)) }
+{
+    match text_of(matches, "from") {
+        Some(text) => cycle_in(text),
+        None => Some(0),
+    }
+}
+
+// The first cycle that a text spells.
+fn cycle_in(text: &str) -> Option<u32>
+    ensures { result ≡ number_in 0 MAX_FROM text.now }
+{
+    let number = number_in(text, 0, MAX_FROM as u64)?;
+    Some(number as u32)
 }
 
 // Whether an option without a value is there.

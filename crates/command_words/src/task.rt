@@ -1,11 +1,17 @@
 //! What the words ask for.
 
 use crate::job::{CheckJob, PlanJob, SearchJob};
+use itv_base::{MAX_CYCLES, MAX_SHIFT};
 
 /// Picoseconds of a tolerance of measured times. This is also the limit of a finite end of a range.
 pub const MAX_TOLERANCE: u64 = 10_000_000_000_000;
 
 const _: () = prove!(MAX_TOLERANCE == 10_000 * 1_000_000_000);
+
+/// The last cycle that job cycles may begin with. With the most cycles that a row can look back after it, a run has as many cycles as a design may.
+pub const MAX_FROM: u32 = 191;
+
+const _: () = prove!(MAX_FROM + MAX_SHIFT + 1 == MAX_CYCLES);
 
 /// A job with what it needs: what is read, and what is done with it. What else the words give is ignored.
 #[derive(Clone, Copy)]
@@ -70,6 +76,13 @@ pub enum Task<'a> {
         design: &'a str,
         times: &'a str,
         within: u64,
+    },
+    /// To bound the rows of a design in every cycle of every longer run: the name of its file, the cycle that rows begin in or after, and the budget of
+    /// each search.
+    Cycles {
+        design: &'a str,
+        from: u32,
+        budget: u64,
     },
 }
 

@@ -44,6 +44,14 @@ use Rattle.job_measure.specs.declared.tally.RunVerdict.TheVariants.{Fail, Near, 
 use Rattle.range_edits.specs.EditsFile.{edits_of}
 use Rattle.range_edits.specs.declared.edit.RangeEdit.{RangeEdit}
 use Rattle.range_edits.specs.declared.file.TheConstants.{MAX_EDITS_BYTES}
+use Rattle.compose.specs.Compose.{composed_on}
+use Rattle.compose.specs.Design.{DesignView}
+use Rattle.compose.specs.declared.fault.JoinFault.{JoinFault}
+use Rattle.unroll.specs.Cycle.{rows_of}
+use Rattle.unroll.specs.Limits.{unrolled}
+use Rattle.longer_runs.specs.Windows.{over}
+use Rattle.steady.specs.Cycles.{cycles_for}
+use Rattle.job_cycles.specs.Cycles.{ending_of as cycles_ending}
 use Rattle.unroll.specs.declared.fault.UnrollFault.TheVariants.{TooMany}
 use Rattle.unroll.specs.declared.limit.Limit.TheVariants.{Numbers}
 use Rattle.unroll.specs.declared.limit.TheConstants.{MAX_NUMBERS, MAX_SESSION_ROWS}
@@ -63,18 +71,19 @@ use Rattle.command_words.specs.declared.job.PlanJob.TheVariants.{Why, Brief, Lin
 use Rattle.command_words.specs.declared.job.CheckJob.{CheckJob}
 use Rattle.command_words.specs.declared.job.CheckJob.TheVariants.{Check, Confirm}
 use Rattle.command_words.specs.Task as said
-use Rattle.command_words.specs.Task.{Task, checked, fall, generated, margin, matrix, measure, planned, searched, taken, task, whatif}
+use Rattle.command_words.specs.Task.{Task, checked, cycles, fall, generated, margin, matrix, measure, planned, searched, taken, task, whatif}
 use Rattle.job_bounds.proofs.WrittenLaws.{written_is_right}
 use Rattle.moves.specs.Listed.{numbers_of}
-use Rattle.design_plan.specs.Plan.{PlanView}
+use Rattle.design_plan.specs.Plan.{PlanView, sheets_on}
 use Rattle.itv_cli.specs.Bounds.{AnswersBounds}
 use Rattle.job_lint.specs.Lint.{answer_by}
 use Rattle.job_lint.specs.Lines.{is_clean, lines_of}
 use Rattle.job_margin.specs.Text.{are_left_open, end_of}
 use Rattle.job_why.specs.Text.{ending_of as explained_ending}
-use Rattle.itv_cli.specs.Job.{Answers, edits_at, fall_at, fall_in, list_at, made_for, matrix_at, opening, planned_at, times_at, times_in, whatif_at}
+use Rattle.itv_cli.specs.Job.{Answers, edits_at, fall_at, fall_in, list_at, made_for, matrix_at, opening, planned_at, run_at, times_at, times_in, whatif_at}
 use Rattle.itv_cli.specs.Step.{edits_in}
 use Rattle.itv_cli.specs.Run.{Call, HasRead, Completes, OutcomeBy, ReadsOver, FilesDecide, HasAnswered, IsRefused, OutcomeMeans, Wrote, call_of}
+use Rattle.itv_cli.specs.PlannedRun.{IsDesignOf, RunView}
 use Rattle.itv_cli.specs.declared.outcome.Outcome.{Outcome}
 use Rattle.itv_cli.specs.declared.outcome.Outcome.TheVariants as ends
 use Rattle.itv_cli.specs.declared.ready.Ready.{Ready}
@@ -262,6 +271,34 @@ never_measured Near e = cc e
 never_measured Fail e = cc e
 never_measured Unseen e = cc e
 
+-- ---- job cycles
+
+-- the reading of a plan's joins gave this design
+composed_made : (files : Files) (composed : Result DesignView JoinFault) (d : DesignView) → end_over files (at Design refusals.Joins composed) ≡ ready d → composed ≡ Ok d
+composed_made files (Ok other) d e = cc e
+composed_made files (Err fault) d e = absurd (cc e)
+
+-- a run that was read is a run of the design of a plan
+pub record IsMadeRun (from : ℕ) (plan : PlanView) (run : RunView) : Type 0 where
+  pub design : DesignView
+  pub composes : IsDesignOf plan design
+  pub is_of : IsDesignOf run.plan design
+  pub is_run : run ≡ record { plan = plan; from = from; cycles = cycles_for from design.cycles (rows_of design) }
+
+pub run_made : (files : Files) (from : ℕ) (plan : PlanView) (run : RunView) → end_over files (run_at from plan) ≡ ready run → IsMadeRun from plan run
+run_made files from plan run had =
+    let (d, made, rest) = told_behind files (at Design refusals.Joins (composed_on plan.netlist (sheets_on plan.sheets plan.netlist.parts)))
+    (λ d. at Design refusals.Limits (unrolled (over (cycles_for from d.cycles (rows_of d)) d)) >>= (λ drawn. gives (record { plan = plan; from = from; cycles = cycles_for from d.cycles (rows_of d) }))) run had in
+    let (drawn, drew, is) = told_then files (at Design refusals.Limits (unrolled (over (cycles_for from d.cycles (rows_of d)) d)))
+    (λ drawn. record { plan = plan; from = from; cycles = cycles_for from d.cycles (rows_of d) }) run rest in
+    let composes : IsDesignOf plan d = composed_made files (composed_on plan.netlist (sheets_on plan.sheets plan.netlist.parts)) d made in
+    record {
+      design = d;
+      composes = composes;
+      is_of = subst (λ (r : RunView). IsDesignOf r.plan d) is composes;
+      is_run = sym is;
+    }
+
 pub few_by : (files : Files) (b : Bool) (why : Refusal) (next : FileReading Ready) (to : Ready) → end_over files (if b then refuses Design why else next) ≡ ready to → end_over files next ≡ ready to
 few_by files true why next to e = absurd (cc e)
 few_by files false why next to e = e
@@ -321,6 +358,13 @@ refused_redraws files (measure design times within) bytes own h =
     let (runs, had, is) = told_then files (at Times refusals.Times (runs_of drawn.net.events file)) (λ rs. given.Measure drawn rs within) h.given behind in
     let answered : Answers (given.Measure drawn runs within) answers.DesignRefused bytes = subst (λ g. Answers g answers.DesignRefused bytes) (sym is) h.answers in
     absurd (never_measured (all_verdict (run_lines drawn within runs)) (sym answered.0))
+refused_redraws files (cycles design from budget) bytes own h =
+    let (both, draws, comes) = told_behind files (planned_at design) (λ p. run_at from p.0 >>= (λ run. gives (given.Cycles run budget))) h.given h.reads in
+    let (run, had, is) = told_then files (run_at from both.0) (λ run. given.Cycles run budget) h.given comes in
+    let made = run_made files from both.0 run had in
+    let answered : Answers (given.Cycles run budget) answers.DesignRefused bytes = subst (λ g. Answers g answers.DesignRefused bytes) (sym is) h.answers in
+    let a = answered made.design made.is_of in
+    absurd (never_refused (cycles_ending (rows_of made.design) a.outcome) a.is_answer)
 
 -- where no list is given, a drawn network with few enough numbers is given as it is
 pub few_then : (files : Files) (plan : PlanView) (drawn : Drawn) (budget : ℕ) (to : Ready) → end_over files (list_at drawn None >>= (λ numbers. gives (given.Margin plan drawn numbers budget))) ≡ ready to

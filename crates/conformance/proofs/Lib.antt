@@ -2,6 +2,7 @@ mod KnownFiles
 mod Faults
 mod JobEnds
 mod LongerEnds
+mod CyclesEnds
 mod SaidEnds
 mod PlannedEnds
 mod MarginEnds

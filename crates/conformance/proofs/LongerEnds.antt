@@ -50,7 +50,7 @@ module _ (files : Files) (name : List ℕ) (design : DesignView) (makes : Makes 
       let comes : end_over files (drawn_at makes.plan.netlist makes.plan.sheets) ≡ ready drawn = subst (λ (p : PlanView). end_over files (drawn_at p.netlist p.sheets) ≡ ready drawn) same rest in
       composed_draws files (composed_on makes.plan.netlist (sheets_on makes.plan.sheets makes.plan.netlist.parts)) design drawn makes.composes comes
 
-  made_is_design : IsDesign design
+  pub made_is_design : IsDesign design
   made_is_design = read_is_design (told_shelf files) name makes.plan design (told_comes files (plan_at name) makes.plan makes.plans) makes.composes
 
 module _ (call : Call) (files : Files) (budget : ℕ) (cert : Bool) (drawn : Drawn) (design : DesignView) (known : call.shelf_before.files ≡ Some files) (asks : AsksBounds call.words files budget cert drawn) (makes : Makes files asks.design design) where

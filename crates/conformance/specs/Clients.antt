@@ -42,7 +42,7 @@ use Rattle.command_words.specs.declared.job.PlanJob.{PlanJob}
 use Rattle.command_words.specs.declared.job.PlanJob.TheVariants.{Why, Brief, Lint}
 use Rattle.command_words.specs.declared.job.CheckJob.TheVariants.{Check, Confirm}
 use Rattle.command_words.specs.Task as said
-use Rattle.command_words.specs.Task.{Task, checked, margin, matrix, measure, planned, searched, taken, task, whatif}
+use Rattle.command_words.specs.Task.{Task, checked, cycles, margin, matrix, measure, planned, searched, taken, task, whatif}
 use Rattle.lint.specs.declared.warning.Warning.{Warning}
 use Rattle.job_lint.specs.declared.lint_found.LintFound.{LintFound}
 use Rattle.job_lint.specs.Clean.{HasSearchedAll}
@@ -180,6 +180,12 @@ pub record AsksMeasure (given : List (List ℕ)) (files : Files) (within : ℕ) 
   pub bytes : List ℕ
   pub is_file : file_of files file ≡ Some bytes
   pub read : runs_of drawn.net.events bytes ≡ Ok runs
+
+-- the words ask job cycles about a design from a cycle on, and the files make the design
+pub record AsksCycles (given : List (List ℕ)) (files : Files) (from budget : ℕ) (design : DesignView) : Type 0 where
+  pub file : List ℕ
+  pub words : taken given ≡ task (cycles file from budget)
+  pub makes : Makes files file design
 
 -- the run ended with one of the ends of job measure
 abbrev pub IsMeasureEnd : Outcome → Type 0

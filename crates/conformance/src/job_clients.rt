@@ -29,10 +29,14 @@ ghost use Rattle.job_settle.specs.Settle.{AnswersSettle};
 ghost use Rattle.range_edits.specs.declared.edit.RangeEdit.{RangeEdit};
 ghost use Rattle.measured_times.specs.Runs.{MeasuredRun};
 ghost use Rattle.job_measure.specs.Measure.{AnswersMeasure, answer_by};
+ghost use Rattle.job_cycles.specs.Cycles.{AnswersCycles};
+ghost use Rattle.job_cycles.specs.Laws.{AnswerMeans};
+ghost use Rattle.steady.specs.Cycles.{cycles_for};
+ghost use Rattle.unroll.specs.Cycle.{rows_of};
 ghost use Rattle.job_whatif.specs.Laws.{with_edits};
 ghost use Rattle.itv_cli.specs.Job.{turns_for};
 ghost use Rattle.job_base.specs.Ending.{answer_of};
-ghost use Rattle.conformance.specs.Clients.{AsksBounds, AsksBrief, AsksCheck, AsksConfirm, AsksFile, AsksFiles, AsksLint, AsksMargin, AsksMatrix, AsksMeasure, AsksSettle, AsksWhatif, AsksWhy, DrawnFrom, HasNoWrong, HasSafeHighs, IsLintClean, IsMeasureEnd, IsReportEnd, IsRightFile, IsSettledFile, IsSummaryOf, IsWritten, IsWrongFile, Makes, WroteOne, AreAlike};
+ghost use Rattle.conformance.specs.Clients.{AsksBounds, AsksBrief, AsksCheck, AsksConfirm, AsksCycles, AsksFile, AsksFiles, AsksLint, AsksMargin, AsksMatrix, AsksMeasure, AsksSettle, AsksWhatif, AsksWhy, DrawnFrom, HasNoWrong, HasSafeHighs, IsLintClean, IsMeasureEnd, IsReportEnd, IsRightFile, IsSettledFile, IsSummaryOf, IsWritten, IsWrongFile, Makes, WroteOne, AreAlike};
 ghost use Rattle.claim_laws.specs.Said.{IsSoText};
 ghost use Rattle.claim_laws.specs.Lone.{DrawsLone, IsLoneFile};
 ghost use Rattle.serde_json.specs.Data.{Data};
@@ -174,6 +178,19 @@ pub fn measured_of(
 ) -> Outcome
     ensures wrote { (within : ℕ) (drawn : Drawn) (runs : List MeasuredRun) → AsksMeasure words.now shelf.old.files within drawn runs
         → (end : IsMeasureEnd result) → WroteOne sink.old sink.new (AnswersMeasure drawn within runs (answer_by end.0)) }
+{
+    run(alloc, words, shelf, sink)
+}
+
+/// A run of job cycles. If it passes, every requirement is met in every cycle of every longer run, from the first cycle that is asked for. If it fails, a
+/// requirement is broken in every cycle of every run, or in some cycle of the run that is judged. If it ends inconsistent, no longer run has times. With
+/// any end of a report it writes what was found of the runs of the design.
+pub fn cycled_of(alloc: Global, words: &Texts, shelf: &mut ShelfMem, sink: &mut SinkMem) -> Outcome
+    ensures means { (from budget : ℕ) (design : DesignView) → AsksCycles words.now shelf.old.files from budget design
+        → (end : IsReportEnd result) → AnswerMeans design from (cycles_for from design.cycles (rows_of design)) (answer_of end.0) }
+    ensures wrote { (from budget : ℕ) (design : DesignView) → (asks : AsksCycles words.now shelf.old.files from budget design)
+        → (end : IsReportEnd result) → WroteOne sink.old sink.new (AnswersCycles (plan_notes asks.makes.plan) design from
+        (cycles_for from design.cycles (rows_of design)) budget (answer_of end.0)) }
 {
     run(alloc, words, shelf, sink)
 }

@@ -1,8 +1,9 @@
 //! What is said after a run.
 
 use crate::accepted::put_accepted;
-use crate::answered::put_answered;
+use crate::answered::{Requirements, put_answered};
 use crate::budget::put_open;
+use crate::longer::is_judging;
 use crate::margin_fault::put_margin_refusal;
 use command_words::{CheckJob, Invocation, PlanJob, Task, read_words};
 use itv_base::{NoMemory, Shelf, ShelfMem, Texts};
@@ -169,16 +170,17 @@ fn put_of_files(hint: &mut Hint, task: Task<'_>, status: u8, files: &mut ShelfMe
     if status == 4 {
         put_why(hint, task, design, files);
     } else {
-        put_answered(hint, design, is_broken(task, status), files);
+        put_answered(hint, design, judged_by(task, status), files);
     }
 }
 
-// The status of a run that found a requirement broken.
-const SOME_FAIL: u8 = 1;
-
-// Whether the rules of a design let a requirement be broken. Measured times may break one that the rules keep.
-fn is_broken(task: Task<'_>, status: u8) -> bool {
-    status == SOME_FAIL && !matches!(task, Task::Measure { .. })
+// What a run that ended with this status found of the requirements of its design. Measured times may break one that the rules keep.
+fn judged_by(task: Task<'_>, status: u8) -> Requirements {
+    match status {
+        0 if is_judging(task) => Requirements::AllMet,
+        1 if !matches!(task, Task::Measure { .. }) => Requirements::SomeBroken,
+        _ => Requirements::Unknown,
+    }
 }
 
 // Why a design is refused, or of job margin what the job refuses of it.

@@ -28,7 +28,8 @@ fn settles(task: Task<'_>) -> &'static str {
         }
         | Task::Generated { .. }
         | Task::Whatif { .. }
-        | Task::Margin { .. } => "a larger --budget may settle it",
+        | Task::Margin { .. }
+        | Task::Cycles { .. } => "a larger --budget may settle it",
         _ => "--job settle may settle it, and so may a larger --budget",
     }
 }

@@ -9,6 +9,7 @@ mod answered;
 mod budget;
 mod counted;
 mod held;
+mod longer;
 mod margin_fault;
 mod unbounded;
 mod unruled;

@@ -8,3 +8,4 @@ mod Statuses
 mod Editing
 mod Timing
 mod Composing
+mod Running

@@ -6,20 +6,26 @@ use Rattle.itv_base.specs.Outside.{Files}
 use Rattle.design_gen.specs.Files.{design_files}
 use Rattle.job_base.specs.declared.answer.Answer.{Answer}
 use Rattle.drawn_networks.specs.Drawn.{Drawn}
+use Rattle.compose.specs.Compose.{composed_on}
+use Rattle.compose.specs.Design.{DesignView}
+use Rattle.unroll.specs.Cycle.{rows_of}
+use Rattle.unroll.specs.Limits.{unrolled}
 use Rattle.unroll.specs.declared.fault.UnrollFault.TheVariants.{TooMany}
 use Rattle.unroll.specs.declared.limit.Limit.TheVariants.{MatrixEvents, Numbers, SessionRows}
 use Rattle.unroll.specs.declared.limit.TheConstants.{MAX_NUMBERS, MAX_SESSION_ROWS}
 use Rattle.design_reading.specs.declared.refusal_place.RefusalPlace.TheVariants.{Design, Edits, Report, Times}
 use Rattle.design_reading.specs.declared.refusal.Refusal.TheVariants as refusals
 use Rattle.design_plan.specs.Notes.{plan_notes}
-use Rattle.design_plan.specs.Plan.{PlanView}
+use Rattle.design_plan.specs.Plan.{PlanView, sheets_on}
+use Rattle.longer_runs.specs.Windows.{over}
+use Rattle.steady.specs.Cycles.{cycles_for}
 use Rattle.design_reading.specs.Design.{design_at, drawn_at, plan_at}
 use Rattle.design_reading.specs.AskedFor.{files_at}
 use Rattle.design_reading.specs.FileReading.{FileReading, gives, refuses, ◌>>=◌, at, file_at}
 use Rattle.command_words.specs.declared.job.SearchJob.TheVariants.{Bounds, Settle, Redraw}
 use Rattle.command_words.specs.declared.job.PlanJob.TheVariants.{Why, Brief, Lint}
 use Rattle.command_words.specs.declared.job.CheckJob.TheVariants.{Check, Confirm}
-use Rattle.command_words.specs.Task.{Task, searched, planned, checked, fall, files, matrix, generated, whatif, margin, measure}
+use Rattle.command_words.specs.Task.{Task, searched, planned, checked, cycles, fall, files, matrix, generated, whatif, margin, measure}
 use Rattle.job_bounds.specs.Reports.{MayHaveBegun}
 use Rattle.job_brief.specs.Brief.{AnswersBrief}
 use Rattle.job_fall.specs.Fall.{AnswersFall, BeginsFall}
@@ -38,6 +44,7 @@ use Rattle.moves.specs.Listed.{numbers_of}
 use Rattle.moves.specs.declared.number_seen.NumberSeen.{NumberSeen}
 use Rattle.job_redraw.specs.Redraw.{AnswersRedraw}
 use Rattle.job_confirm.specs.Confirm.{AnswersConfirm}
+use Rattle.job_cycles.specs.Cycles.{AnswersCycles}
 use Rattle.job_settle.specs.Settle.{AnswersSettle}
 use Rattle.job_check.specs.Check.{AnswersCheck}
 use Rattle.job_self.specs.Summary.{AnswersSummary}
@@ -46,6 +53,7 @@ use Rattle.range_edits.specs.declared.file.TheConstants.{MAX_EDITS_BYTES}
 use Rattle.job_whatif.specs.Whatif.{AnswersWhatif}
 use Rattle.job_why.specs.Why.{AnswersWhy}
 use Rattle.itv_cli.specs.Bounds.{AnswersBounds, DecidesWithin}
+use Rattle.itv_cli.specs.PlannedRun.{IsDesignOf, RunView}
 use Rattle.itv_cli.specs.declared.ready.Ready.{Ready}
 use Rattle.itv_cli.specs.declared.ready.Ready.TheVariants as ready
 use Rattle.job_base.specs.JobWrote.{Answered}
@@ -88,6 +96,13 @@ times_at name within drawn = do
   bytes ← file_at Times name MAX_TIMES_BYTES
   times_in within drawn bytes
 
+-- A run of the design of a plan, over as many cycles as its rows need from a cycle on. The faults of joins come before the limits.
+abbrev pub run_at : ℕ → PlanView → FileReading RunView
+run_at from plan = do
+  design ← at Design refusals.Joins (composed_on plan.netlist (sheets_on plan.sheets plan.netlist.parts))
+  drawn ← at Design refusals.Limits (unrolled (over (cycles_for from design.cycles (rows_of design)) design))
+  gives (record { plan = plan; from = from; cycles = cycles_for from design.cycles (rows_of design) })
+
 -- the plan of the design of a file, and the network that it draws
 abbrev pub planned_at : List ℕ → FileReading (PlanView × Drawn)
 planned_at name = do
@@ -128,6 +143,10 @@ opening (margin design list budget) = planned_at design >>= λ both. list_at bot
 opening (measure design times within) = do
   drawn ← design_at design
   times_at times within drawn
+opening (cycles design from budget) = do
+  both ← planned_at design
+  run ← run_at from both.0
+  gives (ready.Cycles run budget)
 
 -- the files that are made for a task, if it reads no files of the shelf
 abbrev pub made_for : Task → Option Files
@@ -139,6 +158,10 @@ made_for _ = None
 -- how many turns a search of job settle may take: a thousand for each unit of the budget
 abbrev pub turns_for : ℕ → ℕ
 turns_for budget = 1000 * budget
+
+-- what job cycles answers of the design of a plan
+abbrev pub AnswersRun : RunView → ℕ → Answer → List ℕ → Type 0
+AnswersRun run budget answer text = (d : DesignView) → IsDesignOf run.plan d → AnswersCycles (plan_notes run.plan) d run.from run.cycles budget answer text
 
 abbrev pub Answers : Ready → Answer → List ℕ → Type 0
 Answers (ready.Searched drawn (Bounds cert) budget) answer text = AnswersBounds drawn budget cert answer text
@@ -156,6 +179,7 @@ Answers (ready.Generated drawn size budget) answer text = AnswersSummary drawn s
 Answers (ready.Whatif drawn edits budget) answer text = AnswersWhatif drawn budget edits answer text
 Answers (ready.Margin plan drawn numbers budget) answer text = AnswersMargin (plan_notes plan) drawn numbers budget answer text
 Answers (ready.Measure drawn runs within) answer text = AnswersMeasure drawn within runs answer text
+Answers (ready.Cycles run budget) answer text = AnswersRun run budget answer text
 
 -- what a job may have begun to write: for jobs bounds and fall a text that begins so, and for the others a whole text
 abbrev pub MayHaveWritten : Ready → List ℕ → Type 0

@@ -18,4 +18,5 @@ pub mod Status
 pub mod Job
 pub mod Bounds
 pub mod Laws
+pub mod PlannedRun
 pub mod Step

@@ -30,7 +30,7 @@ use Rattle.itv_cli.specs.declared.outcome.Outcome.{Outcome}
 use Rattle.itv_cli.specs.declared.outcome.Outcome.TheVariants as ends
 use Rattle.itv_cli.specs.declared.ready.Ready.{Ready}
 use Rattle.itv_cli.specs.declared.ready.Ready.TheVariants as given
-use Rattle.itv_cli.specs.Job.{list_at, made_for, opening}
+use Rattle.itv_cli.specs.Job.{list_at, made_for, opening, run_at}
 use Rattle.itv_cli.specs.Run.{ReadsOver, outcome_of}
 
 -- the names of the events and the ranges of the rows have their form
@@ -46,6 +46,10 @@ list_in drawn list = option_map_or (λ text. at Design refusals.Number (numbers_
 abbrev pub margin_at : PlanView → Drawn → Option (List ℕ) → ℕ → FileReading Ready
 margin_at plan drawn list budget = list_at drawn list >>= λ numbers. gives (given.Margin plan drawn numbers budget)
 
+-- what is read for job cycles, given a plan
+abbrev pub cycles_at : ℕ → ℕ → PlanView → FileReading Ready
+cycles_at from budget plan = run_at from plan >>= λ run. gives (given.Cycles run budget)
+
 -- a drawn network with the edits in the bytes of a file
 abbrev pub edits_in : ℕ → Drawn → List ℕ → FileReading Ready
 edits_in budget drawn bytes = at Edits refusals.Edits (edits_of drawn bytes) >>= λ edits. gives (given.Whatif drawn edits budget)
@@ -60,6 +64,7 @@ IsAllowed (given.Matrix drawn) = drawn.net.events ≤ MAX_MATRIX_EVENTS
 IsAllowed (given.Files names) = Unit {0}
 IsAllowed (given.Generated drawn size budget) = IsBudget budget
 IsAllowed (given.Margin plan drawn numbers budget) = IsBudget budget
+IsAllowed (given.Cycles run budget) = IsBudget budget
 IsAllowed (given.Measure drawn runs within) = (within ≤ MAX_TOLERANCE) × All (IsRunFor drawn.net.events) runs
 IsAllowed (given.Whatif drawn edits budget) = (length drawn.rows ≤ MAX_SESSION_ROWS) × IsBudget budget × All (IsThere drawn) edits
 

@@ -79,6 +79,7 @@ pub fn answer<K: Sink>(alloc: Global, given: &Ready, sink: &mut K) -> Result<Ans
             runs,
             within,
         } => write_measure(alloc, drawn, *within, runs, sink),
+        Ready::Cycles { run, budget } => run.answer(alloc, *budget, sink),
     }
 }
 

@@ -9,6 +9,7 @@ pub mod laws;
 mod opening;
 mod outcome;
 mod planned_network;
+mod planned_run;
 mod ready;
 mod system;
 mod top;

@@ -1,18 +1,22 @@
 //! What each job reads before it writes.
 
-ghost use Rattle.std.specs.Prelude.{◌≡◌, ◌≤◌, IfOk, codes, length, option_map};
+ghost use Rattle.std.specs.Prelude.{◌≡◌, ◌≤◌, IfOk, IsOk, codes, length, option_map};
 ghost use Rattle.design_gen.specs.Files.{IsSize, design_files};
 ghost use Rattle.design_reading.specs.Step.{Opens, ReadsAs};
 ghost use Rattle.command_words.specs.Task.{IsBudget, IsWithinLimits};
 ghost use Rattle.command_words.specs.Task as said;
 ghost use Rattle.command_words.specs.View.{task_view};
-ghost use Rattle.command_words.specs.declared.task.TheConstants.{MAX_TOLERANCE};
+ghost use Rattle.command_words.specs.declared.task.TheConstants.{MAX_FROM, MAX_TOLERANCE};
+ghost use Rattle.compose.specs.Compose.{composed_on};
+ghost use Rattle.design_plan.specs.Plan.{sheets_on};
 ghost use Rattle.unroll.specs.declared.limit.TheConstants.{MAX_SESSION_ROWS};
 ghost use Rattle.itv_cli.specs.Job.{edits_at, fall_at, list_at, matrix_at, opening, times_at, times_in, whatif_at};
-ghost use Rattle.itv_cli.specs.Step.{IsAllowed, OpensFor, OpensMade, edits_in, list_in, margin_at};
+ghost use Rattle.itv_cli.specs.PlannedRun.{DrawsWithinLimits};
+ghost use Rattle.itv_cli.specs.Step.{IsAllowed, OpensFor, OpensMade, cycles_at, edits_in, list_in, margin_at};
 ghost use Rattle.moves.specs.Listed.{numbers_of};
 
 use crate::planned_network::{PlannedNetwork, open_planned};
+use crate::planned_run::PlannedRun;
 use crate::ready::Ready;
 use command_words::{CheckJob, PlanJob, SearchJob, Task};
 use design_gen::{GenFault, make};
@@ -75,6 +79,11 @@ pub fn open<H: Shelf>(alloc: Global, task: Task<'_>, shelf: &mut H) -> Result<Re
             times,
             within,
         } => open_measure(alloc, design, times, within, shelf),
+        Task::Cycles {
+            design,
+            from,
+            budget,
+        } => open_cycles(alloc, design, from, budget, shelf),
     }
 }
 
@@ -426,6 +435,40 @@ fn list_in(
             Refusal::Number(place),
         )),
         Err(ListFault::NoMemory) => Err(Stop::NoMemory),
+    }
+}
+
+// What job cycles reads. The design is also refused if it passes a limit over the cycles that are drawn.
+fn open_cycles<H: Shelf>(
+    alloc: Global,
+    design: &str,
+    from: u32,
+    budget: u64,
+    shelf: &mut H,
+) -> Result<Ready, Stop>
+    requires from { from ≤ MAX_FROM }
+    requires budget { IsBudget budget }
+    ensures opens { Opens (λ given. given) (H.state shelf.old) (H.state shelf.new)
+        (opening (said.cycles design.now from budget)) result }
+    ensures allowed { IfOk result IsAllowed }
+{
+    let PlannedNetwork { plan, drawn } = open_planned(alloc, design, shelf)?;
+    drop(drawn);
+    for_cycles(alloc, plan, from, budget)
+}
+
+// The same for a plan.
+fn for_cycles(alloc: Global, plan: Plan, from: u32, budget: u64) -> Result<Ready, Stop>
+    requires from { from ≤ MAX_FROM }
+    requires budget { IsBudget budget }
+    requires composed { IsOk (composed_on plan.netlist (sheets_on plan.sheets plan.netlist.parts)) }
+    requires within { DrawsWithinLimits plan }
+    ensures reads { ReadsAs (λ given. given) (cycles_at from budget plan) result }
+    ensures allowed { IfOk result IsAllowed }
+{
+    match PlannedRun::of(alloc, plan, from) {
+        Ok(run) => Ok(Ready::Cycles { run, budget }),
+        Err(stop) => Err(stop),
     }
 }
 

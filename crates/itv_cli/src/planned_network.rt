@@ -5,6 +5,7 @@ ghost use Rattle.compose.specs.Compose.{composed_on};
 ghost use Rattle.design_plan.specs.Plan.{sheets_on};
 ghost use Rattle.design_reading.specs.Step.{Opens};
 ghost use Rattle.itv_cli.specs.Job.{planned_at};
+ghost use Rattle.itv_cli.specs.PlannedRun.{DrawsWithinLimits};
 
 use design_plan::Plan;
 use design_reading::{Stop, draw_plan, open_plan};
@@ -26,6 +27,7 @@ pub fn open_planned<H: Shelf>(
     shelf: &mut H,
 ) -> Result<PlannedNetwork, Stop>
     ensures opens { Opens (λ p. (p.plan, p.drawn)) (H.state shelf.old) (H.state shelf.new) (planned_at name.now) result }
+    ensures within { IfOk result (λ p. DrawsWithinLimits p.plan) }
     ensures composed { IfOk result (λ p. IsOk (composed_on p.plan.netlist (sheets_on p.plan.sheets p.plan.netlist.parts))) }
 {
     let plan = open_plan(alloc, name, shelf)?;

@@ -1,5 +1,6 @@
 //! What is read for a job.
 
+use crate::planned_run::PlannedRun;
 use command_words::{CheckJob, PlanJob, SearchJob};
 use design_plan::Plan;
 use drawn_networks::DrawnNetwork;
@@ -73,5 +74,10 @@ pub enum Ready {
         drawn: DrawnNetwork,
         runs: MeasuredRuns,
         within: u64,
+    },
+    /// To bound the rows of a design in every cycle of every longer run: a run of the design, and the cases that each search may close.
+    Cycles {
+        run: PlannedRun,
+        budget: u64,
     },
 }

@@ -120,6 +120,15 @@ fn put_task(task: Task<'_>, out: &mut Out) {
             put_more(times, out);
             put_number(within, out);
         }
+        Task::Cycles {
+            design,
+            from,
+            budget,
+        } => {
+            put_named("cycles", design, out);
+            put_number(u64::from(from), out);
+            put_number(budget, out);
+        }
         Task::Margin {
             design,
             list,

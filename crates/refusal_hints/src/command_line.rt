@@ -1,7 +1,7 @@
 //! The first word of a command line that is not understood.
 
 use crate::hint::Hint;
-use command_words::{JOBS, JobNeeds, JobWord, MAX_TOLERANCE, job_named};
+use command_words::{JOBS, JobNeeds, JobWord, MAX_FROM, MAX_TOLERANCE, job_named};
 use itv_base::{MAX_BUDGET, MAX_SELF_SIZE, Texts};
 
 /// What is wrong with words.
@@ -36,6 +36,7 @@ pub enum WordsOption {
     Together,
     Times,
     Within,
+    From,
     Cert,
     Csv,
 }
@@ -52,6 +53,7 @@ impl WordsOption {
             "--together" => Some(WordsOption::Together),
             "--times" => Some(WordsOption::Times),
             "--within" => Some(WordsOption::Within),
+            "--from" => Some(WordsOption::From),
             "--cert" => Some(WordsOption::Cert),
             "--csv" => Some(WordsOption::Csv),
             _ => None,
@@ -68,6 +70,7 @@ impl WordsOption {
             WordsOption::Together => "--together",
             WordsOption::Times => "--times",
             WordsOption::Within => "--within",
+            WordsOption::From => "--from",
             WordsOption::Cert => "--cert",
             WordsOption::Csv => "--csv",
         }
@@ -76,7 +79,7 @@ impl WordsOption {
     // The least number that the option takes.
     fn least(self) -> u64 {
         match self {
-            WordsOption::Within => 0,
+            WordsOption::Within | WordsOption::From => 0,
             _ => 1,
         }
     }
@@ -86,6 +89,7 @@ impl WordsOption {
         match self {
             WordsOption::Size => u64::from(MAX_SELF_SIZE),
             WordsOption::Within => MAX_TOLERANCE,
+            WordsOption::From => u64::from(MAX_FROM),
             _ => MAX_BUDGET,
         }
     }
@@ -203,6 +207,7 @@ struct Given<'a> {
     has_together: bool,
     has_times: bool,
     has_within: bool,
+    has_from: bool,
     has_cert: bool,
     has_csv: bool,
     // The option whose value is the next word.
@@ -223,6 +228,7 @@ impl<'a> Given<'a> {
             has_together: false,
             has_times: false,
             has_within: false,
+            has_from: false,
             has_cert: false,
             has_csv: false,
             wanting: None,
@@ -300,9 +306,8 @@ impl<'a> Given<'a> {
                 self.job = Some(value);
                 Ok(())
             }
-            WordsOption::Budget | WordsOption::Size | WordsOption::Within => {
-                judge_number(value, option)
-            }
+            WordsOption::Budget | WordsOption::Size | WordsOption::Within | WordsOption::From =>
+                judge_number(value, option),
             _ => Ok(()),
         }
     }
@@ -318,6 +323,7 @@ impl<'a> Given<'a> {
             WordsOption::Together => replace(&mut self.has_together),
             WordsOption::Times => replace(&mut self.has_times),
             WordsOption::Within => replace(&mut self.has_within),
+            WordsOption::From => replace(&mut self.has_from),
             WordsOption::Cert => replace(&mut self.has_cert),
             WordsOption::Csv => replace(&mut self.has_csv),
         };

@@ -19,7 +19,8 @@ pub fn files_of<'a>(task: Task<'a>) -> NamedFiles<'a> {
         | Task::Fall { design, .. }
         | Task::Matrix { design }
         | Task::Files { design }
-        | Task::Margin { design, .. } => only(Some(design)),
+        | Task::Margin { design, .. }
+        | Task::Cycles { design, .. } => only(Some(design)),
         Task::Checked { design, report, .. } => NamedFiles {
             report: Some(report),
             ..only(Some(design))

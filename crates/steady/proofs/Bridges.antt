@@ -1,7 +1,7 @@
 -- From what is found in the network of a run to all runs of its design.
 use Rattle.std.proofs.Common.{◌≡◌, ℕ, ℤ, ◌+◌, ◌-◌, ◌<◌, ◌≤◌, List, [], ◌∷◌, All, Option, Some, None, IfSome, ap, subst, arith}
 use Rattle.std.specs.List.{AllZip}
-use Rattle.std.proofs.lemmas.List.Elements.{All-head, All-tail}
+use Rattle.std.proofs.lemmas.List.Elements.{All-cons, All-head, All-nil, All-tail}
 use Rattle.itv_base.specs.Range.{Allows, Ends}
 use Rattle.itv_base.specs.declared.names.Side.{Side}
 use Rattle.itv_base.specs.declared.names.Side.TheVariants.{Lower, Upper}
@@ -27,7 +27,7 @@ use Rattle.steady.specs.Found.{IsRowFound, IsRunBound, IsRunFound, IsRunOf, IsSt
 use Rattle.steady.specs.Later.{IsLater}
 use Rattle.steady.specs.Laws.{SteadyBoundIsAlways, SteadyRuns}
 use Rattle.steady.specs.Steady.{AttainSteadily, IsPeriodOf}
-use Rattle.steady.specs.Step.{HoldsIn, IsBoundIn, IsFoundIn, IsLaterIn, IsRowIn, IsSinceIn, IsSteadyIn, IsWholeRun}
+use Rattle.steady.specs.Step.{HasRowTimes, HasTime, HaveTimes, HoldsIn, IsBoundIn, IsFoundIn, IsLaterIn, IsRowIn, IsSinceIn, IsSteadyIn, IsWholeRun}
 use Rattle.steady.specs.declared.design_run.DesignRun.{DesignRun}
 use Rattle.steady.specs.declared.found.Later.{Later}
 use Rattle.steady.specs.declared.found.Later.TheVariants as laters
@@ -138,6 +138,25 @@ found_over run d (found.Consistent period rows) whole is h =
       found = subst (λ (rs : List SheetRow). AllZip (IsRowFound d run.from run.cycles) rs rows.items) is.rows (rows_over run d run.rows.items rows.items is between h.found);
     }
 found_over run d found.Open whole is h = tt
+
+-- ---- numbers
+
+bound_time : (side : Side) (run : DesignRun) (row : SheetRow) (bound : RunBound) → IsBoundIn side run row bound → HasTime bound
+bound_time side run row (Closed value steady) ((times, most), some) = most.extreme.within
+bound_time side run row Unbounded h = tt
+bound_time side run row Open h = tt
+
+rows_times : (run : DesignRun) (rows : List SheetRow) (found : List RowFound) → AllZip (IsRowIn run) rows found → All HasRowTimes found
+rows_times run [] [] all = All-nil HasRowTimes
+rows_times run [] (f ∷ found) all = absurd all
+rows_times run (row ∷ rows) [] all = absurd all
+rows_times run (row ∷ rows) (f ∷ found) all =
+    All-cons HasRowTimes f found (record { greatest = bound_time Upper run row f.greatest all.0.greatest; least = bound_time Lower run row f.least all.0.least }) (rows_times run rows found all.1)
+
+pub found_times : (run : DesignRun) (outcome : RunFound) → IsFoundIn run outcome → HaveTimes outcome
+found_times run found.Inconsistent h = tt
+found_times run (found.Consistent period rows) h = rows_times run run.rows.items rows.items h.found
+found_times run found.Open h = tt
 
 -- ---- laws
 

@@ -10,6 +10,7 @@ use Rattle.itv_base.specs.declared.row_kind.RowKind.TheVariants.{Req}
 use Rattle.event_graph.specs.Bounds.{IsInconsistent}
 use Rattle.event_graph.specs.Network.{Net}
 use Rattle.event_graph.specs.Satisfying.{Satisfies}
+use Rattle.event_graph.specs.Times.{IsTime}
 use Rattle.extremes.specs.Ready.{IsReady}
 use Rattle.sheet.specs.declared.row.SheetRow.{SheetRow}
 use Rattle.sheet.specs.Rule.{RuleView}
@@ -161,6 +162,21 @@ abbrev pub IsFoundIn : DesignRun → RunFound → Type 0
 IsFoundIn run found.Inconsistent = IsInconsistent run.drawn.net
 IsFoundIn run (found.Consistent period rows) = IsConsistentIn run period rows.items
 IsFoundIn run found.Open = Unit {0}
+
+-- the numbers of a bound, of a row and of all rows are below 2^61 in absolute value, but for those of steady times
+abbrev pub HasTime : RunBound → Type 0
+HasTime (Closed value steady) = IsTime value
+HasTime Unbounded = Unit {0}
+HasTime Open = Unit {0}
+
+pub record HasRowTimes (found : RowFound) : Type 0 where
+  pub greatest : HasTime found.greatest
+  pub least : HasTime found.least
+
+abbrev pub HaveTimes : RunFound → Type 0
+HaveTimes found.Inconsistent = Unit {0}
+HaveTimes (found.Consistent period rows) = All HasRowTimes rows.items
+HaveTimes found.Open = Unit {0}
 
 -- steady times in one cycle with these periods have this separation of a row
 pub record SeparateIn (net : Net) (each : List ℤ) (row : SheetRow) (value : ℤ) : Type 0 where

@@ -48,6 +48,7 @@ impl DesignRun {
         requires few { mark_count design.sheets ≤ MAX_EVENTS }
         ensures run { IfOk result (IsRunOf design.entry from) }
         ensures whole { IfOk result IsWholeRun }
+        ensures cycles { IfOk result (λ run. run.cycles ≡ cycles_for from design.entry.cycles (rows_of design.entry)) }
         ensures answer { AgreesWith is_memory (λ run. run.drawn) result (unrolled (over (cycles_for from design.entry.cycles (rows_of design.entry)) design.entry)) }
     {
         let drawn_cycles = design.cycles();

@@ -7,7 +7,7 @@ ghost use Rattle.compose.specs.Design.{DesignView};
 ghost use Rattle.extremes.specs.Found.{IsConsistency};
 ghost use Rattle.extremes.specs.Ready.{IsReady};
 ghost use Rattle.steady.specs.Found.{IsRunFound, IsRunOf, LeavesNothingOpen};
-ghost use Rattle.steady.specs.Step.{IsFoldedFor, IsFoundIn, IsPeriodIn, IsSteadyIn, IsSteadying, IsWholeRun};
+ghost use Rattle.steady.specs.Step.{IsFoldedFor, IsFoundIn, IsPeriodIn, IsSteadyIn, IsSteadying, IsWholeRun, HaveTimes};
 
 use crate::design_run::DesignRun;
 use crate::extreme::{Extreme, extreme_of};
@@ -33,6 +33,7 @@ pub fn find(alloc: Global, run: &DesignRun, budget: u64) -> Result<RunFound, NoM
     requires most { budget ≤ MAX_BUDGET }
     ensures found { IfOk result (λ found. (d : DesignView) → IsRunOf d run.now.from run.now → IsRunFound d run.now.from run.now.cycles found) }
     ensures settles { IfOk result (LeavesNothingOpen run.now budget) }
+    ensures times { IfOk result HaveTimes }
 {
     find_in(alloc, run, budget)
 }

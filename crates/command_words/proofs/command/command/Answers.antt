@@ -1,4 +1,4 @@
-use Rattle.command_words.specs.Command.{bare_command, budget_rule, cert_rule, csv_rule, design_rule, edits_rule, job_rule, report_rule, size_rule, times_rule, together_rule, within_rule}
+use Rattle.command_words.specs.Command.{bare_command, budget_rule, cert_rule, csv_rule, design_rule, edits_rule, from_rule, job_rule, report_rule, size_rule, times_rule, together_rule, within_rule}
 use Rattle.command_words.proofs.Building.{added, added_last}
 use Rattle.command_words.proofs.command.command.Goals as goal
 
@@ -14,4 +14,5 @@ returns c =
     let eight = added _ _ _ _ together_rule c.in_ok-arg-8.ensures c.text_option-3.ensures.own seven c.text_option-3.ensures.rule in
     let nine = added _ _ _ _ times_rule c.in_ok-arg-9.ensures c.text_option-4.ensures.own eight c.text_option-4.ensures.rule in
     let ten = added _ _ _ _ within_rule c.in_ok-arg-10.ensures c.within_option.ensures.own nine c.within_option.ensures.rule in
-    record { command = added_last _ _ _ _ design_rule c.arg-11.ensures c.design_argument.ensures.own ten c.design_argument.ensures.rule }
+    let eleven = added _ _ _ _ from_rule c.in_ok-arg-11.ensures c.from_option.ensures.own ten c.from_option.ensures.rule in
+    record { command = added_last _ _ _ _ design_rule c.arg-12.ensures c.design_argument.ensures.own eleven c.design_argument.ensures.rule }

@@ -1,6 +1,6 @@
 use Rattle.std.proofs.Common.{option_map, refl}
 use Rattle.design_gen.specs.Files.{design_files}
-use Rattle.command_words.specs.Task.{searched, planned, checked, fall, files, matrix, generated, whatif, margin, measure}
+use Rattle.command_words.specs.Task.{searched, planned, checked, cycles, fall, files, matrix, generated, whatif, margin, measure}
 use Rattle.itv_cli.proofs.Fetching.{opens_made, opens_shelf}
 use Rattle.itv_cli.proofs.opening.open.Goals as goal
 
@@ -50,3 +50,8 @@ pub returns-in-Measure-clause-opens : goal.returns-in-Measure-clause-opens
 returns-in-Measure-clause-opens g c =
     rw c.in-Measure.is
     (opens_shelf (g.H.Shelf.state c.args.shelf.now) (g.H.Shelf.state c.open_measure.new.shelf) (measure c.in-Measure.design.now c.in-Measure.times.now c.in-Measure.within) c.open_measure.result refl c.open_measure.ensures.opens)
+
+pub returns-in-Cycles-clause-opens : goal.returns-in-Cycles-clause-opens
+returns-in-Cycles-clause-opens g c =
+    rw c.in-Cycles.is
+    (opens_shelf (g.H.Shelf.state c.args.shelf.now) (g.H.Shelf.state c.open_cycles.new.shelf) (cycles c.in-Cycles.design.now c.in-Cycles.from c.in-Cycles.budget) c.open_cycles.result refl c.open_cycles.ensures.opens)

@@ -5,7 +5,7 @@ use Rattle.design_reading.specs.Design.{drawn_at, plan_at}
 use Rattle.design_reading.specs.FileReading.{FileReading, gives, ◌>>=◌}
 use Rattle.design_reading.proofs.Opens.{opens_then, opens_up}
 use Rattle.itv_cli.specs.declared.planned_network.PlannedNetwork as code
-use Rattle.itv_cli.proofs.Composing.{drawn_composed}
+use Rattle.itv_cli.proofs.Composing.{drawn_composed, drawn_within}
 use Rattle.itv_cli.proofs.planned_network.open_planned.Goals as goal
 
 -- a plan with the network that it draws, without where they lie in memory
@@ -38,3 +38,7 @@ returns-clause-opens g c =
 pub returns-clause-composed : goal.returns-clause-composed
 returns-clause-composed g c =
     drawn_composed (g.H.Shelf.state c.open_plan.new.shelf) c.in_ok-plan.plan c.in_ok-drawn.drawn (c.in_ok-drawn.ensures.draws (g.H.Shelf.state c.open_plan.new.shelf)).0
+
+pub returns-clause-within : goal.returns-clause-within
+returns-clause-within g c =
+    drawn_within (g.H.Shelf.state c.open_plan.new.shelf) c.in_ok-plan.plan c.in_ok-drawn.drawn (c.in_ok-drawn.ensures.draws (g.H.Shelf.state c.open_plan.new.shelf)).0
