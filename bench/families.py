@@ -1,16 +1,18 @@
 #!/usr/bin/env python3
 """Families of networks as they come up in designs, and formulas: each is made of a size and a seed.
 
-    bench/families.py [--built=PROGRAM] [--plain=PROGRAM] [--before=PROGRAM] [--z3] [FAMILY ..]
+    bench/families.py [--built=PROGRAM] [--plain=PROGRAM] [--before=PROGRAM] [--z3] [--asked] [--clasp] [FAMILY ..]
     bench/families.py --proofs --built=PROGRAM [FAMILY ..]
 
 Runs programs in turn on the hardest row of each network: job settle of a built `itv`, the plain search of bench/settle, job settle of an earlier
-`itv`, and z3. The hardest row goes from the middle to the end where a family has two. Each run has 5 seconds of the processor and 500 MB, and one
-of z3 has 20 seconds and 4 GB. A time is the least of up to ten runs: no turn begins after 2 seconds. z3 runs once.
+`itv`, and solvers: the optimiser of z3, and with --asked and --clasp z3 and clasp by many questions (questions.py). The hardest row goes from the
+middle to the end where a family has two. Each run has 5 seconds of the processor and 500 MB, and one of a solver has 20 seconds and 4 GB. A time is
+the least of up to ten runs: no turn begins after 2 seconds. A solver runs once.
 
 Prints a line for each family and size: the processor seconds of each program for both bounds, for the seeds one after another; the most megabytes
 of the first program; the greatest ratio of a seed's seconds to those of the plain search and of the program before, where both ended. `cut` says
-that a run was ended, `memory` that it found none, and `spent` that a bound is left open. z3 is asked for seed after seed until it took 10 seconds.
+that a run was ended, `memory` that it found none, `spent` that a bound is left open, and `wide` that ranges are too large for clasp. A solver is asked
+for seed after seed until it took 10 seconds.
 `DIFFERENT` says that two programs that ended gave different bounds.
 
 With `--proofs` the line has the seconds of job settle, of job settle with its proofs, and of job confirm, which has to accept their text. Those of
@@ -24,23 +26,16 @@ import tempfile
 from dataclasses import dataclass
 
 from limited import run
-from networks import Network, dense_linear, few_choices, layered, nearby, open_linear
+from hard_families import alternation, deep_contradiction, feedback, grid, near_equal, open_shop, parity, pigeons, two_clocks, weights, wide
+from networks import Network, dense_linear, events, few_choices, layered, nearby, open_linear, span
 from solvers import both_of, smt_of_both
 from tables import bound_lines, lay_out, row, seconds_of
+
+HERE = os.path.dirname(os.path.realpath(__file__))
 
 
 def named(family, size, seed):
     return Network(f"{family}, {size}, seed {seed}", 0)
-
-
-def events(net, count=1):
-    net.events += count
-    return list(range(net.events - count, net.events))
-
-
-def span(rng, low, high, width):
-    least = rng.randrange(low, high)
-    return least, least + rng.randrange(0, width + 1)
 
 
 def pipeline(size, seed):
@@ -244,6 +239,18 @@ FAMILIES = {
     "formula35": lambda size, seed: formula(size, seed, 3.5),
     "formula": formula,
     "formula50": lambda size, seed: formula(size, seed, 5.0),
+    "alternate": alternation,
+    "alternate10": lambda size, seed: alternation(size, seed, 10, 400),
+    "grid": grid,
+    "wide": wide,
+    "near-equal": near_equal,
+    "weights": weights,
+    "feedback": feedback,
+    "two-clocks": two_clocks,
+    "deep": deep_contradiction,
+    "open-shop": open_shop,
+    "parity": parity,
+    "pigeons": pigeons,
 }
 
 # The sizes of each family that are measured, and how many seeds of each.
@@ -252,13 +259,15 @@ MEASURED = {
     "clock": ((300, 1000), 3), "pipeline": ((300, 1000), 3), "latest": ((300, 1000), 3), "nearby": ((300, 1000), 3), "nearby-latest": ((300, 1000), 3),
     "few": ((3000, 10_000, 16_000), 1), "few-both": ((3000, 10_000, 16_000), 1), "linear": ((1000, 10_000, 16_000), 1),
     "linear-open": ((1000, 10_000, 16_000), 1), "jobs": ((5, 6, 7, 8), 1), "formula35": ((50, 100, 150, 200), 2),
-    "formula": ((20, 50, 100, 150, 200), 4), "formula50": ((50, 100, 150, 200), 2),
+    "formula": ((20, 50, 100, 150, 200), 4), "formula50": ((50, 100, 150, 200), 2), "alternate": ((300, 1000), 2), "alternate10": ((300, 1000), 2),
+    "grid": ((400, 1024), 2), "wide": ((200, 700), 2), "near-equal": ((300, 1000), 1), "weights": ((1000,), 2), "feedback": ((300, 1000), 2),
+    "two-clocks": ((1000,), 2), "deep": ((100, 300), 2), "open-shop": ((4, 5, 6), 2), "parity": ((8, 12, 16), 2), "pigeons": ((7, 8, 9), 1),
 }
 
 # The turns that programs take in running: a turn after the second second is the last one.
 MOST_TURNS, LAST_TURN = 10, 2.0
-# After so many seconds with the seeds of a family and size z3 is not asked for further ones.
-MOST_OF_Z3 = 10.0
+# After so many seconds with the seeds of a family and size a solver is not asked for further ones.
+MOST_OF_SOLVER = 10.0
 
 
 @dataclass
@@ -277,15 +286,24 @@ class Measured:
         return seconds_of(self.took) if self.is_settled() else f"{self.end} after {seconds_of(self.took)}"
 
 
+# The solvers, each with the program that is run.
+SOLVERS = {"z3": "z3", "asked": "z3", "clasp": "clasp"}
+
+
 class Program:
     """A program that bounds the row of a network on both sides. Its kind is its word on the command line."""
 
-    HEADINGS = {"built": "job settle", "plain": "Rust", "before": "job settle before", "z3": "z3"}
+    HEADINGS = {"built": "job settle", "plain": "Rust", "before": "job settle before", "z3": "z3", "asked": "z3, asked", "clasp": "clasp"}
 
     def __init__(self, kind, path):
         self.kind, self.path = kind, path
 
+    def is_solver(self):
+        return self.kind in SOLVERS
+
     def run_on(self, net, folder):
+        if self.kind in ("asked", "clasp"):
+            return self.asked_on(net, folder)
         if self.kind == "z3":
             lay_out({"both.smt2": smt_of_both(net)}, folder)
             done = run([self.path, "both.smt2"], folder, seconds=20, size=4_000_000_000)
@@ -304,11 +322,21 @@ class Program:
         return Measured(done.took, done.room, tuple(dict.fromkeys(says)), end)
 
 
+    def asked_on(self, net, folder):
+        """What a solver takes that is asked many questions (questions.py)."""
+        lay_out({"network": net.lines()}, folder)
+        words = [sys.executable, os.path.join(HERE, "questions.py"), self.path, "network"]
+        done = run(words, folder, seconds=20, size=4_000_000_000)
+        *says, last = done.printed.decode().splitlines() or ["seconds 20"]
+        end = "cut" if done.status != 0 else "wide" if says == ["wide"] else ""
+        return Measured(float(last.removeprefix("seconds ")), done.room, tuple(says), end)
+
+
 def measured(programs, net, folder):
     """What each program takes for a network, by their kinds. They run in turn, so that all meet the same other work of the machine. One that does not
-    settle the network runs once, and so does z3."""
+    settle the network runs once, and so do solvers."""
     best, so_far = {program.kind: program.run_on(net, folder) for program in programs}, 0.0
-    again = [program for program in programs if program.kind != "z3" and best[program.kind].is_settled()]
+    again = [program for program in programs if not program.is_solver() and best[program.kind].is_settled()]
     for _ in range(MOST_TURNS - 1):
         if so_far > LAST_TURN:
             break
@@ -345,7 +373,7 @@ def measure(programs, family, size):
             of = measured(asked, net, folder)
         results.append(of)
         differs |= len({found.says for found in of.values() if found.is_settled()}) > 1
-        asked = [program for program in asked if program.kind != "z3" or of["z3"].is_settled() and total(results, "z3") < MOST_OF_Z3]
+        asked = [program for program in asked if not program.is_solver() or of[program.kind].is_settled() and total(results, program.kind) < MOST_OF_SOLVER]
     first = programs[0].kind
     cells = [", ".join(of[program.kind].cell() for of in results if program.kind in of) for program in programs]
     cells.insert(1, f"{max(of[first].room for of in results):.0f}")
@@ -417,7 +445,8 @@ def main():
         measure_proofs(os.path.abspath(given["built"]), names)
         return
     programs = [Program(kind, os.path.abspath(path)) for kind, path in given.items()]
-    measure_families(programs + [Program("z3", "z3")] * ("--z3" in sys.argv), names)
+    solvers = [Program(kind, path) for kind, path in SOLVERS.items() if f"--{kind}" in sys.argv]
+    measure_families(programs + solvers, names)
 
 
 if __name__ == "__main__":

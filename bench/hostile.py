@@ -19,6 +19,7 @@ import tempfile
 sys.path.insert(0, os.path.join(os.path.dirname(os.path.realpath(__file__)), os.pardir, "tools", "dev"))
 
 from families import formula, ring
+from hard_families import pigeons
 from job_list import jobs_of
 from limited import SECONDS, run
 from networks import Network, layered
@@ -93,23 +94,6 @@ def beside_a_wide_end():
     net.late(1, [(2, None, -5), (0, None, 10)])
     net.lin(1, 2, None, 4)
     net.lin(3, 4, 0, WIDE)
-    return net
-
-
-def pigeons(holes):
-    """One pigeon more than holes: a latest rule says that a pigeon has some hole, an earliest one that two have not the same."""
-    count = holes + 1
-    net = named("", 2 + count * holes, [(0, 2)])
-    has = lambda pigeon, hole: 2 + pigeon * holes + hole
-    net.lin(0, 1, 1, 1)
-    for event in range(2, net.events):
-        net.lin(0, event, 0, 1)
-    for pigeon in range(count):
-        net.late(1, [(has(pigeon, hole), None, 0) for hole in range(holes)])
-    for hole in range(holes):
-        for pigeon in range(count):
-            for other in range(pigeon):
-                net.early(0, [(has(pigeon, hole), 0, None), (has(other, hole), 0, None)])
     return net
 
 

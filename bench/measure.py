@@ -343,7 +343,8 @@ def main():
         subprocess.run(["cargo", "build", "--release", "--offline", "--quiet"], cwd=os.path.join(HERE, "settle"), check=True)
         plain = os.path.join(HERE, "settle", "target", "release", "settle")
         programs = [families.Program("built", program), families.Program("plain", plain)]
-        families.measure_families(programs + [families.Program("z3", "z3") for _ in there(SOLVERS[:1])], [])
+        solvers = [families.Program(kind, path) for kind, path in families.SOLVERS.items() if shutil.which(path)]
+        families.measure_families(programs + solvers, [])
     if which in ("proofs", "all"):
         families.measure_proofs(program, [])
     if which in ("bounds", "all"):

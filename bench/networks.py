@@ -56,6 +56,36 @@ class Network:
         return files
 
 
+def network_of(text):
+    """The network that has these lines."""
+    end = lambda word: None if word == "*" else int(word)
+    net = Network("", 0)
+    for line in text.splitlines():
+        kind, *words = line.split()
+        if kind == "events":
+            net.events = int(words[0])
+        elif kind == "row":
+            net.rows.append((int(words[0]), int(words[1])))
+        elif kind == "lin":
+            net.lin(int(words[0]), int(words[1]), end(words[2]), end(words[3]))
+        else:
+            causes = [(int(words[at]), end(words[at + 1]), end(words[at + 2])) for at in range(2, len(words), 3)]
+            net.constraints.append((kind, int(words[0]), causes))
+    return net
+
+
+def events(net, count=1):
+    """More events of a network."""
+    net.events += count
+    return list(range(net.events - count, net.events))
+
+
+def span(rng, low, high, width):
+    """A range by chance, with its low end in one range and of at most this width."""
+    least = rng.randrange(low, high)
+    return least, least + rng.randrange(0, width + 1)
+
+
 def letters(n):
     word = ""
     while True:

@@ -183,31 +183,46 @@ function putHead(canvas, tip, from) {
 
 /** The label of an arc, where it covers least of marks and of other labels. If there is no free place for the whole of it, it may be cut short. */
 function putLabel(canvas, text, bent, { marks, taken }) {
-  const box = labelPlaces(canvas, text, bent)
-    .map((each) => ({ ...each, cost: each.cost + OVER_MARK * covered(each, marks) + OVER_LABEL * covered(each, taken) }))
-    .reduce((best, each) => (each.cost < best.cost ? each : best));
-  taken.push(box);
-  canvas.put(`<rect class="label" x="${point(box.left)}" y="${point(box.top)}" width="${point(box.right - box.left)}" height="14" rx="2"/>`);
-  canvas.text(box.x, box.y + 4, box.text, "label");
+  let best = { cost: Infinity };
+  for (const place of labelPlaces(canvas, text)) {
+    // What a place costs by itself is known before its box is.
+    if (place.cost >= best.cost) continue;
+    const box = boxAt(canvas, place, bent);
+    const over = place.cost + OVER_LABEL * covered(box, taken);
+    if (over >= best.cost) continue;
+    const cost = over + OVER_MARK * covered(box, marks);
+    if (cost < best.cost) best = { ...box, cost };
+  }
+  taken.push(best);
+  canvas.put(`<rect class="label" x="${point(best.left)}" y="${point(best.top)}" width="${point(best.right - best.left)}" height="14" rx="2"/>`);
+  canvas.text(best.x, best.y + 4, best.text, "label");
 }
 
-/** The places where the label of an arc may be: boxes with what each costs by itself. */
-function labelPlaces(canvas, text, bent) {
+/** The places where the label of an arc may be: of each the text with half its room, a share of the arc's length, how far from the arc it is, and what it costs by
+ * itself. */
+function labelPlaces(canvas, text) {
   const [whole, cut] = [fitted(text, Math.min(LABEL_MOST, canvas.width - canvas.left - PAD)), fitted(text, CUT_LABEL)];
   const texts = whole === cut ? [[whole, 0]] : [[whole, 0], [cut, CUT]];
-  return texts.flatMap(([shown, cost]) =>
-    LABEL_PLACES.map(([share, aside], number) => {
-      const half = room(shown) / 2 + 3;
-      const [x, onArc] = bent.at(share);
-      const y = Math.max(onArc + aside, 8);
-      const middle = Math.max(Math.min(x, canvas.width - half), canvas.left + half);
-      return { text: shown, left: middle - half, right: middle + half, top: y - 7, bottom: y + 7, x: middle, y, cost: cost + FURTHER * number };
-    }),
-  );
+  return texts.flatMap(([shown, cost]) => {
+    const half = room(shown) / 2 + 3;
+    return LABEL_PLACES.map(([share, aside], number) => ({ text: shown, half, share, aside, cost: cost + FURTHER * number }));
+  });
+}
+
+/** The box of a label at a place. */
+function boxAt(canvas, { text, half, share, aside }, bent) {
+  const [onLine, onArc] = bent.at(share);
+  const y = Math.max(onArc + aside, 8);
+  const x = Math.max(Math.min(onLine, canvas.width - half), canvas.left + half);
+  return { text, left: x - half, right: x + half, top: y - 7, bottom: y + 7, x, y };
 }
 
 /** How many pixels of boxes a box covers. */
 function covered(box, others) {
-  const shared = (other) => Math.max(Math.min(box.right, other.right) - Math.max(box.left, other.left), 0) * Math.max(Math.min(box.bottom, other.bottom) - Math.max(box.top, other.top), 0);
-  return others.reduce((sum, other) => sum + shared(other), 0);
+  let sum = 0;
+  for (const other of others) {
+    const high = Math.min(box.bottom, other.bottom) - Math.max(box.top, other.top);
+    if (high > 0) sum += Math.max(Math.min(box.right, other.right) - Math.max(box.left, other.left), 0) * high;
+  }
+  return sum;
 }

@@ -2,6 +2,7 @@
 
 import { nameOf } from "../core/answer.js";
 import { blocksOf, edgeLink, originLink } from "./answer_pane.js";
+import { everyCyclePane } from "./every_cycle_pane.js";
 import { drawingOf } from "../draw/drawing.js";
 import { measuredPane } from "./measured_pane.js";
 import { Sheet, isNetlist } from "../core/design.js";
@@ -21,12 +22,18 @@ export function jobTabs(analysis, jobs) {
     { id: "bounds", label: "answer", shown: true },
     { id: "why", label: "why", shown: Boolean(analysis.report) },
     { id: "margin", label: "margin", shown: hasRows && jobs.includes("margin") },
+    { id: "cycles", label: "every cycle", shown: hasRows && jobs.includes("cycles") && isOfCycles(analysis.design) },
     { id: "settle", label: "other search (settle)", shown: hasRows },
     { id: "redraw", label: "broken times (redraw)", shown: fails },
     { id: "matrix", label: "all pairs (matrix)", shown: Boolean(analysis.report) },
     { id: "lint", label: "warnings (lint)", shown: Boolean(analysis.report) },
     { id: "measured", label: "measured", shown: Boolean(analysis.report && analysis.capture) },
   ].filter((tab) => tab.shown);
+}
+
+/** Whether a design has cycles: it is a netlist, or a sheet with an edge that leads to a later cycle. */
+function isOfCycles(design) {
+  return !design.alone || design.parts[0].sheet.edges.some((edge) => edge.shift > 0);
 }
 
 /** The raw text of a job, with the words that gave it. */
@@ -44,7 +51,7 @@ export function rawOf(printed, isOpen = false) {
 export function paneOf(analysis, job) {
   if (job === "measured") return [[job, measuredPane(analysis)]];
   const printed = analysis.texts.get(job);
-  const shown = { why: whyPane, settle: settlePane, redraw: redrawPane, matrix: matrixPane, margin: marginPane }[job];
+  const shown = { why: whyPane, cycles: everyCyclePane, settle: settlePane, redraw: redrawPane, matrix: matrixPane, margin: marginPane }[job];
   const isRaw = !shown || (job === "why" && !analysis.report);
   const raw = ["raw", rawOf(printed, isRaw || job === "settle" || job === "redraw")];
   if (job === "bounds") return [...blocksOf(analysis), ["raw", rawOf(printed)]];

@@ -104,20 +104,28 @@ class Browser:
             time.sleep(0.05)
         raise BrowserError("nothing was saved")
 
-    def memory(self):
-        """The resident memory of the browser's processes, in bytes."""
-        parents, pages = {}, {}
+    def family(self):
+        """The processes of the browser by their numbers: of each what /proc says of it, from its state on, and its resident pages."""
+        stats, pages = {}, {}
         for name in os.listdir("/proc"):
             try:
                 with open(f"/proc/{name}/stat", encoding="ascii", errors="replace") as stat, open(f"/proc/{name}/statm", encoding="ascii") as statm:
-                    parents[name] = stat.read().rpartition(")")[2].split()[1]
+                    stats[name] = stat.read().rpartition(")")[2].split()
                     pages[name] = int(statm.read().split()[1])
             except OSError:
                 continue
-        family = {str(process.pid) for process in self.processes}
-        while more := {name for name, parent in parents.items() if parent in family} - family:
-            family |= more
-        return sum(pages.get(name, 0) for name in family) * os.sysconf("SC_PAGE_SIZE")
+        names = {str(process.pid) for process in self.processes}
+        while more := {name for name, stat in stats.items() if stat[1] in names} - names:
+            names |= more
+        return {int(name): (stats[name], pages[name]) for name in names if name in pages}
+
+    def memory(self):
+        """The resident memory of the browser's processes, in bytes."""
+        return sum(pages for _, pages in self.family().values()) * os.sysconf("SC_PAGE_SIZE")
+
+    def processor_time(self):
+        """The processor seconds that the browser's processes took up to now."""
+        return sum(int(stat[11]) + int(stat[12]) for stat, _ in self.family().values()) / os.sysconf("SC_CLK_TCK")
 
 
 class Chromium(Browser):

@@ -5,6 +5,7 @@ import glob
 import json
 import os
 import select
+import signal
 import socket
 import subprocess
 import tempfile
@@ -27,6 +28,19 @@ TOUCH = {"Start": [{"type": "pointerDown", "button": 0}], "Move": [], "End": [{"
 WATCH = """(() => { if (window.thrown) return; window.thrown = [];
 addEventListener('error', event => window.thrown.push(String(event.error || event.message)));
 addEventListener('unhandledrejection', event => window.thrown.push(String(event.reason))); })()"""
+
+
+def line_of(pipe):
+    """The line that a screen writes when it is ready. It has to be read whole: a screen that can't write its end does not start."""
+    line = b""
+    while not line.endswith(b"\n"):
+        if not select.select([pipe], [], [], 60)[0]:
+            raise BrowserError("Xvfb did not start in time")
+        piece = os.read(pipe, 16)
+        if not piece:
+            raise BrowserError("Xvfb did not start")
+        line += piece
+    return line.decode().strip()
 
 
 class WebDriver(Browser):
@@ -219,13 +233,11 @@ class WebKit(WebDriver):
                     raise
 
     def begin(self):
-        """Starts a screen, the driver, and by it the browser. On a busy machine the driver sometimes waits for its browser for ever."""
+        """Starts a screen, the driver, and by it the browser. A driver waits for ever for a browser that does not start."""
         read_display, write_display = os.pipe()
         self.start([installed("Xvfb"), "-displayfd", str(write_display), "-screen", "0", "2000x1800x24"], pass_fds=(write_display,))
         os.close(write_display)
-        if not select.select([read_display], [], [], 60)[0]:
-            raise BrowserError("Xvfb did not start")
-        display = os.read(read_display, 16).decode().strip()
+        display = line_of(read_display)
         os.close(read_display)
         with socket.socket() as free:
             free.bind(("127.0.0.1", 0))
@@ -256,11 +268,21 @@ class WebKit(WebDriver):
         raise BrowserError("WebKitWebDriver did not answer")
 
     def close(self):
-        if self.session:
-            self.call("", method="DELETE")
+        """Ends the session and all processes. One that runs WebAssembly without an end does not end by itself."""
+        family = self.family()
+        try:
+            if self.session:
+                self.call("", method="DELETE", seconds=20)
+        except (OSError, BrowserError):
+            pass
         for process in reversed(self.processes):
             process.terminate()
             process.wait()
+        for number in family:
+            try:
+                os.kill(number, signal.SIGKILL)
+            except ProcessLookupError:
+                pass
         self.home.cleanup()
 
     def call(self, path, body=None, method="POST", seconds=SILENCE):

@@ -41,7 +41,7 @@ use Rattle.job_settle.specs.Settle.{AnswersSettle, IsSettleText}
 use Rattle.measured_times.specs.Runs.{MeasuredRun, runs_of}
 use Rattle.measured_times.specs.declared.fault.TimesFault.{TimesFault}
 use Rattle.measured_times.specs.declared.file.TheConstants.{MAX_TIMES_BYTES}
-use Rattle.job_measure.specs.Measure.{AnswersMeasure, answer_by}
+use Rattle.job_measure.specs.Measure.{AnswersMeasure, verdict_of}
 use Rattle.range_edits.specs.EditsFile.{edits_of}
 use Rattle.range_edits.specs.declared.edit.RangeEdit.{RangeEdit}
 use Rattle.range_edits.specs.declared.fault.EditsFault.{EditsFault}
@@ -54,8 +54,8 @@ use Rattle.command_words.specs.declared.job.SearchJob.TheVariants.{Bounds, Settl
 use Rattle.command_words.specs.declared.job.CheckJob.TheVariants.{Check, Confirm}
 use Rattle.command_words.specs.Task as said
 use Rattle.itv_cli.specs.Task.{checked, generated, matrix, measure, searched, taken, task, whatif}
-use Rattle.itv_cli.specs.Job.{Answers, edits_at, made_for, matrix_at, opening, times_at, times_in, turns_for, whatif_at}
-use Rattle.itv_cli.specs.Step.{edits_in}
+use Rattle.itv_cli.specs.Job.{Answers, edits_at, made_for, matrix_at, opening, turns_for, whatif_at}
+use Rattle.itv_cli.specs.Step.{edits_in, times_at, times_in}
 use Rattle.itv_cli.specs.Run.{Call, HasRead, ReadsOver, HasAnswered, OutcomeMeans, outcome_of}
 use Rattle.itv_cli.specs.declared.outcome.Outcome.{Outcome}
 use Rattle.itv_cli.specs.declared.outcome.Outcome.TheVariants as ends
@@ -329,9 +329,9 @@ module _ (call : Call) (files : Files) (within : ℕ) (drawn : Drawn) (list : Li
       (subst (λ (d : Drawn). AnswersMeasure d within runs answer m.text) same (subst (λ g. Answers g answer m.text) (sym is) a.answers))
 
   pub measure_wrote : (result : Outcome) → OutcomeMeans call result → (end : IsMeasureEnd result)
-      → (text : List ℕ) × AnswersMeasure drawn within list (answer_by end.0) text × (call.sink_after ≡ grown call.sink_before text)
+      → (text : List ℕ) × AnswersMeasure drawn within list (verdict_of end.0 end.1).1 text × (call.sink_after ≡ grown call.sink_before text)
   measure_wrote result means end =
-      let m = answered_by call result (answer_by end.0) (never_measured end.0) means end.1 in (m.text, measure_said (answer_by end.0) m, m.wrote)
+      let m = answered_by call result (verdict_of end.0 end.1).1 (never_measured end.0 end.1) means end.2 in (m.text, measure_said (verdict_of end.0 end.1).1 m, m.wrote)
 
 -- ---- job matrix
 

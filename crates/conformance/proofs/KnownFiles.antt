@@ -1,7 +1,8 @@
 -- What the ends of runs say over known files.
-use Rattle.std.proofs.Common.{◌≡◌, ◌<◌, ◌∙◌, ◌⊎◌, inl, inr, ℕ, ℤ, ◌≤ℤ◌, ◌<ℤ◌, Bool, true, false, if◌then◌else◌, nat_lt, List, [], ◌++◌, length, take, Option, Some, None, Result, Ok, Err, IfSome, IsSomeAnd, refl, sym, ap, subst, arith}
+use Rattle.std.proofs.Common.{◌≡◌, ◌==◌, ◌&&◌, ◌||◌, ◌<◌, ◌∙◌, ◌⊎◌, inl, inr, ℕ, ℤ, ◌≤ℤ◌, ◌<ℤ◌, Bool, true, false, if◌then◌else◌, nat_lt, List, [], ◌++◌, length, take, Option, Some, None, Result, Ok, Err, IfSome, IsSomeAnd, refl, sym, ap, subst, arith}
 use Rattle.std.proofs.lemmas.Int.{ints}
 use Rattle.std.proofs.lemmas.Option.{same_Some}
+use Rattle.std.specs.List.{list_any}
 use Rattle.std.specs.Option.{option_map_or}
 use Rattle.event_graph.specs.Bounds.{IsInconsistent}
 use Rattle.event_graph.specs.Edges.{cause_choices}
@@ -37,10 +38,8 @@ use Rattle.design_reading.specs.declared.refusal_place.RefusalPlace.TheVariants.
 use Rattle.design_reading.specs.declared.refusal.Refusal.TheVariants as refusals
 use Rattle.measured_times.specs.Runs.{runs_of}
 use Rattle.measured_times.specs.declared.file.TheConstants.{MAX_TIMES_BYTES}
-use Rattle.job_measure.specs.Lines.{lines_of as run_lines}
-use Rattle.job_measure.specs.Measure.{all_verdict, answer_by as measured_answer}
-use Rattle.job_measure.specs.declared.tally.RunVerdict.{RunVerdict}
-use Rattle.job_measure.specs.declared.tally.RunVerdict.TheVariants.{Fail, Near, Pass, Unseen}
+use Rattle.job_measure.specs.declared.line.RunLine.{RunLine}
+use Rattle.job_measure.specs.Measure.{lines_of as run_lines, verdict_of as measured_by, whole_verdict}
 use Rattle.range_edits.specs.EditsFile.{edits_of}
 use Rattle.range_edits.specs.declared.edit.RangeEdit.{RangeEdit}
 use Rattle.range_edits.specs.declared.file.TheConstants.{MAX_EDITS_BYTES}
@@ -80,8 +79,8 @@ use Rattle.job_lint.specs.Lint.{answer_by}
 use Rattle.job_lint.specs.Lines.{is_clean, lines_of}
 use Rattle.job_margin.specs.Text.{are_left_open, end_of}
 use Rattle.job_why.specs.Text.{ending_of as explained_ending}
-use Rattle.itv_cli.specs.Job.{Answers, edits_at, fall_at, fall_in, list_at, made_for, matrix_at, opening, planned_at, run_at, times_at, times_in, whatif_at}
-use Rattle.itv_cli.specs.Step.{edits_in}
+use Rattle.itv_cli.specs.Job.{Answers, edits_at, fall_at, fall_in, list_at, made_for, matrix_at, opening, planned_at, run_at, whatif_at}
+use Rattle.itv_cli.specs.Step.{edits_in, times_at, times_in}
 use Rattle.itv_cli.specs.Run.{Call, HasRead, Completes, OutcomeBy, ReadsOver, FilesDecide, HasAnswered, IsRefused, OutcomeMeans, Wrote, call_of}
 use Rattle.itv_cli.specs.PlannedRun.{IsDesignOf, RunView}
 use Rattle.itv_cli.specs.declared.outcome.Outcome.{Outcome}
@@ -265,11 +264,15 @@ never_from : (drawn : Drawn) (budget : ℕ) (edits : List RangeEdit) (text : Lis
 never_from drawn budget edits text a = never_refused (ending_of (kinds_of drawn.rows) (last_note a.note (notes_of a.later)).found (last_note a.note (notes_of a.later)).answers) a.is_answer
 
 -- a job of measured times refuses nothing for what it found
-pub never_measured : (verdict : RunVerdict) → measured_answer verdict ≡ answers.DesignRefused → ⊥
-never_measured Pass e = cc e
-never_measured Near e = cc e
-never_measured Fail e = cc e
-never_measured Unseen e = cc e
+pub never_measured : (is_broken is_short : Bool) → (measured_by is_broken is_short).1 ≡ answers.DesignRefused → ⊥
+never_measured true is_short e = cc e
+never_measured false true e = cc e
+never_measured false false e = cc e
+
+never_whole : (lines : List RunLine) → (whole_verdict lines).1 ≡ answers.DesignRefused → ⊥
+never_whole lines e =
+    never_measured (list_any (λ (line : RunLine). line.about.is_judged && nat_lt 0 line.tally.broken) lines)
+    (list_any (λ (line : RunLine). line.about.is_judged && (nat_lt 0 line.tally.near || line.tally.runs == 0)) lines) e
 
 -- ---- job cycles
 
@@ -357,7 +360,7 @@ refused_redraws files (measure design times within) bytes own h =
     let (file, fetched, behind) = told_behind files (file_at Times times MAX_TIMES_BYTES) (times_in within drawn) h.given comes in
     let (runs, had, is) = told_then files (at Times refusals.Times (runs_of drawn.net.events file)) (λ rs. given.Measure drawn rs within) h.given behind in
     let answered : Answers (given.Measure drawn runs within) answers.DesignRefused bytes = subst (λ g. Answers g answers.DesignRefused bytes) (sym is) h.answers in
-    absurd (never_measured (all_verdict (run_lines drawn within runs)) (sym answered.0))
+    absurd (never_whole (run_lines drawn answered.tally) (sym answered.is_answer))
 refused_redraws files (cycles design from budget) bytes own h =
     let (both, draws, comes) = told_behind files (planned_at design) (λ p. run_at from p.0 >>= (λ run. gives (given.Cycles run budget))) h.given h.reads in
     let (run, had, is) = told_then files (run_at from both.0) (λ run. given.Cycles run budget) h.given comes in

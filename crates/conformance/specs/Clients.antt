@@ -23,8 +23,7 @@ use Rattle.design_reading.specs.declared.refusal.Refusal.{Refusal}
 use Rattle.design_reading.specs.Design.{design_at, plan_at}
 use Rattle.design_reading.specs.AskedFor.{files_at}
 use Rattle.measured_times.specs.Runs.{MeasuredRun, runs_of}
-use Rattle.job_measure.specs.Measure.{answer_by}
-use Rattle.job_measure.specs.declared.tally.RunVerdict.{RunVerdict}
+use Rattle.job_measure.specs.Measure.{verdict_of}
 use Rattle.moves.specs.Listed.{numbers_of}
 use Rattle.moves.specs.Moving.{moved_at, widened}
 use Rattle.moves.specs.Passing.{NoneBreaks}
@@ -189,7 +188,7 @@ pub record AsksCycles (given : List (List ℕ)) (files : Files) (from budget : �
 
 -- the run ended with one of the ends of job measure
 abbrev pub IsMeasureEnd : Outcome → Type 0
-IsMeasureEnd outcome = (verdict : RunVerdict) × (outcome ≡ outcome_of (answer_by verdict))
+IsMeasureEnd outcome = (is_broken : Bool) × (is_short : Bool) × (outcome ≡ outcome_of (verdict_of is_broken is_short).1)
 
 -- the words ask for the matrix of a design, and the files of the design draw a network
 pub record AsksMatrix (given : List (List ℕ)) (files : Files) (drawn : Drawn) : Type 0 where

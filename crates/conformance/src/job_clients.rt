@@ -28,7 +28,7 @@ ghost use Rattle.moves.specs.Passing.{BreaksRow, Passes};
 ghost use Rattle.job_settle.specs.Settle.{AnswersSettle};
 ghost use Rattle.range_edits.specs.declared.edit.RangeEdit.{RangeEdit};
 ghost use Rattle.measured_times.specs.Runs.{MeasuredRun};
-ghost use Rattle.job_measure.specs.Measure.{AnswersMeasure, answer_by};
+ghost use Rattle.job_measure.specs.Measure.{AnswersMeasure, verdict_of};
 ghost use Rattle.job_cycles.specs.Cycles.{AnswersCycles};
 ghost use Rattle.job_cycles.specs.Laws.{AnswerMeans};
 ghost use Rattle.steady.specs.Cycles.{cycles_for};
@@ -177,7 +177,7 @@ pub fn measured_of(
     sink: &mut SinkMem,
 ) -> Outcome
     ensures wrote { (within : ℕ) (drawn : Drawn) (runs : List MeasuredRun) → AsksMeasure words.now shelf.old.files within drawn runs
-        → (end : IsMeasureEnd result) → WroteOne sink.old sink.new (AnswersMeasure drawn within runs (answer_by end.0)) }
+        → (end : IsMeasureEnd result) → WroteOne sink.old sink.new (AnswersMeasure drawn within runs (verdict_of end.0 end.1).1) }
 {
     run(alloc, words, shelf, sink)
 }

@@ -12,7 +12,7 @@ use Rattle.design_reading.specs.Step.{Opens, stop_of}
 use Rattle.design_reading.proofs.Opens.{at_err, at_ok, opens_stop, opens_then}
 use Rattle.itv_cli.specs.declared.ready.Ready.{Ready}
 use Rattle.itv_cli.specs.declared.ready.Ready.TheVariants.{Measure}
-use Rattle.itv_cli.specs.Job.{times_in}
+use Rattle.itv_cli.specs.Step.{times_in}
 
 module _ (standing : ShelfState) (drawn : Drawn) (within : ℕ) (bytes : List ℕ) where
   -- the runs were read

@@ -84,18 +84,6 @@ abbrev pub whatif_at : List ℕ → ℕ → Drawn → FileReading Ready
 whatif_at edits budget drawn =
     if nat_lt MAX_SESSION_ROWS (length drawn.rows) then refuses Design (refusals.Limits (TooMany SessionRows (length drawn.rows))) else edits_at edits budget drawn
 
--- a drawn network with the measured times in the bytes of a file
-abbrev pub times_in : ℕ → Drawn → List ℕ → FileReading Ready
-times_in within drawn bytes = do
-  runs ← at Times refusals.Times (runs_of drawn.net.events bytes)
-  gives (ready.Measure drawn runs within)
-
--- a drawn network with the measured times of a file, which is fetched
-abbrev pub times_at : List ℕ → ℕ → Drawn → FileReading Ready
-times_at name within drawn = do
-  bytes ← file_at Times name MAX_TIMES_BYTES
-  times_in within drawn bytes
-
 -- A run of the design of a plan, over as many cycles as its rows need from a cycle on. The faults of joins come before the limits.
 abbrev pub run_at : ℕ → PlanView → FileReading RunView
 run_at from plan = do
@@ -142,7 +130,9 @@ opening (whatif design edits budget) = do
 opening (margin design list budget) = planned_at design >>= λ both. list_at both.1 list >>= λ numbers. gives (ready.Margin both.0 both.1 numbers budget)
 opening (measure design times within) = do
   drawn ← design_at design
-  times_at times within drawn
+  bytes ← file_at Times times MAX_TIMES_BYTES
+  runs ← at Times refusals.Times (runs_of drawn.net.events bytes)
+  gives (ready.Measure drawn runs within)
 opening (cycles design from budget) = do
   both ← planned_at design
   run ← run_at from both.0

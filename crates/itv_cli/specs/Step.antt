@@ -11,19 +11,20 @@ use Rattle.job_bounds.specs.Reports.{HasRowRanges}
 use Rattle.unroll.specs.declared.limit.TheConstants.{MAX_SESSION_ROWS}
 use Rattle.range_edits.specs.EditsFile.{edits_of}
 use Rattle.range_edits.specs.Subject.{IsThere}
-use Rattle.measured_times.specs.Runs.{IsRunFor}
+use Rattle.measured_times.specs.Runs.{IsRunFor, runs_of}
+use Rattle.measured_times.specs.declared.file.TheConstants.{MAX_TIMES_BYTES}
 use Rattle.job_base.specs.declared.answer.Answer.{Answer}
 use Rattle.job_base.specs.declared.unanswered.Unanswered.{Unanswered}
 use Rattle.job_base.specs.declared.unanswered.Unanswered.TheVariants as unanswered
 use Rattle.design_reading.specs.declared.stop.Stop.{Stop}
 use Rattle.design_reading.specs.declared.stop.Stop.TheVariants.{Refused, ReadFault, NoMemory}
-use Rattle.design_reading.specs.FileReading.{FileReading, at, gives, ready, refused, end_over, unread, ◌>>=◌}
+use Rattle.design_reading.specs.FileReading.{FileReading, at, file_at, gives, ready, refused, end_over, unread, ◌>>=◌}
 use Rattle.design_reading.specs.Refusal.{refusal_text, unread_text}
 use Rattle.design_plan.specs.Plan.{PlanView, sheets_on}
 use Rattle.moves.specs.declared.number_seen.NumberSeen.{NumberSeen}
 use Rattle.job_margin.specs.Named.{numbers_in}
 use Rattle.design_reading.specs.declared.refusal.Refusal.TheVariants as refusals
-use Rattle.design_reading.specs.declared.refusal_place.RefusalPlace.TheVariants.{Design, Edits}
+use Rattle.design_reading.specs.declared.refusal_place.RefusalPlace.TheVariants.{Design, Edits, Times}
 use Rattle.command_words.specs.Task.{IsBudget, Task}
 use Rattle.command_words.specs.declared.task.TheConstants.{MAX_TOLERANCE}
 use Rattle.itv_cli.specs.declared.outcome.Outcome.{Outcome}
@@ -53,6 +54,18 @@ cycles_at from budget plan = run_at from plan >>= λ run. gives (given.Cycles ru
 -- a drawn network with the edits in the bytes of a file
 abbrev pub edits_in : ℕ → Drawn → List ℕ → FileReading Ready
 edits_in budget drawn bytes = at Edits refusals.Edits (edits_of drawn bytes) >>= λ edits. gives (given.Whatif drawn edits budget)
+
+-- a drawn network with the measured times in the bytes of a file
+abbrev pub times_in : ℕ → Drawn → List ℕ → FileReading Ready
+times_in within drawn bytes = do
+  runs ← at Times refusals.Times (runs_of drawn.net.events bytes)
+  gives (given.Measure drawn runs within)
+
+-- a drawn network with the measured times of a file, which is fetched
+abbrev pub times_at : List ℕ → ℕ → Drawn → FileReading Ready
+times_at name within drawn = do
+  bytes ← file_at Times name MAX_TIMES_BYTES
+  times_in within drawn bytes
 
 -- what a job may be given
 abbrev pub IsAllowed : Ready → Type 0

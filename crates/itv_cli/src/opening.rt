@@ -10,9 +10,9 @@ ghost use Rattle.command_words.specs.declared.task.TheConstants.{MAX_FROM, MAX_T
 ghost use Rattle.compose.specs.Compose.{composed_on};
 ghost use Rattle.design_plan.specs.Plan.{sheets_on};
 ghost use Rattle.unroll.specs.declared.limit.TheConstants.{MAX_SESSION_ROWS};
-ghost use Rattle.itv_cli.specs.Job.{edits_at, fall_at, list_at, matrix_at, opening, times_at, times_in, whatif_at};
+ghost use Rattle.itv_cli.specs.Job.{edits_at, fall_at, list_at, matrix_at, opening, whatif_at};
 ghost use Rattle.itv_cli.specs.PlannedRun.{DrawsWithinLimits};
-ghost use Rattle.itv_cli.specs.Step.{IsAllowed, OpensFor, OpensMade, cycles_at, edits_in, list_in, margin_at};
+ghost use Rattle.itv_cli.specs.Step.{IsAllowed, OpensFor, OpensMade, cycles_at, edits_in, list_in, margin_at, times_at, times_in};
 ghost use Rattle.moves.specs.Listed.{numbers_of};
 
 use crate::planned_network::{PlannedNetwork, open_planned};

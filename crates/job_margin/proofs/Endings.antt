@@ -2,9 +2,8 @@
 use Rattle.std.proofs.Common.{◌≡◌, ◌+◌, ◌<◌, ◌≤◌, ℕ, zero, suc, Bool, true, false, List, [], ◌∷◌, ◌++◌, length, get_or, take, refl, sym, ap, subst, ◌∙◌, arith}
 use Rattle.std.proofs.lemmas.List.{length-replicate, take_more}
 use Rattle.std.specs.List.{AllZip}
-use Rattle.event_graph.specs.Edges.{cause_choices}
 use Rattle.drawn_networks.specs.Drawn.{Drawn}
-use Rattle.moves.specs.Networks.{IsNetFound, is_net_open}
+use Rattle.moves.specs.Networks.{IsLeft, IsNetFound, is_net_open}
 use Rattle.moves.specs.declared.net_found.NetFound.{NetFound}
 use Rattle.moves.specs.declared.net_found.NetFound.TheVariants as nets
 use Rattle.moves.specs.declared.number_seen.NumberSeen.{NumberSeen}
@@ -17,13 +16,13 @@ use Rattle.margins.proofs.Standing.{pairs_push}
 
 -- the word of what was found of the network, and what was found of the numbers
 pub ending_by : (drawn : Drawn) (budget : ℕ) (seen : List NumberSeen) (as_one : Bool) (base : NetFound) (found : List NumberFound) → IsNetFound drawn base
-    → (cause_choices drawn.net.constraints ≤ budget → is_net_open base ≡ false) → AreFoundIf (is_decided base) drawn budget seen as_one found
+    → (is_net_open base ≡ true → IsLeft drawn budget) → AreFoundIf (is_decided base) drawn budget seen as_one found
     → EndsByOf drawn budget seen as_one (word_of base) found
-ending_by drawn budget seen as_one nets.Passes found is settles are = (is, are)
-ending_by drawn budget seen as_one (nets.Breaks row) found is settles are = ((row, is), are)
-ending_by drawn budget seen as_one nets.Inconsistent found is settles are = (is, are)
-ending_by drawn budget seen as_one nets.Open found is settles are = ((λ enough. cc (settles enough)), are)
-ending_by drawn budget seen as_one nets.Spent found is settles are = ((λ enough. cc (settles enough)), are)
+ending_by drawn budget seen as_one nets.Passes found is left are = (is, are)
+ending_by drawn budget seen as_one (nets.Breaks row) found is left are = ((row, is), are)
+ending_by drawn budget seen as_one nets.Inconsistent found is left are = (is, are)
+ending_by drawn budget seen as_one nets.Open found is left are = (left refl, are)
+ending_by drawn budget seen as_one nets.Spent found is left are = (left refl, are)
 
 -- a network that was decided is not left open, and some times satisfy it
 pub decided_closed : (base : NetFound) → is_decided base ≡ true → is_net_open base ≡ false

@@ -1,10 +1,9 @@
 -- What job margin answers and writes.
-use Rattle.std.specs.Prelude.{◌≡◌, ◌≤◌, ◌&&◌, ℕ, is_some, List, [], ◌∷◌, Option, Some, None, IfSome, length, map, replicate, unwrap_or}
+use Rattle.std.specs.Prelude.{◌≡◌, ◌&&◌, ℕ, is_some, List, [], ◌∷◌, Option, Some, None, IfSome, length, map, replicate, unwrap_or}
 use Rattle.std.specs.List.{AllZip}
 use Rattle.std.specs.Option.{option_eq}
 use Rattle.std.specs.Ordering.{int_eq}
 use Rattle.event_graph.specs.Bounds.{IsInconsistent}
-use Rattle.event_graph.specs.Edges.{cause_choices}
 use Rattle.drawn_networks.specs.Drawn.{Drawn}
 use Rattle.job_base.specs.Ending.{answer_of}
 use Rattle.job_base.specs.declared.answer.Answer.{Answer}
@@ -13,6 +12,7 @@ use Rattle.slack_report.specs.declared.words.EndWord.{EndWord}
 use Rattle.slack_report.specs.declared.words.EndWord.TheVariants.{Pass, Fail, Inconsistent, Undecided}
 use Rattle.moves.specs.Found.{IsSpanFound}
 use Rattle.moves.specs.Listed.{numbers_of}
+use Rattle.moves.specs.Networks.{IsLeft}
 use Rattle.moves.specs.Passing.{BreaksRow, Passes}
 use Rattle.moves.specs.declared.number_seen.NumberSeen.{NumberSeen}
 use Rattle.moves.specs.declared.span.SpanFound.{SpanFound}
@@ -38,7 +38,7 @@ abbrev pub EndsBy : Drawn → ℕ → (List NumberFound → Type 0) → EndWord 
 EndsBy drawn budget AreRight Pass found = Passes drawn × AreRight found
 EndsBy drawn budget AreRight Fail found = ((row : ℕ) × BreaksRow drawn row) × AreRight found
 EndsBy drawn budget AreRight Inconsistent found = IsInconsistent drawn.net × (found ≡ [])
-EndsBy drawn budget AreRight Undecided found = (cause_choices drawn.net.constraints ≤ budget → ⊥) × (found ≡ [])
+EndsBy drawn budget AreRight Undecided found = IsLeft drawn budget × (found ≡ [])
 
 -- what the text says is right, and the word at its end gives the answer
 pub record AnswersMargin (noted : NotesKept) (drawn : Drawn) (list : Option (List NumberSeen)) (budget : ℕ) (answer : Answer) (text : List ℕ) : Type 0 where

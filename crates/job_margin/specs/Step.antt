@@ -3,7 +3,6 @@ use Rattle.std.specs.Prelude.{◌≡◌, ◌≤◌, ◌||◌, ℕ, Bool, true, f
 use Rattle.std.specs.List.{AllZip, flat_map}
 use Rattle.std.specs.Option.{option_map_or}
 use Rattle.itv_base.specs.declared.limits.TheConstants.{MAX_BUDGET}
-use Rattle.event_graph.specs.Edges.{cause_choices}
 use Rattle.drawn_networks.specs.Drawn.{Drawn}
 use Rattle.origin.specs.NotesKept.{NotesKept}
 use Rattle.drawn_numbers.specs.declared.drawn_number.DrawnNumber.{DrawnNumber}
@@ -11,7 +10,7 @@ use Rattle.slack_report.specs.declared.words.EndWord.{EndWord}
 use Rattle.slack_report.specs.declared.words.EndWord.TheVariants.{Pass, Fail, Inconsistent, Undecided}
 use Rattle.moves.specs.Found.{IsSpanFound}
 use Rattle.moves.specs.Listed.{numbers_of}
-use Rattle.moves.specs.Networks.{IsNetFound, is_net_open}
+use Rattle.moves.specs.Networks.{IsLeft, IsNetFound, is_net_open}
 use Rattle.moves.specs.declared.margin.Margin.{Margin}
 use Rattle.moves.specs.declared.net_found.NetFound.{NetFound}
 use Rattle.moves.specs.declared.net_found.NetFound.TheVariants as nets
@@ -28,7 +27,7 @@ use Rattle.job_margin.specs.declared.number_found.NumberFound.{NumberFound}
 -- what was found of the network as drawn, with a budget
 pub record IsBaseOf (drawn : Drawn) (budget : ℕ) (base : Probed) : Type 0 where
   pub found : IsNetFound drawn base.found
-  pub settles : cause_choices drawn.net.constraints ≤ budget → is_net_open base.found ≡ false
+  pub left : is_net_open base.found ≡ true → IsLeft drawn budget
   pub fits : IsProbed drawn.net.events base
   pub least : 1 ≤ budget
   pub most : budget ≤ MAX_BUDGET

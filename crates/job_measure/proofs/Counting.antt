@@ -5,9 +5,9 @@ use Rattle.event_graph.specs.Network.{Constraint}
 use Rattle.measured_times.specs.Runs.{MeasuredRun}
 use Rattle.job_measure.specs.declared.look.RunLook.{RunLook}
 use Rattle.job_measure.specs.declared.tally.RunTally.{RunTally}
-use Rattle.job_measure.specs.Looks.{looks}
-use Rattle.job_measure.specs.Tally.{is_broken, is_close, no_runs, one_if, tally, with_look}
-use Rattle.job_measure.specs.Step.{CountsUpTo}
+use Rattle.job_measure.specs.Step.Looks.{looks}
+use Rattle.job_measure.specs.Step.Tally.{is_broken, is_close, no_runs, one_if, tally, with_look}
+use Rattle.job_measure.specs.Step.Within.{CountsUpTo}
 
 -- the tally is that of some runs, and so many were gone through
 pub record IsTallyOf (within : ℕ) (constraints : List Constraint) (runs : List MeasuredRun) (count : ℕ) (t : RunTally) : Type 0 where

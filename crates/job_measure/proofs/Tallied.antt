@@ -1,5 +1,5 @@
 -- The counts of a tally count the runs, and its numbers are attained in the runs that they name and exceeded in none.
-use Rattle.std.proofs.Common.{◌≡◌, ◌+◌, ℕ, zero, suc, ℤ, ◌≤ℤ◌, ◌<ℤ◌, Bool, true, false, cond, if◌then◌else◌, int_lt, List, [], ◌∷◌, ◌++◌, length, take, All, Option, Some, None, IfSome, IfNone, IsSomeAnd, option_map, is_some, slice_get, refl, sym, ap, subst, ◌∙◌, arith, append_assoc, append-nil, add-zero, count_by, length-append}
+use Rattle.std.proofs.Common.{if◌then◌else◌, ◌≡◌, ◌+◌, ℕ, zero, suc, ℤ, ◌≤ℤ◌, ◌<ℤ◌, Bool, true, false, cond, int_lt, List, [], ◌∷◌, ◌++◌, length, take, All, Option, Some, None, IfSome, IfNone, IsSomeAnd, option_map, is_some, slice_get, refl, sym, ap, subst, ◌∙◌, arith, append_assoc, append-nil, add-zero, count_by, length-append}
 use Rattle.std.specs.Prelude.{fold}
 use Rattle.std.specs.Option.{option_map_or}
 use Rattle.std.proofs.lemmas.Int.{ints}
@@ -11,9 +11,9 @@ use Rattle.measured_times.specs.Runs.{MeasuredRun}
 use Rattle.job_measure.specs.declared.look.RunLook.{RunLook}
 use Rattle.job_measure.specs.declared.tally.Found.{Found}
 use Rattle.job_measure.specs.declared.tally.RunTally.{RunTally}
-use Rattle.job_measure.specs.Looks.{looks}
-use Rattle.job_measure.specs.Tally.{first_if, found_in, is_broken, is_close, less, more, no_runs, one_if, with_look}
-use Rattle.job_measure.specs.Laws.{IsFirstRun, IsGreatestOf, IsLeastOf, IsRunTally, TalliesAreCounts, shows, value_of}
+use Rattle.job_measure.specs.Step.Looks.{looks}
+use Rattle.job_measure.specs.Step.Tally.{first_if, found_in, is_broken, is_close, less, more, no_runs, one_if, with_look}
+use Rattle.job_measure.specs.Step.Counts.{IsFirstRun, IsGreatestOf, IsLeastOf, IsLookTally, TalliesAreCounts, shows, value_of}
 
 -- ---- a list with one more element
 
@@ -170,8 +170,8 @@ more_is (Some old) found = refl
 
 module _ (within : ℕ) (constraints : List Constraint) where
   -- a run more
-  tally_with : (runs : List MeasuredRun) (run : MeasuredRun) (t : RunTally) (o : Option RunLook) → looks run constraints ≡ o → IsRunTally within constraints runs t
-      → IsRunTally within constraints (runs ++ run ∷ []) (with_look within t (length runs + 1) o)
+  tally_with : (runs : List MeasuredRun) (run : MeasuredRun) (t : RunTally) (o : Option RunLook) → looks run constraints ≡ o → IsLookTally within constraints runs t
+      → IsLookTally within constraints (runs ++ run ∷ []) (with_look within t (length runs + 1) o)
   tally_with runs run t None is h =
       let none_shown : (test : RunLook → Bool) → shows constraints test run ≡ false = λ test. ap (λ o. option_map_or test o false) is in
       let none_valued : (f : RunLook → ℤ) → value_of f constraints run ≡ None = λ f. ap (option_map f) is in
@@ -211,19 +211,19 @@ module _ (within : ℕ) (constraints : List Constraint) where
   gone_with run t None = refl
   gone_with run t (Some look) = refl
 
-  tallies : (runs others : List MeasuredRun) (t : RunTally) → t.gone ≡ length runs → IsRunTally within constraints runs t
-      → IsRunTally within constraints (runs ++ others) (fold (λ (t : RunTally) run. with_look within t (t.gone + 1) (looks run constraints)) t others)
-  tallies runs [] t gone h = subst (λ rs. IsRunTally within constraints rs t) (sym (append-nil runs)) h
+  tallies : (runs others : List MeasuredRun) (t : RunTally) → t.gone ≡ length runs → IsLookTally within constraints runs t
+      → IsLookTally within constraints (runs ++ others) (fold (λ (t : RunTally) run. with_look within t (t.gone + 1) (looks run constraints)) t others)
+  tallies runs [] t gone h = subst (λ rs. IsLookTally within constraints rs t) (sym (append-nil runs)) h
   tallies runs (run ∷ others) t gone h =
       let number : t.gone + 1 ≡ length runs + 1 = ap (λ n. n + 1) gone in
       let next : RunTally = with_look within t (t.gone + 1) (looks run constraints) in
-      let own : IsRunTally within constraints (runs ++ run ∷ []) next =
-      subst (λ n. IsRunTally within constraints (runs ++ run ∷ []) (with_look within t n (looks run constraints))) (sym number) (tally_with runs run t (looks run constraints) refl h) in
+      let own : IsLookTally within constraints (runs ++ run ∷ []) next =
+      subst (λ n. IsLookTally within constraints (runs ++ run ∷ []) (with_look within t n (looks run constraints))) (sym number) (tally_with runs run t (looks run constraints) refl h) in
       let so_many : next.gone ≡ length (runs ++ run ∷ []) = gone_with (t.gone + 1) t (looks run constraints) ∙ (number ∙ sym (length-append runs (run ∷ []))) in
-      subst (λ rs. IsRunTally within constraints rs (fold (λ (t : RunTally) run. with_look within t (t.gone + 1) (looks run constraints)) next others)) (append_assoc runs (run ∷ []) others)
+      subst (λ rs. IsLookTally within constraints rs (fold (λ (t : RunTally) run. with_look within t (t.gone + 1) (looks run constraints)) next others)) (append_assoc runs (run ∷ []) others)
       (tallies (runs ++ run ∷ []) others next so_many own)
 
-  nothing : IsRunTally within constraints [] no_runs
+  nothing : IsLookTally within constraints [] no_runs
   nothing = record {
     seen = refl;
     broken = refl;

@@ -1,4 +1,4 @@
--- The spare of a constraint says how far its ends may be moved inward, or have to be moved outward, so that it holds.
+-- The spare of a constraint says how far its ends may be moved inward, so that it holds.
 use Rattle.std.proofs.Common.{◌⊎◌, inl, inr, zero, suc, ℤ, neg_ℤ, ◌+ℤ◌, ◌-ℤ◌, ◌≤ℤ◌, ◌<ℤ◌, List, [], ◌∷◌, map, All, Any, Option, Some, None, IfSome, option_map, refl, sym, subst, arith}
 use Rattle.std.specs.Prelude.{fold}
 use Rattle.std.specs.Int.{int_max, int_min}
@@ -14,8 +14,9 @@ use Rattle.event_graph.specs.declared.cause.Cause.{Cause}
 use Rattle.event_graph.specs.Satisfying.{HoldsAs, IsAfter, IsBefore}
 use Rattle.event_graph.specs.Times.{time_of}
 use Rattle.job_measure.specs.declared.spare.TheConstants.{FAR}
-use Rattle.job_measure.specs.Spare.{least_on, most_on, spare_as, spare_on}
-use Rattle.job_measure.specs.Laws.{KeptRulesHold, loosened_cause}
+use Rattle.job_measure.specs.Step.Spare.{least_on, most_on, spare_as, spare_on}
+use Rattle.job_measure.specs.Shown.{tightened}
+use Rattle.job_measure.specs.Step.Counts.{KeptRulesHold}
 
 -- ---- the less and the greater
 
@@ -94,19 +95,22 @@ module _ (f : Cause → ℤ) (x : ℤ) where
 
 -- ---- one cause
 
-low_kept : (from to by : ℤ) (low : Option ℤ) → neg_ℤ by ≤ℤ option_map_or (λ low. (to -ℤ from) -ℤ low) low FAR → IfSome (option_map (λ low. low -ℤ by) low) (λ low. (from +ℤ low) ≤ℤ to)
+abbrev tighter : ℤ → Cause → Cause
+tighter by c = record c { range = tightened by c.range }
+
+low_kept : (from to by : ℤ) (low : Option ℤ) → by ≤ℤ option_map_or (λ low. (to -ℤ from) -ℤ low) low FAR → IfSome (option_map (λ low. low +ℤ by) low) (λ low. (from +ℤ low) ≤ℤ to)
 low_kept from to by None h = tt
 low_kept from to by (Some low) h = omega (arith, ints)
 
-low_keeps : (from to by : ℤ) (low : Option ℤ) → neg_ℤ FAR <ℤ by → IfSome (option_map (λ low. low -ℤ by) low) (λ low. (from +ℤ low) ≤ℤ to) → neg_ℤ by ≤ℤ option_map_or (λ low. (to -ℤ from) -ℤ low) low FAR
+low_keeps : (from to by : ℤ) (low : Option ℤ) → by ≤ℤ FAR → IfSome (option_map (λ low. low +ℤ by) low) (λ low. (from +ℤ low) ≤ℤ to) → by ≤ℤ option_map_or (λ low. (to -ℤ from) -ℤ low) low FAR
 low_keeps from to by None far h = omega (arith, ints)
 low_keeps from to by (Some low) far h = omega (arith, ints)
 
-high_kept : (from to by : ℤ) (high : Option ℤ) → neg_ℤ by ≤ℤ option_map_or (λ high. high -ℤ (to -ℤ from)) high FAR → IfSome (option_map (λ high. high +ℤ by) high) (λ high. to ≤ℤ (from +ℤ high))
+high_kept : (from to by : ℤ) (high : Option ℤ) → by ≤ℤ option_map_or (λ high. high -ℤ (to -ℤ from)) high FAR → IfSome (option_map (λ high. high -ℤ by) high) (λ high. to ≤ℤ (from +ℤ high))
 high_kept from to by None h = tt
 high_kept from to by (Some high) h = omega (arith, ints)
 
-high_keeps : (from to by : ℤ) (high : Option ℤ) → neg_ℤ FAR <ℤ by → IfSome (option_map (λ high. high +ℤ by) high) (λ high. to ≤ℤ (from +ℤ high)) → neg_ℤ by ≤ℤ option_map_or (λ high. high -ℤ (to -ℤ from)) high FAR
+high_keeps : (from to by : ℤ) (high : Option ℤ) → by ≤ℤ FAR → IfSome (option_map (λ high. high -ℤ by) high) (λ high. to ≤ℤ (from +ℤ high)) → by ≤ℤ option_map_or (λ high. high -ℤ (to -ℤ from)) high FAR
 high_keeps from to by None far h = omega (arith, ints)
 high_keeps from to by (Some high) far h = omega (arith, ints)
 
@@ -121,79 +125,79 @@ some_more P Q [] follows h = absurd h
 some_more P Q (x ∷ xs) follows (inl p) = inl (follows x p)
 some_more P Q (x ∷ xs) follows (inr h) = inr (some_more P Q xs follows h)
 
-not_so_low : (by : ℤ) → by <ℤ FAR → neg_ℤ by ≤ℤ neg_ℤ FAR → ⊥
+not_so_low : (by : ℤ) → neg_ℤ FAR <ℤ by → by ≤ℤ neg_ℤ FAR → ⊥
 not_so_low by near h = absurd (omega (arith, ints))
 
-module _ (times : List ℤ) (target : EventId) (by : ℤ) (far : neg_ℤ FAR <ℤ by) (near : by <ℤ FAR) where
-  all_low : (cs : List Cause) → neg_ℤ by ≤ℤ least_on Lower times target cs → All (IsAfter times target) (map (loosened_cause by) cs)
+module _ (times : List ℤ) (target : EventId) (by : ℤ) (near : neg_ℤ FAR <ℤ by) (far : by ≤ℤ FAR) where
+  all_low : (cs : List Cause) → by ≤ℤ least_on Lower times target cs → All (IsAfter times target) (map (tighter by) cs)
   all_low cs h =
-      let each : AllByRecursion (λ (c : Cause). IsAfter times target (loosened_cause by c)) cs =
-      each_more (λ (c : Cause). neg_ℤ by ≤ℤ spare_on Lower times target c) (λ (c : Cause). IsAfter times target (loosened_cause by c)) cs
-      (λ c k. low_kept (time_of times c.event) (time_of times target) by c.range.low k) (each_at_least (spare_on Lower times target) (neg_ℤ by) FAR cs h).1 in
-      All-from_recursion (IsAfter times target) (map (loosened_cause by) cs) (each_of (loosened_cause by) (IsAfter times target) cs each)
+      let each : AllByRecursion (λ (c : Cause). IsAfter times target (tighter by c)) cs =
+      each_more (λ (c : Cause). by ≤ℤ spare_on Lower times target c) (λ (c : Cause). IsAfter times target (tighter by c)) cs
+      (λ c k. low_kept (time_of times c.event) (time_of times target) by c.range.low k) (each_at_least (spare_on Lower times target) by FAR cs h).1 in
+      All-from_recursion (IsAfter times target) (map (tighter by) cs) (each_of (tighter by) (IsAfter times target) cs each)
 
-  low_all : (cs : List Cause) → All (IsAfter times target) (map (loosened_cause by) cs) → neg_ℤ by ≤ℤ least_on Lower times target cs
+  low_all : (cs : List Cause) → All (IsAfter times target) (map (tighter by) cs) → by ≤ℤ least_on Lower times target cs
   low_all cs h =
-      let each : AllByRecursion (λ (c : Cause). neg_ℤ by ≤ℤ spare_on Lower times target c) cs =
-      each_more (λ (c : Cause). IsAfter times target (loosened_cause by c)) (λ (c : Cause). neg_ℤ by ≤ℤ spare_on Lower times target c) cs
+      let each : AllByRecursion (λ (c : Cause). by ≤ℤ spare_on Lower times target c) cs =
+      each_more (λ (c : Cause). IsAfter times target (tighter by c)) (λ (c : Cause). by ≤ℤ spare_on Lower times target c) cs
       (λ c k. low_keeps (time_of times c.event) (time_of times target) by c.range.low far k)
-      (of_each (loosened_cause by) (IsAfter times target) cs (recursion_from_All (IsAfter times target) (map (loosened_cause by) cs) h)) in
-      at_least_each (spare_on Lower times target) (neg_ℤ by) FAR cs (omega (arith, ints)) each
+      (of_each (tighter by) (IsAfter times target) cs (recursion_from_All (IsAfter times target) (map (tighter by) cs) h)) in
+      at_least_each (spare_on Lower times target) by FAR cs (omega (arith, ints)) each
 
-  all_high : (cs : List Cause) → neg_ℤ by ≤ℤ least_on Upper times target cs → All (IsBefore times target) (map (loosened_cause by) cs)
+  all_high : (cs : List Cause) → by ≤ℤ least_on Upper times target cs → All (IsBefore times target) (map (tighter by) cs)
   all_high cs h =
-      let each : AllByRecursion (λ (c : Cause). IsBefore times target (loosened_cause by c)) cs =
-      each_more (λ (c : Cause). neg_ℤ by ≤ℤ spare_on Upper times target c) (λ (c : Cause). IsBefore times target (loosened_cause by c)) cs
-      (λ c k. high_kept (time_of times c.event) (time_of times target) by c.range.high k) (each_at_least (spare_on Upper times target) (neg_ℤ by) FAR cs h).1 in
-      All-from_recursion (IsBefore times target) (map (loosened_cause by) cs) (each_of (loosened_cause by) (IsBefore times target) cs each)
+      let each : AllByRecursion (λ (c : Cause). IsBefore times target (tighter by c)) cs =
+      each_more (λ (c : Cause). by ≤ℤ spare_on Upper times target c) (λ (c : Cause). IsBefore times target (tighter by c)) cs
+      (λ c k. high_kept (time_of times c.event) (time_of times target) by c.range.high k) (each_at_least (spare_on Upper times target) by FAR cs h).1 in
+      All-from_recursion (IsBefore times target) (map (tighter by) cs) (each_of (tighter by) (IsBefore times target) cs each)
 
-  high_all : (cs : List Cause) → All (IsBefore times target) (map (loosened_cause by) cs) → neg_ℤ by ≤ℤ least_on Upper times target cs
+  high_all : (cs : List Cause) → All (IsBefore times target) (map (tighter by) cs) → by ≤ℤ least_on Upper times target cs
   high_all cs h =
-      let each : AllByRecursion (λ (c : Cause). neg_ℤ by ≤ℤ spare_on Upper times target c) cs =
-      each_more (λ (c : Cause). IsBefore times target (loosened_cause by c)) (λ (c : Cause). neg_ℤ by ≤ℤ spare_on Upper times target c) cs
+      let each : AllByRecursion (λ (c : Cause). by ≤ℤ spare_on Upper times target c) cs =
+      each_more (λ (c : Cause). IsBefore times target (tighter by c)) (λ (c : Cause). by ≤ℤ spare_on Upper times target c) cs
       (λ c k. high_keeps (time_of times c.event) (time_of times target) by c.range.high far k)
-      (of_each (loosened_cause by) (IsBefore times target) cs (recursion_from_All (IsBefore times target) (map (loosened_cause by) cs) h)) in
-      at_least_each (spare_on Upper times target) (neg_ℤ by) FAR cs (omega (arith, ints)) each
+      (of_each (tighter by) (IsBefore times target) cs (recursion_from_All (IsBefore times target) (map (tighter by) cs) h)) in
+      at_least_each (spare_on Upper times target) by FAR cs (omega (arith, ints)) each
 
-  past_far : (P : Cause → Type 0) (cs : List Cause) → (neg_ℤ by ≤ℤ neg_ℤ FAR) ⊎ SomeOf P cs → SomeOf P cs
+  past_far : (P : Cause → Type 0) (cs : List Cause) → (by ≤ℤ neg_ℤ FAR) ⊎ SomeOf P cs → SomeOf P cs
   past_far P cs (inl h) = absurd (not_so_low by near h)
   past_far P cs (inr some) = some
 
-  any_low : (cs : List Cause) → neg_ℤ by ≤ℤ most_on Lower times target cs → Any (IsAfter times target) (map (loosened_cause by) cs)
+  any_low : (cs : List Cause) → by ≤ℤ most_on Lower times target cs → Any (IsAfter times target) (map (tighter by) cs)
   any_low cs h =
-      any_of (loosened_cause by) (IsAfter times target) cs
-      (some_more (λ (c : Cause). neg_ℤ by ≤ℤ spare_on Lower times target c) (λ (c : Cause). IsAfter times target (loosened_cause by c)) cs
+      any_of (tighter by) (IsAfter times target) cs
+      (some_more (λ (c : Cause). by ≤ℤ spare_on Lower times target c) (λ (c : Cause). IsAfter times target (tighter by c)) cs
       (λ c k. low_kept (time_of times c.event) (time_of times target) by c.range.low k)
-      (past_far (λ (c : Cause). neg_ℤ by ≤ℤ spare_on Lower times target c) cs (some_at_least (spare_on Lower times target) (neg_ℤ by) (neg_ℤ FAR) cs h)))
+      (past_far (λ (c : Cause). by ≤ℤ spare_on Lower times target c) cs (some_at_least (spare_on Lower times target) by (neg_ℤ FAR) cs h)))
 
-  low_any : (cs : List Cause) → Any (IsAfter times target) (map (loosened_cause by) cs) → neg_ℤ by ≤ℤ most_on Lower times target cs
+  low_any : (cs : List Cause) → Any (IsAfter times target) (map (tighter by) cs) → by ≤ℤ most_on Lower times target cs
   low_any cs h =
-      at_least_some (spare_on Lower times target) (neg_ℤ by) (neg_ℤ FAR) cs
-      (some_more (λ (c : Cause). IsAfter times target (loosened_cause by c)) (λ (c : Cause). neg_ℤ by ≤ℤ spare_on Lower times target c) cs
-      (λ c k. low_keeps (time_of times c.event) (time_of times target) by c.range.low far k) (some_of (loosened_cause by) (IsAfter times target) cs h))
+      at_least_some (spare_on Lower times target) by (neg_ℤ FAR) cs
+      (some_more (λ (c : Cause). IsAfter times target (tighter by c)) (λ (c : Cause). by ≤ℤ spare_on Lower times target c) cs
+      (λ c k. low_keeps (time_of times c.event) (time_of times target) by c.range.low far k) (some_of (tighter by) (IsAfter times target) cs h))
 
-  any_high : (cs : List Cause) → neg_ℤ by ≤ℤ most_on Upper times target cs → Any (IsBefore times target) (map (loosened_cause by) cs)
+  any_high : (cs : List Cause) → by ≤ℤ most_on Upper times target cs → Any (IsBefore times target) (map (tighter by) cs)
   any_high cs h =
-      any_of (loosened_cause by) (IsBefore times target) cs
-      (some_more (λ (c : Cause). neg_ℤ by ≤ℤ spare_on Upper times target c) (λ (c : Cause). IsBefore times target (loosened_cause by c)) cs
+      any_of (tighter by) (IsBefore times target) cs
+      (some_more (λ (c : Cause). by ≤ℤ spare_on Upper times target c) (λ (c : Cause). IsBefore times target (tighter by c)) cs
       (λ c k. high_kept (time_of times c.event) (time_of times target) by c.range.high k)
-      (past_far (λ (c : Cause). neg_ℤ by ≤ℤ spare_on Upper times target c) cs (some_at_least (spare_on Upper times target) (neg_ℤ by) (neg_ℤ FAR) cs h)))
+      (past_far (λ (c : Cause). by ≤ℤ spare_on Upper times target c) cs (some_at_least (spare_on Upper times target) by (neg_ℤ FAR) cs h)))
 
-  high_any : (cs : List Cause) → Any (IsBefore times target) (map (loosened_cause by) cs) → neg_ℤ by ≤ℤ most_on Upper times target cs
+  high_any : (cs : List Cause) → Any (IsBefore times target) (map (tighter by) cs) → by ≤ℤ most_on Upper times target cs
   high_any cs h =
-      at_least_some (spare_on Upper times target) (neg_ℤ by) (neg_ℤ FAR) cs
-      (some_more (λ (c : Cause). IsBefore times target (loosened_cause by c)) (λ (c : Cause). neg_ℤ by ≤ℤ spare_on Upper times target c) cs
-      (λ c k. high_keeps (time_of times c.event) (time_of times target) by c.range.high far k) (some_of (loosened_cause by) (IsBefore times target) cs h))
+      at_least_some (spare_on Upper times target) by (neg_ℤ FAR) cs
+      (some_more (λ (c : Cause). IsBefore times target (tighter by c)) (λ (c : Cause). by ≤ℤ spare_on Upper times target c) cs
+      (λ c k. high_keeps (time_of times c.event) (time_of times target) by c.range.high far k) (some_of (tighter by) (IsBefore times target) cs h))
 
-  kept_holds : (kind : RuleKind) (cs : List Cause) → neg_ℤ by ≤ℤ spare_as kind times target cs → HoldsAs kind times target (map (loosened_cause by) cs)
-  kept_holds Lin cs h = let p = min_parts (neg_ℤ by) (least_on Lower times target cs) (least_on Upper times target cs) h in (all_low cs p.0, all_high cs p.1)
-  kept_holds Late cs h = let p = min_parts (neg_ℤ by) (least_on Lower times target cs) (most_on Upper times target cs) h in (all_low cs p.0, any_high cs p.1)
-  kept_holds Early cs h = let p = min_parts (neg_ℤ by) (most_on Lower times target cs) (least_on Upper times target cs) h in (all_high cs p.1, any_low cs p.0)
+  kept_holds : (kind : RuleKind) (cs : List Cause) → by ≤ℤ spare_as kind times target cs → HoldsAs kind times target (map (tighter by) cs)
+  kept_holds Lin cs h = let p = min_parts by (least_on Lower times target cs) (least_on Upper times target cs) h in (all_low cs p.0, all_high cs p.1)
+  kept_holds Late cs h = let p = min_parts by (least_on Lower times target cs) (most_on Upper times target cs) h in (all_low cs p.0, any_high cs p.1)
+  kept_holds Early cs h = let p = min_parts by (most_on Lower times target cs) (least_on Upper times target cs) h in (all_high cs p.1, any_low cs p.0)
 
-  holds_kept : (kind : RuleKind) (cs : List Cause) → HoldsAs kind times target (map (loosened_cause by) cs) → neg_ℤ by ≤ℤ spare_as kind times target cs
-  holds_kept Lin cs h = min_from (neg_ℤ by) (least_on Lower times target cs) (least_on Upper times target cs) (low_all cs h.0) (high_all cs h.1)
-  holds_kept Late cs h = min_from (neg_ℤ by) (least_on Lower times target cs) (most_on Upper times target cs) (low_all cs h.0) (high_any cs h.1)
-  holds_kept Early cs h = min_from (neg_ℤ by) (most_on Lower times target cs) (least_on Upper times target cs) (low_any cs h.1) (high_all cs h.0)
+  holds_kept : (kind : RuleKind) (cs : List Cause) → HoldsAs kind times target (map (tighter by) cs) → by ≤ℤ spare_as kind times target cs
+  holds_kept Lin cs h = min_from by (least_on Lower times target cs) (least_on Upper times target cs) (low_all cs h.0) (high_all cs h.1)
+  holds_kept Late cs h = min_from by (least_on Lower times target cs) (most_on Upper times target cs) (low_all cs h.0) (high_any cs h.1)
+  holds_kept Early cs h = min_from by (most_on Lower times target cs) (least_on Upper times target cs) (low_any cs h.1) (high_all cs h.0)
 
 pub kept_rules_hold : KeptRulesHold
-kept_rules_hold times c by far near = (kept_holds times c.target by far near c.kind c.causes, holds_kept times c.target by far near c.kind c.causes)
+kept_rules_hold times c by near far = (kept_holds times c.target by near far c.kind c.causes, holds_kept times c.target by near far c.kind c.causes)

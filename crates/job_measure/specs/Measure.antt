@@ -1,57 +1,71 @@
 -- What job measure answers and writes.
-use Rattle.std.specs.Prelude.{◌≡◌, ℕ, Bool, true, false, not, ◌&&◌, if◌then◌else◌, List, ◌++◌, codes, length}
+use Rattle.std.specs.Prelude.{if◌then◌else◌, ◌≡◌, ◌==◌, nat_lt, int_lt, ℕ, Bool, ◌&&◌, ◌||◌, List, [], ◌∷◌, ◌++◌, codes, fold, filter, length, map, Option, Some, None}
 use Rattle.std.specs.List.{flat_map, list_any}
-use Rattle.itv_base.specs.Numerals.{number_text}
-use Rattle.line_words.specs.Lines.{spaced}
-use Rattle.drawn_networks.specs.Drawn.{Drawn}
+use Rattle.std.specs.Option.{option_map_or}
+use Rattle.std.specs.Str.{bytes_eq}
+use Rattle.itv_base.specs.Numerals.{end_text, number_text}
+use Rattle.itv_base.specs.declared.names.EventId.{EventId}
+use Rattle.line_words.specs.Lines.{ended, line_of}
+use Rattle.line_words.specs.Words.{Word}
+use Rattle.event_graph.specs.Network.{Constraint, cause_count_of}
+use Rattle.drawn_networks.specs.Drawn.{Drawn, name_of}
+use Rattle.slack_report.specs.Text.{name_word}
 use Rattle.job_base.specs.declared.answer.Answer.{Answer}
 use Rattle.job_base.specs.declared.answer.Answer.TheVariants.{AllPass, SomeFail, Undecided}
 use Rattle.measured_times.specs.Runs.{MeasuredRun}
-use Rattle.job_measure.specs.declared.tally.RunVerdict.{RunVerdict}
-use Rattle.job_measure.specs.declared.tally.RunVerdict.TheVariants.{Fail, Near, Pass, Unseen}
-use Rattle.job_measure.specs.Lines.{RunLine, lines_of}
-use Rattle.job_measure.specs.Tally.{verdict_of}
-use Rattle.job_measure.specs.Text.{line_text, unseen_text, verdict_word}
+use Rattle.job_measure.specs.declared.spare.TheConstants.{FAR}
+use Rattle.job_measure.specs.declared.subject.LineSubject.{LineSubject}
+use Rattle.job_measure.specs.declared.line.RunLine.{RunLine}
+use Rattle.job_measure.specs.declared.tally.Found.{Found}
+use Rattle.job_measure.specs.declared.tally.RunTally.{RunTally}
+use Rattle.job_measure.specs.Shown.{IsRunTally}
+use Rattle.job_measure.specs.Subjects.{subjects}
 
--- which verdicts end with a fail, and which with a pass
-abbrev pub is_failing : RunVerdict → Bool
-is_failing Fail = true
-is_failing verdict = false
+-- ---- lines
 
-abbrev pub is_passing : RunVerdict → Bool
-is_passing Pass = true
-is_passing verdict = false
+-- a line more, of all constraints with the heading of a subject, unless there is one
+abbrev pub with_line : (List Constraint → RunTally) → List LineSubject → List RunLine → LineSubject → List RunLine
+with_line tally all lines s = if list_any (λ (line : RunLine). bytes_eq line.about.heading s.heading) lines then lines
+    else lines ++ record { about = s; tally = tally (map (λ (t : LineSubject). t.rule) (filter (λ (t : LineSubject). bytes_eq t.heading s.heading) all)) } ∷ []
 
--- a line that is judged, and broken; and one that is judged, and does not pass
-abbrev pub fails : RunLine → Bool
-fails line = line.is_judged && is_failing (verdict_of line.tally)
+-- a line for each heading, given what is counted of constraints
+abbrev pub lines_of : Drawn → (List Constraint → RunTally) → List RunLine
+lines_of drawn tally = fold (with_line tally (subjects drawn)) [] (subjects drawn)
 
-abbrev pub falls_short : RunLine → Bool
-falls_short line = line.is_judged && not (is_passing (verdict_of line.tally))
+-- ---- verdicts
 
--- the verdict on all: a fail if some rule or requirement is broken, and a pass if each passes
-abbrev pub all_verdict : List RunLine → RunVerdict
-all_verdict lines =
-    if list_any fails lines then Fail else (if list_any falls_short lines then Near else Pass)
+-- the word of a verdict and the answer by it, if something is broken or falls short
+abbrev pub verdict_of : Bool → Bool → Word × Answer
+verdict_of is_broken is_short = if is_broken then (codes "fail", SomeFail) else (if is_short then (codes "near", Undecided) else (codes "pass", AllPass))
 
-abbrev pub answer_by : RunVerdict → Answer
-answer_by Fail = SomeFail
-answer_by Pass = AllPass
-answer_by Near = Undecided
-answer_by Unseen = Undecided
+-- the verdict on all lines that are judged; what no run shows falls short
+abbrev pub whole_verdict : List RunLine → Word × Answer
+whole_verdict lines = verdict_of (list_any (λ (line : RunLine). line.about.is_judged && nat_lt 0 line.tally.broken) lines)
+    (list_any (λ (line : RunLine). line.about.is_judged && (nat_lt 0 line.tally.near || line.tally.runs == 0)) lines)
 
--- the heading, the tolerance and the number of runs
-abbrev pub head_text : ℕ → ℕ → List ℕ
-head_text within count = codes "itv measure 1\nwithin" ++ (spaced (number_text within) ++ (codes "\nruns" ++ (spaced (number_text count) ++ codes "\n")))
+-- ---- the text
 
-abbrev pub ending_text : RunVerdict → List ℕ
-ending_text verdict = codes "end" ++ (spaced (verdict_word verdict) ++ codes "\n")
+-- a number of picoseconds with the run that has it; what is beyond all times is a star
+abbrev pub found_words : Word → Option Found → List Word
+found_words key found = option_map_or (λ (f : Found). key ∷ end_text (if int_lt f.value FAR then Some f.value else None) ∷ codes "run" ∷ number_text f.run ∷ []) found []
 
-abbrev pub measure_text : Drawn → ℕ → List MeasuredRun → List RunLine → List ℕ
-measure_text drawn within runs lines =
-    head_text within (length runs) ++ (flat_map line_text lines ++ (unseen_text runs 0 drawn.names ++ ending_text (all_verdict lines)))
+abbrev pub judged_words : RunTally → List Word
+judged_words t =
+    codes "broken" ∷ number_text t.broken ∷ codes "near" ∷ number_text t.near ∷ (option_map_or (λ run. codes "first" ∷ number_text run ∷ []) t.first []
+    ++ (found_words (codes "slack") t.slack ++ ((if t.runs == 0 then codes "unseen" else (verdict_of (nat_lt 0 t.broken) (nat_lt 0 t.near)).0) ∷ [])))
 
--- what the job answers and writes, given a tolerance and the runs
-abbrev pub AnswersMeasure : Drawn → ℕ → List MeasuredRun → Answer → List ℕ → Type 0
-AnswersMeasure drawn within runs answer text =
-    (answer ≡ answer_by (all_verdict (lines_of drawn within runs))) × (text ≡ measure_text drawn within runs (lines_of drawn within runs))
+-- a line; separations are those of linear rules and of rows, which name no causes
+abbrev pub line_text : RunLine → List ℕ
+line_text line =
+    ended (line_of (line.about.heading ∷ codes "runs" ∷ number_text line.tally.runs ∷ ((if cause_count_of line.about.rule == 0 then found_words (codes "least") line.tally.least
+    ++ found_words (codes "greatest") line.tally.greatest else []) ++ (if line.about.is_judged then judged_words line.tally else []))))
+
+-- What the job answers and writes. Lines of events that were not seen are hints: which there are, and what they count, is not said.
+pub record AnswersMeasure (drawn : Drawn) (within : ℕ) (runs : List MeasuredRun) (answer : Answer) (text : List ℕ) : Type 0 where
+  pub tally : List Constraint → RunTally
+  pub is_tally : (cs : List Constraint) → IsRunTally within runs cs (tally cs)
+  pub unseen : List (EventId × ℕ)
+  pub is_answer : answer ≡ (whole_verdict (lines_of drawn tally)).1
+  pub is_text : text ≡ codes "itv measure 1\nwithin " ++ (number_text within ++ (codes "\nruns " ++ (number_text (length runs) ++ (codes "\n" ++ (flat_map line_text (lines_of drawn tally)
+      ++ (flat_map (λ (e : EventId × ℕ). ended (line_of (codes "unseen" ∷ name_word (name_of drawn e.0) ∷ number_text e.1 ∷ []))) unseen
+      ++ ended (line_of (codes "end" ∷ (whole_verdict (lines_of drawn tally)).0 ∷ []))))))))

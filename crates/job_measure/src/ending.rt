@@ -1,75 +1,48 @@
 //! The verdict on all rules and requirements.
 
-ghost use Rattle.std.specs.Prelude.{◌≡◌};
+ghost use Rattle.std.specs.Prelude.{◌≡◌, ◌==◌, ◌&&◌, ◌||◌, nat_lt};
 ghost use Rattle.std.specs.List.{list_any};
-ghost use Rattle.job_measure.specs.Measure.{all_verdict, answer_by, fails, falls_short, is_failing, is_passing};
+ghost use Rattle.job_measure.specs.declared.line.RunLine.{RunLine};
+ghost use Rattle.job_measure.specs.Measure.{verdict_of};
 
 use crate::line::RunLine;
-use crate::tally::RunVerdict;
 use job_base::Answer;
 
-/// The verdict on all lines that are judged.
-pub fn all_verdict(lines: &[RunLine]) -> RunVerdict
-    ensures verdict { result ≡ all_verdict lines.now }
+/// Whether a line that is judged is broken.
+pub fn some_broken(lines: &[RunLine]) -> bool
+    ensures broken { result ≡ list_any (λ (line : RunLine). line.about.is_judged && nat_lt 0 line.tally.broken) lines.now }
 {
-    if some_fail(lines) {
-        RunVerdict::Fail
-    } else if some_fall_short(lines) {
-        RunVerdict::Near
-    } else {
-        RunVerdict::Pass
-    }
+    lines.iter().any(|line| is_broken(line))
 }
 
-fn some_fail(lines: &[RunLine]) -> bool
-    ensures { result ≡ list_any fails lines.now }
+/// Whether a line that is judged falls short: it is kept by less than the tolerance, or no run shows it.
+pub fn some_short(lines: &[RunLine]) -> bool
+    ensures short { result ≡ list_any (λ (line : RunLine). line.about.is_judged && (nat_lt 0 line.tally.near || line.tally.runs == 0)) lines.now }
 {
-    lines.iter().any(|line| fails(line))
+    lines.iter().any(|line| is_short(line))
 }
 
-fn some_fall_short(lines: &[RunLine]) -> bool
-    ensures { result ≡ list_any falls_short lines.now }
+fn is_broken(line: &RunLine) -> bool
+    ensures { result ≡ (line.now.about.is_judged && nat_lt 0 line.now.tally.broken) }
 {
-    lines.iter().any(|line| falls_short(line))
+    line.about.is_judged && 0 < line.tally.broken
 }
 
-fn fails(line: &RunLine) -> bool
-    ensures { result ≡ fails line.now }
+fn is_short(line: &RunLine) -> bool
+    ensures { result ≡ (line.now.about.is_judged && (nat_lt 0 line.now.tally.near || line.now.tally.runs == 0)) }
 {
-    line.is_judged && is_failing(line.tally.verdict())
-}
-
-fn falls_short(line: &RunLine) -> bool
-    ensures { result ≡ falls_short line.now }
-{
-    line.is_judged && !is_passing(line.tally.verdict())
-}
-
-fn is_failing(verdict: RunVerdict) -> bool
-    ensures { result ≡ is_failing verdict }
-{
-    match verdict {
-        RunVerdict::Fail => true,
-        RunVerdict::Pass | RunVerdict::Near | RunVerdict::Unseen => false,
-    }
-}
-
-fn is_passing(verdict: RunVerdict) -> bool
-    ensures { result ≡ is_passing verdict }
-{
-    match verdict {
-        RunVerdict::Pass => true,
-        RunVerdict::Fail | RunVerdict::Near | RunVerdict::Unseen => false,
-    }
+    line.about.is_judged && (0 < line.tally.near || line.tally.runs == 0)
 }
 
 /// What the job answers.
-pub fn answer_by(verdict: RunVerdict) -> Answer
-    ensures { result ≡ answer_by verdict }
+pub fn answer_by(is_broken: bool, is_short: bool) -> Answer
+    ensures { result ≡ (verdict_of is_broken is_short).1 }
 {
-    match verdict {
-        RunVerdict::Pass => Answer::AllPass,
-        RunVerdict::Fail => Answer::SomeFail,
-        RunVerdict::Near | RunVerdict::Unseen => Answer::Undecided,
+    if is_broken {
+        Answer::SomeFail
+    } else if is_short {
+        Answer::Undecided
+    } else {
+        Answer::AllPass
     }
 }

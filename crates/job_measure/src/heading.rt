@@ -10,7 +10,8 @@ ghost use Rattle.origin.specs.Text.{origin_text};
 ghost use Rattle.slack_report.specs.Text.{name_word};
 ghost use Rattle.drawn_networks.specs.Drawn.{IsRowOf};
 ghost use Rattle.event_graph.specs.Network.{IsConstraint};
-ghost use Rattle.job_measure.specs.Headings.{from_words, kind_word, mark_word, row_heading, rule_heading};
+ghost use Rattle.job_measure.specs.Subjects.{mark_word};
+ghost use Rattle.job_measure.specs.Step.Headings.{from_words, kind_word, row_heading, rule_heading};
 
 use crate::rule::RuleCopy;
 use drawn_networks::{DrawnNetwork, Row};

@@ -2,8 +2,8 @@
 
 ghost use Rattle.std.specs.Prelude.{◌≡◌};
 ghost use Rattle.std.specs.Int.{int_max, int_min};
-ghost use Rattle.job_measure.specs.Looks.{apart, are_seen, both, was_seen, is_shown, joined, look_at, looks, times_of};
-ghost use Rattle.job_measure.specs.Step.{IsRunWithin};
+ghost use Rattle.job_measure.specs.Step.Looks.{apart, are_seen, both, was_seen, are_all_seen, joined, look_at, looks, times_of};
+ghost use Rattle.job_measure.specs.Step.Within.{IsRunWithin};
 
 use crate::rule::RuleCopy;
 use crate::spare::{separation, spare_as};
@@ -81,7 +81,7 @@ fn look_at(run: &[Option<i64>], rule: &RuleCopy) -> Option<RunLook>
     requires within { IsRunWithin run.now }
     ensures { result ≡ look_at run.now rule.now }
 {
-    if !is_shown(run, rule) {
+    if !are_all_seen(run, rule) {
         return None;
     }
     let apart = apart(run, rule.target, rule.causes.as_slice());
@@ -92,8 +92,8 @@ fn look_at(run: &[Option<i64>], rule: &RuleCopy) -> Option<RunLook>
     })
 }
 
-fn is_shown(run: &[Option<i64>], rule: &RuleCopy) -> bool
-    ensures { result ≡ is_shown run.now rule.now }
+fn are_all_seen(run: &[Option<i64>], rule: &RuleCopy) -> bool
+    ensures { result ≡ are_all_seen run.now rule.now }
 {
     was_seen(run, rule.target) && are_seen(run, rule.causes.as_slice())
 }

@@ -3,7 +3,7 @@
 ghost use Rattle.std.specs.Prelude.{◌≡◌, ◌<◌, ◌≤◌, IfOk, IsSome, Some, length, slice_get};
 ghost use Rattle.event_graph.specs.Network.{cause_at};
 ghost use Rattle.itv_base.specs.declared.limits.TheConstants.{MAX_CAUSES};
-ghost use Rattle.job_measure.specs.Step.{causes_at};
+ghost use Rattle.job_measure.specs.Step.Within.{causes_at};
 
 use event_graph::{Cause, Network};
 use itv_base::{EventId, NoMemory, Range, RuleKind};

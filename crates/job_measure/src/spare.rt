@@ -3,9 +3,9 @@
 ghost use Rattle.std.specs.Prelude.{◌≡◌, ◌≤ℤ◌, ◌-ℤ◌, neg_ℤ};
 ghost use Rattle.event_graph.specs.Times.{separation, time_of};
 ghost use Rattle.measured_times.specs.declared.run.TheConstants.{MAX_TIME};
-ghost use Rattle.job_measure.specs.Looks.{times_of};
-ghost use Rattle.job_measure.specs.Spare.{least_on, most_on, spare_as, spare_on};
-ghost use Rattle.job_measure.specs.Step.{IsTimesApart, IsRunWithin};
+ghost use Rattle.job_measure.specs.Step.Looks.{times_of};
+ghost use Rattle.job_measure.specs.Step.Spare.{least_on, most_on, spare_as, spare_on};
+ghost use Rattle.job_measure.specs.Step.Within.{IsTimesApart, IsRunWithin};
 
 use event_graph::Cause;
 use itv_base::{EventId, RuleKind, Side};

@@ -1,8 +1,8 @@
 //! What some runs show.
 
 ghost use Rattle.std.specs.Prelude.{◌≡◌, ◌≤◌, ◌^◌, All};
-ghost use Rattle.job_measure.specs.Tally.{first_if, found_in, is_broken, is_close, less, more, no_runs, one_if, tally, verdict_of, with_look};
-ghost use Rattle.job_measure.specs.Step.{CountsUpTo, IsRunWithin, IsTolerance};
+ghost use Rattle.job_measure.specs.Step.Tally.{tally_over, first_if, found_in, is_broken, is_close, less, more, no_runs, one_if, tally, with_look};
+ghost use Rattle.job_measure.specs.Step.Within.{CountsUpTo, IsRunWithin, IsTolerance};
 
 use crate::look::{RunLook, looks};
 use crate::rule::RuleCopy;
@@ -36,41 +36,11 @@ pub struct RunTally {
     pub greatest: Option<Found>,
 }
 
-/// What the runs say of a rule or a requirement.
-#[derive(Clone, Copy, PartialEq, Eq)]
-pub enum RunVerdict {
-    /// Seen, and kept with the tolerance to spare in each run that shows it.
-    Pass,
-    /// Kept, but in some run not with the tolerance to spare.
-    Near,
-    /// Broken in some run by more than the tolerance.
-    Fail,
-    /// No run shows all of its events.
-    Unseen,
-}
-
-impl RunTally {
-    /// What the runs say.
-    pub fn verdict(&self) -> RunVerdict
-        ensures verdict { result ≡ verdict_of self.now }
-    {
-        if 0 < self.broken {
-            RunVerdict::Fail
-        } else if 0 < self.near {
-            RunVerdict::Near
-        } else if 0 < self.runs {
-            RunVerdict::Pass
-        } else {
-            RunVerdict::Unseen
-        }
-    }
-}
-
 /// What runs show of constraints.
 pub fn tally_of(within: u64, rules: &[RuleCopy], runs: &[MeasuredRun]) -> RunTally
     requires within { IsTolerance within }
     requires runs { All IsRunWithin runs.now }
-    ensures tally { result ≡ tally within rules.now runs.now }
+    ensures tally { result ≡ tally_over within runs.now rules.now }
 {
     let mut tally = RunTally {
         gone: 0,

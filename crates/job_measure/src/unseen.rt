@@ -1,13 +1,13 @@
 //! The lines of events that were not seen.
 
-ghost use Rattle.std.specs.Prelude.{◌≡◌, ◌++◌, OnOk};
-ghost use Rattle.itv_base.specs.Names.{name_view};
-ghost use Rattle.job_measure.specs.Text.{unseen_count, unseen_line, unseen_text};
+ghost use Rattle.std.specs.Prelude.{◌≡◌, ◌++◌, ◌<◌, OnOk, length};
+ghost use Rattle.std.specs.List.{flat_map};
+ghost use Rattle.job_measure.specs.Step.Text.{hint_by, hint_text, hints, unseen_count};
 
 use crate::heading::add_name;
 use crate::look::was_seen;
 use drawn_networks::DrawnNetwork;
-use itv_base::{EventId, EventName, NoMemory};
+use itv_base::{EventId, NoMemory};
 use measured_times::MeasuredRun;
 use slack_report::{add_number, add_piece};
 
@@ -17,11 +17,10 @@ pub fn add_unseen(
     drawn: &DrawnNetwork,
     runs: &[MeasuredRun],
 ) -> Result<(), NoMemory>
-    ensures added { OnOk result (text.new.items ≡ text.old.items ++ unseen_text runs.now 0 drawn.now.names) }
+    ensures added { OnOk result (text.new.items ≡ text.old.items ++ flat_map (hint_text drawn.now) (hints runs.now drawn.now.net.events)) }
 {
     for number in 0..drawn.network().events() {
-        let name = drawn.name(EventId(number));
-        add_event(text, name, unseen_count(runs, number))?;
+        add_event(text, drawn, number, unseen_count(runs, number))?;
     }
     Ok(())
 }
@@ -36,14 +35,32 @@ fn unseen_count(runs: &[MeasuredRun], event: u32) -> u64
 }
 
 // Adds the line of an event, if it was not seen in some run.
-fn add_event(text: &mut Vec<u8>, name: EventName<'_>, count: u64) -> Result<(), NoMemory>
-    ensures { OnOk result (text.new.items ≡ text.old.items ++ unseen_line (name_view name.entry) count) }
+fn add_event(
+    text: &mut Vec<u8>,
+    drawn: &DrawnNetwork,
+    event: u32,
+    count: u64,
+) -> Result<(), NoMemory>
+    requires there { event < drawn.now.net.events }
+    ensures { OnOk result (text.new.items ≡ text.old.items ++ flat_map (hint_text drawn.now) (hint_by event count)) }
 {
     if count == 0 {
         return Ok(());
     }
+    add_hint(text, drawn, event, count)
+}
+
+fn add_hint(
+    text: &mut Vec<u8>,
+    drawn: &DrawnNetwork,
+    event: u32,
+    count: u64,
+) -> Result<(), NoMemory>
+    requires there { event < drawn.now.net.events }
+    ensures { OnOk result (text.new.items ≡ text.old.items ++ hint_text drawn.now (record { 0 = event }, count)) }
+{
     add_piece(text, b"unseen")?;
-    add_name(text, name)?;
+    add_name(text, drawn.name(EventId(event)))?;
     add_number(text, count)?;
     add_piece(text, b"\n")
 }

@@ -4,14 +4,14 @@ ghost use Rattle.std.specs.Prelude.{◌≡◌, ◌++◌, All, IfOk, OnOk};
 ghost use Rattle.std.specs.List.{flat_map};
 ghost use Rattle.measured_times.specs.Runs.{IsRunFor};
 ghost use Rattle.job_base.specs.JobWrote.{Answered, JobWrote};
-ghost use Rattle.job_measure.specs.Measure.{AnswersMeasure, ending_text, head_text, measure_text};
-ghost use Rattle.job_measure.specs.Text.{line_text};
-ghost use Rattle.job_measure.specs.Step.{IsRunWithin, IsTolerance};
+ghost use Rattle.job_measure.specs.Measure.{AnswersMeasure, lines_of};
+ghost use Rattle.job_measure.specs.Step.Tally.{tally_over};
+ghost use Rattle.job_measure.specs.Step.Text.{ending_text, head_text, line_body, measure_body};
+ghost use Rattle.job_measure.specs.Step.Within.{IsRunWithin, IsTolerance};
 
-use crate::ending::{all_verdict, answer_by};
+use crate::ending::{answer_by, some_broken, some_short};
 use crate::line::{RunLine, lines_of};
 use crate::line_text::{add_line, add_verdict};
-use crate::tally::RunVerdict;
 use crate::unseen::add_unseen;
 use drawn_networks::DrawnNetwork;
 use itv_base::{NoMemory, Sink};
@@ -72,10 +72,24 @@ fn decided(
     ensures { IfOk result (λ t. AnswersMeasure drawn.now within runs.now t.answer t.text.items) }
 {
     let lines = lines_of(alloc, drawn, within, runs)?;
-    let text = text_of(alloc, drawn, within, runs, &lines)?;
+    decision_of(alloc, drawn, within, runs, &lines)
+}
+
+fn decision_of(
+    alloc: Global,
+    drawn: &DrawnNetwork,
+    within: u64,
+    runs: &[MeasuredRun],
+    lines: &[RunLine],
+) -> Result<Decision, NoMemory>
+    requires within { IsTolerance within }
+    requires lines { lines.now ≡ lines_of drawn.now (tally_over within runs.now) }
+    ensures { IfOk result (λ t. AnswersMeasure drawn.now within runs.now t.answer t.text.items) }
+{
+    let text = text_of(alloc, drawn, within, runs, lines)?;
     Ok(Decision {
         text,
-        answer: answer_by(all_verdict(&lines)),
+        answer: answer_by(some_broken(lines), some_short(lines)),
     })
 }
 
@@ -86,13 +100,13 @@ fn text_of(
     runs: &[MeasuredRun],
     lines: &[RunLine],
 ) -> Result<Vec<u8>, NoMemory>
-    ensures { IfOk result (λ text. text.items ≡ measure_text drawn.now within runs.now lines.now) }
+    ensures { IfOk result (λ text. text.items ≡ measure_body drawn.now within runs.now lines.now) }
 {
     let mut text = Vec::new(alloc);
     add_head(&mut text, within, runs.len() as u64)?;
     add_lines(&mut text, lines)?;
     add_unseen(&mut text, drawn, runs)?;
-    add_ending(&mut text, all_verdict(lines))?;
+    add_ending(&mut text, lines)?;
     Ok(text)
 }
 
@@ -107,16 +121,16 @@ fn add_head(text: &mut Vec<u8>, within: u64, count: u64) -> Result<(), NoMemory>
     add_piece(text, b"\n")
 }
 
-fn add_ending(text: &mut Vec<u8>, verdict: RunVerdict) -> Result<(), NoMemory>
-    ensures { OnOk result (text.new.items ≡ text.old.items ++ ending_text verdict) }
+fn add_ending(text: &mut Vec<u8>, lines: &[RunLine]) -> Result<(), NoMemory>
+    ensures { OnOk result (text.new.items ≡ text.old.items ++ ending_text lines.now) }
 {
     add_piece(text, b"end")?;
-    add_verdict(text, verdict)?;
+    add_verdict(text, some_broken(lines), some_short(lines))?;
     add_piece(text, b"\n")
 }
 
 fn add_lines(text: &mut Vec<u8>, lines: &[RunLine]) -> Result<(), NoMemory>
-    ensures { OnOk result (text.new.items ≡ text.old.items ++ flat_map line_text lines.now) }
+    ensures { OnOk result (text.new.items ≡ text.old.items ++ flat_map line_body lines.now) }
 {
     for line in lines {
         add_line(text, line)?;

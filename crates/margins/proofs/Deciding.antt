@@ -7,10 +7,11 @@ use Rattle.moves.specs.Networks.{IsNetFound, is_net_open}
 use Rattle.moves.specs.Passing.{BreaksRow, Passes}
 use Rattle.moves.specs.Step.{IsConsistent}
 use Rattle.moves.specs.declared.margin.Margin.TheVariants as margins
+use Rattle.moves.specs.declared.net_found.NetFound.{NetFound}
 use Rattle.moves.specs.declared.net_found.NetFound.TheVariants as nets
 use Rattle.probing.specs.declared.probed.Probed.{Probed}
 use Rattle.margins.specs.Reaching.{IsStill, any_reach}
-use Rattle.margins.specs.Step.{IsBracket, IsClimbFound, IsFoundOf, IsGapOf, IsGapAbove, IsGapSearched, IsProbedAt, IsProbedIn, IsProbedOpen, IsEndSought, moved_in, open_in}
+use Rattle.margins.specs.Step.{IsBracket, IsClimbFound, IsFoundOf, IsGapOf, IsGapAbove, IsGapSearched, IsProbedAt, IsProbedOpen, IsEndSought, moved_in, open_in}
 use Rattle.margins.specs.declared.bracket.Bracket.{Bracket}
 use Rattle.margins.specs.declared.falling_short.Gap.{Gap}
 use Rattle.margins.specs.declared.falling_short.GapSearched.TheVariants as gaps
@@ -72,8 +73,11 @@ module _ (sought : EndSought) where
 
   -- ---- what is left open
 
-  pub left_open : (other : Drawn) (probed : Probed) → IsProbedIn sought.drawn.now other sought.budget probed → is_net_open probed.found ≡ true → IsFoundOf sought margins.Spent
-  left_open other probed is open_ = record { found = λ enough. absurd (cc (is.settles enough, open_)) }
+  pub left_at : (by : ℤ) (probed : Probed) (found : NetFound) → IsProbedAt sought by probed → probed.found ≡ found → is_net_open found ≡ true → IsFoundOf sought margins.Spent
+  left_at by probed found is at open_ = record { found = inr (by, is.left (ap is_net_open at ∙ open_)) }
+
+  pub left_open : (probed : Probed) (found : NetFound) → IsProbedOpen sought probed → probed.found ≡ found → is_net_open found ≡ true → IsFoundOf sought margins.Spent
+  left_open probed found is at open_ = record { found = inl (is.left (ap is_net_open at ∙ open_)) }
 
   -- ---- free ends
 

@@ -1,8 +1,7 @@
 -- Networks in which ranges are moved, beside the drawn one; and ends that are opened together.
-use Rattle.std.proofs.Common.{◌≡◌, ℕ, ℤ, pos, Option, Some, Bool, true, false, ◌||◌, List, [], ◌∷◌, refl, sym, subst, ap}
+use Rattle.std.proofs.Common.{◌≡◌, ℕ, ℤ, pos, Option, Some, Bool, true, false, ◌||◌, List, [], ◌∷◌, refl, sym, subst}
 use Rattle.std.specs.Prelude.{Contains, IfSome, if◌then◌else◌}
 use Rattle.std.proofs.lemmas.List.Folds.{list_any_at}
-use Rattle.itv_base.specs.Range.{Ends}
 use Rattle.itv_base.specs.declared.names.Side.{Side}
 use Rattle.origin.specs.declared.origin.Origin.{Origin}
 use Rattle.event_graph.specs.declared.cause.Cause.{Cause}
@@ -22,15 +21,10 @@ use Rattle.moves.specs.declared.net_found.NetFound.{NetFound}
 use Rattle.moves.specs.declared.net_found.NetFound.TheVariants as nets
 use Rattle.moves.proofs.Each.{moved_by_nothing}
 use Rattle.moves.proofs.Lists.{each_related}
-use Rattle.moves.proofs.Moved.{choices_kept}
 use Rattle.moves.proofs.Widened.{same_cause, same_constraint}
-use Rattle.margins.specs.Step.{IsNetOf}
 use Rattle.margins.proofs.Widening.{open_holds, some_open}
 
 -- ---- other networks
-
-pub net_is : (move : Ends → Ends) (drawn : Drawn) (numbers : List DrawnNumber) (net : Net) → net ≡ net_moved move drawn numbers → IsNetOf drawn net
-net_is move drawn numbers net is = record { events = ap (λ (n : Net). n.events) is; choices = choices_kept move drawn numbers net is }
 
 -- the network that was made, with an end moved
 pub net_here : (side : Side) (drawn : Drawn) (number : DrawnNumber) (by given : ℤ) (o : Option Net) (net : Net) → o ≡ Some net → given ≡ by

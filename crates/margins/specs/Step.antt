@@ -1,15 +1,13 @@
 -- Words of private contracts.
-use Rattle.std.specs.Prelude.{◌≡◌, ◌<◌, ◌≤◌, ℕ, ℤ, ◌-ℤ◌, ◌<ℤ◌, ◌≤ℤ◌, Bool, IsTrue, false, IfSome, is_some, List, Option, slice_get, slice_index_or}
+use Rattle.std.specs.Prelude.{◌≡◌, ◌<◌, ◌≤◌, ℕ, ℤ, ◌-ℤ◌, ◌<ℤ◌, ◌≤ℤ◌, Bool, IsTrue, true, false, IfSome, is_some, List, Option, slice_get, slice_index_or}
 use Rattle.itv_base.specs.Range.{Ends}
 use Rattle.itv_base.specs.declared.names.Side.{Side}
 use Rattle.itv_base.specs.declared.names.Side.TheVariants.{Lower, Upper}
 use Rattle.event_graph.specs.Bounds.{IsInconsistent}
-use Rattle.event_graph.specs.Edges.{cause_choices}
-use Rattle.event_graph.specs.Network.{Net}
 use Rattle.drawn_networks.specs.Drawn.{Drawn}
 use Rattle.drawn_numbers.specs.declared.drawn_number.DrawnNumber.{DrawnNumber}
 use Rattle.moves.specs.Found.{IsEndMargin}
-use Rattle.moves.specs.Networks.{IsNetFound, is_net_open}
+use Rattle.moves.specs.Networks.{IsLeft, IsNetFound, is_net_open}
 use Rattle.moves.specs.Passing.{BreaksRow, Passes}
 use Rattle.moves.specs.Step.{opened_at, widened_at}
 use Rattle.moves.specs.declared.margin.Margin.{Margin}
@@ -28,11 +26,6 @@ use Rattle.margins.specs.declared.passing.Climbed.{Climbed}
 use Rattle.margins.specs.declared.passing.Climbed.TheVariants as climbs
 use Rattle.margins.specs.declared.sought.EndSought.{EndSought}
 
--- a network with the events and the cause choices of a drawn one
-pub record IsNetOf (drawn : Drawn) (net : Net) : Type 0 where
-  pub events : net.events ≡ drawn.net.events
-  pub choices : cause_choices net.constraints ≡ cause_choices drawn.net.constraints
-
 -- a search may close at least one case, and the reach is that of the end
 pub record IsEndSought (sought : EndSought) : Type 0 where
   pub budget : 1 ≤ sought.budget
@@ -50,10 +43,10 @@ open_in sought = opened_at sought.drawn.now sought.number.now sought.side
 
 -- ---- what is found
 
--- what a probe of a drawn network found, where another one has its events and cause choices
+-- what a probe of a drawn network found, where another one has its events
 pub record IsProbedIn (drawn other : Drawn) (budget : ℕ) (probed : Probed) : Type 0 where
   pub found : IsNetFound other probed.found
-  pub settles : cause_choices drawn.net.constraints ≤ budget → is_net_open probed.found ≡ false
+  pub left : is_net_open probed.found ≡ true → IsLeft other budget
   pub fits : IsProbed drawn.net.events probed
 
 -- what a probe with the end moved found
@@ -73,10 +66,12 @@ pub record IsEndOf (drawn : Drawn) (budget : ℕ) (number : DrawnNumber) (side :
   pub margin : IfSome found (IsEndMargin drawn budget number side)
   pub has : is_some found ≡ is_some end
 
--- what was found of the network as drawn, which some times satisfy
+-- what was found of the network as drawn: every requirement passes, or a row breaks
 pub record IsBase (drawn : Drawn) (budget : ℕ) (base : Probed) : Type 0 where
-  pub probed : IsProbedIn drawn drawn budget base
+  pub found : IsNetFound drawn base.found
   pub consistent : base.found ≡ nets.Inconsistent → ⊥
+  pub decided : is_net_open base.found ≡ false
+  pub fits : IsProbed drawn.net.events base
   pub least : 1 ≤ budget
 
 -- ---- searches

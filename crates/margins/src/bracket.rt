@@ -1,7 +1,6 @@
 //! Two moves of an end, between which its margin lies.
 
-ghost use Rattle.std.specs.Prelude.{◌≡◌, ◌≤◌, ◌↔◌, pos, ◌+ℤ◌, ◌-ℤ◌, ◌≤ℤ◌, ◌<ℤ◌, IfOk, IfSome, IsSome, IsTrue};
-ghost use Rattle.event_graph.specs.Edges.{cause_choices};
+ghost use Rattle.std.specs.Prelude.{◌≡◌, ◌↔◌, pos, ◌+ℤ◌, ◌-ℤ◌, ◌≤ℤ◌, ◌<ℤ◌, IfOk, IfSome, IsTrue, None};
 ghost use Rattle.extremes.specs.Ready.{AreTurnsOf};
 ghost use Rattle.moves.specs.Passing.{BreaksRow, Passes};
 ghost use Rattle.moves.specs.Step.{widened_at};
@@ -113,7 +112,7 @@ fn tighter(
     requires below { by <ℤ bracket.breaks }
     ensures bracket { IfOk result (λ next. IfSome next (IsBracket sought.now)) }
     ensures smaller { IfOk result (λ next. IfSome next (λ next. (next.breaks -ℤ next.passes) <ℤ (bracket.breaks -ℤ bracket.passes))) }
-    ensures settles { IfOk result (λ next. cause_choices sought.now.drawn.now.net.constraints ≤ sought.now.budget → IsSome next) }
+    ensures left { IfOk result (λ next. next ≡ None → IsFoundOf sought.now Margin.Spent) }
     ensures turns { AreTurnsOf turns.old turns.new }
 {
     let probed = sought.probe_at(alloc, by, turns)?;
@@ -137,7 +136,7 @@ fn tightened(
     requires probed { IsProbedAt sought.now by probed.now }
     ensures bracket { IfOk result (λ next. IfSome next (IsBracket sought.now)) }
     ensures smaller { IfOk result (λ next. IfSome next (λ next. (next.breaks -ℤ next.passes) <ℤ (bracket.breaks -ℤ bracket.passes))) }
-    ensures settles { IfOk result (λ next. cause_choices sought.now.drawn.now.net.constraints ≤ sought.now.budget → IsSome next) }
+    ensures left { IfOk result (λ next. next ≡ None → IsFoundOf sought.now Margin.Spent) }
 {
     match probed.found {
         NetFound::Passes => Ok(Some(Bracket {

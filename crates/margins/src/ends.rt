@@ -2,7 +2,6 @@
 
 ghost use Rattle.std.specs.Prelude.{◌≡◌, ◌≤◌, IfOk, IsTrue, false, length};
 ghost use Rattle.std.specs.List.{AllZip};
-ghost use Rattle.event_graph.specs.Edges.{cause_choices};
 ghost use Rattle.extremes.specs.Ready.{AreTurnsOf};
 ghost use Rattle.moves.specs.Networks.{IsNetFound, is_net_open};
 ghost use Rattle.moves.specs.Passing.{Passes};
@@ -30,8 +29,8 @@ pub struct EndsFound {
     pub high: Option<Margin>,
 }
 
-/// Finds how far each end of each of some numbers may be moved; the base is what was found of the network as drawn, which some times satisfy. Nothing is left
-/// open where the budget is no less than the number of cause choices.
+/// Finds how far each end of each of some numbers may be moved; the base is what was found of the network as drawn: every requirement passes, or a row breaks.
+/// An end is left open only if a search used the budget up.
 pub fn find_ends(
     alloc: Global,
     drawn: &DrawnNetwork,
@@ -42,7 +41,7 @@ pub fn find_ends(
 ) -> Result<Vec<EndsFound>, NoMemory>
     requires base { IsNetFound drawn.now base.now.found }
     requires consistent { base.now.found ≡ NetFound.Inconsistent → ⊥ }
-    requires settles { cause_choices drawn.now.net.constraints ≤ budget → is_net_open base.now.found ≡ false }
+    requires decided { is_net_open base.now.found ≡ false }
     requires fits { IsProbed drawn.now.net.events base.now }
     requires budget { 1 ≤ budget }
     ensures ends { IfOk result (λ ends. AllZip (AreBothFound drawn.now budget) seen.now ends.items) }
@@ -173,9 +172,9 @@ fn find_end(
     match base.found {
         NetFound::Passes => margin_from_pass(alloc, sought, &base.sides, turns),
         NetFound::Breaks(row) => margin_from_break(alloc, sought, row, base, turns),
-        // Some times satisfy the network.
+        // Some times satisfy the network, and no search was left open.
         NetFound::Inconsistent => unreachable!(),
-        NetFound::Open => Ok(Margin::Spent),
-        NetFound::Spent => Ok(Margin::Spent),
+        NetFound::Open => unreachable!(),
+        NetFound::Spent => unreachable!(),
     }
 }

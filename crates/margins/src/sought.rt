@@ -8,7 +8,7 @@ ghost use Rattle.moves.specs.Moving.{net_moved, opened, widened};
 ghost use Rattle.moves.specs.Passing.{BreaksRow};
 ghost use Rattle.moves.specs.Step.{IsMoveBy, MeetsRow, lent, widened_at};
 ghost use Rattle.probing.specs.Step.{AreFitting, IsProbed};
-ghost use Rattle.margins.specs.Step.{IsNetOf, IsProbedAt, IsProbedIn, IsProbedOpen, IsEndSought};
+ghost use Rattle.margins.specs.Step.{IsProbedAt, IsProbedIn, IsProbedOpen, IsEndSought};
 
 use crate::reach::Reach;
 use drawn_networks::{DrawnNetwork, Row};
@@ -135,7 +135,7 @@ pub fn probe_opened(
     }
 }
 
-// What is found of a network with the events and the cause choices of a drawn one, and its rows.
+// What is found of a network with the events of a drawn one, and its rows.
 fn probe_net(
     alloc: Global,
     drawn: &DrawnNetwork,
@@ -143,7 +143,7 @@ fn probe_net(
     budget: u64,
     turns: &mut RunTurns,
 ) -> Result<Probed, NoMemory>
-    requires net { IsNetOf drawn.now net.now }
+    requires events { net.now.events ≡ drawn.now.net.events }
     requires budget { 1 ≤ budget }
     ensures probed { IfOk result (IsProbedIn drawn.now (record drawn.now { net = net.now }) budget) }
     ensures turns { AreTurnsOf turns.old turns.new }

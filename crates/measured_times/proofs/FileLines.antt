@@ -1,32 +1,12 @@
 -- A file of measured times is read line by line: the runs that were read stand before the runs that are still to be read.
-use Rattle.std.proofs.Common.{◌≡◌, ◌==◌, ◌+◌, ◌<◌, ℕ, ℤ, Bool, true, false, cond, List, [], ◌∷◌, ◌++◌, length, Option, Some, None, Result, Ok, Err, IfOk, IsErrAnd, if◌then◌else◌, refl, sym, ap, subst, ◌∙◌, arith, append_assoc, append-nil, length-append}
+use Rattle.std.proofs.Common.{if◌then◌else◌, ◌≡◌, ◌==◌, ◌+◌, ◌<◌, ℕ, Bool, true, false, cond, List, [], ◌∷◌, ◌++◌, length, Result, Ok, Err, IsErrAnd, refl, sym, ap, ◌∙◌, arith, append_assoc, append-nil, length-append}
 use Rattle.std.specs.List.{after_first, before_first, onto_first, position_or_len, slice_split}
-use Rattle.std.specs.Str.{IsUtf8, is_utf8}
-use Rattle.std.proofs.lemmas.Str.{IsUtf8-from_is_utf8, is_utf8-from_IsUtf8}
 use Rattle.itv_base.specs.Reading.{◌>>=◌, AgreesWith, IsReadingFault, UnlessTrue}
 use Rattle.line_words.specs.Lines.{is_feed}
-use Rattle.line_words.specs.Words.{split_words}
 use Rattle.line_words.proofs.Cutting.{cut_is, uncut_is}
 use Rattle.measured_times.specs.declared.fault.TimesFault.{TimesFault}
 use Rattle.measured_times.specs.declared.fault.TimesFault.TheVariants.{Line}
-use Rattle.measured_times.specs.Runs.{MeasuredRun, is_memory, run_at, run_in, run_judged, runs_from}
-
--- ---- one line
-
--- a line that is a text
-pub run_text : (events n : ℕ) (line text : List ℕ) (result : Result MeasuredRun TimesFault) → IsUtf8 line → text ≡ line
-    → AgreesWith is_memory (λ (run : MeasuredRun). run) result (run_judged n (run_in events (split_words text))) → AgreesWith is_memory (λ (run : MeasuredRun). run) result (run_at events n line)
-run_text events n line text result is_text same is =
-    rw (is_utf8-from_IsUtf8 line is_text) (subst (λ t. AgreesWith is_memory (λ (run : MeasuredRun). run) result (run_judged n (run_in events (split_words t)))) same is)
-
-untext_by : (events n : ℕ) (line : List ℕ) (b : Bool) → is_utf8 line ≡ b → (IsUtf8 line → ⊥)
-    → ◌≡◌ {A = Result MeasuredRun TimesFault} (if b then run_judged n (run_in events (split_words line)) else Err (Line n)) (Err (Line n))
-untext_by events n line true is other = absurd (other (IsUtf8-from_is_utf8 line is))
-untext_by events n line false is other = refl
-
--- a line that is no text
-pub run_untext : (events n : ℕ) (line : List ℕ) → (IsUtf8 line → ⊥) → run_at events n line ≡ Err (Line n)
-run_untext events n line other = untext_by events n line (is_utf8 line) refl other
+use Rattle.measured_times.specs.Runs.{MeasuredRun, is_memory, run_at, runs_from}
 
 -- ---- the first line of a text
 

@@ -1,12 +1,6 @@
 -- Laws of measured times, over the definitions alone.
-use Rattle.std.specs.Prelude.{◌≡◌, ◌↔◌, ℕ, List, ◌∷◌, codes, map, Ok}
-use Rattle.itv_base.specs.Numerals.{end_text}
-use Rattle.line_words.specs.Lines.{line_of}
-use Rattle.measured_times.specs.Runs.{IsRunFor, MeasuredRun, run_at}
-
--- the text of a run, without a line end
-abbrev pub run_line : MeasuredRun → List ℕ
-run_line run = line_of (codes "times" ∷ map end_text run)
+use Rattle.std.specs.Prelude.{◌≡◌, ◌↔◌, ℕ, List, Ok}
+use Rattle.measured_times.specs.Runs.{IsRunFor, MeasuredRun, run_at, run_line}
 
 -- a line is read as a run if and only if it is the text of the run, and the run is one of a network with so many events
 abbrev pub RunLinesAreRead : Type 0

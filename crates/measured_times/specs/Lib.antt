@@ -1,3 +1,4 @@
 -- The modules of definitions of this crate.
 pub mod Runs
 pub mod Laws
+pub mod Step

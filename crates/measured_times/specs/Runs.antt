@@ -1,11 +1,13 @@
 -- Files of measured times: a line for each run, with a line end.
-use Rattle.std.specs.Prelude.{◌≡◌, ◌+◌, ◌==◌, ℕ, ℤ, neg_ℤ, int_le, ◌&&◌, nat_lt, Bool, true, false, IsTrue, if◌then◌else◌, List, [], ◌∷◌, length, All, codes, Option, Some, None, Result, Ok, Err}
-use Rattle.std.specs.List.{slice_split}
-use Rattle.std.specs.Str.{is_utf8}
-use Rattle.itv_base.specs.Reading as steps
-use Rattle.line_words.specs.Lines.{is_feed}
-use Rattle.line_words.specs.Numbers.{open_in}
-use Rattle.line_words.specs.Words.{◌>>=◌, Word, keyed, many, split_words, when}
+use Rattle.std.specs.Prelude.{if◌then◌else◌, ◌≡◌, ◌+◌, ◌==◌, ℕ, ℤ, neg_ℤ, int_le, ◌&&◌, nat_lt, Bool, true, false, IsTrue, List, [], ◌∷◌, length, map, drop, All, codes, Option, Result, Ok, Err}
+use Rattle.std.specs.List.{list_all, slice_split}
+use Rattle.std.specs.Option.{option_and_then, option_map_or}
+use Rattle.std.specs.Str.{bytes_eq}
+use Rattle.itv_base.specs.Cuts.{is_space}
+use Rattle.itv_base.specs.Numerals.{end_text}
+use Rattle.itv_base.specs.Reading.{◌>>=◌}
+use Rattle.label_grammar.specs.Reading.{end_of}
+use Rattle.line_words.specs.Lines.{is_feed, line_of}
 use Rattle.measured_times.specs.declared.fault.TimesFault.{TimesFault}
 use Rattle.measured_times.specs.declared.fault.TimesFault.TheVariants.{Line, NoMemory, TooLong}
 use Rattle.measured_times.specs.declared.file.TheConstants.{MAX_TIMES_BYTES}
@@ -17,42 +19,37 @@ MeasuredRun = List (Option ℤ)
 
 -- a time is within its limit in absolute value
 abbrev pub is_time_within : Option ℤ → Bool
-is_time_within None = true
-is_time_within (Some time) = int_le (neg_ℤ MAX_TIME) time && int_le time MAX_TIME
+is_time_within time = option_map_or (λ t. int_le (neg_ℤ MAX_TIME) t && int_le t MAX_TIME) time true
 
--- a run of a network with so many events
-pub record IsRunFor (events : ℕ) (run : MeasuredRun) : Type 0 where
-  pub count : length run ≡ events
-  pub within : All (λ time. IsTrue (is_time_within time)) run
+-- the text of a run, without a line end
+abbrev pub run_line : MeasuredRun → List ℕ
+run_line run = line_of (codes "times" ∷ map end_text run)
 
--- ---- its reading
+-- the run whose text a line is, if it is the text of one: what the words after the first begin with
+abbrev pub run_in : List ℕ → MeasuredRun
+run_in line = map (λ word. option_and_then (λ read. read.0) (end_of word)) (drop 1 (slice_split is_space line))
 
--- a time within its limit, or a star
-abbrev pub time_in : Word → Option (Option ℤ)
-time_in word = open_in word >>= λ time. when (is_time_within time) (Some time)
-
--- the run that the words of a line are: a time or a star for each event, after the word `times`
-abbrev pub run_in : ℕ → List Word → Option MeasuredRun
-run_in events words = keyed (codes "times") (λ others. when (length others == events) (many time_in others)) words
-
-abbrev pub run_judged : ℕ → Option MeasuredRun → Result MeasuredRun TimesFault
-run_judged n None = Err (Line n)
-run_judged n (Some run) = Ok run
-
--- the run of the line of a number, counted from 1; a line that is no text is not the text of a run
+-- the run of the line of a number: the line is its text, with a time or a star for each event, and times within their limit
 abbrev pub run_at : ℕ → ℕ → List ℕ → Result MeasuredRun TimesFault
-run_at events n line = if is_utf8 line then run_judged n (run_in events (split_words line)) else Err (Line n)
+run_at events n line =
+    if bytes_eq line (run_line (run_in line)) && (length (run_in line) == events && list_all is_time_within (run_in line)) then Ok (run_in line) else Err (Line n)
 
 -- the runs of a file that was cut at its line ends, from the line of a number on; bytes after the last line end are a line that is not the text of a run
 abbrev pub runs_from : ℕ → ℕ → List (List ℕ) → Result (List MeasuredRun) TimesFault
 runs_from events n [] = Ok []
 runs_from events n (rest ∷ []) = if length rest == 0 then Ok [] else Err (Line n)
-runs_from events n (line ∷ next ∷ lines) =
-    steps.◌>>=◌ (run_at events n line) (λ first. steps.◌>>=◌ (runs_from events (n + 1) (next ∷ lines)) (λ others. Ok (first ∷ others)))
+runs_from events n (line ∷ next ∷ lines) = run_at events n line >>= λ first. runs_from events (n + 1) (next ∷ lines) >>= λ others. Ok (first ∷ others)
 
 -- the runs of a file, or its first fault
 abbrev pub runs_of : ℕ → List ℕ → Result (List MeasuredRun) TimesFault
 runs_of events bytes = if nat_lt MAX_TIMES_BYTES (length bytes) then Err TooLong else runs_from events 1 (slice_split is_feed bytes)
+
+-- ---- what no claim needs
+
+-- a run of a network with so many events
+pub record IsRunFor (events : ℕ) (run : MeasuredRun) : Type 0 where
+  pub count : length run ≡ events
+  pub within : All (λ time. IsTrue (is_time_within time)) run
 
 -- memory ran out, which is no fault of the file
 abbrev pub is_memory : TimesFault → Bool

@@ -4,7 +4,8 @@ ghost use Rattle.std.specs.Prelude.{◌≡◌, IfOk, option_map};
 ghost use Rattle.itv_base.specs.Reading.{AgreesWith};
 ghost use Rattle.line_words.specs.Views.{texts};
 ghost use Rattle.line_words.specs.Words.{many, split_words};
-ghost use Rattle.measured_times.specs.Runs.{is_memory, run_at, run_in, run_judged, time_in};
+ghost use Rattle.measured_times.specs.Runs.{is_memory, run_at};
+ghost use Rattle.measured_times.specs.Step.{run_judged, run_of_words, time_in};
 
 use crate::fault::TimesFault;
 use crate::run::{MeasuredRun, is_time_within};
@@ -25,7 +26,7 @@ pub fn read_run(alloc: Global, events: u32, n: u64, line: &[u8]) -> Result<Measu
 
 // The run of a line that is a text.
 fn run_in(alloc: Global, events: u32, n: u64, text: &str) -> Result<MeasuredRun, TimesFault>
-    ensures { AgreesWith is_memory (λ run. run) result (run_judged n (run_in events (split_words text.now))) }
+    ensures { AgreesWith is_memory (λ run. run) result (run_judged n (run_of_words events (split_words text.now))) }
 {
     let words = split_words(alloc, text)?;
     match run_of(alloc, events, &words)? {
@@ -36,7 +37,7 @@ fn run_in(alloc: Global, events: u32, n: u64, text: &str) -> Result<MeasuredRun,
 
 // The run of the words of a line, or none if they are not the words of a run.
 fn run_of(alloc: Global, events: u32, words: &[&str]) -> Result<Option<MeasuredRun>, NoMemory>
-    ensures { IfOk result (λ run. run ≡ run_in events (texts words.now)) }
+    ensures { IfOk result (λ run. run ≡ run_of_words events (texts words.now)) }
 {
     let Some(words) = behind_word(words, "times") else {
         return Ok(None);

@@ -12,3 +12,4 @@ pub mod OtherCauses
 pub mod Moved
 pub mod MovedRows
 pub mod Seen
+pub mod LeftOpen

@@ -1,9 +1,10 @@
 -- Laws of moved numbers, over the definitions alone.
-use Rattle.std.specs.Prelude.{◌≡◌, ℕ, ℤ, pos, ◌≤ℤ◌, ◌<ℤ◌, if◌then◌else◌, List, option_map}
+use Rattle.std.specs.Prelude.{◌≡◌, ◌<◌, ℕ, ℤ, pos, ◌≤ℤ◌, ◌<ℤ◌, if◌then◌else◌, List, option_map}
 use Rattle.std.specs.List.{list_any}
 use Rattle.itv_base.specs.Range.{Ends}
 use Rattle.itv_base.specs.declared.names.Side.{Side}
 use Rattle.event_graph.specs.Bounds.{IsInconsistent}
+use Rattle.event_graph.specs.Edges.{cause_choices}
 use Rattle.event_graph.specs.Network.{cause_at}
 use Rattle.event_graph.specs.declared.cause.Cause.{Cause}
 use Rattle.drawn_networks.specs.Drawn.{Drawn}
@@ -13,6 +14,7 @@ use Rattle.drawn_numbers.specs.declared.drawn_number.DrawnNumber.{DrawnNumber}
 use Rattle.moves.specs.Covers.{Covers, IsCoreOf}
 use Rattle.moves.specs.Found.{IsEndMargin}
 use Rattle.moves.specs.Moving.{net_moved, shifted_at}
+use Rattle.moves.specs.Networks.{IsLeft}
 use Rattle.moves.specs.Passing.{BreaksRow, NoneBreaks}
 use Rattle.moves.specs.Step.{widened_at}
 use Rattle.moves.specs.declared.margin.Margin.TheVariants as margins
@@ -42,6 +44,20 @@ OneMargin = (drawn : Drawn) (budget : ℕ) (number : DrawnNumber) (side : Side) 
 abbrev pub FreeIsForAll : Type 0
 FreeIsForAll = (drawn : Drawn) (budget : ℕ) (number : DrawnNumber) (side : Side) → IsEndMargin drawn budget number side margins.Free
     → (by : ℤ) → NoneBreaks (widened_at drawn number side by)
+
+-- a search is left open only if the budget is less than the number of cause choices
+abbrev pub LeftIsBelowChoices : Type 0
+LeftIsBelowChoices = (drawn : Drawn) (budget : ℕ) → IsLeft drawn budget → budget < cause_choices drawn.net.constraints
+
+-- a move leaves the number of cause choices as it is
+abbrev pub MoveKeepsChoices : Type 0
+MoveKeepsChoices = (move : Ends → Ends) (drawn : Drawn) (numbers : List DrawnNumber)
+    → cause_choices (net_moved move drawn numbers).constraints ≡ cause_choices drawn.net.constraints
+
+-- so an end is left open only if the budget is less than the number of cause choices as drawn
+abbrev pub SpentIsBelowChoices : Type 0
+SpentIsBelowChoices = (drawn : Drawn) (budget : ℕ) (number : DrawnNumber) (side : Side) → IsEndMargin drawn budget number side margins.Spent
+    → budget < cause_choices drawn.net.constraints
 
 -- if no requirement of a cover breaks, none breaks with the value that it covers
 abbrev pub CoverHolds : Type 0

@@ -3,7 +3,6 @@
 ghost use Rattle.std.specs.Prelude.{◌≡◌, ◌<◌, ◌↔◌, ◌+ℤ◌, ◌-ℤ◌, IfOk, IfSome, IsSome, IsTrue, Some, length, option_map};
 ghost use Rattle.std.specs.List.{list_any};
 ghost use Rattle.itv_base.specs.Range.{IsEnd, IsRange};
-ghost use Rattle.event_graph.specs.Edges.{cause_choices};
 ghost use Rattle.drawn_numbers.specs.Numbers.{draws, origins_of, part_of_target};
 ghost use Rattle.moves.specs.Moving.{any_draws, net_moved, opened, widened};
 ghost use Rattle.moves.specs.Passing.{HasDrawableCauses};
@@ -44,7 +43,6 @@ pub fn moved_network(
     ensures ranges { IfOk result (λ moved. IsSome moved
         ↔ HasDrawableCauses (record drawn.now { net = net_moved (moved_by by) drawn.now (lent numbers.now) }) (lent numbers.now)) }
     ensures opens { IfOk result (λ moved. IsOpening by → IsSome moved) }
-    ensures choices { IfOk result (λ moved. IfSome moved (λ net. cause_choices net.constraints ≡ cause_choices drawn.now.net.constraints)) }
 {
     read_drawn(drawn);
     let net = drawn.network();

@@ -1,5 +1,5 @@
 -- What is found of ends of requirements, of ranges and of rows.
-use Rattle.std.proofs.Common.{◌≡◌, ◌^◌, ℤ, pos, neg_ℤ, ◌≤ℤ◌, ◌<ℤ◌, Bool, List, Option, Some, None, refl, sym, subst, arith, rules, to_z, of_z, w64}
+use Rattle.std.proofs.Common.{◌≡◌, ◌^◌, inl, inr, ℕ, ℤ, pos, neg_ℤ, ◌≤ℤ◌, ◌<ℤ◌, Bool, List, Option, Some, None, refl, sym, subst, arith, rules, to_z, of_z, w64}
 use Rattle.std.specs.Prelude.{IfSome, IsSomeAnd}
 use Rattle.std.proofs.lemmas.Int.{ints, to_z-of_z}
 use mir.Val.{SFits}
@@ -7,12 +7,15 @@ use Rattle.itv_base.specs.Range.{Ends, IsEnd}
 use Rattle.itv_base.specs.declared.names.EventId.{EventId}
 use Rattle.itv_base.specs.declared.row_kind.RowKind.{RowKind}
 use Rattle.itv_base.specs.declared.row_kind.RowKind.TheVariants as kinds
+use Rattle.drawn_networks.specs.declared.row.Row.{Row}
 use Rattle.event_graph.specs.Bounds.{IsGreatest}
 use Rattle.event_graph.specs.Network.{Net}
 use Rattle.event_graph.specs.Times.{separation}
 use Rattle.event_graph.proofs.Rays.{ray_is_unbounded}
-use Rattle.extremes.specs.Found.{CanRise, IsAttainedBy}
-use Rattle.probing.specs.Step.{IsHighFound, IsKindFound, IsLimitFound, IsLowFound, IsRangeFound, both_of}
+use Rattle.extremes.specs.Found.{CanRise, Greatest, IsAttainedBy, IsLeftOpen, IsOpenShown}
+use Rattle.moves.specs.Networks.{IsRowLeft}
+use Rattle.requirements.specs.declared.separation.Separation.TheVariants as greatest
+use Rattle.probing.specs.Step.{IsHighFound, IsKindFound, IsLimitFound, IsLowFound, IsPairLeft, IsRangeFound, both_of}
 use Rattle.probing.specs.declared.side.SideFound.{SideFound}
 use Rattle.probing.specs.declared.side.SideFound.TheVariants.{Meets, Exceeds, Open}
 
@@ -64,10 +67,28 @@ both_by net from to range Open Exceeds h l = low_past net from to range l
 both_by net from to range Open Meets h l = tt
 both_by net from to range Open Open h l = tt
 
-pub both_settles : (high low : SideFound) → (high ≡ Open → ⊥) → (low ≡ Open → ⊥) → both_of high low ≡ Open → ⊥
-both_settles Exceeds low h l is = cc is
-both_settles Meets low h l is = l is
-both_settles Open low h l is = h refl
+-- where both ends are left open, or one is and no times are past the other, the search of one of them was
+module _ (net : Net) (budget : ℕ) (row : Row) where
+  high_left : IsPairLeft net budget row.from row.to → IsRowLeft net budget row
+  high_left (limit, attained, left) = (limit, attained, inl left)
+
+  low_left : IsPairLeft net budget row.to row.from → IsRowLeft net budget row
+  low_left (limit, attained, left) = (limit, attained, inr left)
+
+  pub both_left : (high low : SideFound) → (high ≡ Open → IsPairLeft net budget row.from row.to) → (low ≡ Open → IsPairLeft net budget row.to row.from)
+      → both_of high low ≡ Open → IsRowLeft net budget row
+  both_left Exceeds low h l is = absurd (cc is)
+  both_left Meets low h l is = low_left (l is)
+  both_left Open low h l is = high_left (h refl)
+
+-- the search of a pair was left open
+pub pair_left : (net : Net) (budget : ℕ) (from to : EventId) (found : Greatest) (limit attained : Option ℤ) → found ≡ greatest.Open limit attained
+    → IsOpenShown net budget from to found → IsPairLeft net budget from to
+pair_left net budget from to found limit attained is shown = by_attained attained (subst (IsOpenShown net budget from to) is shown)
+  where
+    by_attained : (a : Option ℤ) → IsSomeAnd a (IsLeftOpen net budget from to limit) → IsPairLeft net budget from to
+    by_attained None left = absurd left
+    by_attained (Some value) left = (limit, value, left)
 
 -- ---- what is wanted
 

@@ -4,15 +4,14 @@ use Rattle.std.specs.Prelude.{IsSomeAnd}
 use Rattle.std.proofs.lemmas.List.{take_all}
 use Rattle.std.proofs.lemmas.List.Elements.{All-nil, All-push}
 use Rattle.std.proofs.lemmas.Option.{slice_get-get_or}
-use Rattle.event_graph.specs.Edges.{cause_choices}
 use Rattle.event_graph.specs.Network.{Net}
 use Rattle.drawn_networks.specs.declared.row.Row.{Row}
 use Rattle.extremes.specs.Ready.{AreTurnsOf, IsReady}
 use Rattle.extremes.specs.declared.extremes.Extremes.{Extremes}
-use Rattle.moves.specs.Networks.{IsNetFound, is_net_open}
+use Rattle.moves.specs.Networks.{IsNetFound, IsRowLeft, is_net_open}
 use Rattle.moves.specs.Passing.{BreaksRow, NoneBreaks}
 use Rattle.moves.specs.Step.{MeetsRow, bare_drawn}
-use Rattle.probing.specs.Step.{IsNotedFor, IsRowLookedAt, passes_unless}
+use Rattle.probing.specs.Step.{HasRowLeft, IsNotedFor, IsRowLookedAt, passes_unless}
 use Rattle.probing.specs.declared.noting.ProbeNotes.{ProbeNotes}
 use Rattle.probing.specs.declared.side.SideFound.{SideFound}
 use Rattle.probing.specs.declared.side.SideFound.TheVariants.{Meets, Exceeds, Open}
@@ -23,13 +22,14 @@ abbrev pub IsMetRow : Net → Row → Type 0
 IsMetRow net row = IsRowLookedAt net row Meets
 
 -- What is known when some rows were looked at, and none was found to break. If no search was left open, no satisfying times break their requirements.
+-- Otherwise the search of a bound of a row was.
 pub record IsLookedTo (net : Net) (rows : List Row) (most : ℕ) (before extremes : Extremes) (noted : ProbeNotes) (count : ℕ) (is_open : Bool) : Type 0 where
   pub ready : IsReady net extremes
   pub budget : extremes.budget ≡ most
   pub turns : AreTurnsOf before.turns extremes.turns
   pub fits : IsNotedFor net.events noted
   pub met : is_open ≡ false → All (IsMetRow net) (take count rows)
-  pub settled : cause_choices net.constraints ≤ most → is_open ≡ false
+  pub left : is_open ≡ true → HasRowLeft net rows most
 
 -- turns that are still those of a run after two searches
 turns_on : (before between after : Extremes) → AreTurnsOf before.turns between.turns → AreTurnsOf between.turns after.turns → AreTurnsOf before.turns after.turns
@@ -43,7 +43,7 @@ none_looked net rows extremes noted ready fits = record {
   turns = record { each = refl; left = omega arith };
   fits = fits;
   met = λ closed. All-nil (IsMetRow net);
-  settled = λ enough. refl;
+  left = λ open_. absurd (cc open_);
 }
 
 -- what was known, with the row at a place looked at
@@ -57,18 +57,18 @@ module _ (net : Net) (rows : List Row) (most : ℕ) (before extremes next : Extr
     turns = turns_on before extremes next looked.turns turns;
     fits = fits;
     met = λ closed. subst (All (IsMetRow net)) (sym (take_get rows count row at)) (All-push (IsMetRow net) (take count rows) row (looked.met closed) met);
-    settled = looked.settled;
+    left = looked.left;
   }
 
-  pub row_open : (found : SideFound) → found ≡ Open → (cause_choices net.constraints ≤ extremes.budget → found ≡ Open → ⊥)
+  pub row_open : (row : Row) (found : SideFound) → slice_get rows count ≡ Some row → found ≡ Open → (found ≡ Open → IsRowLeft net extremes.budget row)
       → IsLookedTo net rows most before next after (count + 1) true
-  row_open found is settles = record {
+  row_open row found at is left = record {
     ready = ready;
     budget = same ∙ looked.budget;
     turns = turns_on before extremes next looked.turns turns;
     fits = fits;
     met = λ closed. absurd (cc closed);
-    settled = λ enough. absurd (settles (subst (λ n. cause_choices net.constraints ≤ n) (sym looked.budget) enough) is);
+    left = λ open_. (count, subst (λ (o : Option Row). IsSomeAnd o (IsRowLeft net most)) (sym at) (subst (λ n. IsRowLeft net n row) looked.budget (left is)));
   }
 
 -- the row at a place that is read
@@ -96,5 +96,6 @@ pub looked_found : (net : Net) (rows : List Row) (most : ℕ) (before extremes :
 looked_found net rows most before extremes noted count true looked whole = looked.ready.consistent
 looked_found net rows most before extremes noted count false looked whole = (looked.ready.consistent, all_met net rows count whole (looked.met refl))
 
-pub looked_settles : (is_open : Bool) → is_open ≡ false → is_net_open (passes_unless is_open) ≡ false
-looked_settles is_open is = ap (λ b. is_net_open (passes_unless b)) is
+pub looked_left : (is_open : Bool) → is_net_open (passes_unless is_open) ≡ true → is_open ≡ true
+looked_left true open_ = refl
+looked_left false open_ = absurd (cc open_)

@@ -1,5 +1,5 @@
 -- Words of the contracts of this crate.
-use Rattle.std.specs.Prelude.{◌≡◌, ℕ, ℤ, ◌≤ℤ◌, ◌<ℤ◌, Bool, true, false, List, All, Option, IfSome, IsSomeAnd, length}
+use Rattle.std.specs.Prelude.{◌≡◌, ℕ, ℤ, ◌≤ℤ◌, ◌<ℤ◌, Bool, true, false, List, All, Option, IfSome, IsSomeAnd, length, slice_get}
 use Rattle.itv_base.specs.Range.{Allows, Ends}
 use Rattle.itv_base.specs.declared.names.EventId.{EventId}
 use Rattle.itv_base.specs.declared.row_kind.RowKind.{RowKind}
@@ -7,6 +7,8 @@ use Rattle.event_graph.specs.Network.{Net}
 use Rattle.event_graph.specs.Satisfying.{Satisfies}
 use Rattle.event_graph.specs.Times.{IsTime, separation}
 use Rattle.drawn_networks.specs.declared.row.Row.{Row}
+use Rattle.extremes.specs.Found.{IsLeftOpen}
+use Rattle.moves.specs.Networks.{IsRowLeft}
 use Rattle.moves.specs.Passing.{MeetsKind}
 use Rattle.moves.specs.declared.net_found.NetFound.{NetFound}
 use Rattle.moves.specs.declared.net_found.NetFound.TheVariants as nets
@@ -62,6 +64,14 @@ both_of Open Open = Open
 abbrev pub passes_unless : Bool → NetFound
 passes_unless true = nets.Open
 passes_unless false = nets.Passes
+
+-- the search of the greatest separation of a pair was left open
+abbrev pub IsPairLeft : Net → ℕ → EventId → EventId → Type 0
+IsPairLeft net budget from to = (limit : Option ℤ) × (attained : ℤ) × IsLeftOpen net budget from to limit attained
+
+-- the search of a bound of one of the rows was left open
+abbrev pub HasRowLeft : Net → List Row → ℕ → Type 0
+HasRowLeft net rows budget = (row : ℕ) × IsSomeAnd (slice_get rows row) (IsRowLeft net budget)
 
 -- ---- what a probe keeps
 

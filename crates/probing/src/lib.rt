@@ -1,6 +1,6 @@
 //! Whether every requirement of a network passes, which row breaks, or whether the rules contradict each other; and what the next move of a number may be
-//! guessed from. The contract: what `probe` finds is right, and is left open only if the cause choices are more than the budget. No contract says that
-//! a guess is a good one.
+//! guessed from. The contract: what `probe` finds is right, and is left open only if a search used the budget up. No contract says that a guess is
+//! a good one.
 #![tactic(auto)]
 
 mod drawing;

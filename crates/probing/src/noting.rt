@@ -1,12 +1,11 @@
 //! What a probe notes of the ends of requirements.
 
-ghost use Rattle.std.specs.Prelude.{◌≡◌, ◌<◌, ◌≤◌, All, IfOk, Ok, length, neg_ℤ, true, false};
+ghost use Rattle.std.specs.Prelude.{◌≡◌, ◌<◌, All, IfOk, Ok, length, neg_ℤ, true, false};
 ghost use Rattle.itv_base.specs.Range.{IsEnd};
-ghost use Rattle.event_graph.specs.Edges.{cause_choices};
 ghost use Rattle.event_graph.specs.Times.{IsTime};
 ghost use Rattle.extremes.specs.Found.{IsAttainedBy};
 ghost use Rattle.extremes.specs.Ready.{AreTurnsOf, IsReady};
-ghost use Rattle.probing.specs.Step.{IsLimitFound, IsNotedFor};
+ghost use Rattle.probing.specs.Step.{IsLimitFound, IsNotedFor, IsPairLeft};
 
 use crate::probed::{Probed, SideChain};
 use crate::side::SideFound;
@@ -113,7 +112,7 @@ pub fn look(
     ensures budget { extremes.new.budget ≡ extremes.old.budget }
     ensures noted { IsNotedFor net.now.events noted.new }
     ensures found { IfOk result (IsLimitFound net.now limit.from limit.to limit.limit) }
-    ensures settles { IfOk result (λ found. cause_choices net.now.constraints ≤ extremes.old.budget → found ≡ SideFound.Open → ⊥) }
+    ensures left { IfOk result (λ found. found ≡ SideFound.Open → IsPairLeft net.now extremes.old.budget limit.from limit.to) }
     ensures turns { AreTurnsOf extremes.old.turns extremes.new.turns }
 {
     match extremes.greatest(alloc, net, limit.from, limit.to)? {

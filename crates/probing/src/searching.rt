@@ -1,14 +1,13 @@
 //! Probing a network with its rows.
 
-ghost use Rattle.std.specs.Prelude.{◌≡◌, ◌≤◌, ℕ, All, IfOk, IsTrue, length, false};
+ghost use Rattle.std.specs.Prelude.{◌≡◌, ◌≤◌, ℕ, All, IfOk, IsTrue, length, true};
 ghost use Rattle.itv_base.specs.Range.{IsEnd};
 ghost use Rattle.itv_base.specs.declared.limits.TheConstants.{MAX_ROWS};
-ghost use Rattle.event_graph.specs.Edges.{cause_choices};
 ghost use Rattle.drawn_networks.specs.Drawn.{IsRowOf};
 ghost use Rattle.extremes.specs.Ready.{AreTurnsOf, IsFor, IsReady};
-ghost use Rattle.moves.specs.Networks.{IsNetFound, is_net_open};
+ghost use Rattle.moves.specs.Networks.{IsLeft, IsNetFound, IsRowLeft, is_net_open};
 ghost use Rattle.moves.specs.Step.{bare_drawn};
-ghost use Rattle.probing.specs.Step.{IsHighFound, IsLowFound, IsNotedFor, IsProbed, IsRangeFound, IsRowLookedAt, passes_unless};
+ghost use Rattle.probing.specs.Step.{HasRowLeft, IsHighFound, IsLowFound, IsNotedFor, IsPairLeft, IsProbed, IsRangeFound, IsRowLookedAt, passes_unless};
 
 use crate::noting::{ProbeNotes, high_limit, look, low_limit};
 use crate::probed::Probed;
@@ -23,7 +22,7 @@ use std::alloc::Global;
 
 /// Looks for times that satisfy a network, and for times that break the requirement of a row, from the first row on. It ends with the first row that is
 /// found to break. Each search closes at most `budget` cases, and takes turns from those that are left of the run where that is not enough. What is found is
-/// not left open where the budget is no less than the number of cause choices. Times that it leaves fit the network.
+/// left open only if a search used the budget up. Times that it leaves fit the network.
 pub fn probe(
     alloc: Global,
     net: &Network,
@@ -35,7 +34,7 @@ pub fn probe(
     requires few { length rows.now ≤ MAX_ROWS }
     requires budget { 1 ≤ budget }
     ensures found { IfOk result (λ probed. IsNetFound (bare_drawn net.now rows.now) probed.found) }
-    ensures settles { IfOk result (λ probed. cause_choices net.now.constraints ≤ budget → is_net_open probed.found ≡ false) }
+    ensures left { IfOk result (λ probed. is_net_open probed.found ≡ true → IsLeft (bare_drawn net.now rows.now) budget) }
     ensures fits { IfOk result (IsProbed net.now.events) }
     ensures turns { AreTurnsOf turns.old turns.new }
 {
@@ -72,7 +71,7 @@ fn probe_within(
     requires few { length rows.now ≤ MAX_ROWS }
     requires budget { 1 ≤ budget }
     ensures found { IfOk result (λ probed. IsNetFound (bare_drawn net.now rows.now) probed.found) }
-    ensures settles { IfOk result (λ probed. cause_choices net.now.constraints ≤ budget → is_net_open probed.found ≡ false) }
+    ensures left { IfOk result (λ probed. is_net_open probed.found ≡ true → IsLeft (bare_drawn net.now rows.now) budget) }
     ensures fits { IfOk result (IsProbed net.now.events) }
     ensures turns { AreTurnsOf turns.old turns.new }
 {
@@ -94,10 +93,11 @@ fn probe_with(
     requires few { length rows.now ≤ MAX_ROWS }
     requires made { IsFor net.now extremes.old }
     ensures found { IfOk result (λ probed. IsNetFound (bare_drawn net.now rows.now) probed.found) }
-    ensures settles { IfOk result (λ probed. cause_choices net.now.constraints ≤ extremes.old.budget → is_net_open probed.found ≡ false) }
+    ensures left { IfOk result (λ probed. is_net_open probed.found ≡ true → IsLeft (bare_drawn net.now rows.now) extremes.old.budget) }
     ensures fits { IfOk result (IsProbed net.now.events) }
     ensures turns { AreTurnsOf extremes.old.turns extremes.new.turns }
 {
+    net.is_whole();
     match extremes.find(alloc, net)? {
         Consistency::Consistent => probe_rows(alloc, net, rows, extremes),
         Consistency::Inconsistent => Ok(nothing_more(alloc, NetFound::Inconsistent)),
@@ -128,7 +128,7 @@ fn probe_rows(
     requires few { length rows.now ≤ MAX_ROWS }
     requires ready { IsReady net.now extremes.old }
     ensures found { IfOk result (λ probed. IsNetFound (bare_drawn net.now rows.now) probed.found) }
-    ensures settles { IfOk result (λ probed. cause_choices net.now.constraints ≤ extremes.old.budget → is_net_open probed.found ≡ false) }
+    ensures left { IfOk result (λ probed. is_net_open probed.found ≡ true → HasRowLeft net.now rows.now extremes.old.budget) }
     ensures fits { IfOk result (IsProbed net.now.events) }
     ensures turns { AreTurnsOf extremes.old.turns extremes.new.turns }
 {
@@ -151,7 +151,7 @@ fn look_at_rows(
     requires noted { IsNotedFor net.now.events noted.old }
     ensures noted { IsNotedFor net.now.events noted.new }
     ensures found { IfOk result (IsNetFound (bare_drawn net.now rows.now)) }
-    ensures settles { IfOk result (λ found. cause_choices net.now.constraints ≤ extremes.old.budget → is_net_open found ≡ false) }
+    ensures left { IfOk result (λ found. is_net_open found ≡ true → HasRowLeft net.now rows.now extremes.old.budget) }
     ensures turns { AreTurnsOf extremes.old.turns extremes.new.turns }
 {
     let mut is_open = false;
@@ -192,7 +192,7 @@ fn look_at_row(
     ensures budget { extremes.new.budget ≡ extremes.old.budget }
     ensures noted { IsNotedFor net.now.events noted.new }
     ensures found { IfOk result (IsRowLookedAt net.now row.now) }
-    ensures settles { IfOk result (λ found. cause_choices net.now.constraints ≤ extremes.old.budget → found ≡ SideFound.Open → ⊥) }
+    ensures left { IfOk result (λ found. found ≡ SideFound.Open → IsRowLeft net.now extremes.old.budget row.now) }
     ensures turns { AreTurnsOf extremes.old.turns extremes.new.turns }
 {
     match row.kind {
@@ -218,7 +218,7 @@ fn look_at_range(
     ensures budget { extremes.new.budget ≡ extremes.old.budget }
     ensures noted { IsNotedFor net.now.events noted.new }
     ensures found { IfOk result (IsRangeFound net.now row.now.from row.now.to range) }
-    ensures settles { IfOk result (λ found. cause_choices net.now.constraints ≤ extremes.old.budget → found ≡ SideFound.Open → ⊥) }
+    ensures left { IfOk result (λ found. found ≡ SideFound.Open → IsRowLeft net.now extremes.old.budget row.now) }
     ensures turns { AreTurnsOf extremes.old.turns extremes.new.turns }
 {
     let high = look_high(alloc, net, number, row, range.high(), extremes, noted)?;
@@ -258,7 +258,7 @@ fn look_high(
     ensures budget { extremes.new.budget ≡ extremes.old.budget }
     ensures noted { IsNotedFor net.now.events noted.new }
     ensures found { IfOk result (IsHighFound net.now row.now.from row.now.to end) }
-    ensures settles { IfOk result (λ found. cause_choices net.now.constraints ≤ extremes.old.budget → found ≡ SideFound.Open → ⊥) }
+    ensures left { IfOk result (λ found. found ≡ SideFound.Open → IsPairLeft net.now extremes.old.budget row.now.from row.now.to) }
     ensures turns { AreTurnsOf extremes.old.turns extremes.new.turns }
 {
     match end {
@@ -285,7 +285,7 @@ fn look_low(
     ensures budget { extremes.new.budget ≡ extremes.old.budget }
     ensures noted { IsNotedFor net.now.events noted.new }
     ensures found { IfOk result (IsLowFound net.now row.now.from row.now.to end) }
-    ensures settles { IfOk result (λ found. cause_choices net.now.constraints ≤ extremes.old.budget → found ≡ SideFound.Open → ⊥) }
+    ensures left { IfOk result (λ found. found ≡ SideFound.Open → IsPairLeft net.now extremes.old.budget row.now.to row.now.from) }
     ensures turns { AreTurnsOf extremes.old.turns extremes.new.turns }
 {
     match end {

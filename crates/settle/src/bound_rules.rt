@@ -8,7 +8,7 @@ use itv_base::NoMemory;
 use std::alloc::Global;
 
 /// A way of a rule: the bound `from` and the weight, in picoseconds. It comes from the edge at this place of the rule's clause. In a rule of
-/// the network the edge has a literal: the way counts where its opposite does not hold.
+/// the network the edge may be a side: then the way counts where the opposite of its literal does not hold.
 #[derive(Clone, Copy)]
 pub struct BoundWay {
     pub from: Node,
@@ -62,6 +62,8 @@ pub struct BoundRules {
     rules: Vec<BoundRule>,
     ways: Vec<BoundWay>,
     literals: Vec<SideLiteral>,
+    /// Of each way of a rule of the network, what holds where its edge is met.
+    picks: Vec<Literal>,
     links: Vec<RuleLink>,
     by_bound: Vec<Option<usize>>,
     by_literal: Vec<Option<usize>>,
@@ -74,6 +76,7 @@ impl BoundRules {
             rules: Vec::new(alloc),
             ways: Vec::new(alloc),
             literals: Vec::new(alloc),
+            picks: Vec::new(alloc),
             links: Vec::new(alloc),
             by_bound: Vec::new(alloc),
             by_literal: Vec::new(alloc),
@@ -96,14 +99,27 @@ impl BoundRules {
         literals: &[SideLiteral],
     ) -> Result<(), NoMemory> {
         let rule = self.rules.len();
-        let first_way = self.ways.len();
-        let first_literal = self.literals.len();
         for way in ways {
-            self.push_way(rule, *way)?;
+            self.link_way(rule, *way)?;
         }
         for literal in literals {
-            self.push_literal(rule, *literal)?;
+            self.push_link(rule, *literal)?;
         }
+        self.push_silent(basis, target, ways, literals)
+    }
+
+    /// Adds a rule that is in no chain.
+    pub fn push_silent(
+        &mut self,
+        basis: Basis,
+        target: Node,
+        ways: &[BoundWay],
+        literals: &[SideLiteral],
+    ) -> Result<(), NoMemory> {
+        let first_way = self.ways.len();
+        let first_literal = self.literals.len();
+        self.ways.extend_from_slice(ways)?;
+        self.literals.extend_from_slice(literals)?;
         self.rules.push(BoundRule {
             basis,
             target,
@@ -120,9 +136,20 @@ impl BoundRules {
         Ok(())
     }
 
-    // Adds a way of a rule.
-    fn push_way(&mut self, rule: usize, way: BoundWay) -> Result<(), NoMemory> {
-        self.ways.push(way)?;
+    /// Adds what holds where the edges of the ways of the next rule are met. Rules of the network come before others.
+    pub fn push_picks(&mut self, picks: &[Literal]) -> Result<(), NoMemory> {
+        self.picks.extend_from_slice(picks)?;
+        Ok(())
+    }
+
+    /// What holds where the edge of a way of a rule of the network is met.
+    pub fn pick(&self, rule: BoundRule, number: usize) -> Literal {
+        let other = Literal::Side(SideLiteral(0));
+        at(&self.picks, rule.ways.place(number), other)
+    }
+
+    // Puts a rule into the chains of a way.
+    fn link_way(&mut self, rule: usize, way: BoundWay) -> Result<(), NoMemory> {
         let head = way.from.place();
         let next = at(&self.by_bound, head, None);
         put(&mut self.by_bound, head, Some(self.links.len()));
@@ -131,12 +158,6 @@ impl BoundRules {
             Some(side) => self.push_link(rule, side),
             None => Ok(()),
         }
-    }
-
-    // Adds a literal of a rule.
-    fn push_literal(&mut self, rule: usize, literal: SideLiteral) -> Result<(), NoMemory> {
-        self.literals.push(literal)?;
-        self.push_link(rule, literal)
     }
 
     // Puts a rule into the chain of the opposite of a literal.

@@ -5,18 +5,21 @@ ghost use Rattle.std.specs.Prelude.{◌<◌, length};
 use crate::arcs::{BoundEdges, Ground};
 use crate::bound_rules::{BoundRules, BoundWay};
 use crate::clause_store::ClauseStore;
+use crate::fixed_events::FixedEvents;
 use crate::literal::{Literal, SideLiteral};
 use crate::node::Node;
-use crate::side_table::SideTable;
+use crate::places::{at, put};
+use crate::side_table::{NO_EDGE, SideTable};
 use edge_clauses::Basis;
 use event_graph::{Edge, Network};
-use itv_base::{EdgeName, NoMemory, RuleKind, Side};
+use itv_base::{EdgeName, EventId, NoMemory, RuleKind, Side};
 use std::alloc::Global;
 
-/// The tables of a network: its sides, its edges, its rules, and its clauses. A latest or earliest constraint with two or more causes, none of whose choice
+/// The tables of a network: its fixed events, sides, edges, rules, and clauses. A latest or earliest constraint with two or more causes, none of whose choice
 /// ends is open, has a rule and a clause.
 #[derive(Drop)]
 pub struct Tables {
+    pub fixed: FixedEvents,
     pub sides: SideTable,
     pub edges: BoundEdges,
     pub rules: BoundRules,
@@ -29,6 +32,7 @@ impl Tables {
     /// The tables of nothing.
     pub fn new(alloc: Global) -> Tables {
         Tables {
+            fixed: FixedEvents::new(alloc),
             sides: SideTable::new(alloc),
             edges: BoundEdges::new(alloc),
             rules: BoundRules::new(alloc),
@@ -38,7 +42,8 @@ impl Tables {
     }
 
     /// Makes the tables of a network. There is nothing in them yet.
-    pub fn fill(&mut self, alloc: Global, net: &Network) -> Result<(), NoMemory> {
+    pub fn fill(&mut self, alloc: Global, net: &Network, from: EventId) -> Result<(), NoMemory> {
+        self.fixed.find(alloc, net, from)?;
         let mut choice = Choice::new(alloc);
         let filled = self.fill_by(alloc, net, &mut choice);
         drop(choice);
@@ -62,9 +67,7 @@ impl Tables {
         self.sides.make_room(side_count(net))?;
         for number in 0..net.len() {
             choice.take_edges(net, number)?;
-            for edge in &choice.edges {
-                let _literal = self.sides.literal(*edge)?;
-            }
+            choice.take_literals(&self.fixed, &mut self.sides)?;
         }
         Ok(())
     }
@@ -86,6 +89,7 @@ impl Tables {
         self.rules.make_room(bounds_of(net), literals)?;
         for number in 0..net.len() {
             choice.take_edges(net, number)?;
+            choice.take_literals(&self.fixed, &mut self.sides)?;
             if 1 < choice.edges.len() {
                 self.push_rule(net, number, choice)?;
                 self.push_clause(number, choice)?;
@@ -94,7 +98,7 @@ impl Tables {
         Ok(())
     }
 
-    // Adds the rule of a constraint with this choice.
+    // Adds the rule of a constraint with this choice. If its target is fixed, its clause says as much: the rule is in no chain.
     fn push_rule(&mut self, net: &Network, number: u32, choice: &mut Choice) -> Result<(), NoMemory>
         requires number { number < length net.now.constraints }
     {
@@ -107,25 +111,30 @@ impl Tables {
         if !is_late {
             self.earliest.push(self.rules.len())?;
         }
-        choice.take_ways(is_late, &mut self.sides)?;
-        self.rules
-            .push(Basis::ByChoice(number), target, &choice.ways, &[])
+        choice.take_ways(is_late)?;
+        self.rules.push_picks(&choice.literals)?;
+        let basis = Basis::ByChoice(number);
+        if self.fixed.time_of(net.target(number)).is_some() {
+            return self.rules.push_silent(basis, target, &choice.ways, &[]);
+        }
+        self.rules.push(basis, target, &choice.ways, &[])
     }
 
     // Adds the clause of a constraint with this choice.
     fn push_clause(&mut self, number: u32, choice: &mut Choice) -> Result<(), NoMemory> {
-        choice.take_literals(&mut self.sides)?;
+        choice.take_clause()?;
         self.clauses
-            .push(Basis::ByChoice(number), &choice.literals, 0)
+            .push(Basis::ByChoice(number), &choice.clause, 0)
     }
 }
 
-// The choice of a constraint: the edges of which times meet one, in the order of the causes, and the ways and the literals of these edges.
+// The choice of a constraint: the edges of which times meet one, in the order of the causes, the literals and the ways of these edges, and their clause.
 #[derive(Drop)]
 struct Choice {
     edges: Vec<Edge>,
-    ways: Vec<BoundWay>,
     literals: Vec<Literal>,
+    ways: Vec<BoundWay>,
+    clause: Vec<Literal>,
 }
 
 impl Choice {
@@ -133,8 +142,9 @@ impl Choice {
     fn new(alloc: Global) -> Choice {
         Choice {
             edges: Vec::new(alloc),
-            ways: Vec::new(alloc),
             literals: Vec::new(alloc),
+            ways: Vec::new(alloc),
+            clause: Vec::new(alloc),
         }
     }
 
@@ -163,24 +173,45 @@ impl Choice {
         Ok(())
     }
 
-    // Takes the ways of the edges in a rule of the latest or of the earliest.
-    fn take_ways(&mut self, is_late: bool, sides: &mut SideTable) -> Result<(), NoMemory> {
-        self.ways.clear();
+    // Takes the literals of the edges: bounds of the events that are not fixed, where the other one is, or else sides.
+    fn take_literals(
+        &mut self,
+        fixed: &FixedEvents,
+        sides: &mut SideTable,
+    ) -> Result<(), NoMemory> {
+        self.literals.clear();
         for edge in &self.edges {
-            let side = sides.literal(*edge)?;
-            let place = short(self.ways.len());
-            self.ways.push(way_of(*edge, is_late, place, side))?;
+            let literal = match fixed.bound_of(*edge) {
+                Some(bound) => Literal::Bound(bound),
+                None => Literal::Side(sides.literal(*edge)?),
+            };
+            self.literals.push(literal)?;
         }
         Ok(())
     }
 
-    // Takes the literals of the edges. Each is there once.
-    fn take_literals(&mut self, sides: &mut SideTable) -> Result<(), NoMemory> {
-        self.literals.clear();
-        for edge in &self.edges {
-            let side = sides.literal(*edge)?;
-            if !has(&self.literals, side) {
-                self.literals.push(Literal::Side(side))?;
+    // Takes the ways of the edges in a rule of the latest or of the earliest.
+    fn take_ways(&mut self, is_late: bool) -> Result<(), NoMemory> {
+        self.ways.clear();
+        for number in 0..self.edges.len() {
+            let edge = at(&self.edges, number, NO_EDGE);
+            let literal = at(&self.literals, number, Literal::Side(SideLiteral(0)));
+            self.ways
+                .push(way_of(edge, is_late, short(number), literal))?;
+        }
+        Ok(())
+    }
+
+    // Takes the clause of the edges. Each side is there once, and each bound at the greatest of its values.
+    fn take_clause(&mut self) -> Result<(), NoMemory> {
+        self.clause.clear();
+        for literal in &self.literals {
+            match place_among(&self.clause, *literal) {
+                Some(place) => {
+                    let other = at(&self.clause, place, *literal);
+                    put(&mut self.clause, place, wider(*literal, other));
+                }
+                None => self.clause.push(*literal)?,
             }
         }
         Ok(())
@@ -188,28 +219,48 @@ impl Choice {
 }
 
 // The way of an edge in a rule of the latest or of the earliest.
-fn way_of(edge: Edge, is_late: bool, place: u32, side: SideLiteral) -> BoundWay {
+fn way_of(edge: Edge, is_late: bool, place: u32, literal: Literal) -> BoundWay {
     let from = if is_late {
         Node::most(edge.from)
     } else {
         Node::least(edge.to)
     };
+    let side = match literal {
+        Literal::Side(side) => Some(side),
+        Literal::Bound(_) => None,
+    };
     BoundWay {
         from,
         weight: edge.weight,
         place,
-        side: Some(side),
+        side,
     }
 }
 
-// Whether a literal of a side is in a clause.
-fn has(literals: &[Literal], side: SideLiteral) -> bool {
-    for literal in literals {
-        if *literal == Literal::Side(side) {
-            return true;
+// The place of the same side in a clause, or of a bound of the same number.
+fn place_among(clause: &Vec<Literal>, literal: Literal) -> Option<usize> {
+    for place in 0..clause.len() {
+        if is_alike(at(clause, place, literal), literal) {
+            return Some(place);
         }
     }
-    false
+    None
+}
+
+// Whether two literals are the same side, or bounds of the same number.
+fn is_alike(one: Literal, other: Literal) -> bool {
+    match (one, other) {
+        (Literal::Bound(one), Literal::Bound(other)) => one.node == other.node,
+        _ => one == other,
+    }
+}
+
+// Of two bounds of the same number the greater value, and of two literals of the same side that literal.
+fn wider(one: Literal, other: Literal) -> Literal {
+    match (one, other) {
+        (Literal::Bound(bound), Literal::Bound(than)) if bound.value < than.value => other,
+        _ => one,
+    }
 }
 
 /// A number as one of 32 bits, the greatest of them if it is beyond.

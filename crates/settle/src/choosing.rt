@@ -4,15 +4,17 @@ use crate::activity::Activity;
 use crate::bound_rules::{BoundRule, BoundWay};
 use crate::engine::{Engine, Proposal};
 use crate::facts::Facts;
-use crate::literal::SideLiteral;
+use crate::literal::Literal;
 use crate::places::at;
+use crate::trail::Reason;
 use itv_base::NoMemory;
 use std::alloc::Global;
 
-// A side that may be chosen, with how much it was needed lately and with a value in picoseconds. The greatest need goes first, then the least value.
+// A side or a bound that may be chosen, with how much it was needed lately and with a value in picoseconds. The greatest need goes first, then the least
+// value.
 #[derive(Clone, Copy)]
 struct Candidate {
-    side: SideLiteral,
+    pick: Literal,
     need: u64,
     value: i64,
 }
@@ -20,8 +22,8 @@ struct Candidate {
 impl Engine {
     /// Chooses a side of an earliest constraint that the bounds of the times break. It takes the constraint whose sides were needed most lately, of those
     /// sides that may still hold; of two with equal need, the constraint whose target has the least value. Of that constraint it takes the side that is broken
-    /// least. If they break no earliest constraint, they are times. If no block is allowed, the search rests. Now and then it takes back all choices. If it has
-    /// then learnt many clauses, half of them go.
+    /// least. If they break no earliest constraint, they are times. If no block is allowed, the search rests. Where better times come fast, the first choice is
+    /// a guess that the separation is well above the claim. Now and then it takes back all choices. If it has then learnt many clauses, half of them go.
     pub fn choose(&mut self) -> Result<Proposal, NoMemory> {
         let Some(candidate) = self.facts.first_candidate(&self.activity) else {
             return Ok(Proposal::Times);
@@ -29,24 +31,53 @@ impl Engine {
         if !self.pace.may_choose(self.facts.meter.turns()) {
             return Ok(Proposal::Rests);
         }
-        if !self.pace.is_due() {
-            self.facts.choose_side(self.alloc, candidate.side)?;
-            return Ok(Proposal::Nothing);
+        let is_taken_back = self.probe.takes_back() && 0 < self.facts.trail.level();
+        if is_taken_back || self.pace.is_due() {
+            self.take_back(is_taken_back);
+        } else {
+            let literal = self.guess().unwrap_or(candidate.pick);
+            self.facts.pick(self.alloc, literal)?;
         }
-        self.pace.begin();
+        Ok(Proposal::Nothing)
+    }
+
+    // Takes back all choices: for a guess, or because the stretch is over.
+    fn take_back(&mut self, is_for_guess: bool) {
+        if !is_for_guess {
+            self.pace.begin();
+        }
         if 0 < self.facts.trail.level() {
             self.facts.go_back(0);
         }
-        Ok(Proposal::Nothing)
+    }
+
+    // The guess to be chosen, where nothing is chosen, if one is to be made.
+    fn guess(&mut self) -> Option<Literal> {
+        if 0 < self.facts.trail.level() {
+            return None;
+        }
+        let goal = self.facts.scope.goal;
+        let top = self.facts.trail.value(goal.node.other());
+        let bound = self.probe.next(goal, top)?;
+        if self.facts.trail.value(goal.node) <= bound.value {
+            return None;
+        }
+        Some(Literal::Bound(bound))
     }
 }
 
 impl Facts {
-    // Chooses a side. If it is the first choice and many clauses were learnt, half of them go before.
-    fn choose_side(&mut self, alloc: Global, side: SideLiteral) -> Result<(), NoMemory> {
+    // Chooses a literal. If it is the first choice and many clauses were learnt, half of them go before.
+    fn pick(&mut self, alloc: Global, literal: Literal) -> Result<(), NoMemory> {
         self.forget(alloc)?;
         self.unseen.falls.reset();
-        self.trail.choose(side)
+        match literal {
+            Literal::Side(side) => self.trail.choose(side),
+            Literal::Bound(bound) => {
+                self.trail.begin_level()?;
+                self.lower(bound, Reason::Choice)
+            }
+        }
     }
 
     // Lets half of the learnt clauses go, if there are many and nothing is chosen.
@@ -83,22 +114,22 @@ impl Facts {
             if value <= 0 {
                 return None;
             }
-            let side = way.side?;
-            if !self.trail.has(side.opposite()) {
-                need = activity.of(side.side()).max(need);
+            let pick = self.tables.rules.pick(rule, number);
+            if !self.trail.is_false(pick) {
+                need = activity.of(pick).max(need);
                 least = earlier(
                     least,
                     Candidate {
-                        side,
+                        pick,
                         need: 0,
                         value,
                     },
                 );
             }
         }
-        let side = least?.side;
+        let pick = least?.pick;
         let value = target;
-        Some(Candidate { side, need, value })
+        Some(Candidate { pick, need, value })
     }
 
     // By how much the bounds of the times break the side of a way, in picoseconds.

@@ -6,7 +6,9 @@ use crate::literal::{NodeBound, beyond};
 use crate::needs::Needs;
 use crate::node::Node;
 use crate::outbox::Outbox;
+use crate::outlook::Outlook;
 use crate::pace::Pace;
+use crate::probe::Probe;
 use crate::rounds::WalksBack;
 use crate::unseen::Conflict;
 use edge_clauses::{EventBound, StoredLine};
@@ -39,6 +41,7 @@ pub struct Engine {
     pub walks: WalksBack,
     pub outbox: Outbox,
     pub pace: Pace,
+    pub probe: Probe,
 }
 
 impl Engine {
@@ -68,6 +71,7 @@ impl Engine {
             walks: WalksBack::new(alloc),
             outbox: Outbox::new(alloc),
             pace: Pace::new(),
+            probe: Probe::new(),
         };
         match engine.start(net) {
             Ok(()) => Ok(engine),
@@ -83,7 +87,7 @@ impl Engine {
         self.facts.take_up(self.alloc, net)?;
         let sides = self.facts.tables.sides.len();
         let bounds = self.facts.trail.bounds();
-        self.activity.make_room(sides)?;
+        self.activity.make_room(sides, bounds / 2)?;
         self.needs.make_room(bounds)?;
         self.walks.make_room(bounds, sides.saturating_mul(2))
     }
@@ -91,6 +95,15 @@ impl Engine {
     /// Allows this many blocks from now on, and the turns for them.
     pub fn allow(&mut self, blocks: u64) {
         self.pace.allow(blocks, self.facts.meter.turns());
+    }
+
+    /// How the search goes.
+    pub fn outlook(&self) -> Outlook {
+        Outlook {
+            sides: self.facts.tables.sides.len() as u64,
+            clauses: self.pace.clauses,
+            levels: self.pace.levels,
+        }
     }
 
     /// Gives up: the search proposes the lines that wait, and then nothing more.
@@ -134,6 +147,7 @@ impl Engine {
             self.outbox.is_over = true;
             return Ok(Proposal::Over);
         }
+        self.probe.see(claim);
         self.facts.scope.goal.value = beyond(claim);
         self.facts.take_goal()?;
         match self.facts.unseen.conflict {

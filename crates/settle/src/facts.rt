@@ -48,7 +48,7 @@ impl Facts {
 
     /// Makes the tables of a network, and begins with what holds at once. All bounds wait.
     pub fn take_up(&mut self, alloc: Global, net: &Network) -> Result<(), NoMemory> {
-        self.tables.fill(alloc, net)?;
+        self.tables.fill(alloc, net, self.scope.from)?;
         let literals = self.tables.sides.len().saturating_mul(2);
         let nodes = net.events().saturating_mul(2);
         let bounds = nodes as usize;

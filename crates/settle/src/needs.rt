@@ -149,6 +149,11 @@ impl Needs {
         is_first
     }
 
+    /// Whether a bound is assumed.
+    pub fn assumes(&self, node: Node) -> bool {
+        at(&self.assumed, node.place(), 0) == self.conflict
+    }
+
     /// Counts this many things that were looked at.
     pub fn look(&mut self, things: usize) {
         self.looks = self.looks.saturating_add(things);

@@ -16,6 +16,9 @@ pub struct Pace {
     /// How many more blocks are allowed, and at how many turns the search rests before it has them.
     blocks: u64,
     rest_at: u64,
+    /// How many clauses were learnt, and of how many levels they were together.
+    pub clauses: u64,
+    pub levels: u64,
 }
 
 impl Pace {
@@ -27,6 +30,8 @@ impl Pace {
             length: 1,
             blocks: 0,
             rest_at: 0,
+            clauses: 0,
+            levels: 0,
         }
     }
 
@@ -47,9 +52,11 @@ impl Pace {
         0 < self.blocks && turns < self.rest_at
     }
 
-    /// Counts a conflict.
-    pub fn count(&mut self) {
+    /// Counts a conflict, and the clause of so many levels that was learnt from it.
+    pub fn count(&mut self, levels: usize) {
         self.conflicts = self.conflicts.saturating_add(1);
+        self.clauses = self.clauses.saturating_add(1);
+        self.levels = self.levels.saturating_add(levels as u64);
     }
 
     /// Whether the stretch is over.

@@ -7,6 +7,7 @@ ghost use Rattle.settle.specs.declared.prover.SearchState.TheVariants.{Over};
 ghost use Rattle.edge_clauses.specs.Proofs.{IsProving};
 
 use crate::engine::{Engine, Proposal};
+use crate::outlook::Outlook;
 use edge_clauses::{Claim, ClauseChecker, StoredLine};
 use event_graph::Network;
 use falling::Limits;
@@ -132,6 +133,11 @@ impl Prover {
         ensures same { self.new ≡ self.old }
     {
         self.engine.allow(blocks);
+    }
+
+    /// How the search goes.
+    pub fn outlook(&self) -> Outlook {
+        self.engine.outlook()
     }
 
     /// The turns that the search has taken.

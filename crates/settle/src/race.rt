@@ -35,7 +35,7 @@ pub struct Finish {
 }
 
 /// Two searches for the greatest separation of a pair. They share the best times that either finds. One search goes on
-/// until it rests. Then the other is allowed as many blocks. After both have rested, each is allowed more blocks.
+/// until it rests. Then the other is allowed as many blocks, or a share of them if it is slower. After both have rested, each is allowed more blocks.
 #[derive(Drop)]
 pub struct Race {
     pub from: EventId,
@@ -206,12 +206,16 @@ impl Race {
         match self.view {
             View::Plain => {
                 self.view = View::Negated;
-                self.turned.allow(self.blocks);
+                let plain = self.plain.outlook();
+                let blocks = self.turned.outlook().share(plain, self.blocks);
+                self.turned.allow(blocks);
             }
             View::Negated => {
                 self.view = View::Plain;
                 self.blocks = more_blocks(self.blocks);
-                self.plain.allow(self.blocks);
+                let turned = self.turned.outlook();
+                let blocks = self.plain.outlook().share(turned, self.blocks);
+                self.plain.allow(blocks);
             }
         }
     }

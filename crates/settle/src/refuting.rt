@@ -138,17 +138,40 @@ impl Engine {
         Ok(())
     }
 
-    // Assumes a needed entry, or needs what made it and writes its line.
+    // Assumes a needed entry, or needs what made it and writes its line. What follows from a guess alone is not assumed, but shown from it.
     fn go_through(
         &mut self,
         learnt: &mut Learnt,
         entry: TrailEntry,
         value: i64,
     ) -> Result<(), NoMemory> {
-        self.activity.count(entry.literal);
         let needed = at_value(entry.literal, value);
+        if self.probe.is_base(entry.level, self.needs.level()) {
+            return self.go_through_base(learnt, entry, needed);
+        }
+        self.activity.count(entry.literal);
         if entry.level < self.needs.level() || self.needs.is_last() {
             return self.assume(learnt, entry.level, needed);
+        }
+        self.put_line(needed, entry.literal, entry.reason)?;
+        self.needs.want_reason(&self.facts, needed, entry.reason);
+        Ok(())
+    }
+
+    // Assumes a guess, or needs what made what follows from it and writes its line. A bound that the block assumes is lower already.
+    fn go_through_base(
+        &mut self,
+        learnt: &mut Learnt,
+        entry: TrailEntry,
+        needed: Literal,
+    ) -> Result<(), NoMemory> {
+        if let Reason::Choice = entry.reason {
+            return self.assume(learnt, entry.level, needed);
+        }
+        if let Literal::Bound(bound) = needed {
+            if self.needs.assumes(bound.node) {
+                return Ok(());
+            }
         }
         self.put_line(needed, entry.literal, entry.reason)?;
         self.needs.want_reason(&self.facts, needed, entry.reason);
@@ -195,7 +218,8 @@ impl Engine {
             .clauses
             .push(basis, &learnt.literals, learnt.levels)?;
         self.activity.age();
-        self.pace.count();
+        self.pace.count(learnt.levels);
+        self.probe.count();
         self.facts.go_back(learnt.back);
         self.facts.imply(clause, first)
     }
@@ -228,6 +252,7 @@ impl Facts {
     fn basis_of(&self, literal: Literal, reason: Reason) -> Option<Basis> {
         match reason {
             Reason::Choice | Reason::Goal => None,
+            Reason::Fixed(name) => Some(Basis::ByEdge(name)),
             Reason::Edge(place) => Some(match self.tables.edges.edge(place).ground {
                 Ground::Always(name) => Basis::ByEdge(name),
                 Ground::Side(side) => Basis::Either(self.tables.sides.edge(side)),
@@ -266,10 +291,10 @@ impl Facts {
 }
 
 impl Needs {
-    // Needs what makes a literal hold for a reason.
+    // Needs what makes a literal hold for a reason. Events are fixed at level 0, of which nothing is needed.
     fn want_reason(&mut self, facts: &Facts, literal: Literal, reason: Reason) {
         match reason {
-            Reason::Choice | Reason::Goal => {}
+            Reason::Choice | Reason::Goal | Reason::Fixed(_) => {}
             Reason::Edge(place) => self.want_edge(facts, literal, place),
             Reason::Bounds(start) => self.want_excluded(facts, literal, start),
             Reason::Rule(rule) => self.want_rule(facts, literal, rule),

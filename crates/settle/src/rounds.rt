@@ -41,12 +41,14 @@ impl StepBack {
     }
 }
 
-// A walk back round a loop from a bound. `ways` and `literals` are what else may be met.
+// A walk back round a loop from a bound. `ways` and `literals` are what else may be met. A loop of negated times has no clause if it goes through a rule with
+// an edge from or to a fixed event: bounds stop there.
 #[derive(Drop)]
 struct Round {
     node: Node,
     steps: Vec<WalkStep>,
     sum: i64,
+    has_clause: bool,
     ways: Vec<BoundWay>,
     literals: Vec<SideLiteral>,
 }
@@ -58,6 +60,7 @@ impl Round {
             node,
             steps: Vec::new(alloc),
             sum: 0,
+            has_clause: true,
             ways: Vec::new(alloc),
             literals: Vec::new(alloc),
         }
@@ -210,14 +213,18 @@ impl Engine {
         Ok(false)
     }
 
-    // Proposes a loop, if its sum is below 0, it is not too large, and something follows from it. Otherwise a bound of a negated time rests: it would fall on
-    // and on in small steps. The times that the search finds do not depend on it.
+    // Proposes a loop, if its sum is below 0, it has a clause and is not too large, and something follows from it. Otherwise a bound of a negated time rests:
+    // it would fall on and on in small steps. The times that the search finds do not depend on it.
     fn propose(&mut self, round: &mut Round) -> Result<(), NoMemory> {
         self.facts.meter.look(round.size());
         if 0 <= round.sum {
             return Ok(());
         }
-        if MOST < round.size() || !are_near(&round.ways) || !self.facts.says_more(round) {
+        if !round.has_clause
+            || MOST < round.size()
+            || !are_near(&round.ways)
+            || !self.facts.says_more(round)
+        {
             if !round.node.is_most() {
                 self.facts.unseen.falls.let_rest(round.node);
             }
@@ -309,6 +316,10 @@ impl WalksBack {
             if !round.node.is_most() || facts.trail.has(side.opposite()) {
                 return self.join_literal(round, side);
             }
+        }
+        if !round.node.is_most() {
+            round.has_clause = false;
+            return Ok(());
         }
         way.side = None;
         way.weight = way.weight.saturating_add(round.sum);

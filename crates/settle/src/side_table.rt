@@ -6,7 +6,8 @@ use event_graph::Edge;
 use itv_base::{EventId, NoMemory};
 use std::alloc::Global;
 
-const NO_EDGE: Edge = Edge {
+/// An edge of no side.
+pub const NO_EDGE: Edge = Edge {
     from: EventId(0),
     to: EventId(0),
     weight: 0,

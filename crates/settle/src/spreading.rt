@@ -34,10 +34,29 @@ enum ClauseState {
 }
 
 impl Facts {
-    /// Begins: sides from an event to itself are met or not, and clauses of one literal make it hold.
+    /// Begins: fixed events are at their times, sides from an event to itself are met or not, and clauses of one literal make it hold.
     pub fn begin(&mut self) -> Result<(), NoMemory> {
+        self.fix_events()?;
         self.hold_own_sides()?;
         self.look_at_units()
+    }
+
+    // Lowers the bounds of fixed events to their times. So their lines come first, and an edge from or to such an event is a bound.
+    fn fix_events(&mut self) -> Result<(), NoMemory> {
+        for place in 0..self.tables.fixed.len() {
+            let fixed = self.tables.fixed.event(place);
+            let most = NodeBound {
+                node: Node::most(fixed.event),
+                value: fixed.time,
+            };
+            self.lower(most, Reason::Fixed(fixed.most))?;
+            let least = NodeBound {
+                node: Node::least(fixed.event),
+                value: 0i64.saturating_sub(fixed.time),
+            };
+            self.lower(least, Reason::Fixed(fixed.least))?;
+        }
+        Ok(())
     }
 
     // Lets each side from an event to itself be met or not.
@@ -244,7 +263,8 @@ impl Facts {
         }
     }
 
-    // Looks at the clauses of watches, where the bound of their list has come to a value. Brings the watches that stay to the front, and says how many they are.
+    // Looks at the clauses of watches, where the bound of their list has come to a value. Brings the watches that stay to the front, and says how many these
+    // are.
     fn look_at_watches(
         &mut self,
         watches: &mut Vec<Watch>,

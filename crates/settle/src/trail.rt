@@ -3,7 +3,7 @@
 use crate::literal::{Literal, NodeBound, SideLiteral, beyond};
 use crate::node::Node;
 use crate::places::{at, put};
-use itv_base::NoMemory;
+use itv_base::{EdgeName, NoMemory};
 use std::alloc::Global;
 
 /// What made an entry.
@@ -13,6 +13,8 @@ pub enum Reason {
     Choice,
     /// The goal is about separations above its claim.
     Goal,
+    /// The always-edge of this name holds an event at a fixed time.
+    Fixed(EdgeName),
     /// The edge from bound to bound at this place.
     Edge(usize),
     /// The bounds of both events of a side exclude its opposite. The bound from which the opposite leads was at this number of picoseconds.
@@ -239,9 +241,15 @@ impl Trail {
 
     /// Chooses a side's literal. A level begins with it.
     pub fn choose(&mut self, side: SideLiteral) -> Result<(), NoMemory> {
+        self.begin_level()?;
+        self.hold(side, Reason::Choice)
+    }
+
+    /// Begins a level. Its first entry is to be a choice.
+    pub fn begin_level(&mut self) -> Result<(), NoMemory> {
         let place = self.entries.len();
         self.starts.push(place)?;
-        self.hold(side, Reason::Choice)
+        Ok(())
     }
 
     /// Takes back all entries of the levels above this one, and says how many there were.

@@ -3,18 +3,18 @@ use Rattle.std.proofs.Common.{◌≡◌, ◌≤◌, ◌⊎◌, inl, inr, ℕ, �
 use Rattle.std.proofs.lemmas.Int.{ints}
 use Rattle.itv_base.specs.declared.limits.TheConstants.{MAX_BUDGET}
 use Rattle.event_graph.specs.Bounds.{IsInconsistent}
-use Rattle.event_graph.specs.Edges.{cause_choices}
 use Rattle.drawn_networks.specs.Drawn.{Drawn}
 use Rattle.drawn_numbers.specs.declared.drawn_number.DrawnNumber.{DrawnNumber}
 use Rattle.moves.specs.Found.{IsMarginFrom, IsSpan, IsSpanFound, IsWay}
 use Rattle.moves.specs.Moving.{shifted_at}
+use Rattle.moves.specs.Networks.{IsLeft}
 use Rattle.moves.specs.Passing.{BreaksRow, NoneBreaks, Passes}
 use Rattle.moves.specs.Step.{IsConsistent, IsMoveBy, lent}
 use Rattle.moves.specs.declared.margin.Margin.{Margin}
 use Rattle.moves.specs.declared.margin.Margin.TheVariants as margins
-use Rattle.moves.proofs.Each.{shifted_by_nothing}
+use Rattle.moves.specs.declared.span.SpanFound.{SpanFound}
 use Rattle.moves.proofs.Thresholds.{excluded}
-use Rattle.spans.specs.Step.{CanShift, IsBorderFrom, IsEnough, IsFurther, IsLastDrawn, IsOn, IsPast, IsShown, IsSpanStart, TellsConsistency, at_value, farthest, margin_of, on_of}
+use Rattle.spans.specs.Step.{CanShift, HasLeft, IsBorderFrom, IsFurther, IsLastDrawn, IsOn, IsPast, IsShown, IsSpanOf, IsSpanStart, TellsConsistency, at_value, farthest, margin_of, on_of}
 use Rattle.spans.specs.declared.border.Border.{Border}
 use Rattle.spans.specs.declared.border.Border.TheVariants as borders
 use Rattle.spans.specs.declared.direction.Direction.{Direction}
@@ -30,7 +30,7 @@ module _ (sought : SpanSought) (value : ℤ) where
   pub is_none_true : (o : Option Bool) (b : Bool) → o ≡ Some b → b ≡ false → TellsConsistency sought value o → IsInconsistent (at_value sought value).net
   is_none_true o b is test h = subst (TellsConsistency sought value) (is ∙ ap (λ (x : Bool). Some x) test) h
 
-  pub is_left : (o : Option Bool) → o ≡ None → TellsConsistency sought value o → IsEnough sought → ⊥
+  pub is_left : (o : Option Bool) → o ≡ None → TellsConsistency sought value o → HasLeft sought
   is_left o is h = subst (TellsConsistency sought value) is h
 
 module _ (sought : SpanSought) (d : Direction) (from : ℤ) where
@@ -44,8 +44,8 @@ module _ (sought : SpanSought) (d : Direction) (from : ℤ) where
       → IsFurther d from sought.budget last → IsBorderFrom sought d from border
   spent_at last border is on move shown far = subst (IsBorderFrom sought d from) (sym is) (record { ahead = on; by = move; each = shown; stands = far })
 
-  pub left_at : (border : Border) → border ≡ borders.Left from → IsMoveBy from → NoneBreaks (at_value sought from) → (IsEnough sought → ⊥) → IsBorderFrom sought d from border
-  left_at border is move none less = subst (IsBorderFrom sought d from) (sym is) (record { ahead = on_same d from; by = move; each = own_shown none; stands = less })
+  pub left_at : (border : Border) → border ≡ borders.Left from → IsMoveBy from → NoneBreaks (at_value sought from) → HasLeft sought → IsBorderFrom sought d from border
+  left_at border is move none left = subst (IsBorderFrom sought d from) (sym is) (record { ahead = on_same d from; by = move; each = own_shown none; stands = left })
 
   pub breaks_at : (last : ℤ) (row : ℕ) (border : Border) → border ≡ borders.Breaks last row → IsOn d from last → IsMoveBy last → IsShown sought d from (Some last)
       → IsConsistent (at_value sought last) → BreaksRow (at_value sought (last +ℤ on_of d)) row → IsBorderFrom sought d from border
@@ -95,10 +95,6 @@ neg_above a b le = omega (arith, ints, le)
 neg_far : (by from : ℤ) (count : ℕ) → by ≤ℤ (neg_ℤ from +ℤ pos count) → neg_ℤ (neg_ℤ by) ≤ℤ (neg_ℤ from +ℤ pos count)
 neg_far by from count le = omega (arith, ints, le)
 
--- the budget is less than the number of cause choices of the network with a value too
-enough_own : (drawn : Drawn) (numbers : List DrawnNumber) (budget : ℕ) → cause_choices (shifted_at drawn numbers (pos 0)).net.constraints ≤ budget → cause_choices drawn.net.constraints ≤ budget
-enough_own drawn numbers budget enough = subst (λ (d : Drawn). cause_choices d.net.constraints ≤ budget) (shifted_by_nothing drawn numbers) enough
-
 module _ (sought : SpanSought) (from : ℤ) where
   abbrev numbers_of : List DrawnNumber
   numbers_of = lent sought.numbers.now
@@ -112,8 +108,8 @@ module _ (sought : SpanSought) (from : ℤ) where
   margin_up (borders.Breaks last row) is = (way_up last is.ahead is.each is.stands.0, is.stands.1)
   margin_up (borders.Contradicts last) is = (way_up last is.ahead is.each is.stands.0, is.stands.1)
   margin_up (borders.Limit last) is = (last, way_up last is.ahead is.each is.stands.0, is.stands.1)
-  margin_up (borders.Spent last) is = λ enough by low high. is.each by (low, within_further Up from last by sought.budget is.stands high)
-  margin_up (borders.Left last) is = λ enough by low high. absurd (is.stands (enough_own sought.drawn.now numbers_of sought.budget enough))
+  margin_up (borders.Spent last) is = inl (λ by low high. is.each by (low, within_further Up from last by sought.budget is.stands high))
+  margin_up (borders.Left last) is = inr is.stands
 
   way_down : (last : ℤ) → IsOn Down from last → IsShown sought Down from (Some last) → IsConsistent (at_value sought last)
       → IsWay (λ by. shifted_at sought.drawn.now numbers_of (neg_ℤ by)) (neg_ℤ from) (neg_ℤ last)
@@ -139,11 +135,12 @@ module _ (sought : SpanSought) (from : ℤ) where
     way_down last is.ahead is.each is.stands.0,
     subst (λ (v : ℤ). CanShift sought.drawn.now numbers_of v → ⊥) (neg_next last) is.stands.1,
   )
-  margin_down (borders.Spent last) is = λ enough by low high. is.each (neg_ℤ by) (
+  margin_down (borders.Spent last) is = inl (λ by low high. is.each (neg_ℤ by) (
     neg_below from by low,
     within_further Down from last (neg_ℤ by) sought.budget is.stands (neg_far by from sought.budget high),
-  )
-  margin_down (borders.Left last) is = λ enough by low high. absurd (is.stands (enough_own sought.drawn.now numbers_of sought.budget enough))
+  ))
+  margin_down (borders.Left last) is =
+      inr (neg_ℤ is.stands.0, subst (λ (v : ℤ). IsLeft (at_value sought v) sought.budget) (neg_twice is.stands.0) is.stands.1)
 
 -- ---- spans
 
@@ -170,6 +167,10 @@ span_of sought from low high down up below above passes own is_down is_up =
     } in
     found_span drawn numbers budget down up
     (subst (λ (m : Margin). IsSpan drawn numbers budget m up) (sym is_down) (subst (λ (m : Margin). IsSpan drawn numbers budget (margin_of Down low) m) (sym is_up) made))
+
+-- it was left open where a search with some value was
+pub span_left : (sought : SpanSought) (span : SpanFound) → span ≡ record { down = margins.Spent; up = margins.Spent } → HasLeft sought → IsSpanOf sought span
+span_left sought span is left = subst (IsSpanOf sought) (sym is) (inr left)
 
 -- a row breaks as drawn
 pub nothing_found : (sought : SpanSought) (row : ℕ) → BreaksRow sought.drawn.now row → Passes sought.drawn.now → ⊥

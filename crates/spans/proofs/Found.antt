@@ -1,11 +1,10 @@
 -- What was found of a network, as what is found of a drawn network with numbers moved.
-use Rattle.std.proofs.Common.{◌≡◌, ◌≤◌, ℕ, ℤ, List, Bool, true, false, IfOk, IsSome, Option, Some, None, Result, Ok, Err, pos, sym, ap, subst, ◌∙◌}
+use Rattle.std.proofs.Common.{◌≡◌, ℕ, ℤ, List, Bool, true, false, IfOk, IsSome, Option, Some, None, Result, Ok, Err, pos, refl, sym, ap, subst, ◌∙◌}
 use Rattle.event_graph.specs.Bounds.{IsInconsistent}
-use Rattle.event_graph.specs.Edges.{cause_choices}
 use Rattle.event_graph.specs.Network.{Net}
 use Rattle.drawn_networks.specs.Drawn.{Drawn}
 use Rattle.drawn_networks.specs.declared.row.Row.{Row}
-use Rattle.moves.specs.Networks.{IsNetFound, is_net_open}
+use Rattle.moves.specs.Networks.{IsLeft, IsNetFound, is_net_open}
 use Rattle.moves.specs.Passing.{BreaksRow, Passes}
 use Rattle.moves.specs.Step.{bare_drawn, lent}
 use Rattle.moves.specs.declared.net_found.NetFound.{NetFound}
@@ -15,7 +14,7 @@ use Rattle.moves.proofs.Covering.{cover_contradicts, cover_holds}
 use Rattle.moves.proofs.Each.{shifted_by_nothing}
 use Rattle.moves.proofs.Thresholds.{excluded}
 use Rattle.probing.specs.declared.probed.Probed.{Probed}
-use Rattle.spans.specs.Step.{IsEnough, IsFrameFound, IsFrameOf, IsInside, IsProbeOf, IsStop, IsValueFound, IsValueFoundAt, MeetsAim, TellsConsistency, at_value, breaks_for, consistency_of, passes_for}
+use Rattle.spans.specs.Step.{HasLeft, IsFrameFound, IsFrameOf, IsInside, IsProbeOf, IsStop, IsValueFound, IsValueFoundAt, MeetsAim, TellsConsistency, at_value, breaks_for, consistency_of, passes_for}
 use Rattle.spans.specs.declared.framed_range.FrameKind.{FrameKind}
 use Rattle.spans.specs.declared.framed_range.FrameKind.TheVariants as frames
 use Rattle.spans.specs.declared.interval.Interval.{Interval}
@@ -37,6 +36,11 @@ pub found_at : (drawn : Drawn) (net : Net) (rows : List Row) (found : NetFound) 
 found_at drawn net rows found same_net same_rows h =
     found_bare drawn found
     (subst (λ (n : Net). IsNetFound (bare_drawn n drawn.rows) found) same_net (subst (λ (rs : List Row). IsNetFound (bare_drawn net rs) found) same_rows h))
+
+-- and so it is with a search that was left open
+left_by : (drawn : Drawn) (net : Net) (rows : List Row) (budget : ℕ) → net ≡ drawn.net → rows ≡ drawn.rows → IsLeft (bare_drawn net rows) budget → IsLeft drawn budget
+left_by drawn net rows budget same_net same_rows h =
+    subst (λ (n : Net). IsLeft (bare_drawn n drawn.rows) budget) same_net (subst (λ (rs : List Row). IsLeft (bare_drawn net rs) budget) same_rows h)
 
 -- what was found, by another name
 pub found_as : (drawn : Drawn) (found is : NetFound) → found ≡ is → IsNetFound drawn found → IsNetFound drawn is
@@ -64,51 +68,49 @@ stop_passes drawn nets.Open h stop = absurd stop
 stop_passes drawn nets.Spent h stop = absurd stop
 
 module _ (sought : SpanSought) (value : ℤ) where
-  value_by : (aim : SpanAim) (found : NetFound) (result : ValueFound) → (IsEnough sought → is_net_open found ≡ false) → IsValueFound aim (at_value sought value) found result
+  value_by : (aim : SpanAim) (found : NetFound) (result : ValueFound) → (is_net_open found ≡ true → IsLeft (at_value sought value) sought.budget) → IsValueFound aim (at_value sought value) found result
       → IsValueFoundAt sought aim value result
-  value_by aim found values.Shown settles is = is
-  value_by aim found (values.Stops other) settles is = is
-  value_by aim found values.Left settles is = λ enough. absurd (cc (settles enough, is))
+  value_by aim found values.Shown left is = is
+  value_by aim found (values.Stops other) left is = is
+  value_by aim found values.Left left is = (value, left is)
 
   -- what is found of a value, by a probe there
   pub value_found : (aim : SpanAim) (probed : Probed) (result : ValueFound) → IsProbeOf sought value probed → IsValueFound aim (at_value sought value) probed.found result
       → IsValueFoundAt sought aim value result
-  value_found aim probed result is h = value_by aim probed.found result is.settles h
+  value_found aim probed result is h = value_by aim probed.found result is.left h
 
-  tells_by : (found : NetFound) → IsNetFound (at_value sought value) found → (IsEnough sought → is_net_open found ≡ false) → TellsConsistency sought value (consistency_of found)
-  tells_by nets.Passes is settles = is.0
-  tells_by (nets.Breaks row) is settles = (is.0, is.1)
-  tells_by nets.Inconsistent is settles = is
-  tells_by nets.Open is settles = is
-  tells_by nets.Spent is settles = λ enough. absurd (cc (settles enough))
+  tells_by : (found : NetFound) → IsNetFound (at_value sought value) found → (is_net_open found ≡ true → IsLeft (at_value sought value) sought.budget) → TellsConsistency sought value (consistency_of found)
+  tells_by nets.Passes is left = is.0
+  tells_by (nets.Breaks row) is left = (is.0, is.1)
+  tells_by nets.Inconsistent is left = is
+  tells_by nets.Open is left = is
+  tells_by nets.Spent is left = (value, left refl)
 
   pub tells_found : (probed : Probed) (result : Option Bool) → IsProbeOf sought value probed → result ≡ consistency_of probed.found → TellsConsistency sought value result
-  tells_found probed result is same = subst (TellsConsistency sought value) (sym same) (tells_by probed.found is.found is.settles)
+  tells_found probed result is same = subst (TellsConsistency sought value) (sym same) (tells_by probed.found is.found is.left)
 
-  pub open_left : (probed : Probed) (found : NetFound) → IsProbeOf sought value probed → probed.found ≡ found → is_net_open found ≡ true → IsEnough sought → ⊥
-  open_left probed found is same open_ enough =
-      let closed : is_net_open found ≡ false = subst (λ (f : NetFound). is_net_open f ≡ false) same (is.settles enough) in absurd (cc (closed, open_))
+  pub open_left : (probed : Probed) (found : NetFound) → IsProbeOf sought value probed → probed.found ≡ found → is_net_open found ≡ true → HasLeft sought
+  open_left probed found is same open_ = (value, is.left (ap is_net_open same ∙ open_))
 
 -- a probe of a network and rows that are those with a value
 module _ (sought : SpanSought) (value : ℤ) where
   pub probed_at : {E : Type 0} (net : Net) (rows : List Row) (result : Result Probed E) → net ≡ (at_value sought value).net → rows ≡ (at_value sought value).rows
-      → (IsEnough sought → cause_choices net.constraints ≤ sought.budget) → IfOk result (λ (p : Probed). IsNetFound (bare_drawn net rows) p.found)
-      → IfOk result (λ (p : Probed). cause_choices net.constraints ≤ sought.budget → is_net_open p.found ≡ false) → IfOk result (IsProbeOf sought value)
-  probed_at net rows (Ok p) on_net on_rows enough found settles = record {
+      → IfOk result (λ (p : Probed). IsNetFound (bare_drawn net rows) p.found)
+      → IfOk result (λ (p : Probed). is_net_open p.found ≡ true → IsLeft (bare_drawn net rows) sought.budget) → IfOk result (IsProbeOf sought value)
+  probed_at net rows (Ok p) on_net on_rows found left = record {
     found = found_at (at_value sought value) net rows p.found on_net on_rows found;
-    settles = λ is. settles (enough is);
+    left = λ open_. left_by (at_value sought value) net rows sought.budget on_net on_rows (left open_);
   }
-  probed_at net rows (Err e) on_net on_rows enough found settles = tt
+  probed_at net rows (Err e) on_net on_rows found left = tt
 
   -- the same of the drawn network
   pub probed_own : {E : Type 0} (net : Net) (rows : List Row) (result : Result Probed E) → value ≡ pos 0 → net ≡ sought.drawn.now.net → rows ≡ sought.drawn.now.rows
       → IfOk result (λ (p : Probed). IsNetFound (bare_drawn net rows) p.found)
-      → IfOk result (λ (p : Probed). cause_choices net.constraints ≤ sought.budget → is_net_open p.found ≡ false) → IfOk result (IsProbeOf sought value)
-  probed_own net rows result none on_net on_rows found settles =
+      → IfOk result (λ (p : Probed). is_net_open p.found ≡ true → IsLeft (bare_drawn net rows) sought.budget) → IfOk result (IsProbeOf sought value)
+  probed_own net rows result none on_net on_rows found left =
       let same : at_value sought value ≡ sought.drawn.now =
       ap (λ (v : ℤ). at_value sought v) none ∙ shifted_by_nothing sought.drawn.now (lent sought.numbers.now) in
-      probed_at net rows result (on_net ∙ sym (ap (λ (d : Drawn). d.net) same)) (on_rows ∙ sym (ap (λ (d : Drawn). d.rows) same))
-      (λ enough. subst (λ (n : Net). cause_choices n.constraints ≤ sought.budget) (sym on_net) enough) found settles
+      probed_at net rows result (on_net ∙ sym (ap (λ (d : Drawn). d.net) same)) (on_rows ∙ sym (ap (λ (d : Drawn). d.rows) same)) found left
 
 -- there is none
 pub not_there : {A : Type 0} (o : Option A) → o ≡ None → IsSome o → ⊥

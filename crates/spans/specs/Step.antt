@@ -6,7 +6,6 @@ use Rattle.itv_base.specs.declared.limits.TheConstants.{MAX_BUDGET}
 use Rattle.itv_base.specs.declared.names.EventId.{EventId}
 use Rattle.itv_base.specs.declared.row_kind.RowKind.{RowKind}
 use Rattle.event_graph.specs.Bounds.{IsInconsistent}
-use Rattle.event_graph.specs.Edges.{cause_choices}
 use Rattle.event_graph.specs.Network.{Constraint, Net}
 use Rattle.event_graph.specs.Widening.{IsHigherEnd, IsLowerEnd, IsWider, IsWiderCause, IsWiderConstraint}
 use Rattle.event_graph.specs.declared.cause.Cause.{Cause}
@@ -16,7 +15,7 @@ use Rattle.drawn_numbers.specs.declared.drawn_number.DrawnNumber.{DrawnNumber}
 use Rattle.moves.specs.Covers.{Covers, IsCoreOf, IsTighterRow, cause_counted, net_counted, row_counted}
 use Rattle.moves.specs.Found.{IsSpanFound}
 use Rattle.moves.specs.Moving.{kind_moved, moved_up, shifted_at}
-use Rattle.moves.specs.Networks.{IsNetFound, is_net_open}
+use Rattle.moves.specs.Networks.{IsLeft, IsNetFound, is_net_open}
 use Rattle.moves.specs.Passing.{BreaksRow, HasDrawableRanges, MeetsKind, NoneBreaks, Passes}
 use Rattle.moves.specs.Step.{IsConsistent, IsMoveBy, causes_moved, lent}
 use Rattle.moves.specs.declared.margin.Margin.{Margin}
@@ -241,13 +240,13 @@ pub record IsSought (sought : SpanSought) : Type 0 where
   pub least : 1 ≤ sought.budget
   pub most : sought.budget ≤ MAX_BUDGET
 
--- the budget is no less than the number of cause choices
-abbrev pub IsEnough : SpanSought → Type 0
-IsEnough sought = cause_choices sought.drawn.now.net.constraints ≤ sought.budget
-
 -- the drawn network with the numbers moved up by a value
 abbrev pub at_value : SpanSought → ℤ → Drawn
 at_value sought value = shifted_at sought.drawn.now (lent sought.numbers.now) value
+
+-- a search with some value used the budget up
+abbrev pub HasLeft : SpanSought → Type 0
+HasLeft sought = (value : ℤ) × IsLeft (at_value sought value) sought.budget
 
 -- a value that can be drawn, or the drawn one
 abbrev pub IsWithinReach : SpanSought → ℤ → Type 0
@@ -256,7 +255,7 @@ IsWithinReach sought value = (sought.reach.least.by ≤ℤ value) × (value ≤�
 -- what a probe at a value found
 pub record IsProbeOf (sought : SpanSought) (value : ℤ) (probed : Probed) : Type 0 where
   pub found : IsNetFound (at_value sought value) probed.found
-  pub settles : IsEnough sought → is_net_open probed.found ≡ false
+  pub left : is_net_open probed.found ≡ true → IsLeft (at_value sought value) sought.budget
 
 -- what is shown of a value: no requirement breaks, or not every requirement passes
 abbrev pub MeetsAim : SpanAim → Drawn → Type 0
@@ -288,7 +287,7 @@ abbrev pub IsShort : SpanSought → SpanAim → Direction → ℤ → Shortfall 
 IsShort sought aim direction from (shorts.Stops last found) =
     IsShownTo sought aim direction from last.by × IsNetFound (at_value sought (last.by +ℤ on_of direction)) found × IsStop aim found
 IsShort sought aim direction from (shorts.Spent last) = IsShownTo sought aim direction from last.by × IsFurther direction from sought.budget last.by
-IsShort sought aim direction from shorts.Left = IsEnough sought → ⊥
+IsShort sought aim direction from shorts.Left = HasLeft sought
 
 -- it stops before the goal
 abbrev pub StopsBefore : Direction → ℤ → Shortfall → Type 0
@@ -306,14 +305,14 @@ IsStretched sought aim direction done goal (stretches.On next) =
     IsPast direction done next.done.by × IsOn direction next.done.by goal
     × ((value : ℤ) → IsPast direction done value → IsOn direction value next.done.by → MeetsAim aim (at_value sought value))
 IsStretched sought aim direction done goal (stretches.Stops found) = IsNetFound (at_value sought (done +ℤ on_of direction)) found × IsStop aim found
-IsStretched sought aim direction done goal stretches.Left = IsEnough sought → ⊥
+IsStretched sought aim direction done goal stretches.Left = HasLeft sought
 
 -- what is known of a value that was found ahead
 abbrev pub IsAhead : SpanSought → Direction → ℤ → Ahead → Type 0
 IsAhead sought direction from (heads.Breaks at row) = IsWithinReach sought at.by × IsPast direction from at.by × BreaksRow (at_value sought at.by) row
 IsAhead sought direction from (heads.Contradicts at) = IsWithinReach sought at.by × IsPast direction from at.by × IsInconsistent (at_value sought at.by).net
 IsAhead sought direction from heads.Nothing = Unit {0}
-IsAhead sought direction from heads.Left = IsEnough sought → ⊥
+IsAhead sought direction from heads.Left = HasLeft sought
 
 -- the result of a look at a value
 abbrev pub IsGlanced : SpanSought → Direction → ℤ → ℤ → Glanced → Type 0
@@ -352,7 +351,7 @@ IsBorder sought direction from (borders.Contradicts by) = IsConsistent (at_value
 IsBorder sought direction from (borders.Limit by) =
     IsConsistent (at_value sought by) × (CanShift sought.drawn.now (lent sought.numbers.now) (by +ℤ on_of direction) → ⊥)
 IsBorder sought direction from (borders.Spent by) = IsFurther direction from sought.budget by
-IsBorder sought direction from (borders.Left by) = IsEnough sought → ⊥
+IsBorder sought direction from (borders.Left by) = HasLeft sought
 
 -- a border in a direction from a value with which every requirement passes
 pub record IsBorderFrom (sought : SpanSought) (direction : Direction) (from : ℤ) (border : Border) : Type 0 where
@@ -398,7 +397,7 @@ abbrev pub IsNearFound : SpanSought → Direction → Nearby → Type 0
 IsNearFound sought direction nearby.Fails = (value : ℤ) → IsPast direction (pos 0) value → outward direction value ≤ℤ pos sought.budget
     → CanShift sought.drawn.now (lent sought.numbers.now) value → Passes (at_value sought value) → ⊥
 IsNearFound sought direction (nearby.Passes at) = IsWithinReach sought at.by × IsSpanStart at.by × Passes (at_value sought at.by)
-IsNearFound sought direction nearby.Left = IsEnough sought → ⊥
+IsNearFound sought direction nearby.Left = HasLeft sought
 
 -- ---- what a look at a value finds
 
@@ -422,11 +421,11 @@ breaks_for aims.Failing row = values.Shown
 abbrev pub IsValueFoundAt : SpanSought → SpanAim → ℤ → ValueFound → Type 0
 IsValueFoundAt sought aim value values.Shown = MeetsAim aim (at_value sought value)
 IsValueFoundAt sought aim value (values.Stops other) = IsNetFound (at_value sought value) other × IsStop aim other
-IsValueFoundAt sought aim value values.Left = IsEnough sought → ⊥
+IsValueFoundAt sought aim value values.Left = HasLeft sought
 
 -- some times satisfy with a value, or none do; or that was left open
 abbrev pub TellsConsistency : SpanSought → ℤ → Option Bool → Type 0
-TellsConsistency sought value None = IsEnough sought → ⊥
+TellsConsistency sought value None = HasLeft sought
 TellsConsistency sought value (Some true) = IsConsistent (at_value sought value)
 TellsConsistency sought value (Some false) = IsInconsistent (at_value sought value).net
 

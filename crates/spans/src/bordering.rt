@@ -1,11 +1,11 @@
 //! One border of a span.
 
-ghost use Rattle.std.specs.Prelude.{◌≡◌, ◌+ℤ◌, IfOk, IfSome, IsSome, Some};
+ghost use Rattle.std.specs.Prelude.{◌≡◌, ◌+ℤ◌, IfOk, IfSome, None, Some};
 ghost use Rattle.event_graph.specs.Bounds.{IsInconsistent};
 ghost use Rattle.extremes.specs.Ready.{AreTurnsOf};
 ghost use Rattle.moves.specs.Passing.{BreaksRow, Passes};
 ghost use Rattle.moves.specs.Step.{IsMoveBy};
-ghost use Rattle.spans.specs.Step.{IsBorderFrom, IsEnough, IsGapIn, IsNarrowerGap, IsOn, IsPast, IsWithinReach, IsShort, IsShown, IsSought, IsSpanStart, IsStop, at_value, limit_of, on_of};
+ghost use Rattle.spans.specs.Step.{HasLeft, IsBorderFrom, IsGapIn, IsNarrowerGap, IsOn, IsPast, IsWithinReach, IsShort, IsShown, IsSought, IsSpanStart, IsStop, at_value, limit_of, on_of};
 
 use crate::advance::{Advance, Shortfall, show_to};
 use crate::border::Border;
@@ -281,7 +281,7 @@ fn halved(
     requires apart { IsPast direction (gap.has.by +ℤ on_of direction) gap.lacks.by }
     ensures half { IfOk result (λ half. IfSome half (IsGapIn sought.now direction gap.has.by gap.lacks.by)) }
     ensures narrower { IfOk result (λ half. IfSome half (IsNarrowerGap gap)) }
-    ensures settles { IfOk result (λ half. IsEnough sought.now → IsSome half) }
+    ensures left { IfOk result (λ half. half ≡ None → HasLeft sought.now) }
     ensures turns { AreTurnsOf turns.old turns.new }
 {
     let first = next_of(gap.has, direction);

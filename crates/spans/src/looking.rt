@@ -112,7 +112,8 @@ fn looked_at(
         }
         NetFound::Breaks(row) => Ok(Glanced::Found(Ahead::Breaks { at: next, row })),
         NetFound::Inconsistent => Ok(Glanced::Found(Ahead::Contradicts(next))),
-        NetFound::Open | NetFound::Spent => Ok(Glanced::Found(Ahead::Left)),
+        NetFound::Open => Ok(Glanced::Found(Ahead::Left)),
+        NetFound::Spent => Ok(Glanced::Found(Ahead::Left)),
     }
 }
 

@@ -132,5 +132,50 @@ def a_row_of_another_edge_is_not_drawn(page):
         page.stand_back()
 
 
+EVERY_CYCLE = """itv cycles 1
+cycles 2
+from 0
+finding steady
+periods 25000 25000
+times 0 8000
+row 0 req CPU.d CPU.c+1 [3000,*] edge 2 tDS
+max 22800 always
+min 4400 steady 5000
+verdict vary low
+later 1
+slack 1400 *
+end fail
+"""
+
+
+def every_cycle_is_a_tab_where_the_program_has_the_job(page):
+    """The tab is there for a netlist, if the program knows job cycles. Its table links each row to its edge."""
+    page.load()
+    page.open_example("examples/cpu-sram.json")
+    tabs = "[...document.querySelectorAll('#job-tabs [role=tab]')].map(tab => tab.dataset.id)"
+    printed = page.browser.evaluate("Object.fromEntries([...itv.analysis.texts].map(([job, printed]) => [job, printed.text]))")
+    jobs = page.browser.evaluate("itv.jobs")
+    try:
+        page.browser.evaluate("itv.jobs = itv.jobs.filter(job => job !== 'cycles'); itv.answers.showJobTabs()")
+        assert "cycles" not in page.browser.evaluate(tabs)
+        page.browser.evaluate("itv.jobs.push('cycles'); 1")
+        page.stand_in({**printed, "cycles": EVERY_CYCLE})
+        page.open_example("examples/cpu-sram.json")
+        page.browser.click("#job-tabs [data-id=cycles]")
+        page.browser.wait_for("document.querySelector('#job table.rows') !== null && itv.answers.job === 'cycles'")
+        shown = page.browser.evaluate("document.getElementById('job').innerText.replace(/\\s+/g, ' ')")
+        for words in ("every run of 2 cycles or more", "repeat after 25.0 ns", "at least 4.4 ns 5.0 ns in times that repeat 22.8 ns", "✗ may fail passes from cycle 1 on 1.4 ns"):
+            assert words in shown, (words, shown)
+        page.browser.evaluate("document.querySelector('#job table.rows a.edge').click()")
+        assert page.browser.evaluate("itv.editor.view.getSelection()") == '"d->c @req+1 [3000,*] tDS"'
+        page.stand_back()
+        page.open_example("examples/sram-write.json")
+        assert "cycles" not in page.browser.evaluate(tabs)
+    finally:
+        page.stand_back()
+        page.browser.evaluate(f"itv.jobs = {json.dumps(jobs)}; itv.answers.job = 'bounds'; 1")
+
+
 TESTS = [the_first_screen_leads_on, the_menu_begins_with_the_boards, the_bars_are_moved, each_control_has_a_name, the_verdict_comes_first_on_paper,
-         a_diagram_is_saved_as_a_picture, the_strict_text_is_shown, times_above_what_is_read_exactly_are_not_drawn, a_row_of_another_edge_is_not_drawn]
+         a_diagram_is_saved_as_a_picture, the_strict_text_is_shown, times_above_what_is_read_exactly_are_not_drawn, a_row_of_another_edge_is_not_drawn,
+         every_cycle_is_a_tab_where_the_program_has_the_job]

@@ -1,4 +1,4 @@
-use Rattle.itv_cli.specs.Job.{times_at}
+use Rattle.itv_cli.specs.Step.{times_at}
 use Rattle.itv_cli.proofs.Steps.{design_up, design_then}
 use Rattle.itv_cli.proofs.opening.open_measure.Goals as goal
 

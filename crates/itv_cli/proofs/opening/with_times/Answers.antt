@@ -4,7 +4,7 @@ use Rattle.design_reading.specs.declared.refusal_place.RefusalPlace.TheVariants.
 use Rattle.design_reading.specs.FileReading.{file_at}
 use Rattle.design_reading.proofs.Opens.{opens_then, opens_up}
 use Rattle.itv_cli.specs.declared.ready.Ready.{Ready}
-use Rattle.itv_cli.specs.Job.{times_in}
+use Rattle.itv_cli.specs.Step.{times_in}
 use Rattle.itv_cli.proofs.opening.with_times.Goals as goal
 
 pub returns-in_err-bytes-clause-opens : goal.returns-in_err-bytes-clause-opens

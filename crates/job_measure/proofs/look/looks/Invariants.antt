@@ -1,5 +1,5 @@
 use Rattle.std.proofs.Common.{◌≡◌, take}
-use Rattle.job_measure.specs.Looks.{looks}
+use Rattle.job_measure.specs.Step.Looks.{looks}
 use Rattle.job_measure.proofs.look.looks.Given as goal
 
 -- what the constraints so far show

@@ -1,5 +1,5 @@
 use Rattle.std.proofs.Common.{◌≡◌, take}
-use Rattle.job_measure.specs.Step.{causes_at}
+use Rattle.job_measure.specs.Step.Within.{causes_at}
 use Rattle.job_measure.proofs.rule.causes_of.Given as goal
 
 abbrev pub invariant-loop-k : goal.invariant-loop-k

@@ -1,6 +1,6 @@
 use Rattle.std.proofs.Common.{◌≡◌, take}
-use Rattle.job_measure.specs.Looks.{times_of}
-use Rattle.job_measure.specs.Spare.{least_on}
+use Rattle.job_measure.specs.Step.Looks.{times_of}
+use Rattle.job_measure.specs.Step.Spare.{least_on}
 use Rattle.job_measure.proofs.spare.least_on.Given as goal
 
 -- the least of the causes so far

@@ -1,6 +1,6 @@
 use Rattle.std.proofs.Common.{◌≡◌, take}
-use Rattle.job_measure.specs.Looks.{times_of}
-use Rattle.job_measure.specs.Spare.{most_on}
+use Rattle.job_measure.specs.Step.Looks.{times_of}
+use Rattle.job_measure.specs.Step.Spare.{most_on}
 use Rattle.job_measure.proofs.spare.most_on.Given as goal
 
 -- the most of the causes so far

@@ -1,6 +1,6 @@
 use Rattle.std.proofs.Common.{◌+◌, ◌∙◌, ap, refl}
-use Rattle.job_measure.specs.Looks.{looks}
-use Rattle.job_measure.specs.Tally.{with_look}
+use Rattle.job_measure.specs.Step.Looks.{looks}
+use Rattle.job_measure.specs.Step.Tally.{with_look}
 use Rattle.job_measure.proofs.Counting.{tally_more}
 use Rattle.job_measure.proofs.tally.tally_of.Goals as goal
 

@@ -1,7 +1,8 @@
-use Rattle.std.proofs.Common.{◌≡◌, ◌++◌, drop}
-use Rattle.job_measure.specs.Text.{unseen_text}
+use Rattle.std.proofs.Common.{◌≡◌, ◌++◌}
+use Rattle.std.specs.List.{flat_map}
+use Rattle.job_measure.specs.Step.Text.{hint_text, hints}
 use Rattle.job_measure.proofs.unseen.add_unseen.Given as goal
 
--- the lines so far, before those that are left
+-- the lines of the events so far
 abbrev pub invariant-loop-number : goal.invariant-loop-number
-invariant-loop-number l = l.text.items ++ unseen_text l.runs l.number (drop l.number l.drawn.names) ≡ l.fn.text.items ++ unseen_text l.runs 0 l.drawn.names
+invariant-loop-number l = l.text.items ≡ l.fn.text.items ++ flat_map (hint_text l.drawn) (hints l.runs l.number)

@@ -12,3 +12,6 @@ returns-clause-found c =
     let near : bracket.breaks ≤ℤ (bracket.passes +ℤ pos 1) =
     not_less (bracket.passes +ℤ pos 1) bracket.breaks (λ less. let wide = c.is_wide.ensures.wide.1 less in absurd (cc (wide, c.loop-alloc-test.false))) in
     rw kept (found_margin c.args.sought.now bracket c.requires.sought c.loop-alloc.invariant.bracket near)
+
+pub returns-in-None-clause-found : goal.returns-in-None-clause-found
+returns-in-None-clause-found c = c.in_ok-tighter.ensures.left c.in-None.is

@@ -1,9 +1,9 @@
-use Rattle.std.proofs.Common.{◌≡◌, ◌≤ℤ◌, ◌<ℤ◌, to_z, of_z, w64, rules, arith, subst, sym}
+use Rattle.std.proofs.Common.{◌≡◌, ◌≤ℤ◌, ◌<ℤ◌, to_z, of_z, w64, rules, arith, subst, sym, refl}
 use mir.Val.{SFits}
 use Rattle.std.proofs.lemmas.Int.{ints, to_z-of_z}
 use Rattle.margins.specs.Step.{IsBracket}
 use Rattle.margins.specs.declared.bracket.Bracket.{Bracket}
-use Rattle.margins.proofs.Deciding.{bracket_made, breaks_at, contradicts_at, gap_made, passes_at}
+use Rattle.margins.proofs.Deciding.{bracket_made, breaks_at, contradicts_at, gap_made, left_at, passes_at}
 use Rattle.margins.proofs.falling_short.gap_by.Goals as goal
 
 pub margin_in-requires-clause-bracket : goal.margin_in-requires-clause-bracket
@@ -36,3 +36,9 @@ returns-in-Inconsistent-clause-found c =
     gap_made c.args.sought.now c.args.gap c.args.by c.args.gap.breaks _ _ c.args.gap.row (to_z-of_z w64 c.args.by c.ranges.by) (to_z-of_z w64 c.args.gap.breaks fits) c.requires.below least
     c.requires.gap.0.most (contradicts_at c.args.sought.now c.args.by c.args.probed.now c.requires.probed c.in-Inconsistent.is) c.requires.gap.0.breaks
     (omega (arith, ints, c.requires.above))
+
+pub returns-in-Open-clause-found : goal.returns-in-Open-clause-found
+returns-in-Open-clause-found c = left_at c.args.sought.now c.args.by c.args.probed.now _ c.requires.probed c.in-Open.is refl
+
+pub returns-in-Spent-clause-found : goal.returns-in-Spent-clause-found
+returns-in-Spent-clause-found c = left_at c.args.sought.now c.args.by c.args.probed.now _ c.requires.probed c.in-Spent.is refl

@@ -1,7 +1,7 @@
-use Rattle.std.proofs.Common.{◌≡◌, pos, ◌≤ℤ◌, to_z, of_z, w64, rules, arith}
+use Rattle.std.proofs.Common.{◌≡◌, pos, ◌≤ℤ◌, to_z, of_z, w64, rules, arith, refl}
 use mir.Val.{SFits}
 use Rattle.std.proofs.lemmas.Int.{ints, to_z-of_z}
-use Rattle.margins.proofs.Deciding.{breaks_at, found_never, not_contradicts, own_passes, passes_at}
+use Rattle.margins.proofs.Deciding.{breaks_at, found_never, left_at, not_contradicts, own_passes, passes_at}
 use Rattle.margins.proofs.passing.margin_at_least.Goals as goal
 
 pub margin_above-requires-clause-passes : goal.margin_above-requires-clause-passes
@@ -21,3 +21,9 @@ returns-in-Breaks-clause-found c =
     let le : c.args.sought.now.reach.least ≤ℤ c.args.sought.now.reach.least = omega (arith, ints) in
     found_never c.args.sought.now _ c.args.sought.now.reach.least c.requires.sought le
     (breaks_at c.args.sought.now c.args.sought.now.reach.least _ c.args.probed.now c.requires.probed c.in-Breaks.is)
+
+pub returns-in-Open-clause-found : goal.returns-in-Open-clause-found
+returns-in-Open-clause-found c = left_at c.args.sought.now c.args.sought.now.reach.least c.args.probed.now _ c.requires.probed c.in-Open.is refl
+
+pub returns-in-Spent-clause-found : goal.returns-in-Spent-clause-found
+returns-in-Spent-clause-found c = left_at c.args.sought.now c.args.sought.now.reach.least c.args.probed.now _ c.requires.probed c.in-Spent.is refl

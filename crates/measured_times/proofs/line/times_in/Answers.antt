@@ -1,5 +1,5 @@
 use Rattle.std.proofs.Common.{[], sym}
-use Rattle.measured_times.specs.Runs.{time_in}
+use Rattle.measured_times.specs.Step.{time_in}
 use Rattle.line_words.specs.Views.{texts}
 use Rattle.line_words.specs.Words.{many}
 use Rattle.line_words.proofs.Looping.{many_done, many_stops}

@@ -1,7 +1,7 @@
 use Rattle.std.proofs.Common.{◌<◌, ◌≤◌, length, refl, ap, ◌∙◌, arith, below_more}
 use Rattle.event_graph.specs.Network.{Net}
 use Rattle.moves.specs.Step.{lent, moved_by}
-use Rattle.moves.proofs.Moved.{CanMove, choices_kept, net_more, net_whole, ranges_at, ranges_whole, room_more}
+use Rattle.moves.proofs.Moved.{CanMove, net_more, ranges_at, ranges_whole, room_more}
 use Rattle.moves.proofs.moving.moved_network.Goals as goal
 
 pub returns-in-None-clause-ranges : goal.returns-in-None-clause-ranges
@@ -38,10 +38,3 @@ returns-clause-ranges c =
       λ some. ranges_whole (moved_by c.args.by) c.args.drawn.now (lent c.args.numbers.now) c.loop-constraint.constraint c.read_drawn.ensures.fit all c.loop-constraint.invariant.can,
       λ ranges. refl,
     )
-
-pub returns-clause-choices : goal.returns-clause-choices
-returns-clause-choices c =
-    let same = ap (λ (n : Net). length n.constraints) c.network-net.ensures.network in
-    let all : length c.args.drawn.now.net.constraints ≤ c.loop-constraint.constraint = omega (arith, c.loop-constraint-test.false, c.len-constraint-end.ensures.count, same) in
-    choices_kept (moved_by c.args.by) c.args.drawn.now (lent c.args.numbers.now) c.loop-constraint.moved
-    (net_whole (moved_by c.args.by) c.args.drawn.now (lent c.args.numbers.now) c.loop-constraint.constraint c.loop-constraint.moved c.read_drawn.ensures.fit all c.loop-constraint.invariant.net)

@@ -1,8 +1,9 @@
-use Rattle.std.proofs.Common.{◌≡◌, ◌+◌, ◌<◌, Bool, Some, length, slice_get, subst, sym, arith}
-use Rattle.moves.specs.Networks.{IsNetFound}
+use Rattle.std.proofs.Common.{◌≡◌, ◌+◌, ◌<◌, Bool, true, Some, length, slice_get, subst, sym, arith}
+use Rattle.moves.specs.Networks.{IsNetFound, is_net_open}
 use Rattle.moves.specs.Step.{bare_drawn}
+use Rattle.moves.specs.declared.net_found.NetFound.{NetFound}
 use Rattle.probing.specs.Step.{IsRowLookedAt}
-use Rattle.probing.proofs.Looking.{IsLookedTo, looked_found, read_row, row_breaks, row_met, row_open}
+use Rattle.probing.proofs.Looking.{IsLookedTo, looked_found, looked_left, read_row, row_breaks, row_met, row_open}
 use Rattle.probing.proofs.searching.look_at_rows.Goals as goal
 use Rattle.probing.proofs.searching.look_at_rows.Goals.{in-Meets, in-Open}
 
@@ -32,9 +33,9 @@ loop-number-preserved c =
           subst L (sym w.is_open-is)
           (row_open c.args.net.now c.args.rows.now c.args.extremes.now.budget c.args.extremes.now c.loop-number.extremes c.look_at_row.new.extremes c.loop-number.noted
           c.look_at_row.new.noted c.loop-number.number
-          c.loop-number.is_open c.loop-number.invariant c.look_at_row.ensures.ready c.look_at_row.ensures.budget c.look_at_row.ensures.turns c.look_at_row.ensures.noted
-          c.in_ok-look_at_row.field-0 w.in-Open.is
-          c.in_ok-look_at_row.ensures.settles)
+          c.loop-number.is_open c.loop-number.invariant c.look_at_row.ensures.ready c.look_at_row.ensures.budget c.look_at_row.ensures.turns c.look_at_row.ensures.noted row
+          c.in_ok-look_at_row.field-0 at w.in-Open.is
+          c.in_ok-look_at_row.ensures.left)
     ]
 
 pub returns-clause-found : goal.returns-clause-found
@@ -43,3 +44,7 @@ returns-clause-found c =
     (looked_found c.args.net.now c.args.rows.now c.args.extremes.now.budget c.args.extremes.now c.loop-number.extremes c.loop-number.noted c.loop-number.number c.loop-number.is_open
     c.loop-number.invariant
     (omega arith))
+
+pub returns-clause-left : goal.returns-clause-left
+returns-clause-left c = λ open_.
+    c.loop-number.invariant.left (looked_left c.loop-number.is_open (subst (λ (f : NetFound). is_net_open f ≡ true) c.passes_unless.ensures open_))

@@ -21,3 +21,6 @@ pub returns-in-Stops-clause-found : goal.returns-in-Stops-clause-found
 returns-in-Stops-clause-found c =
     let h = rw c.in-Stops.is at c.in_ok-value_at.ensures.found in
     (subst (λ (v : ℤ). IsNetFound (at_value c.args.sought.now v) c.in-Stops.found) c.next_of-next.ensures.next h.0, h.1)
+
+pub returns-in-Left-clause-found : goal.returns-in-Left-clause-found
+returns-in-Left-clause-found c = rw c.in-Left.is at c.in_ok-value_at.ensures.found

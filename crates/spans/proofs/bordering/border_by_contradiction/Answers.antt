@@ -62,7 +62,7 @@ pub returns-in-None-clause-border : goal.returns-in-None-clause-border
 returns-in-None-clause-border c =
     left_at c.args.sought.now c.args.direction c.args.from.by c.left.result c.left.ensures (reached_move c.args.sought.now c.requires.sought c.args.from.by c.requires.from)
     c.requires.passes.1
-    (λ enough. let some = rw c.in-None.is at c.in_ok-halved.ensures.settles enough in cc)
+    (c.in_ok-halved.ensures.left c.in-None.is)
 
 pub returns-clause-border : goal.returns-clause-border
 returns-clause-border c =

@@ -38,9 +38,9 @@ consistency_at-requires-clause-reached c =
     reached_between c.args.sought.now c.args.direction c.args.gap.has.by c.value_on-middle.result.by c.args.gap.lacks.by c.requires.has c.requires.lacks
     (on_past c.args.direction c.args.gap.has.by c.value_on-middle.result.by inside.0) (on_past c.args.direction c.value_on-middle.result.by c.args.gap.lacks.by inside.1)
 
-pub returns-in-None-clause-settles : goal.returns-in-None-clause-settles
-returns-in-None-clause-settles c = λ enough.
-    absurd (is_left c.args.sought.now c.value_on-middle.result.by c.in_ok-consistency_at.field-0 c.in-None.is c.in_ok-consistency_at.ensures.consistency enough)
+pub returns-in-None-clause-left : goal.returns-in-None-clause-left
+returns-in-None-clause-left c = λ none.
+    is_left c.args.sought.now c.value_on-middle.result.by c.in_ok-consistency_at.field-0 c.in-None.is c.in_ok-consistency_at.ensures.consistency
 
 pub returns-in-Some-true-clause-half : goal.returns-in-Some-true-clause-half
 returns-in-Some-true-clause-half c =

@@ -1,4 +1,4 @@
-use Rattle.std.proofs.Common.{◌≤◌, IfOk, subst, sym, ◌∙◌}
+use Rattle.std.proofs.Common.{IfOk, sym, ◌∙◌}
 use Rattle.moves.specs.Passing.{HasDrawableCauses, HasDrawableRows}
 use Rattle.moves.specs.Step.{lent}
 use Rattle.spans.specs.Step.{IsProbeOf, at_value}
@@ -13,7 +13,7 @@ pub returns-then-is_same-clause-probed : goal.returns-then-is_same-clause-probed
 returns-then-is_same-clause-probed c =
     probed_own c.args.self.now c.args.at.by c.network.result.now c.as_slice-rows.result.now c.probe.result (c.is_same.ensures.0 c.if-is_same.true ∙ c.drawn_value.ensures)
     c.network.ensures.network
-    (c.as_slice-rows.ensures.items ∙ c.rows.ensures.rows) c.probe.ensures.found c.probe.ensures.settles
+    (c.as_slice-rows.ensures.items ∙ c.rows.ensures.rows) c.probe.ensures.found c.probe.ensures.left
 
 pub unreachable-requires : goal.unreachable-requires
 unreachable-requires c =
@@ -32,8 +32,7 @@ unreachable-requires-in-None-2 c =
 pub returns-clause-probed : goal.returns-clause-probed
 returns-clause-probed c =
     let by = c.args.at.by in
-    let choices = rw c.in-Some.is at c.in_ok-moved_network.ensures.choices in
     as_passed (λ b. IfOk c.probe-in-Some-2.result (IsProbeOf c.args.self.now b)) by (move_fits by (reached_move c.args.self.now c.requires.sought by c.requires.reached))
     (probed_at c.args.self.now (to_z w64 (of_z w64 by)) c.in-Some.net c.deref.result.now c.probe-in-Some-2.result (rw c.in-Some.is at c.in_ok-moved_network.ensures.net)
-    (c.deref.ensures.value ∙ (rw c.in-Some-2.is at c.in_ok-moved_rows-in-Some.ensures.rows)) (λ enough. subst (λ n. n ≤ c.args.self.now.budget) (sym choices) enough)
-    c.probe-in-Some-2.ensures.found c.probe-in-Some-2.ensures.settles)
+    (c.deref.ensures.value ∙ (rw c.in-Some-2.is at c.in_ok-moved_rows-in-Some.ensures.rows))
+    c.probe-in-Some-2.ensures.found c.probe-in-Some-2.ensures.left)
