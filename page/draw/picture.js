@@ -18,29 +18,29 @@ const GUTTER = 0.4;
 // A diagram shows all its events where they span at most so many times what its arrow does.
 const SPAN = 12;
 
-/** The diagram of one bound: which lanes and times it shows, and its lines of SVG. `facts` has the design, the report, the matrix or null, the unit
+/** The diagram of one bound: which lanes and times it shows, and its lines of SVG. `analysis` has the design, the report, the matrix or null, the unit
  * of the page, how wide a diagram is, and which lanes were chosen: the set of their titles, or null. */
 export class Picture {
-  constructor(facts, row, bound) {
-    this.design = facts.design;
-    this.matrix = facts.matrix;
-    this.unit = facts.unit;
-    this.width = facts.width || WIDTH;
-    this.still = facts.still;
-    this.chosen = facts.lanes || null;
+  constructor(analysis, row, bound) {
+    this.design = analysis.design;
+    this.matrix = analysis.matrix;
+    this.unit = analysis.unit;
+    this.width = analysis.width || WIDTH;
+    this.still = analysis.still;
+    this.chosen = analysis.lanes || null;
     this.row = row;
     this.bound = bound;
     // A measured run has no time for an event that was not seen.
-    this.times = new Map(facts.report.events.flatMap((event, number) => (bound.times[number] === null ? [] : [[event, bound.times[number]]])));
-    this.numbers = new Map(facts.report.events.map((event, number) => [event, number]));
-    this.raised = new Set(bound.raised.map((number) => facts.report.events[number]));
+    this.times = new Map(analysis.report.events.flatMap((event, number) => (bound.times[number] === null ? [] : [[event, bound.times[number]]])));
+    this.numbers = new Map(analysis.report.events.map((event, number) => [event, number]));
+    this.raised = new Set(bound.raised.map((number) => analysis.report.events[number]));
     this.shown = new Set([row.start, row.end, ...bound.steps.flatMap((step) => [step.start, step.end])]);
     this.guides = new Map();
     this.chooseLanes();
     this.margin = this.lanes.some((lane) => this.groupOf(lane)) ? 16 : 0;
     const titles = [...this.lanes.map(([part, lane]) => this.design.laneTitle(part, lane)), "separation"];
     const widest = Math.min(Math.max(...titles.map(room)), this.width * GUTTER);
-    const zoomed = facts.views && facts.views.get(`${row.number} ${bound.which}`);
+    const zoomed = analysis.views && analysis.views.get(`${row.number} ${bound.which}`);
     this.canvas = new Canvas(widest + 2 * PAD + this.margin, ...(zoomed || this.view()), this.width);
     this.bottom = PAD + this.lanes.length * LANE;
     this.height = this.bottom;
@@ -369,12 +369,12 @@ export class Picture {
 }
 
 /** The diagram of a bound as an element of SVG, which is a part of a page. */
-export function svgOf(facts, row, bound, title) {
-  const picture = new Picture(facts, row, bound);
+export function svgOf(analysis, row, bound, title) {
+  const picture = new Picture(analysis, row, bound);
   const lines = picture.draw();
   const size = `width="${picture.width}" height="${picture.height}" viewBox="0 0 ${picture.width} ${picture.height}"`;
   const { low, high, left, right } = picture.canvas;
-  const view = facts.still ? "" : ` data-low="${low}" data-high="${high}" data-left="${point(left)}" data-right="${point(right)}" tabindex="0"`;
+  const view = analysis.still ? "" : ` data-low="${low}" data-high="${high}" data-left="${point(left)}" data-right="${point(right)}" tabindex="0"`;
   return [`<svg class="diagram" ${size}${view} role="img" aria-label="${escaped(title)}">`, `<title>${escaped(title)}</title>`, ...lines, "</svg>"].join("\n");
 }
 

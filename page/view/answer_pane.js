@@ -52,49 +52,49 @@ function slackCell(entry, unit) {
 }
 
 /** What unfolds the lines of the entries that are like one of them. */
-function unfoldOf(facts, [first, ...others]) {
-  if (!others.length || facts.still) return "";
-  const isOpen = isUnfolded(facts, first);
+function unfoldOf(analysis, [first, ...others]) {
+  if (!others.length || analysis.still) return "";
+  const isOpen = isUnfolded(analysis, first);
   const words = `${isOpen ? "▾" : "▸"} ${others.length} more like it`;
   return `<button type="button" class="unfold small" data-row="${first.row.number}" aria-expanded="${isOpen}" aria-controls="alike-${first.row.number}">${words}</button>`;
 }
 
 /** Whether the lines that are like an entry's are shown. */
-function isUnfolded(facts, entry) {
-  return Boolean(facts.still || (facts.unfolded && facts.unfolded.has(entry.row.number)));
+function isUnfolded(analysis, entry) {
+  return Boolean(analysis.still || (analysis.unfolded && analysis.unfolded.has(entry.row.number)));
 }
 
 /** Entries that are alike as lines of the table: the worst one, and the others, which are folded. */
-function linesOf(facts, list) {
+function linesOf(analysis, list) {
   const [first, ...others] = list;
-  const line = `<tbody>\n${lineOf(facts, first, unfoldOf(facts, list))}\n</tbody>`;
+  const line = `<tbody>\n${lineOf(analysis, first, unfoldOf(analysis, list))}\n</tbody>`;
   if (!others.length) return line;
-  const lines = others.map((entry) => lineOf(facts, entry)).join("\n");
-  return `${line}<tbody class="alike" id="alike-${first.row.number}"${isUnfolded(facts, first) ? "" : " hidden"}>\n${lines}\n</tbody>`;
+  const lines = others.map((entry) => lineOf(analysis, entry)).join("\n");
+  return `${line}<tbody class="alike" id="alike-${first.row.number}"${isUnfolded(analysis, first) ? "" : " hidden"}>\n${lines}\n</tbody>`;
 }
 
 /** Between which marks a row is. */
-function marksOf(facts, { row }) {
-  return [row.start, row.end].map((event) => `<span class="name">${escaped(facts.design.eventTitle(event))}</span>`).join(" to ");
+function marksOf(analysis, { row }) {
+  return [row.start, row.end].map((event) => `<span class="name">${escaped(analysis.design.eventTitle(event))}</span>`).join(" to ");
 }
 
 /** An entry as a line of the table, with what unfolds others below its name. */
-function lineOf(facts, entry, unfold = "") {
+function lineOf(analysis, entry, unfold = "") {
   const { row } = entry;
-  const marks = marksOf(facts, entry);
-  const demanded = row.kind === "req" ? demandedText(row, facts.unit).replace(/ (?=(?:s|ms|us|ns|ps)\b)/g, "&nbsp;") : "a question";
+  const marks = marksOf(analysis, entry);
+  const demanded = row.kind === "req" ? demandedText(row, analysis.unit).replace(/ (?=(?:s|ms|us|ns|ps)\b)/g, "&nbsp;") : "a question";
   return (
     `<tr class="${row.verdict || "ask"}"><th scope="row"><a href="#row-${row.number}">${nameOf(entry)}</a><small class="marks">${marks}</small>${unfold}</th>` +
-    `<td class="demand">${demanded}</td>${boundCell(row.bounds.min, facts.unit)}${boundCell(row.bounds.max, facts.unit)}` +
-    `<td class="verdict verdict-${row.verdict}">${SIGNS[row.verdict] || ""}</td>${slackCell(entry, facts.unit)}</tr>`
+    `<td class="demand">${demanded}</td>${boundCell(row.bounds.min, analysis.unit)}${boundCell(row.bounds.max, analysis.unit)}` +
+    `<td class="verdict verdict-${row.verdict}">${SIGNS[row.verdict] || ""}</td>${slackCell(entry, analysis.unit)}</tr>`
   );
 }
 
 /** The table of the entries, failed ones first. */
-export function tableOf(facts) {
+export function tableOf(analysis) {
   const heads = ["requirement", "demanded"].map((head) => `<th scope="col">${head}</th>`).join("");
   const numbers = ["least", "greatest"].map((head) => `<th scope="col" class="number">${head}</th>`).join("");
-  const lines = alikeOf(facts.entries).map((list) => linesOf(facts, list)).join("\n");
+  const lines = alikeOf(analysis.entries).map((list) => linesOf(analysis, list)).join("\n");
   return (
     `<table class="rows"><thead><tr>${heads}${numbers}<th scope="col">verdict</th><th scope="col" class="number">slack</th></tr></thead>` +
     `${lines}</table>`
@@ -106,25 +106,25 @@ function eventsText(design, events) {
 }
 
 /** The bound in words. */
-function captionOf(facts, bound) {
+function captionOf(analysis, bound) {
   const word = bound.which === "min" ? "least" : "greatest";
-  if (bound.kind === "number") return `<b>${word}: ${inUnit(bound.value, facts.unit)}</b>`;
+  if (bound.kind === "number") return `<b>${word}: ${inUnit(bound.value, analysis.unit)}</b>`;
   if (bound.kind === "unbounded") {
-    const held = eventsText(facts.design, bound.raised.map((number) => facts.report.events[number]));
+    const held = eventsText(analysis.design, bound.raised.map((number) => analysis.report.events[number]));
     return `<b>${word}: unbounded.</b> These events can be delayed together without limit: ${held}`;
   }
   const side = bound.which === "max" ? "at most" : "at least";
-  const limit = bound.limit === null ? "No limit is known" : `It is ${side} ${inUnit(bound.limit, facts.unit)}`;
-  const found = bound.value === null ? "and nothing was found" : `and ${inUnit(bound.value, facts.unit)} was found`;
+  const limit = bound.limit === null ? "No limit is known" : `It is ${side} ${inUnit(bound.limit, analysis.unit)}`;
+  const found = bound.value === null ? "and nothing was found" : `and ${inUnit(bound.value, analysis.unit)} was found`;
   return `<b>${word}: the search ended too early.</b> ${limit}, ${found}.`;
 }
 
 /** The steps that sum to a bound of a row, as a list. */
-function stepsOf(facts, row, bound) {
+function stepsOf(analysis, row, bound) {
   const items = bound.steps.map((step) => {
-    const weight = inUnit(step.weight, facts.unit);
-    const both = `${eventsText(facts.design, [step.start])} to ${eventsText(facts.design, [step.end])}`;
-    return `<li>${both}: ${weight}, ${originLink(facts.design, step.origin, step.end)}</li>`;
+    const weight = inUnit(step.weight, analysis.unit);
+    const both = `${eventsText(analysis.design, [step.start])} to ${eventsText(analysis.design, [step.end])}`;
+    return `<li>${both}: ${weight}, ${originLink(analysis.design, step.origin, step.end)}</li>`;
   });
   if (!items.length) return "";
   const title = items.length === 1 ? "one step" : `${items.length} steps add up`;
@@ -136,14 +136,14 @@ const ZOOMS = [["in", "+", "zoom in"], ["out", "−", "zoom out"], ["all", "all"
   .join("");
 
 /** The diagram of a bound with what is said over and under it. */
-export function figureOf(facts, entry, which) {
+export function figureOf(analysis, entry, which) {
   const bound = entry.row.bounds[which];
-  const caption = `<figcaption>${captionOf(facts, bound)}</figcaption>`;
+  const caption = `<figcaption>${captionOf(analysis, bound)}</figcaption>`;
   if (!bound.times) return `<figure>${caption}</figure>`;
   const title = `${entry.title}: the ${which === "min" ? "least" : "greatest"} separation`;
   const of = `data-row="${entry.row.number}" data-which="${which}"`;
   const tools = `<span class="figure-tools">${ZOOMS} <button type="button" class="save-diagram small" ${of}>save SVG</button> <button type="button" class="save-png small" ${of}>PNG</button></span>`;
-  return `<figure ${of}>${caption}\n${svgOf(facts, entry.row, bound, title)}<div class="under">${stepsOf(facts, entry.row, bound)}${tools}</div></figure>`;
+  return `<figure ${of}>${caption}\n${svgOf(analysis, entry.row, bound, title)}<div class="under">${stepsOf(analysis, entry.row, bound)}${tools}</div></figure>`;
 }
 
 /** The figure of an entry, which is drawn when the part that holds it is opened. */
@@ -152,69 +152,69 @@ function placeholder(entry, which) {
 }
 
 /** What the folded side of an entry is called. */
-function otherTitle(facts, entry, which) {
+function otherTitle(analysis, entry, which) {
   const bound = entry.row.bounds[which];
   const word = which === "min" ? "least" : "greatest";
-  return `the other side, ${word}: ${boundText(bound, facts.unit)}`;
+  return `the other side, ${word}: ${boundText(bound, analysis.unit)}`;
 }
 
 /** The part of an entry: its edge, the diagram of the side that matters, and the other side, which is folded. Where it is broken, or the first one, it is
  * open. */
-function sectionOf(facts, entry, isOpen, about = "") {
+function sectionOf(analysis, entry, isOpen, about = "") {
   const { row } = entry;
   const first = entry.mainBound;
   const other = first === "min" ? "max" : "min";
-  const slack = row.leastSlack === null || entry.lack ? "" : `, slack ${inUnit(row.leastSlack, facts.unit)}`;
+  const slack = row.leastSlack === null || entry.lack ? "" : `, slack ${inUnit(row.leastSlack, analysis.unit)}`;
   const verdict = row.verdict ? `<span class="verdict-${row.verdict}">${SIGNS[row.verdict]}</span>${slack}` : "a question";
-  const part = entry.drawn.part === null ? null : facts.design.parts[entry.drawn.part].name;
+  const part = entry.drawn.part === null ? null : analysis.design.parts[entry.drawn.part].name;
   return (
     `<details class="row" id="row-${row.number}"${isOpen ? " open" : ""}><summary><h3>${nameOf(entry)}: ${verdict}</h3>${about}</summary>\n` +
-    `${edgeLink(facts.design, part, entry.drawn.edge.number)}\n${placeholder(entry, first)}\n` +
-    `<details class="other" id="other-${row.number}"><summary>${otherTitle(facts, entry, other)}</summary>${placeholder(entry, other)}</details></details>`
+    `${edgeLink(analysis.design, part, entry.drawn.edge.number)}\n${placeholder(entry, first)}\n` +
+    `<details class="other" id="other-${row.number}"><summary>${otherTitle(analysis, entry, other)}</summary>${placeholder(entry, other)}</details></details>`
   );
 }
 
 /** The parts of all entries, as blocks. At most so many broken ones are open at the start. */
-export function sectionsOf(facts, mostOpen = 6) {
-  const broken = facts.entries.filter((entry) => entry.row.verdict === "fail" || entry.row.verdict === "undecided").slice(0, mostOpen);
-  const open = new Set(broken.length ? broken : facts.entries.slice(0, 1));
-  return alikeOf(facts.entries).map((list) => [`row ${list[0].row.number}`, sectionsTogether(facts, list, open)]);
+export function sectionsOf(analysis, mostOpen = 6) {
+  const broken = analysis.entries.filter((entry) => entry.row.verdict === "fail" || entry.row.verdict === "undecided").slice(0, mostOpen);
+  const open = new Set(broken.length ? broken : analysis.entries.slice(0, 1));
+  return alikeOf(analysis.entries).map((list) => [`row ${list[0].row.number}`, sectionsTogether(analysis, list, open)]);
 }
 
 /** The parts of entries that are alike: of the worst one, and the others in one that is folded. */
-function sectionsTogether(facts, [first, ...others], open) {
-  const section = sectionOf(facts, first, open.has(first));
+function sectionsTogether(analysis, [first, ...others], open) {
+  const section = sectionOf(analysis, first, open.has(first));
   if (!others.length) return section;
-  const sections = others.map((entry) => sectionOf(facts, entry, false, ` <small class="marks">${marksOf(facts, entry)}</small>`)).join("\n");
+  const sections = others.map((entry) => sectionOf(analysis, entry, false, ` <small class="marks">${marksOf(analysis, entry)}</small>`)).join("\n");
   return `${section}\n<details class="alike" id="more-${first.row.number}"><summary>${others.length} more like it</summary>\n${sections}</details>`;
 }
 
 /** The rules that contradict each other; empty where none do. */
-export function contradictionOf(facts) {
-  if (facts.report.finding !== "inconsistent" || !facts.why.rules.length) return "";
-  const items = facts.why.rules.map((rule) => {
-    const both = `${eventsText(facts.design, [rule.start])} to ${eventsText(facts.design, [rule.end])}`;
-    return `<li>${both}, <span class="line">${escaped(`${rule.kind} ${rule.range}`)}</span>: ${originLink(facts.design, rule.origin, rule.end)}</li>`;
+export function contradictionOf(analysis) {
+  if (analysis.report.finding !== "inconsistent" || !analysis.why.rules.length) return "";
+  const items = analysis.why.rules.map((rule) => {
+    const both = `${eventsText(analysis.design, [rule.start])} to ${eventsText(analysis.design, [rule.end])}`;
+    return `<li>${both}, <span class="line">${escaped(`${rule.kind} ${rule.range}`)}</span>: ${originLink(analysis.design, rule.origin, rule.end)}</li>`;
   });
   return `<section class="contradiction"><h2>These rules contradict each other</h2><ul>${items.join("")}</ul></section>`;
 }
 
 /** The warnings of job lint: each line, what it means, and the texts of the edges that it names. */
-export function warningList(facts) {
-  if (!facts.warnings.length) return "";
-  const items = facts.warnings.map((warning) => {
-    const edges = warning.edges.map(({ part, number }) => edgeLink(facts.design, part, number)).filter((link) => link);
+export function warningList(analysis) {
+  if (!analysis.warnings.length) return "";
+  const items = analysis.warnings.map((warning) => {
+    const edges = warning.edges.map(({ part, number }) => edgeLink(analysis.design, part, number)).filter((link) => link);
     const links = edges.map((link) => `<br>${link}`).join("");
     return `<li>${escaped(WARNINGS[warning.word] || "a warning")}: <code class="line">${escaped(warning.line)}</code>${links}</li>`;
   });
-  const count = `${facts.warnings.length} warning${facts.warnings.length === 1 ? "" : "s"} of the drawing`;
+  const count = `${analysis.warnings.length} warning${analysis.warnings.length === 1 ? "" : "s"} of the drawing`;
   return `<details class="warnings" id="warnings" open><summary><h2>! ${count}</h2></summary><ul>${items.join("")}</ul></details>`;
 }
 
 /** What the signs of the diagrams mean. */
-export function legendOf(facts) {
-  const asked = facts.report.rows.some((row) => row.kind === "req");
-  const shown = [...LEGEND.slice(0, 2), ...(facts.matrix ? [LEGEND[2]] : []), ...(asked ? LEGEND.slice(3) : [])];
+export function legendOf(analysis) {
+  const asked = analysis.report.rows.some((row) => row.kind === "req");
+  const shown = [...LEGEND.slice(0, 2), ...(analysis.matrix ? [LEGEND[2]] : []), ...(asked ? LEGEND.slice(3) : [])];
   const items = shown.map(([sign, text]) => `<li><svg width="24" height="16" aria-hidden="true">${sign}</svg>${text}</li>`).join("");
   const remark =
     "Each diagram is one case that the rules allow, with the first event of its row at 0. All times but those of a scale are as the program printed them.";
@@ -222,8 +222,8 @@ export function legendOf(facts) {
 }
 
 /** The strict texts that the program got in place of texts in the relaxed spelling; empty where there are none. */
-function strictTextsOf(facts) {
-  const relaxed = facts.reads.filter((read) => read && read.isRelaxed && read.strict !== null);
+function strictTextsOf(analysis) {
+  const relaxed = analysis.reads.filter((read) => read && read.isRelaxed && read.strict !== null);
   const shown = relaxed.map(({ name, strict }) => {
     const about = `${escaped(name)} is in the relaxed spelling. This is the strict JSON that was checked`;
     return `<details class="strict" id="strict-${escaped(name)}"><summary>${about}</summary><pre>${escapedText(strict)}</pre></details>`;
@@ -232,16 +232,16 @@ function strictTextsOf(facts) {
 }
 
 /** The whole answer but the sentence, as blocks: a name and a part of a page each. */
-export function blocksOf(facts) {
-  const lanes = facts.still ? "" : laneChoiceOf(facts.design, facts.lanes || null);
-  const rows = facts.entries.length ? [["table", tableOf(facts)], ["lanes", lanes], ...sectionsOf(facts), ["legend", legendOf(facts)]] : [];
-  const blocks = [["warnings", warningList(facts)], ["contradiction", contradictionOf(facts)], ...rows, ["strict", strictTextsOf(facts)]];
+export function blocksOf(analysis) {
+  const lanes = analysis.still ? "" : laneChoiceOf(analysis.design, analysis.lanes || null);
+  const rows = analysis.entries.length ? [["table", tableOf(analysis)], ["lanes", lanes], ...sectionsOf(analysis), ["legend", legendOf(analysis)]] : [];
+  const blocks = [["warnings", warningList(analysis)], ["contradiction", contradictionOf(analysis)], ...rows, ["strict", strictTextsOf(analysis)]];
   return blocks.filter(([, html]) => html);
 }
 
 /** The whole answer but the sentence, as a part of a page. */
-export function bodyOf(facts) {
-  return blocksOf(facts).map(([, html]) => html).join("\n");
+export function bodyOf(analysis) {
+  return blocksOf(analysis).map(([, html]) => html).join("\n");
 }
 
 /** What a page is of: the files with the grades of their parts, their checksum, and the program. */
